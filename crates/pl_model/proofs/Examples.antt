@@ -1,0 +1,57 @@
+-- The small examples, each computed from the definitions.
+use Rattle.std.proofs.Common.{refl}
+use Rattle.std.specs.Fmt.{digits}
+use Rattle.pl_model.specs.Numbers.{first_from, numbers_from}
+use Rattle.pl_model.specs.Live.{readers, writers, pids, in_rows, in_parked}
+use Rattle.pl_model.specs.Settle.{settle}
+use Rattle.pl_model.specs.Trial.{flowed}
+use Rattle.pl_model.specs.Transfer.{read_pipe, write_pipe}
+use Rattle.pl_model.specs.Tables.{lowest, lowest_pid}
+use Rattle.pl_model.specs.Begin.{begin_pipe, begin_read, begin_write, begin_close}
+use Rattle.pl_model.specs.Step.{try, begin, happen, core_step}
+use Rattle.pl_model.specs.Numbered.{step}
+use Rattle.pl_model.specs.Words.{words, without_return, number, signed, hex_bytes, repeated, digits_or_repeated, bytes_of}
+use Rattle.pl_model.specs.Lines.{pipe_of, read_of, write_of, close_of, call_of, start_of, resume_of, interrupt_of, begin_of, words_line, line_of_words, line}
+use Rattle.pl_model.specs.Shown.{hex_text, bytes_text, reply_text, outcome_text}
+use Rattle.pl_model.specs.Script.{lines, asked, answers}
+use Rattle.pl_model.specs.Worked.{BytesBeforeEndOfFile, PartialAndWholeNotWaiting, ReadOfNothing, WriteOfNothing, LastWriterCloses, TableOfWrites, ScriptOfBytesBeforeEndOfFile, EmptyScript, ScriptWithoutLineFeed, ScriptOfNoProcess}
+
+module _ (A : Type 0) where
+  pub bytes_before_end_of_file : BytesBeforeEndOfFile A
+  unfolding first_from numbers_from pids in_rows in_parked readers writers settle flowed read_pipe write_pipe lowest lowest_pid begin_pipe begin_read begin_write begin_close try begin happen core_step step
+  bytes_before_end_of_file limits = refl
+
+  pub partial_and_whole_not_waiting : PartialAndWholeNotWaiting A
+  unfolding first_from numbers_from pids in_rows in_parked readers writers settle flowed read_pipe write_pipe lowest lowest_pid begin_pipe begin_read begin_write begin_close try begin happen core_step step
+  partial_and_whole_not_waiting limits = refl
+
+  pub read_of_nothing : ReadOfNothing A
+  unfolding first_from numbers_from pids in_rows in_parked readers writers settle flowed read_pipe write_pipe lowest lowest_pid begin_pipe begin_read begin_write begin_close try begin happen core_step step
+  read_of_nothing limits = refl
+
+  pub write_of_nothing : WriteOfNothing A
+  unfolding first_from numbers_from pids in_rows in_parked readers writers settle flowed read_pipe write_pipe lowest lowest_pid begin_pipe begin_read begin_write begin_close try begin happen core_step step
+  write_of_nothing limits = refl
+
+  pub last_writer_closes : LastWriterCloses A
+  unfolding first_from numbers_from pids in_rows in_parked readers writers settle flowed read_pipe write_pipe lowest lowest_pid begin_pipe begin_read begin_write begin_close try begin happen core_step step
+  last_writer_closes limits = refl
+
+  pub script_of_bytes_before_end_of_file : ScriptOfBytesBeforeEndOfFile A
+  unfolding first_from numbers_from pids in_rows in_parked readers writers settle flowed read_pipe write_pipe lowest lowest_pid begin_pipe begin_read begin_write begin_close try begin happen core_step step words without_return number signed hex_bytes repeated digits_or_repeated bytes_of pipe_of read_of write_of close_of call_of start_of resume_of interrupt_of begin_of words_line line_of_words line hex_text bytes_text reply_text outcome_text lines asked answers digits
+  script_of_bytes_before_end_of_file limits = refl
+
+  pub empty_script : EmptyScript A
+  unfolding first_from numbers_from pids in_rows in_parked readers writers settle flowed read_pipe write_pipe lowest lowest_pid begin_pipe begin_read begin_write begin_close try begin happen core_step step words without_return number signed hex_bytes repeated digits_or_repeated bytes_of pipe_of read_of write_of close_of call_of start_of resume_of interrupt_of begin_of words_line line_of_words line hex_text bytes_text reply_text outcome_text lines asked answers digits
+  empty_script limits = refl
+
+  pub script_without_line_feed : ScriptWithoutLineFeed A
+  unfolding first_from numbers_from pids in_rows in_parked readers writers settle flowed read_pipe write_pipe lowest lowest_pid begin_pipe begin_read begin_write begin_close try begin happen core_step step words without_return number signed hex_bytes repeated digits_or_repeated bytes_of pipe_of read_of write_of close_of call_of start_of resume_of interrupt_of begin_of words_line line_of_words line hex_text bytes_text reply_text outcome_text lines asked answers digits
+  script_without_line_feed limits = refl
+
+  pub script_of_no_process : ScriptOfNoProcess A
+  unfolding first_from numbers_from pids in_rows in_parked readers writers settle flowed read_pipe write_pipe lowest lowest_pid begin_pipe begin_read begin_write begin_close try begin happen core_step step words without_return number signed hex_bytes repeated digits_or_repeated bytes_of pipe_of read_of write_of close_of call_of start_of resume_of interrupt_of begin_of words_line line_of_words line hex_text bytes_text reply_text outcome_text lines asked answers digits
+  script_of_no_process limits = refl
+
+pub table_of_writes : TableOfWrites
+table_of_writes = record { broken = refl; cut_short = refl; whole = refl; not_torn = refl; partial = refl; full = refl; rest = refl; filled = refl }

@@ -1,0 +1,10 @@
+pub mod Renames
+pub mod Simulates
+pub mod Settled
+pub mod Ways
+pub mod Keeps
+pub mod StreamLaw
+pub mod StreamRuns
+pub mod Refusals
+pub mod Sound
+pub mod Examples

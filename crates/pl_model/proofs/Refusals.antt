@@ -1,0 +1,195 @@
+-- A step that is refused leaves a settled state as it was.
+use Rattle.std.proofs.Common.{ap, sym, subst, ◌∙◌, ℕ, Bool, true, false, cond, Option, List, ◌≡◌, refl, nat_eq}
+use Rattle.std.specs.declared.option.Option.TheVariants.{None, Some}
+use Rattle.std.specs.Prelude.{◌==◌, nat_lt, length}
+use Rattle.pl_model.specs.declared.calls.Call.{Call}
+use Rattle.pl_model.specs.declared.calls.Step.{Step}
+use Rattle.pl_model.specs.declared.calls.Step.TheVariants.{Start, Begin, Resume, Interrupt}
+use Rattle.pl_model.specs.declared.cases.ReadCase.{ReadCase}
+use Rattle.pl_model.specs.declared.cases.WriteCase.{WriteCase}
+use Rattle.pl_model.specs.declared.replies.Reply.{Reply}
+use Rattle.pl_model.specs.declared.replies.Reply.TheVariants.{Fault, NoProcess, NoCall, CallsSpent, Parked}
+use Rattle.pl_model.specs.declared.replies.Errno.TheVariants.{EINTR}
+use Rattle.pl_model.specs.Numbers.{last_call}
+use Rattle.pl_model.specs.Map.{get}
+use Rattle.pl_model.specs.Memory.{is_refusal}
+use Rattle.pl_model.specs.Keys.{Keys, Node, NewKeys, Drawing, PipeNode, FileNode, Plain, Draws, drawn, drawing_map}
+use Rattle.pl_model.specs.State.{Core, Pipe, Description, Open, Waiting}
+use Rattle.pl_model.specs.Settle.{settle}
+use Rattle.pl_model.specs.Trial.{Trial, Done, Wait, Flow, still, flowed, pipe_at, Begun, Begins, Refused, Answered, Tried}
+use Rattle.pl_model.specs.Transfer.{count, read_row, write_row, read_case, write_case, read_pipe, write_pipe, read_file, write_file, read_node, write_node}
+use Rattle.pl_model.specs.Tables.{lowest_pid}
+use Rattle.pl_model.specs.Begin.{begin_pipe, begin_read, begin_write, begin_close}
+use Rattle.pl_model.specs.Step.{Stepped, with_kept, try, begin, begun, happen, core_step, ended, first_tried, interrupted, parked, resumed, started, stepped, tried_again, waiting}
+use Rattle.pl_model.specs.Numbered.{numbers, State, next_numbers, step_of, step}
+use Rattle.pl_model.specs.Laws.{IsSettled, is_refused}
+use Rattle.pl_model.proofs.Ways.{LeadsTo, Refusable, ways, trial_if}
+
+module _ {A : Type 0} where
+  begin-refused : (pid : ℕ) (call : Call A) (reply : Reply A) → is_refused (Begin pid call) reply ≡ is_refusal reply
+  begin-refused pid call (Reply.Pid n) = refl
+  begin-refused pid call (Reply.Fds a b) = refl
+  begin-refused pid call (Reply.Count n sigpipe) = refl
+  begin-refused pid call (Reply.Bytes bytes) = refl
+  begin-refused pid call Reply.Unit = refl
+  begin-refused pid call (Fault errno) = refl
+  begin-refused pid call (Parked c) = refl
+  begin-refused pid call NoProcess = refl
+  begin-refused pid call NoCall = refl
+  begin-refused pid call CallsSpent = refl
+
+module _ {A : Type 0} {K : Keys} where
+  -- what a try may answer: a fault with no change, and nothing that is said of calls that aren't tried
+  abbrev Fair : Core A K → Core A K → Flow K → Reply A → Type 0
+  Fair s u flow (Fault errno) = (u ≡ s) × (flow ≡ still)
+  Fair s u flow NoProcess = ⊥
+  Fair s u flow NoCall = ⊥
+  Fair s u flow CallsSpent = ⊥
+  Fair s u flow reply = Unit {0}
+
+  abbrev IsFair : Core A K → Trial A K → Type 0
+  IsFair s (Done u flow reply) = Fair s u flow reply
+  IsFair s (Wait u flow taken) = Unit {0}
+
+  -- what the checks of a call may lead to: an answer that is no refusal, or a try in the state of before
+  abbrev IsPlainBegun : Core A K → Begun A K → Type 0
+  IsPlainBegun s (Refused errno) = Unit {0}
+  IsPlainBegun s (Answered u reply) = is_refusal reply ≡ false
+  IsPlainBegun s (Tried u kept met may_wait) = u ≡ s
+
+  refusable : (s : Core A K) → Refusable (IsPlainBegun s)
+  refusable s = record { refused = λ errno. tt }
+
+  fair_kept : (s : Core A K) (o : Option (Open K)) (next : Open K → Trial A K) → ((x : Open K) → IsFair s (next x)) → IsFair s (with_kept s o next)
+  fair_kept s None next h = (refl, refl)
+  fair_kept s (Some x) next h = h x
+
+  fair_if : (s : Core A K) (b : Bool) (x y : Trial A K) → IsFair s x → IsFair s y → IsFair s (cond b x y)
+  fair_if s b x y f g = trial_if (IsFair s) b x y (λ _. f) (λ _. g)
+
+  read_row-fair : (s : Core A K) (p : K.Pipe) (pipe : Pipe) (row : ReadCase) → IsFair s (read_row s p pipe row)
+  read_row-fair s p pipe (ReadCase.Gives n) = tt
+  read_row-fair s p pipe ReadCase.EndOfFile = tt
+  read_row-fair s p pipe ReadCase.Waits = tt
+
+  write_row-fair : (s : Core A K) (p : K.Pipe) (bytes : List ℕ) (t : ℕ) (row : WriteCase) → IsFair s (write_row s p bytes t row)
+  write_row-fair s p bytes t WriteCase.Broken = (refl, refl)
+  write_row-fair s p bytes t WriteCase.CutShort = tt
+  write_row-fair s p bytes t (WriteCase.Ends from to) = tt
+  write_row-fair s p bytes t (WriteCase.Waits from to) = tt
+
+  read_node-fair : (s : Core A K) (d : K.Description) (description : Description K) (node : Node K) (n : ℕ) → IsFair s (read_node s d description node n)
+  unfolding read_pipe read_file
+  read_node-fair s d description (PipeNode p) n = read_row-fair s p (pipe_at s p) (read_case n _ _)
+  read_node-fair s d description (FileNode f) n = tt
+
+  write_node-fair : (s : Core A K) (d : K.Description) (description : Description K) (node : Node K) (bytes : List ℕ) (t : ℕ) (w : Bool) → IsFair s (write_node s d description node bytes t w)
+  unfolding write_pipe write_file
+  write_node-fair s d description (PipeNode p) bytes t w = write_row-fair s p bytes t (write_case (length bytes) t _ _ w)
+  write_node-fair s d description (FileNode f) bytes t w = search fair_if
+
+  try-fair : (s : Core A K) (w : Waiting A K) (call : Call A) (may_wait : Bool) → IsFair s (try s w call may_wait)
+  unfolding try
+  try-fair s w (Call.Read fd n) may_wait = fair_kept s _ _ (λ o. read_node-fair s o.key o.description o.description.node n)
+  try-fair s w (Call.Write fd bytes) may_wait = fair_kept s _ _ (λ o. write_node-fair s o.key o.description o.description.node bytes w.taken may_wait)
+  try-fair s w (Call.Pipe nonblock) may_wait = tt
+  try-fair s w (Call.Close fd) may_wait = tt
+
+  begin-plain : (new : NewKeys K) (s : Core A K) (pid : ℕ) (call : Call A) → LeadsTo new (IsPlainBegun s) (begin s pid call)
+  unfolding begin begin_pipe begin_read begin_write begin_close
+  begin-plain new s pid (Call.Pipe nonblock) = search (ways, refusable) depth 14
+  begin-plain new s pid (Call.Read fd n) = search (ways, refusable) depth 14
+  begin-plain new s pid (Call.Write fd bytes) = search (ways, refusable) depth 14
+  begin-plain new s pid (Call.Close fd) = search (ways, refusable) depth 14
+
+  -- where the step is refused, this is the state of before, and no byte moved
+  abbrev NoChange : Core A K → Step A → Stepped A K → Type 0
+  NoChange s x h = is_refused x h.reply ≡ true → (h.state ≡ s) × (h.flow ≡ still)
+
+  flowed-still : (s : Core A K) → flowed s still ≡ s
+  unfolding flowed
+  flowed-still s = refl
+
+  done-unchanged : (s u : Core A K) (flow : Flow K) (reply : Reply A) → Fair s u flow reply → is_refusal reply ≡ true → (flowed u flow ≡ s) × (flow ≡ still)
+  done-unchanged s u flow (Reply.Pid n) fair r = absurd (cc)
+  done-unchanged s u flow (Reply.Fds a b) fair r = absurd (cc)
+  done-unchanged s u flow (Reply.Count n sigpipe) fair r = absurd (cc)
+  done-unchanged s u flow (Reply.Bytes bytes) fair r = absurd (cc)
+  done-unchanged s u flow Reply.Unit fair r = absurd (cc)
+  done-unchanged s u flow (Fault errno) fair r = ((λ i. flowed (fair.0 i) (fair.1 i)) ∙ flowed-still s, fair.1)
+  done-unchanged s u flow (Parked c) fair r = absurd (cc)
+  done-unchanged s u flow NoProcess fair r = absurd fair
+  done-unchanged s u flow NoCall fair r = absurd fair
+  done-unchanged s u flow CallsSpent fair r = absurd fair
+
+  first_tried-unchanged : (before : Core A K) (pid : ℕ) (call : Call A) (w : Waiting A K) (may_wait : Bool) (t : Trial A K) → IsFair before t → NoChange before (Begin pid call) (first_tried before w may_wait t)
+  first_tried-unchanged before pid call w may_wait (Done u flow reply) fair r = done-unchanged before u flow reply fair (sym (begin-refused pid call reply) ∙ r)
+  first_tried-unchanged before pid call w false (Wait u flow taken) fair r = (refl, refl)
+  first_tried-unchanged before pid call w true (Wait u flow taken) fair r = spent (before.next_call == last_call) r where
+    spent : (b : Bool) → NoChange before (Begin pid call) (cond b (stepped before CallsSpent) (record { state = parked (flowed u flow) (record w { taken = taken }); reply = Parked before.next_call; flow = flow }))
+    spent true r = (refl, refl)
+    spent false r = absurd (cc)
+
+  begun-unchanged : (before : Core A K) (pid : ℕ) (call : Call A) (b : Begun A K) → IsPlainBegun before b → NoChange before (Begin pid call) (begun before pid call b)
+  begun-unchanged before pid call (Refused errno) plain r = (refl, refl)
+  begun-unchanged before pid call (Answered u reply) plain r = (let e : true ≡ false = sym r ∙ begin-refused pid call reply ∙ plain in absurd (cc))
+  begun-unchanged before pid call (Tried u kept met may_wait) plain r =
+      first_tried-unchanged before pid call (waiting pid call kept met) may_wait _
+      (subst (λ z. IsFair z (try u (waiting pid call kept met) call may_wait)) plain (try-fair u (waiting pid call kept met) call may_wait)) r
+
+  resumed-unchanged : (s : Core A K) (c : ℕ) (w : Option (Waiting A K)) → NoChange s (Resume c) (resumed s c w)
+  resumed-unchanged s c None r = (refl, refl)
+  resumed-unchanged s c (Some w) r = again (try s w w.call true) (try-fair s w w.call true) r where
+    replied : (u : Core A K) (flow : Flow K) (reply : Reply A) → Fair s u flow reply → is_refused {A = A} (Resume c) reply ≡ true → ⊥
+    replied u flow (Reply.Pid n) fair r = cc
+    replied u flow (Reply.Fds a b) fair r = cc
+    replied u flow (Reply.Count n sigpipe) fair r = cc
+    replied u flow (Reply.Bytes bytes) fair r = cc
+    replied u flow Reply.Unit fair r = cc
+    replied u flow (Fault errno) fair r = cc
+    replied u flow (Parked n) fair r = cc
+    replied u flow NoProcess fair r = fair
+    replied u flow NoCall fair r = fair
+    replied u flow CallsSpent fair r = fair
+
+    again : (t : Trial A K) → IsFair s t → NoChange s (Resume c) (tried_again c w t)
+    again (Done u flow reply) fair r = absurd (replied u flow reply fair r)
+    again (Wait u flow taken) fair r = absurd (cc)
+
+  interrupted-unchanged : (s : Core A K) (c : ℕ) (w : Option (Waiting A K)) → NoChange s (Interrupt c) (interrupted s c w)
+  interrupted-unchanged s c None r = (refl, refl)
+  interrupted-unchanged s c (Some w) r = absurd (counted (nat_lt 0 w.taken) r) where
+    counted : (b : Bool) → is_refused {A = A} (Interrupt c) (cond b (count w.taken) (Fault EINTR)) ≡ true → ⊥
+    counted true r = cc
+    counted false r = cc
+
+  started-unchanged : (s : Core A K) (pid : Option ℕ) → NoChange s Start (started s pid)
+  started-unchanged s None r = (refl, refl)
+  started-unchanged s (Some pid) r = absurd (cc)
+
+  happen-unchanged : (new : NewKeys K) (s : Core A K) (x : Step A) → NoChange s x (drawn new (happen s x))
+  unfolding happen LeadsTo
+  happen-unchanged new s Start r = started-unchanged s (lowest_pid s) r
+  happen-unchanged new s (Begin pid call) r = there (s.processes pid) r where
+    drawn-unchanged : (b : Begins A K) → LeadsTo new (IsPlainBegun s) b → NoChange s (Begin pid call) (drawn new (drawing_map (begun s pid call) b))
+    drawn-unchanged (Plain b) plain r = begun-unchanged s pid call b plain r
+    drawn-unchanged (Draws f) plain r = begun-unchanged s pid call (f new) plain r
+
+    there : (b : Bool) → NoChange s (Begin pid call) (drawn new (cond b (drawing_map (begun s pid call) (begin s pid call)) (Plain (stepped s NoProcess))))
+    there true r = drawn-unchanged (begin s pid call) (begin-plain new s pid call) r
+    there false r = (refl, refl)
+  happen-unchanged new s (Resume c) r = resumed-unchanged s c (get nat_eq s.parked c) r
+  happen-unchanged new s (Interrupt c) r = interrupted-unchanged s c (get nat_eq s.parked c) r
+
+module _ {A : Type 0} (s : State A) (x : Step A) (settled : IsSettled s.core) where
+  ended-unchanged : (d : Drawing numbers (Stepped A numbers)) → NoChange s.core x (drawn (next_numbers s) d) → NoChange s.core x (drawn (next_numbers s) (drawing_map (ended s.core) d))
+  ended-unchanged (Plain h) n r = (ap (settle s.core) (n r).0 ∙ settled, (n r).1)
+  ended-unchanged (Draws f) n r = (ap (settle s.core) (n r).0 ∙ settled, (n r).1)
+
+  of_step-unchanged : (d : Drawing numbers (Stepped A numbers)) → NoChange s.core x (drawn (next_numbers s) d) → is_refused x (step_of s d).reply ≡ true → ((step_of s d).state.core ≡ s.core) × ((step_of s d).flow ≡ still)
+  of_step-unchanged (Plain h) n = n
+  of_step-unchanged (Draws f) n = n
+
+  pub refused-unchanged : is_refused x (step s x).reply ≡ true → ((step s x).state.core ≡ s.core) × ((step s x).flow ≡ still)
+  unfolding step core_step
+  refused-unchanged = of_step-unchanged (core_step s.core x) (ended-unchanged (happen s.core x) (happen-unchanged (next_numbers s) s.core x))

@@ -1,0 +1,5 @@
+use Rattle.pl_model.proofs.Simulates.{below_step}
+use Rattle.pl_model.proofs.laws.counters.Goals as goal
+
+pub returns : goal.returns
+returns g c = below_step

@@ -1,0 +1,8 @@
+use Rattle.pl_model.proofs.StreamRuns.{stream-step, stream-run}
+use Rattle.pl_model.proofs.laws.stream.Goals as goal
+
+pub returns-clause-step : goal.returns-clause-step
+returns-clause-step g c = stream-step
+
+pub returns-clause-run : goal.returns-clause-run
+returns-clause-run g c = stream-run

@@ -1,0 +1,14 @@
+use Rattle.pl_model.proofs.Examples.{script_of_bytes_before_end_of_file, empty_script, script_without_line_feed, script_of_no_process}
+use Rattle.pl_model.proofs.worked.scripts.Goals as goal
+
+pub returns-clause-bytes_before_end_of_file : goal.returns-clause-bytes_before_end_of_file
+returns-clause-bytes_before_end_of_file g c = script_of_bytes_before_end_of_file _
+
+pub returns-clause-empty : goal.returns-clause-empty
+returns-clause-empty g c = empty_script _
+
+pub returns-clause-without_line_feed : goal.returns-clause-without_line_feed
+returns-clause-without_line_feed g c = script_without_line_feed _
+
+pub returns-clause-no_process : goal.returns-clause-no_process
+returns-clause-no_process g c = script_of_no_process _

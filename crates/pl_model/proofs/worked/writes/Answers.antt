@@ -1,0 +1,5 @@
+use Rattle.pl_model.proofs.Examples.{table_of_writes}
+use Rattle.pl_model.proofs.worked.writes.Goals as goal
+
+pub returns : goal.returns
+returns c = table_of_writes

@@ -1,0 +1,85 @@
+-- What is proved of the machine itself, for any allocator type A of its calls.
+use Rattle.std.specs.Prelude.{◌≡◌, ℕ, ◌++◌, Bool, true, false, List}
+use Rattle.pl_model.specs.declared.calls.Limits.{Limits}
+use Rattle.pl_model.specs.declared.calls.Step.{Step}
+use Rattle.pl_model.specs.declared.calls.Step.TheVariants.{Start, Begin}
+use Rattle.pl_model.specs.declared.replies.Reply.{Reply}
+use Rattle.pl_model.specs.declared.replies.Reply.TheVariants.{Fault, NoProcess, NoCall, CallsSpent}
+use Rattle.pl_model.specs.State.{Core}
+use Rattle.pl_model.specs.Settle.{settle}
+use Rattle.pl_model.specs.Trial.{still}
+use Rattle.pl_model.specs.Step.{core_step}
+use Rattle.pl_model.specs.Numbered.{numbers, State, opening, step}
+use Rattle.pl_model.specs.Run.{after}
+use Rattle.pl_model.specs.Stream.{held}
+use Rattle.pl_model.specs.Streams.{added, left, added_by, left_by}
+use Rattle.pl_model.specs.Renaming.{Renamings, rename, rename_drawing}
+use Rattle.pl_model.specs.StandsFor.{StandsFor, Comes, IsBelowCounters}
+
+-- A step under other keys is the step, under other keys.
+abbrev pub CommutesWithRenaming : Type 0 → Type 0
+CommutesWithRenaming A =
+    (r : Renamings) (c : Core A numbers) (x : Step A) → core_step (rename r c) x ≡ rename_drawing r (core_step c x)
+
+-- Whichever unused keys a step took, it was answered as the flat machine answers, and what it left stands for the state
+-- that the flat machine leaves.
+abbrev pub SimulatesTheFlatMachine : Type 0 → Type 0
+SimulatesTheFlatMachine A =
+    (old new : Core A numbers) (s : State A) (x : Step A) (reply : Reply A) → StandsFor old s → Comes old (core_step old x) reply new →
+    (reply ≡ (step s x).reply) × StandsFor new (step s x).state
+
+-- nothing is left to settle
+abbrev pub IsSettled : {A : Type 0} → Core A numbers → Type 0
+IsSettled c = settle c c ≡ c
+
+-- What holds of each state that a run comes to.
+pub record IsSound {A : Type 0} (s : State A) : Type 0 where
+  -- a new number is new
+  pub below : IsBelowCounters s
+  -- so a step that changes nothing leaves the state as it was
+  pub settled : IsSettled s.core
+
+abbrev pub OpensSound : Type 0 → Type 0
+OpensSound A = (limits : Limits) → IsSound (opening {A = A} limits)
+
+abbrev pub StaysSound : Type 0 → Type 0
+StaysSound A = (s : State A) (x : Step A) → IsSound s → IsSound (step s x).state
+
+abbrev pub RunsSound : Type 0 → Type 0
+RunsSound A = (s : State A) (xs : List (Step A × Bool)) → IsSound s → IsSound (after s xs)
+
+-- Numbers stay below the counters, whether or not the state before was settled.
+abbrev pub StaysBelowCounters : Type 0 → Type 0
+StaysBelowCounters A = (s : State A) (x : Step A) → IsBelowCounters s → IsBelowCounters (step s x).state
+
+-- The end of a step leaves nothing more to settle, whatever the state before.
+abbrev pub EndsSettled : Type 0 → Type 0
+EndsSettled A = (s : State A) (x : Step A) → IsSettled (step s x).state.core
+
+-- The step was refused: by a fault where a call begins or a process starts, or because there is no such process or
+-- parked call, or no number for one more. (A fault at Resume or Interrupt ends a parked call.)
+abbrev pub is_refused : {A : Type 0} → Step A → Reply A → Bool
+is_refused x NoProcess = true
+is_refused x NoCall = true
+is_refused x CallsSpent = true
+is_refused Start (Fault errno) = true
+is_refused (Begin pid call) (Fault errno) = true
+is_refused x reply = false
+
+-- A refused step leaves the state as it was, and moves no byte.
+abbrev pub RefusesWithoutChange : Type 0 → Type 0
+RefusesWithoutChange A =
+    (s : State A) (x : Step A) → IsSettled s.core → is_refused x (step s x).reply ≡ true →
+    ((step s x).state.core ≡ s.core) × ((step s x).flow ≡ still)
+
+-- The stream law, for each pipe: what it held and what a step added is what the step took out and what it holds.
+abbrev pub KeepsTheStream : Type 0 → Type 0
+KeepsTheStream A =
+    (s : State A) (x : Step A) (p : ℕ) → IsBelowCounters s →
+    held s.core p ++ added s x p ≡ left s x p ++ held (step s x).state.core p
+
+-- The same of a whole run.
+abbrev pub RunsKeepTheStream : Type 0 → Type 0
+RunsKeepTheStream A =
+    (s : State A) (xs : List (Step A × Bool)) (p : ℕ) → IsBelowCounters s →
+    held s.core p ++ added_by s xs p ≡ left_by s xs p ++ held (after s xs).core p

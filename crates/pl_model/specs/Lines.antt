@@ -1,0 +1,90 @@
+-- What a line of a script asks (our own): one pattern for each line, over its words.
+use Rattle.std.specs.Prelude.{ℕ, ◌^◌, List, [], ◌∷◌, Bool, true, false, ◌==◌, if◌then◌else◌, Option, Some, None, codes}
+use Rattle.std.specs.Str.{bytes_eq}
+use Rattle.pl_model.specs.declared.calls.Call.{Call}
+use Rattle.pl_model.specs.declared.calls.Call.TheVariants.{Pipe, Read, Write, Close}
+use Rattle.pl_model.specs.declared.calls.Step.TheVariants.{Start, Begin, Resume, Interrupt}
+use Rattle.pl_model.specs.declared.script.Line.{Line}
+use Rattle.pl_model.specs.declared.script.Line.TheVariants.{Do}
+use Rattle.pl_model.specs.Words.{◌>>=◌, words, without_return, number, signed, bytes_of}
+
+abbrev pub is_comment : List ℕ → Bool
+is_comment [] = false
+is_comment (c ∷ cs) = c == 35
+
+module _ {A : Type 0} where
+  -- `P pipe [nonblock]`
+  unfoldable pub pipe_of : List (List ℕ) → Option (Call A)
+  pipe_of [] = Some (Pipe false)
+  pipe_of (flag ∷ []) = if bytes_eq flag (codes "nonblock") then Some (Pipe true) else None
+  pipe_of _ = None
+
+  -- `P read FD N`
+  unfoldable pub read_of : List (List ℕ) → Option (Call A)
+  read_of (fd ∷ n ∷ []) = do
+    f ← signed fd
+    k ← number (2 ^ 32) n
+    Some (Read f k)
+  read_of _ = None
+
+  -- `P write FD BYTES`
+  unfoldable pub write_of : List (List ℕ) → Option (Call A)
+  write_of (fd ∷ bytes ∷ []) = do
+    f ← signed fd
+    b ← bytes_of bytes
+    Some (Write f b)
+  write_of _ = None
+
+  -- `P close FD`
+  unfoldable pub close_of : List (List ℕ) → Option (Call A)
+  close_of (fd ∷ []) = signed fd >>= λ f. Some (Close f)
+  close_of _ = None
+
+  -- the name of a call, and the words after it
+  unfoldable pub call_of : List ℕ → List (List ℕ) → Option (Call A)
+  call_of name rest =
+      if bytes_eq name (codes "pipe") then pipe_of rest
+      else if bytes_eq name (codes "read") then read_of rest
+      else if bytes_eq name (codes "write") then write_of rest
+      else if bytes_eq name (codes "close") then close_of rest
+      else None
+
+  -- `start`
+  unfoldable pub start_of : List (List ℕ) → Option (Line A)
+  start_of [] = Some (Do Start)
+  start_of _ = None
+
+  -- `resume C`
+  unfoldable pub resume_of : List (List ℕ) → Option (Line A)
+  resume_of (c ∷ []) = number (2 ^ 64) c >>= λ n. Some (Do (Resume n))
+  resume_of _ = None
+
+  -- `interrupt C`
+  unfoldable pub interrupt_of : List (List ℕ) → Option (Line A)
+  interrupt_of (c ∷ []) = number (2 ^ 64) c >>= λ n. Some (Do (Interrupt n))
+  interrupt_of _ = None
+
+  -- `P CALL ..`, the process of pid P begins a call
+  unfoldable pub begin_of : List ℕ → List (List ℕ) → Option (Line A)
+  begin_of pid (name ∷ rest) = do
+    p ← number (2 ^ 32) pid
+    c ← call_of name rest
+    Some (Do (Begin p c))
+  begin_of pid [] = None
+
+  -- the first word of a line, and the words after it
+  unfoldable pub words_line : List ℕ → List (List ℕ) → Option (Line A)
+  words_line word rest =
+      if bytes_eq word (codes "start") then start_of rest
+      else if bytes_eq word (codes "resume") then resume_of rest
+      else if bytes_eq word (codes "interrupt") then interrupt_of rest
+      else begin_of word rest
+
+  -- a line without words, and a comment, ask nothing
+  unfoldable pub line_of_words : List (List ℕ) → Option (Option (Line A))
+  line_of_words [] = Some None
+  line_of_words (word ∷ rest) = if is_comment word then Some None else (words_line word rest >>= λ asked. Some (Some asked))
+
+  -- What a line asks: `None` is a bad line, `Some None` one that asks nothing.
+  unfoldable pub line : List ℕ → Option (Option (Line A))
+  line bytes = line_of_words (words (without_return bytes))

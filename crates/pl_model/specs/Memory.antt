@@ -1,0 +1,31 @@
+-- Which steps never want for memory (our own).
+use Rattle.std.specs.Prelude.{Bool, true, false, ◌||◌}
+use Rattle.pl_model.specs.declared.calls.Call.{Call}
+use Rattle.pl_model.specs.declared.calls.Step.{Step}
+use Rattle.pl_model.specs.declared.calls.Step.TheVariants.{Begin, Interrupt}
+use Rattle.pl_model.specs.declared.replies.Reply.{Reply}
+use Rattle.pl_model.specs.declared.replies.Reply.TheVariants.{Fault, NoProcess, NoCall, CallsSpent}
+use Rattle.pl_model.specs.Numbered.{State, step}
+
+module _ {A : Type 0} where
+  -- a reply that says no
+  abbrev pub is_refusal : Reply A → Bool
+  is_refusal (Fault errno) = true
+  is_refusal NoProcess = true
+  is_refusal NoCall = true
+  is_refusal CallsSpent = true
+  is_refusal reply = false
+
+  -- a call that takes no memory, whatever it answers
+  abbrev pub is_frugal_call : Call A → Bool
+  is_frugal_call (Call.Close fd) = true
+  is_frugal_call call = false
+
+  abbrev pub is_frugal : Step A → Bool
+  is_frugal (Begin pid call) = is_frugal_call call
+  is_frugal (Interrupt c) = true
+  is_frugal x = false
+
+  -- Want of memory is tested last: a step that is refused wants none.
+  abbrev pub never_wants_memory : State A → Step A → Bool
+  never_wants_memory s x = is_frugal x || is_refusal (step s x).reply

@@ -1,0 +1,41 @@
+-- The numbers of the layer.
+use Rattle.std.specs.Prelude.{ℕ, zero, suc, ◌+◌, Bool, true, false, List, [], ◌∷◌, Option}
+use Rattle.std.specs.declared.option.Option.TheVariants.{None, Some}
+
+-- POSIX.1-2017, limits.h, and pipe(7): a write of at most PIPE_BUF bytes goes in whole.
+abbrev pub pipe_buf : ℕ
+pipe_buf = 4096
+
+-- pipe(7), Pipe capacity: the bytes that a new pipe can hold.
+abbrev pub first_capacity : ℕ
+first_capacity = 65536
+
+-- POSIX.1-2017, limits.h, OPEN_MAX: the descriptors of a process, numbered from 0.
+abbrev pub open_max : ℕ
+open_max = 256
+
+-- Our own: the descriptions that are live at one time.
+abbrev pub most_descriptions : ℕ
+most_descriptions = 4096
+
+-- Our own: the processes at one time, with pids from 1 on.
+abbrev pub most_processes : ℕ
+most_processes = 1024
+
+-- Our own: the bytes of one write.
+abbrev pub most_bytes : ℕ
+most_bytes = 16777216
+
+-- Our own: parked calls have numbers below this one, the greatest of 64 bits.
+abbrev pub last_call : ℕ
+last_call = 18446744073709551615
+
+-- the first of the n numbers from k on that passes the test
+unfoldable pub first_from : (ℕ → Bool) → ℕ → ℕ → Option ℕ
+first_from test zero k = None
+first_from test (suc n) k = elim (test k) [ true ↦ Some k | false ↦ first_from test n (k + 1) ]
+
+-- the n numbers from k on
+unfoldable pub numbers_from : ℕ → ℕ → List ℕ
+numbers_from zero k = []
+numbers_from (suc n) k = k ∷ numbers_from n (k + 1)

@@ -1,0 +1,25 @@
+-- Whole runs.
+use Rattle.std.specs.Prelude.{Bool, true, false, List, [], ◌∷◌}
+use Rattle.pl_model.specs.declared.calls.Step.{Step}
+use Rattle.pl_model.specs.declared.replies.Reply.{Reply}
+use Rattle.pl_model.specs.declared.replies.Outcome.{Outcome}
+use Rattle.pl_model.specs.declared.replies.Outcome.TheVariants.{Replied, NoMemory}
+use Rattle.pl_model.specs.Numbered.{State, step}
+
+module _ {A : Type 0} where
+  -- The state after the steps. A step with a mark found no memory, and is passed over.
+  abbrev pub after : State A → List (Step A × Bool) → State A
+  after s [] = s
+  after s ((x, true) ∷ xs) = after s xs
+  after s ((x, false) ∷ xs) = after (step s x).state xs
+
+  -- what becomes of each step
+  abbrev pub outcomes : State A → List (Step A × Bool) → List (Outcome A)
+  outcomes s [] = []
+  outcomes s ((x, true) ∷ xs) = NoMemory ∷ outcomes s xs
+  outcomes s ((x, false) ∷ xs) = Replied (step s x).reply ∷ outcomes (step s x).state xs
+
+  -- the replies to steps of which none wanted memory
+  abbrev pub replies : State A → List (Step A) → List (Reply A)
+  replies s [] = []
+  replies s (x ∷ xs) = (step s x).reply ∷ replies (step s x).state xs

@@ -1,0 +1,60 @@
+-- The text of a reply (our own).
+use Rattle.std.specs.Prelude.{ℕ, ◌/◌, ◌%◌, List, [], ◌∷◌, ◌++◌, true, false, codes, slice_index}
+use Rattle.std.specs.Fmt.{decimal, signed_decimal}
+use Rattle.pl_model.specs.declared.replies.Errno.{Errno}
+use Rattle.pl_model.specs.declared.replies.Errno.TheVariants.{EAGAIN, EBADF, EBUSY, EEXIST, EFBIG, EINTR, EINVAL, EMFILE, ENAMETOOLONG, ENFILE, ENOENT, ENXIO, EOVERFLOW, EPERM, EPIPE, ESPIPE}
+use Rattle.pl_model.specs.declared.replies.Reply.{Reply}
+use Rattle.pl_model.specs.declared.replies.Reply.TheVariants.{Pid, Fds, Count, Bytes, Unit, Fault, Parked, NoProcess, NoCall, CallsSpent}
+use Rattle.pl_model.specs.declared.replies.Outcome.{Outcome}
+use Rattle.pl_model.specs.declared.replies.Outcome.TheVariants.{Replied, NoMemory}
+
+abbrev pub lower_digits : List ℕ
+lower_digits = codes "0123456789abcdef"
+
+-- two digits for each byte
+unfoldable pub hex_text : List ℕ → List ℕ
+hex_text [] = []
+hex_text (b ∷ bytes) = slice_index lower_digits (b / 16) ∷ slice_index lower_digits (b % 16) ∷ hex_text bytes
+
+-- digits, or `-` for no bytes
+unfoldable pub bytes_text : List ℕ → List ℕ
+bytes_text [] = codes "-"
+bytes_text (b ∷ bytes) = hex_text (b ∷ bytes)
+
+-- The name of an error. POSIX.1-2017, write, EPIPE: it comes with the signal SIGPIPE.
+abbrev pub errno_text : Errno → List ℕ
+errno_text EAGAIN = codes "EAGAIN"
+errno_text EBADF = codes "EBADF"
+errno_text EBUSY = codes "EBUSY"
+errno_text EEXIST = codes "EEXIST"
+errno_text EFBIG = codes "EFBIG"
+errno_text EINTR = codes "EINTR"
+errno_text EINVAL = codes "EINVAL"
+errno_text EMFILE = codes "EMFILE"
+errno_text ENAMETOOLONG = codes "ENAMETOOLONG"
+errno_text ENFILE = codes "ENFILE"
+errno_text ENOENT = codes "ENOENT"
+errno_text ENXIO = codes "ENXIO"
+errno_text EOVERFLOW = codes "EOVERFLOW"
+errno_text EPERM = codes "EPERM"
+errno_text EPIPE = codes "EPIPE sigpipe"
+errno_text ESPIPE = codes "ESPIPE"
+
+module _ {A : Type 0} where
+  -- the line of a reply, without its line feed
+  unfoldable pub reply_text : Reply A → List ℕ
+  reply_text (Pid n) = codes "pid " ++ decimal n
+  reply_text (Fds a b) = codes "fds " ++ (signed_decimal a ++ (codes " " ++ signed_decimal b))
+  reply_text (Count n false) = codes "count " ++ decimal n
+  reply_text (Count n true) = codes "count " ++ (decimal n ++ codes " sigpipe")
+  reply_text (Bytes bytes) = codes "data " ++ bytes_text bytes
+  reply_text Unit = codes "ok"
+  reply_text (Fault errno) = errno_text errno
+  reply_text (Parked c) = codes "parked " ++ decimal c
+  reply_text NoProcess = codes "no process"
+  reply_text NoCall = codes "no call"
+  reply_text CallsSpent = codes "calls spent"
+
+  unfoldable pub outcome_text : Outcome A → List ℕ
+  outcome_text (Replied reply) = reply_text reply
+  outcome_text NoMemory = codes "nomem"

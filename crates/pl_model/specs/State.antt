@@ -1,0 +1,96 @@
+-- What the machine holds.
+use Rattle.std.specs.Prelude.{ℕ, ℤ, pos, negsuc, Bool, false, List, [], nat_eq, nat_lt, ◌&&◌, Option, option_map, if◌then◌else◌}
+use Rattle.std.specs.declared.option.Option.TheVariants.{None, Some}
+use Rattle.pl_model.specs.declared.calls.Mode.{Mode}
+use Rattle.pl_model.specs.declared.calls.Call.{Call}
+use Rattle.pl_model.specs.declared.calls.Limits.{Limits}
+use Rattle.pl_model.specs.declared.flags.OpenFlags.{OpenFlags}
+use Rattle.pl_model.specs.Numbers.{first_capacity, open_max, last_call}
+use Rattle.pl_model.specs.Keys.{Keys, Node}
+use Rattle.pl_model.specs.Map.{Map, set_at}
+
+-- POSIX.1-2017, Open File Description: how a file is accessed, shared by all descriptors that name it.
+pub record Description (K : Keys) : Type 0 where
+  pub node : Node K
+  pub mode : Mode
+  pub flags : OpenFlags
+  pub offset : ℕ
+
+-- a description with its key
+pub record Open (K : Keys) : Type 0 where
+  pub key : K.Description
+  pub description : Description K
+
+-- POSIX.1-2017, Pipe: bytes that come out in the order in which they went in. A pipe is hung once its last writer left
+-- while a reader stayed.
+pub record Pipe : Type 0 where
+  pub bytes : List ℕ
+  pub capacity : ℕ
+  pub hung : Bool
+
+-- A call that waits, with the descriptions that it found open, the bytes that a write took, and whether an open met its
+-- other end.
+pub record Waiting (A : Type 0) (K : Keys) : Type 0 where
+  pub pid : ℕ
+  pub call : Call A
+  pub kept : List K.Description
+  pub taken : ℕ
+  pub met : Bool
+
+-- All that the machine holds, under some keys: the processes by pid, the row of a pid and a descriptor, what stands under
+-- each key, the names of files and FIFOs, the parked calls by number, and the number of the next one.
+pub record Core (A : Type 0) (K : Keys) : Type 0 where
+  pub processes : ℕ → Bool
+  pub rows : ℕ → ℕ → Option K.Description
+  pub descriptions : K.Description → Option (Description K)
+  pub pipes : K.Pipe → Option Pipe
+  pub files : K.File → Option (List ℕ)
+  pub names : Map (List ℕ) (Node K)
+  pub parked : Map ℕ (Waiting A K)
+  pub next_call : ℕ
+  pub limits : Limits
+
+-- POSIX.1-2017, pipe: a new pipe holds nothing.
+abbrev pub empty_pipe : Pipe
+empty_pipe = record { bytes = []; capacity = first_capacity; hung = false }
+
+-- The number of the first parked call. No call can be parked yet, so it is the one that is never given.
+abbrev pub first_number : Limits → ℕ
+first_number limits = last_call
+
+module _ {A : Type 0} {K : Keys} where
+  -- nothing has happened yet
+  abbrev pub opening_core : Limits → Core A K
+  opening_core limits =
+      record {
+        processes = λ pid. false;
+        rows = λ pid fd. None;
+        descriptions = λ d. None;
+        pipes = λ p. None;
+        files = λ f. None;
+        names = [];
+        parked = [];
+        next_call = first_number limits;
+        limits = limits;
+      }
+
+  -- POSIX.1-2017, File Descriptor: what a descriptor names. One outside 0 to 255 names nothing.
+  abbrev pub row : Core A K → ℕ → ℤ → Option K.Description
+  row s pid (pos fd) = if nat_lt fd open_max then s.rows pid fd else None
+  row s pid (negsuc n) = None
+
+  -- the description under a key
+  abbrev pub described : Core A K → K.Description → Option (Open K)
+  described s d = option_map (λ x. record { key = d; description = x }) (s.descriptions d)
+
+  abbrev pub set_row : Core A K → ℕ → ℕ → Option K.Description → Core A K
+  set_row s pid fd d = record s { rows = λ q k. if nat_eq q pid && nat_eq k fd then d else s.rows q k }
+
+  abbrev pub set_pipe : Core A K → K.Pipe → Pipe → Core A K
+  set_pipe s p pipe = record s { pipes = set_at K.same_pipe s.pipes p (Some pipe) }
+
+  abbrev pub set_file : Core A K → K.File → List ℕ → Core A K
+  set_file s f bytes = record s { files = set_at K.same_file s.files f (Some bytes) }
+
+  abbrev pub set_description : Core A K → K.Description → Description K → Core A K
+  set_description s d description = record s { descriptions = set_at K.same_description s.descriptions d (Some description) }

@@ -1,0 +1,34 @@
+-- The tables of descriptors, and the processes.
+use Rattle.std.specs.Prelude.{ℕ, ◌-◌, true, not, nat_eq, Option, is_none}
+use Rattle.std.specs.declared.option.Option.TheVariants.{None, Some}
+use Rattle.pl_model.specs.declared.calls.Mode.{Mode}
+use Rattle.pl_model.specs.declared.flags.OpenFlags.{OpenFlags}
+use Rattle.pl_model.specs.Numbers.{open_max, most_processes, first_from}
+use Rattle.pl_model.specs.Map.{set_at}
+use Rattle.pl_model.specs.Keys.{Keys, Node}
+use Rattle.pl_model.specs.State.{Core, set_row, set_description}
+
+module _ {A : Type 0} {K : Keys} where
+  -- POSIX.1-2017, File Descriptor Allocation: the least free descriptor of the process, from `least` on.
+  unfoldable pub lowest : Core A K → ℕ → ℕ → Option ℕ
+  lowest s pid least = first_from (λ fd. is_none (s.rows pid fd)) (open_max - least) least
+
+  -- Our own: the least free pid.
+  unfoldable pub lowest_pid : Core A K → Option ℕ
+  lowest_pid s = first_from (λ pid. not (s.processes pid)) most_processes 1
+
+  -- the descriptor names the description
+  abbrev pub install : Core A K → ℕ → ℕ → K.Description → Core A K
+  install s pid fd d = set_row s pid fd (Some d)
+
+  -- POSIX.1-2017, close: the descriptor names nothing.
+  abbrev pub close_row : Core A K → ℕ → ℕ → Core A K
+  close_row s pid fd = set_row s pid fd None
+
+  -- a new description, under a new key
+  abbrev pub describe : Core A K → K.Description → Node K → Mode → OpenFlags → Core A K
+  describe s d node mode flags = set_description s d (record { node = node; mode = mode; flags = flags; offset = 0 })
+
+  -- Our own: a process that starts has no open descriptor.
+  abbrev pub start : Core A K → ℕ → Core A K
+  start s pid = record s { processes = set_at nat_eq s.processes pid true }

@@ -1,0 +1,95 @@
+-- The words of a line, and what each kind of word says.
+use Rattle.std.specs.Prelude.{ℕ, ◌+◌, ◌-◌, ◌*◌, ◌^◌, List, [], ◌∷◌, length, slice_index, take, replicate, Bool, true, false, nat_lt, nat_le, ◌==◌, ◌||◌, ◌&&◌, if◌then◌else◌, ℤ, pos, neg_ℤ, Option, Some, None, option_and_then, codes, filter}
+use Rattle.std.specs.List.{slice_split, list_all, before_first, after_first, position_or_len}
+use Rattle.std.specs.Str.{bytes_eq}
+use Rattle.std.specs.Str.Parse.{digits_value}
+use Rattle.pl_model.specs.Numbers.{most_bytes}
+
+-- what the second says of what the first gives, if it gives anything
+infixl 10 ◌>>=◌
+abbrev pub ◌>>=◌ : {A B : Type 0} → Option A → (A → Option B) → Option B
+o >>= f = option_and_then f o
+
+-- a space or a tab
+abbrev pub is_blank : ℕ → Bool
+is_blank c = c == 32 || c == 9
+
+abbrev pub is_nonempty : List ℕ → Bool
+is_nonempty [] = false
+is_nonempty (c ∷ cs) = true
+
+-- the words between the blanks
+unfoldable pub words : List ℕ → List (List ℕ)
+words line = filter is_nonempty (slice_split is_blank line)
+
+-- a line without the carriage return that ends it
+unfoldable pub without_return : List ℕ → List ℕ
+without_return line =
+    if nat_lt 0 (length line) && slice_index line (length line - 1) == 13 then take (length line - 1) line else line
+
+abbrev pub is_digit : ℕ → Bool
+is_digit c = nat_le 48 c && nat_le c 57
+
+-- 1 to 20 decimal digits, with a value below the limit
+unfoldable pub number : ℕ → List ℕ → Option ℕ
+number limit word =
+    if list_all is_digit word && (nat_le 1 (length word) && (nat_le (length word) 20 && nat_lt (digits_value 10 word) limit))
+    then Some (digits_value 10 word) else None
+
+-- FD: a number that fits 32 bits with a sign, after one `-` or none
+unfoldable pub signed : List ℕ → Option ℤ
+signed [] = None
+signed (c ∷ digits) =
+    if c == 45 then (number (2 ^ 31 + 1) digits >>= λ n. Some (neg_ℤ (pos n)))
+    else (number (2 ^ 31) (c ∷ digits) >>= λ n. Some (pos n))
+
+-- a hexadecimal digit of either case
+abbrev pub hex_digit : ℕ → Option ℕ
+hex_digit c =
+    if nat_le 65 c && nat_le c 70 then Some (c - 55)
+    else if nat_le 97 c && nat_le c 102 then Some (c - 87)
+    else if nat_le 48 c && nat_le c 57 then Some (c - 48)
+    else None
+
+abbrev pub hex_byte : ℕ → ℕ → Option ℕ
+hex_byte high low = do
+  h ← hex_digit high
+  l ← hex_digit low
+  Some (h * 16 + l)
+
+-- an even number of hexadecimal digits
+unfoldable pub hex_bytes : List ℕ → Option (List ℕ)
+hex_bytes [] = Some []
+hex_bytes (c ∷ []) = None
+hex_bytes (high ∷ low ∷ rest) = do
+  b ← hex_byte high low
+  bs ← hex_bytes rest
+  Some (b ∷ bs)
+
+-- the one byte of two digits
+abbrev pub one_byte : List ℕ → Option ℕ
+one_byte (high ∷ low ∷ []) = hex_byte high low
+one_byte _ = None
+
+abbrev pub is_star : ℕ → Bool
+is_star c = c == 42
+
+-- `N*hh`: N times the byte hh
+unfoldable pub repeated : List ℕ → List ℕ → Option (List ℕ)
+repeated times digits = do
+  n ← number (most_bytes + 1) times
+  b ← one_byte digits
+  Some (replicate n b)
+
+-- an even and positive number of digits, or `N*hh`
+unfoldable pub digits_or_repeated : List ℕ → Option (List ℕ)
+digits_or_repeated word =
+    if nat_lt (position_or_len is_star word) (length word) then repeated (before_first is_star word) (after_first is_star word)
+    else if nat_lt 0 (length word) then hex_bytes word
+    else None
+
+-- BYTES: `-` for none, or digits, or `N*hh`; not more than one write takes
+unfoldable pub bytes_of : List ℕ → Option (List ℕ)
+bytes_of word =
+    if bytes_eq word (codes "-") then Some []
+    else (digits_or_repeated word >>= λ bytes. if nat_le (length bytes) most_bytes then Some bytes else None)

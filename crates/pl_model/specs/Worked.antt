@@ -1,0 +1,114 @@
+-- What the definitions answer in small examples, for any limits.
+use Rattle.std.specs.Prelude.{◌≡◌, ℕ, pos, List, [], ◌∷◌, ◌++◌, true, false, replicate, codes}
+use Rattle.std.specs.List.{flat_map}
+use Rattle.pl_model.specs.declared.calls.Call.{Call}
+use Rattle.pl_model.specs.declared.calls.Limits.{Limits}
+use Rattle.pl_model.specs.declared.calls.Step.{Step}
+use Rattle.pl_model.specs.declared.calls.Step.TheVariants.{Start, Begin}
+use Rattle.pl_model.specs.declared.cases.WriteCase.{WriteCase}
+use Rattle.pl_model.specs.declared.replies.Reply.{Reply}
+use Rattle.pl_model.specs.declared.replies.Reply.TheVariants.{Pid, Fds, Count, Bytes, Unit, Fault}
+use Rattle.pl_model.specs.declared.replies.Errno.TheVariants.{EAGAIN, EPIPE}
+use Rattle.pl_model.specs.Transfer.{write_case}
+use Rattle.pl_model.specs.Numbered.{opening}
+use Rattle.pl_model.specs.Run.{replies}
+use Rattle.pl_model.specs.Script.{output}
+
+module _ {A : Type 0} where
+  -- what the process of pid 1 does
+  abbrev pub pipe : Step A
+  pipe = Begin 1 (Call.Pipe false)
+
+  abbrev pub pipe_nonblock : Step A
+  pipe_nonblock = Begin 1 (Call.Pipe true)
+
+  abbrev pub read : ℕ → ℕ → Step A
+  read fd n = Begin 1 (Call.Read (pos fd) n)
+
+  abbrev pub write : ℕ → List ℕ → Step A
+  write fd bytes = Begin 1 (Call.Write (pos fd) bytes)
+
+  abbrev pub close : ℕ → Step A
+  close fd = Begin 1 (Call.Close (pos fd))
+
+  -- end of file, or a read of 0 bytes
+  abbrev pub no_bytes : Reply A
+  no_bytes = Bytes []
+
+-- after a new kernel's first step, which starts the process of pid 1, these steps have these replies
+abbrev pub Answers : (A : Type 0) → List (Step A) → List (Reply A) → Type 0
+Answers A steps wanted = (limits : Limits) → replies (opening {A = A} limits) (Start ∷ steps) ≡ Pid 1 ∷ wanted
+
+abbrev pub BytesBeforeEndOfFile : Type 0 → Type 0
+BytesBeforeEndOfFile A =
+    Answers A
+    (pipe ∷ write 1 (codes "hello") ∷ read 0 3 ∷ read 0 10 ∷ close 1 ∷ read 0 10 ∷ [])
+    (Fds (pos 0) (pos 1) ∷ Count 5 false ∷ Bytes (codes "hel") ∷ Bytes (codes "lo") ∷ Unit ∷ no_bytes ∷ [])
+
+abbrev pub PartialAndWholeNotWaiting : Type 0 → Type 0
+PartialAndWholeNotWaiting A =
+    Answers A
+    (pipe_nonblock ∷ read 0 1 ∷ write 1 (replicate 70000 97) ∷ read 0 5000 ∷ write 1 (replicate 70000 98) ∷ write 1 (99 ∷ []) ∷ [])
+    (Fds (pos 0) (pos 1) ∷ Fault EAGAIN ∷ Count 65536 false ∷ Bytes (replicate 5000 97) ∷ Count 5000 false ∷ Fault EAGAIN ∷ [])
+
+-- a read of 0 bytes answers none and takes none, also from a pipe without writers
+abbrev pub ReadOfNothing : Type 0 → Type 0
+ReadOfNothing A =
+    Answers A
+    (pipe ∷ read 0 0 ∷ write 1 (codes "a") ∷ read 0 0 ∷ close 1 ∷ read 0 0 ∷ read 0 1 ∷ [])
+    (Fds (pos 0) (pos 1) ∷ no_bytes ∷ Count 1 false ∷ no_bytes ∷ Unit ∷ no_bytes ∷ Bytes (codes "a") ∷ [])
+
+-- a write of 0 bytes answers 0, also without readers, where a write of one byte is refused
+abbrev pub WriteOfNothing : Type 0 → Type 0
+WriteOfNothing A =
+    Answers A
+    (pipe ∷ write 1 [] ∷ close 0 ∷ write 1 [] ∷ write 1 (codes "a") ∷ [])
+    (Fds (pos 0) (pos 1) ∷ Count 0 false ∷ Unit ∷ Count 0 false ∷ Fault EPIPE ∷ [])
+
+-- the bytes that are held as the last writer closes are read, and then the file ends
+abbrev pub LastWriterCloses : Type 0 → Type 0
+LastWriterCloses A =
+    Answers A
+    (pipe ∷ write 1 (codes "ab") ∷ close 1 ∷ read 0 1 ∷ read 0 9 ∷ read 0 9 ∷ [])
+    (Fds (pos 0) (pos 1) ∷ Count 2 false ∷ Unit ∷ Bytes (codes "a") ∷ Bytes (codes "b") ∷ no_bytes ∷ [])
+
+-- The table of writes, a line for each row of it.
+pub record TableOfWrites : Type 0 where
+  -- no reader is left, nothing was taken, and then 65,536 bytes
+  pub broken : write_case 5 0 65536 false true ≡ WriteCase.Broken
+  pub cut_short : write_case 70000 65536 0 false true ≡ WriteCase.CutShort
+  -- at most 4,096 bytes go in whole or not at all
+  pub whole : write_case 4096 0 4096 true false ≡ WriteCase.Ends 0 4096
+  pub not_torn : write_case 4096 0 4095 true true ≡ WriteCase.Waits 0 0
+  -- more that may not wait go in as far as there is room
+  pub partial : write_case 70000 0 5000 true false ≡ WriteCase.Ends 0 5000
+  pub full : write_case 70000 0 0 true false ≡ WriteCase.Waits 0 0
+  -- more that may wait go in by turns
+  pub rest : write_case 70000 65536 4464 true true ≡ WriteCase.Ends 65536 70000
+  pub filled : write_case 70000 65536 4463 true true ≡ WriteCase.Waits 65536 69999
+
+-- the text, a line feed after each line
+abbrev pub text : List (List ℕ) → List ℕ
+text ls = flat_map (λ l. l ++ 10 ∷ []) ls
+
+-- a script, and what it prints where no step wants for memory
+abbrev pub Prints : (A : Type 0) → List ℕ → ℕ → List (List ℕ) → Type 0
+Prints A script steps wanted = (limits : Limits) → output A script limits (replicate steps false) ≡ text wanted
+
+abbrev pub ScriptOfBytesBeforeEndOfFile : Type 0 → Type 0
+ScriptOfBytesBeforeEndOfFile A =
+    Prints A
+    (text (
+    codes "start" ∷ codes "1 pipe" ∷ codes "1 write 1 68656c6c6f" ∷ codes "1 read 0 3" ∷ codes "1 read 0 10" ∷ codes "1 close 1"
+    ∷ codes "1 read 0 10" ∷ []))
+    7
+    (codes "pid 1" ∷ codes "fds 0 1" ∷ codes "count 5" ∷ codes "data 68656c" ∷ codes "data 6c6f" ∷ codes "ok" ∷ codes "data -" ∷ [])
+
+abbrev pub EmptyScript : Type 0 → Type 0
+EmptyScript A = Prints A [] 0 []
+
+abbrev pub ScriptWithoutLineFeed : Type 0 → Type 0
+ScriptWithoutLineFeed A = Prints A (codes "start") 1 (codes "pid 1" ∷ [])
+
+abbrev pub ScriptOfNoProcess : Type 0 → Type 0
+ScriptOfNoProcess A = Prints A (text (codes "start" ∷ codes "7 pipe" ∷ [])) 2 (codes "pid 1" ∷ codes "no process" ∷ [])

@@ -1,0 +1,50 @@
+//! What a step asks for.
+use crate::bytes::Bytes8;
+use std::alloc::{Allocator, Global};
+
+/// What an open file description may be used for (POSIX.1-2017, open).
+#[derive(Clone, Copy, Debug, PartialEq, Eq)]
+pub enum Mode {
+    /// Reading alone, as the read end of a pipe.
+    Read,
+    /// Writing alone, as the write end of a pipe.
+    Write,
+    /// Reading and writing.
+    Both,
+}
+
+/// The two limits that are chosen when a kernel is made.
+#[derive(Clone, Copy, Debug, PartialEq, Eq)]
+pub struct Limits {
+    /// The number of the first parked call.
+    pub first_call: u64,
+    /// The most bytes of a regular file, at most 16,777,216.
+    pub file_max: u32,
+}
+
+/// A call of a process. A descriptor is any `i32`; one outside 0 to 255 isn't open.
+#[derive(Drop, Debug, PartialEq)]
+pub enum Call<A: Allocator = Global> {
+    /// Makes a pipe, its read end and its write end (POSIX.1-2017, pipe). With `nonblock` both ends have `NONBLOCK`,
+    /// as by Linux's pipe2(2) with `O_NONBLOCK`.
+    Pipe { nonblock: bool },
+    /// Reads at most `n` bytes (POSIX.1-2017, read).
+    Read { fd: i32, n: u32 },
+    /// Writes the bytes (POSIX.1-2017, write).
+    Write { fd: i32, bytes: Bytes8<A> },
+    /// Closes a descriptor (POSIX.1-2017, close).
+    Close { fd: i32 },
+}
+
+/// One event. What the processes do, in which order, is a list of steps.
+#[derive(Drop, Debug, PartialEq)]
+pub enum Step<A: Allocator = Global> {
+    /// Starts a process with no open descriptor.
+    Start,
+    /// The process of this pid begins a call.
+    Begin(u32, Call<A>),
+    /// Tries the parked call of this number again.
+    Resume(u64),
+    /// Ends the parked call of this number, as a signal does (POSIX.1-2017, Interrupted functions: `EINTR`).
+    Interrupt(u64),
+}

@@ -1,0 +1,40 @@
+//! Flags, each set of them a number whose bits are the flags that are set.
+ghost use Rattle.std.specs.Prelude.{⊤, [], ◌∷◌, codes};
+
+use bitflags::{Flag, Flags, bitflag_items};
+
+/// How a file is opened, and the status flags of an open file description (POSIX.1-2017, open). The bits are our own.
+#[derive(Clone, Copy, Debug, PartialEq, Eq)]
+pub struct OpenFlags(u8);
+
+bitflag_items! {
+    impl OpenFlags: u8 {
+        const CREAT = 1;
+        const EXCL = 2;
+        const TRUNC = 4;
+        const APPEND = 8;
+        const NONBLOCK = 16;
+    }
+}
+
+impl Flags for OpenFlags {
+    type Bits = u8;
+
+    ghost exact = { ⊤ };
+
+    ghost table = { (codes "CREAT", 1) ∷ (codes "EXCL", 2) ∷ (codes "TRUNC", 4) ∷ (codes "APPEND", 8) ∷ (codes "NONBLOCK", 16) ∷ [] };
+
+    ghost set_of = { λ f. f.0 };
+
+    fn flags<'a>() -> &'a [Flag<OpenFlags>] {
+        OpenFlags::FLAGS
+    }
+
+    fn bits(&self) -> u8 {
+        self.0
+    }
+
+    fn from_bits_retain(bits: u8) -> OpenFlags {
+        OpenFlags(bits)
+    }
+}

@@ -1,0 +1,22 @@
+//! The plain types of the pipe layer, and the definitions that say what it does.
+//!
+//! The types are here in `src/`. The definitions, which the contracts of all crates cite, are in `specs/`: a machine
+//! whose pipes are flat byte queues and whose ends are open because something names them. `laws` has what is proved of
+//! the machine itself, and `worked` what it answers in the worked examples.
+#![tactic(auto)]
+
+pub mod bytes;
+pub mod calls;
+pub mod cases;
+pub mod flags;
+pub mod laws;
+pub mod replies;
+pub mod script;
+pub mod worked;
+
+pub use bytes::Bytes8;
+pub use calls::{Call, Limits, Mode, Step};
+pub use cases::{ReadCase, WriteCase};
+pub use flags::OpenFlags;
+pub use replies::{Errno, Outcome, Reply};
+pub use script::{Line, Totals};

@@ -1,0 +1,58 @@
+//! What a step answers.
+use crate::bytes::Bytes8;
+use std::alloc::{Allocator, Global};
+
+/// The errors of calls, by their names in the standard (POSIX.1-2017, errno.h). They have no numbers here.
+#[derive(Clone, Copy, Debug, PartialEq, Eq)]
+pub enum Errno {
+    EAGAIN,
+    EBADF,
+    EBUSY,
+    EEXIST,
+    EFBIG,
+    EINTR,
+    EINVAL,
+    EMFILE,
+    ENAMETOOLONG,
+    ENFILE,
+    ENOENT,
+    ENXIO,
+    EOVERFLOW,
+    EPERM,
+    EPIPE,
+    ESPIPE,
+}
+
+/// What a step answers.
+#[derive(Drop, Debug, PartialEq)]
+pub enum Reply<A: Allocator = Global> {
+    /// The pid of the process that was started, from 1 to 1,024.
+    Pid(u32),
+    /// The read end and the write end of a new pipe, from 0 to 255.
+    Fds(i32, i32),
+    /// So many bytes were written. `sigpipe` says that no reader was left for the rest.
+    Count { n: u32, sigpipe: bool },
+    /// The bytes that were read; none of them is end of file, or a read of 0 bytes.
+    Bytes(Bytes8<A>),
+    /// The call is done, and has nothing to tell.
+    Unit,
+    /// The call failed. `EPIPE` stands for the error and the signal `SIGPIPE`.
+    Fault(Errno),
+    /// The call waits under this number.
+    Parked(u64),
+    /// There is no process of this pid.
+    NoProcess,
+    /// No call is parked under this number.
+    NoCall,
+    /// The call would have waited, and no number is left for it.
+    CallsSpent,
+}
+
+/// What became of a step in a run.
+#[derive(Drop, Debug, PartialEq)]
+pub enum Outcome<A: Allocator = Global> {
+    /// The step was made, and answered this.
+    Replied(Reply<A>),
+    /// The step found no memory, and changed nothing.
+    NoMemory,
+}

@@ -1,0 +1,26 @@
+//! What the definitions answer in small examples. Each function does nothing: its contract is the example, computed.
+ghost use Rattle.pl_model.specs.Worked.{BytesBeforeEndOfFile, PartialAndWholeNotWaiting, ReadOfNothing, WriteOfNothing, LastWriterCloses, TableOfWrites, ScriptOfBytesBeforeEndOfFile, EmptyScript, ScriptWithoutLineFeed, ScriptOfNoProcess};
+
+use std::alloc::Allocator;
+
+/// Steps and their replies.
+pub fn steps<A: Allocator>()
+    ensures bytes_before_end_of_file { BytesBeforeEndOfFile A }
+    ensures partial_and_whole_not_waiting { PartialAndWholeNotWaiting A }
+    ensures read_of_nothing { ReadOfNothing A }
+    ensures write_of_nothing { WriteOfNothing A }
+    ensures last_writer_closes { LastWriterCloses A }
+{}
+
+/// The table of writes at each of its rows.
+pub fn writes()
+    ensures { TableOfWrites }
+{}
+
+/// Scripts and what they print.
+pub fn scripts<A: Allocator>()
+    ensures bytes_before_end_of_file { ScriptOfBytesBeforeEndOfFile A }
+    ensures empty { EmptyScript A }
+    ensures without_line_feed { ScriptWithoutLineFeed A }
+    ensures no_process { ScriptOfNoProcess A }
+{}
