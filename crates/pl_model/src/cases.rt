@@ -4,7 +4,7 @@
 #[derive(Clone, Copy, Debug, PartialEq, Eq)]
 pub enum ReadCase {
     /// The first so many bytes leave the pipe.
-    Gives(u32),
+    Gives(usize),
     /// Nothing is held and no writer is left.
     EndOfFile,
     /// Nothing is held yet.
@@ -19,7 +19,7 @@ pub enum WriteCase {
     /// No reader is left: the answer is the count of what was taken, with the mark `sigpipe`.
     CutShort,
     /// The bytes of the range go in, and the answer is the count `to`.
-    Ends { from: u32, to: u32 },
+    Ends { from: usize, to: usize },
     /// The bytes of the range go in, none where it is empty, and the write waits with `to` bytes taken.
-    Waits { from: u32, to: u32 },
+    Waits { from: usize, to: usize },
 }
