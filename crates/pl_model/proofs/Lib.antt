@@ -8,3 +8,6 @@ pub mod StreamRuns
 pub mod Refusals
 pub mod Sound
 pub mod Examples
+pub mod Members
+pub mod Tidy
+pub mod Changes
