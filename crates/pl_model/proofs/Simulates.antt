@@ -250,6 +250,22 @@ module _ {A : Type 0} (k : Core A numbers) (x : Step A) (π : Renamings) (fixes 
   moved_names : (fresh : NewKeys numbers) → drawn fresh (core_step k x) ≡ rename_stepped π (drawn (rename_back π fresh) (core_step k x))
   moved_names fresh = ap (drawn fresh) (sym fixed_act) ∙ at_names π fresh (core_step k x)
 
+-- the keys of the next numbers are unused
+pub unused_numbers : {A : Type 0} (k : Core A numbers) (s : State A) (stands : StandsFor k s) → AreUnused k (rename_back stands.numbered (next_numbers s))
+unused_numbers k s stands =
+    let at : (d : ℕ) → s.next_description ≤ d → IsUnusedDescription (rename stands.numbered k) d = λ d h. subst (λ c. IsUnusedDescription c d) (sym stands.renamed) (stands.below.descriptions d h) in
+    record {
+      description = unused_desc stands.numbered k s.next_description (at s.next_description (omega arith));
+      other_description = unused_desc stands.numbered k (s.next_description + 1) (at (s.next_description + 1) (omega arith));
+      apart = λ e. let n : s.next_description ≡ s.next_description + 1 = sym (stands.numbered.description.to-back s.next_description) ∙ ap stands.numbered.description.to e ∙ stands.numbered.description.to-back (s.next_description + 1) in omega arith;
+      pipe = unused_pipe stands.numbered k s.next_pipe (subst (λ c. IsUnusedPipe c s.next_pipe) (sym stands.renamed) (stands.below.pipes s.next_pipe (omega arith)));
+      file = unused_file stands.numbered k s.next_file (subst (λ c. IsUnusedFile c s.next_file) (sym stands.renamed) (stands.below.files s.next_file (omega arith)));
+    }
+
+-- some keys are unused, wherever keys stand for numbers
+pub unused_keys : {A : Type 0} (k : Core A numbers) (s : State A) → StandsFor k s → (keys : NewKeys numbers) × AreUnused k keys
+unused_keys k s stands = (rename_back stands.numbered (next_numbers s), unused_numbers k s stands)
+
 module _ {A : Type 0} (k : Core A numbers) (s : State A) (x : Step A) (keys : NewKeys numbers) (stands : StandsFor k s) (unused : AreUnused k keys) where
   r : Renamings
   r = stands.numbered
@@ -269,15 +285,7 @@ module _ {A : Type 0} (k : Core A numbers) (s : State A) (x : Step A) (keys : Ne
 
   unused_b : AreUnused k b
   unfolding r b
-  unused_b =
-      let at : (d : ℕ) → s.next_description ≤ d → IsUnusedDescription (rename stands.numbered k) d = λ d h. subst (λ c. IsUnusedDescription c d) (sym stands.renamed) (stands.below.descriptions d h) in
-      record {
-        description = unused_desc stands.numbered k s.next_description (at s.next_description (omega arith));
-        other_description = unused_desc stands.numbered k (s.next_description + 1) (at (s.next_description + 1) (omega arith));
-        apart = λ e. let n : s.next_description ≡ s.next_description + 1 = sym (stands.numbered.description.to-back s.next_description) ∙ ap stands.numbered.description.to e ∙ stands.numbered.description.to-back (s.next_description + 1) in omega arith;
-        pipe = unused_pipe stands.numbered k s.next_pipe (subst (λ c. IsUnusedPipe c s.next_pipe) (sym stands.renamed) (stands.below.pipes s.next_pipe (omega arith)));
-        file = unused_file stands.numbered k s.next_file (subst (λ c. IsUnusedFile c s.next_file) (sym stands.renamed) (stands.below.files s.next_file (omega arith)));
-      }
+  unused_b = unused_numbers k s stands
 
   unused_e : IsUnusedDescription k e
   unfolding e

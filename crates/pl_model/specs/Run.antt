@@ -23,3 +23,14 @@ module _ {A : Type 0} where
   abbrev pub replies : State A → List (Step A) → List (Reply A)
   replies s [] = []
   replies s (x ∷ xs) = (step s x).reply ∷ replies (step s x).state xs
+
+  -- the outcome is that no memory was found
+  abbrev pub is_no_memory : Outcome A → Bool
+  is_no_memory NoMemory = true
+  is_no_memory (Replied reply) = false
+
+  -- each step, with the mark that its outcome says
+  abbrev pub marked : List (Step A) → List (Outcome A) → List (Step A × Bool)
+  marked [] os = []
+  marked (x ∷ xs) [] = []
+  marked (x ∷ xs) (o ∷ os) = (x, is_no_memory o) ∷ marked xs os

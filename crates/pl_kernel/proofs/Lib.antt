@@ -1,0 +1,12 @@
+pub mod Views
+pub mod IfOk
+pub mod TableRows
+pub mod Ends
+pub mod Begun
+pub mod Rows
+pub mod Reading
+pub mod Writing
+pub mod Piping
+pub mod Starting
+pub mod Closing
+pub mod Stepping

@@ -1,0 +1,16 @@
+//! The kernel: processes, descriptors and pipes, one step at a time.
+//!
+//! `Kernel::step` makes one step, and `Kernel::run` a list of them. What they answer is what the flat machine of
+//! `pl_model` answers, from every state for which the kernel stands.
+#![tactic(auto)]
+
+mod access;
+mod decisions;
+mod kernel;
+mod memory;
+mod pipes;
+mod queue;
+mod tables;
+
+pub use kernel::Kernel;
+pub use memory::NoMemory;
