@@ -105,26 +105,17 @@ impl<A: Allocator + Copy> Kernel<A> {
         }
         self.tables.reserve_two()?;
         let pipe = self.pipes.make()?;
-        let mode = Mode::Read;
-        self.tables.open(
-            pid,
-            first,
-            End {
-                pipe,
-                mode,
-                nonblock,
-            },
-        );
-        let mode = Mode::Write;
-        self.tables.open(
-            pid,
-            second,
-            End {
-                pipe,
-                mode,
-                nonblock,
-            },
-        );
+        let reader = End {
+            pipe,
+            mode: Mode::Read,
+            nonblock,
+        };
+        let writer = End {
+            mode: Mode::Write,
+            ..reader
+        };
+        self.tables.open(pid, first, reader);
+        self.tables.open(pid, second, writer);
         Ok(Reply::Fds(first as i32, second as i32))
     }
 

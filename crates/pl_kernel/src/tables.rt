@@ -16,9 +16,6 @@ use std::marker::Model;
 /// The places of a table (POSIX.1-2017, limits.h, OPEN_MAX).
 const PLACES: usize = 256;
 
-/// The processes that there may be.
-const PROCESSES: usize = 1024;
-
 /// One end of a pipe: an open file description, which one descriptor names.
 #[derive(Clone, Copy)]
 pub(crate) struct End {
