@@ -4,5 +4,7 @@
 #[cfg(test)]
 mod kernel_tests;
 pub mod refusing;
+#[cfg(test)]
+mod script_tests;
 
 pub use refusing::Refusing;

@@ -125,13 +125,13 @@ module _ {A : Type 0} (c u : Core A numbers) (node : Node numbers) (same : SameE
   has_end-same test =
       both_ways (has_end u test node) (has_end c test node)
       (λ h.
-        let e = end_found u test node h in
-        let s = same.back e.0 e.1 (on_end test node _ e.2) in
-        end_passes c test node e.0 s.0 (ap (is_end test node) (sym s.1) ∙ e.2))
+      let e = end_found u test node h in
+      let s = same.back e.0 e.1 (on_end test node _ e.2) in
+      end_passes c test node e.0 s.0 (ap (is_end test node) (sym s.1) ∙ e.2))
       (λ h.
-        let e = end_found c test node h in
-        let s = same.forth e.0 e.1 (on_end test node _ e.2) in
-        end_passes u test node e.0 s.0 (ap (is_end test node) s.1 ∙ e.2))
+      let e = end_found c test node h in
+      let s = same.forth e.0 e.1 (on_end test node _ e.2) in
+      end_passes u test node e.0 s.0 (ap (is_end test node) s.1 ∙ e.2))
 
 -- a pipe that is held or not, with readers, with writers, and that had a writer, as settling leaves it
 abbrev pub tidy_pipe : (held r w had : Bool) → Pipe → Pipe

@@ -1,0 +1,38 @@
+//! `piperun`: runs a script of pipe calls from standard input, and prints the reply to each.
+#![tactic(auto)]
+
+use pl_run::{Fault, LIMITS, status, write_fault};
+use pl_script::{MAX_READS, Reads, Writes, run_script};
+use std::process::ExitCode;
+use std::{env, io};
+
+/// No words are known yet, so any word is a bad command line.
+fn check_words(rt: &HostRuntime) -> Result<(), Fault> {
+    let Ok(words) = env::args(rt) else {
+        return Err(Fault::NoMemory);
+    };
+    if words.len() > 1 {
+        return Err(Fault::CommandLine);
+    }
+    Ok(())
+}
+
+fn run(rt: &HostRuntime) -> Result<(), Fault> {
+    check_words(rt)?;
+    let mut reader = Reads::new(rt.stdin(), MAX_READS);
+    let mut writer = Writes::new(io::writer(rt));
+    run_script(rt.alloc(), &mut reader, &mut writer, LIMITS)?;
+    Ok(())
+}
+
+fn main(rt: HostRuntime) -> ExitCode {
+    match run(&rt) {
+        Ok(()) => ExitCode::SUCCESS,
+        Err(fault) => {
+            let mut errors = rt.stderr();
+            // Where standard error fails too, the status alone tells.
+            let _told = write_fault(&mut errors, &fault);
+            ExitCode::from(status(&fault))
+        }
+    }
+}

@@ -1,0 +1,62 @@
+//! Runs each script of the folder `data`, and says whether it printed what stands beside it. The folder `examples` at the
+//! top of the repository is a link to `data`.
+#![tactic(auto)]
+
+use pl_run::{Fault, LIMITS, write_fault};
+use pl_script::{MAX_READS, Reads, Writes, run_script};
+use std::alloc::Global;
+use std::process::ExitCode;
+use std::{fs, io};
+
+/// A script is `NAME.script`, and what it prints `NAME.out`: its output, and the line of its fault.
+const NAMES: [&str; 4] = [
+    "bytes_before_end_of_file",
+    "full_pipe",
+    "refusals",
+    "bad_line",
+];
+
+/// What a script prints.
+fn printed(alloc: Global, script: &[u8]) -> io::Result<Vec<u8>> {
+    let mut output = Vec::new(alloc);
+    let mut reader = Reads::new(script, MAX_READS);
+    let mut writer = Writes::new(&mut output);
+    let result = run_script(alloc, &mut reader, &mut writer, LIMITS);
+    drop(writer);
+    if let Err(fault) = result {
+        let fault = Fault::from(fault);
+        if !write_fault(&mut output, &fault) {
+            return Err(io::Error::from(io::ErrorKind::OutOfMemory));
+        }
+    }
+    Ok(output)
+}
+
+/// Runs the example of this name, and answers whether it printed what it is to print.
+fn is_as_expected(rt: &HostRuntime, name: &str) -> io::Result<bool> {
+    let alloc = rt.alloc();
+    let path = format!(in alloc; "{name}.script")?;
+    let script = fs::read(rt, path.as_str())?;
+    let path = format!(in alloc; "{name}.out")?;
+    let expected = fs::read(rt, path.as_str())?;
+    let output = printed(alloc, script.as_slice())?;
+    Ok(output.as_slice() == expected.as_slice())
+}
+
+fn main(rt: HostRuntime) -> io::Result<ExitCode> {
+    let mut all = true;
+    for name in NAMES {
+        let passed = is_as_expected(&rt, name)?;
+        if passed {
+            println!(rt; "{name}: as expected")?;
+        } else {
+            println!(rt; "{name}: differs")?;
+            all = false;
+        }
+    }
+    Ok(if all {
+        ExitCode::SUCCESS
+    } else {
+        ExitCode::FAILURE
+    })
+}

@@ -1,0 +1,31 @@
+-- The lines and statuses of faults (our own).
+use Rattle.std.specs.Prelude.{ℕ, List, [], ◌∷◌, ◌++◌, codes}
+use Rattle.std.specs.Fmt.{decimal}
+use Rattle.pl_script.specs.declared.faults.ScriptFault.{ScriptFault}
+use Rattle.pl_script.specs.declared.faults.ScriptFault.TheVariants as script
+use Rattle.pl_run.specs.declared.fault.Fault.{Fault}
+use Rattle.pl_run.specs.declared.fault.Fault.TheVariants.{CannotRead, CannotWrite, CommandLine, BadLine, TooLong, NoMemory}
+
+abbrev pub fault_of : ScriptFault → Fault
+fault_of script.Read = CannotRead
+fault_of script.Write = CannotWrite
+fault_of script.TooLong = TooLong
+fault_of (script.BadLine n) = BadLine n
+fault_of script.NoMemory = NoMemory
+
+abbrev pub status_of : Fault → ℕ
+status_of CannotRead = 1
+status_of CannotWrite = 1
+status_of CommandLine = 2
+status_of (BadLine n) = 3
+status_of TooLong = 3
+status_of NoMemory = 4
+
+-- the line of a fault, with its line feed
+abbrev pub line_of : Fault → List ℕ
+line_of CannotRead = codes "piperun: cannot read" ++ 10 ∷ []
+line_of CannotWrite = codes "piperun: cannot write" ++ 10 ∷ []
+line_of CommandLine = codes "piperun: bad command line" ++ 10 ∷ []
+line_of (BadLine n) = codes "piperun: line " ++ (decimal n ++ (codes ": not a command" ++ 10 ∷ []))
+line_of TooLong = codes "piperun: script longer than 16777216 bytes" ++ 10 ∷ []
+line_of NoMemory = codes "piperun: no memory" ++ 10 ∷ []

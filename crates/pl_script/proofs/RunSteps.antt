@@ -1,0 +1,267 @@
+-- From one line of a script to the next.
+use Rattle.std.proofs.Common.{◌≡◌, ℕ, ◌+◌, ◌<◌, ◌≤◌, Bool, true, false, cond, ◌&&◌, List, [], ◌∷◌, ◌++◌, length, take, drop, Option, Some, None, Ok, Err, refl, sym, ap, ◌∙◌, append_assoc, arith}
+use Rattle.std.specs.Prelude.{count_by, replicate}
+use Rattle.std.specs.Io.KnownBytes.{Appends}
+use Rattle.std.proofs.KnownBytes.{Appends-nil, Appends-trans}
+use Rattle.std.proofs.lemmas.List.{append-nil, take-append-drop}
+use Rattle.std.proofs.lemmas.List.Sums.{sum_by-cons, sum_by_push}
+use Rattle.pl_model.specs.declared.calls.Limits.{Limits}
+use Rattle.pl_model.specs.declared.calls.Step.{Step}
+use Rattle.pl_model.specs.declared.replies.Reply.{Reply}
+use Rattle.pl_model.specs.declared.replies.Outcome.TheVariants.{Replied}
+use Rattle.pl_model.specs.declared.script.Line.{Line}
+use Rattle.pl_model.specs.declared.script.Line.TheVariants.{Do}
+use Rattle.pl_model.specs.declared.script.Totals.{Totals}
+use Rattle.pl_model.specs.Numbered.{State, opening, step}
+use Rattle.pl_model.specs.Lines.{line}
+use Rattle.pl_model.specs.Shown.{outcome_text}
+use Rattle.pl_model.specs.Script.{lines, asked, if_good, first_bad, number_if_bad, answers, answer, are_marks, never_marked, is_step, output, totals}
+use Rattle.pl_script.specs.declared.faults.ScriptFault.TheVariants as faults
+use Rattle.pl_script.specs.LineByLine.{IsAt, IsAnswered}
+use Rattle.pl_script.specs.Running.{IsRun, WritesOutput, WritesFrontOfOutput, WritesAndCounts}
+use Rattle.pl_script.proofs.LineLemmas.{length-lines}
+
+-- ---- the definitions, one line at a time
+
+first_bad-cons : (A : Type 0) (n : ℕ) (l : List ℕ) (ls : List (List ℕ)) (o : Option (Option (Line A))) → line l ≡ o → first_bad A n (l ∷ ls) ≡ number_if_bad o n (first_bad A (n + 1) ls)
+unfolding first_bad
+first_bad-cons A n l ls o e = ap (λ p. number_if_bad p n (first_bad A (n + 1) ls)) e
+
+first_bad-nil : (A : Type 0) (n : ℕ) → first_bad A n [] ≡ None
+unfolding first_bad
+first_bad-nil A n = refl
+
+asked-nil : (A : Type 0) → asked {A = A} [] ≡ []
+unfolding asked
+asked-nil A = refl
+
+-- each line that asks something asks for a step
+is_step-all : {A : Type 0} (x : Line A) → is_step x ≡ true
+is_step-all (Do x) = refl
+
+at_most_one : (b : Bool) → cond b 1 0 ≤ 1
+at_most_one true = omega arith
+at_most_one false = omega arith
+
+abbrev pub none_counted : Totals
+none_counted = record { lines = 0; steps = 0; nomem = 0 }
+
+abbrev counts : ℕ → ℕ → ℕ → Totals
+counts a b c = record { lines = a; steps = b; nomem = c }
+
+same_counts : (a b c x y z : ℕ) → a ≡ x → b ≡ y → c ≡ z → counts a b c ≡ counts x y z
+same_counts a b c x y z p q r = rw (p, q, r) refl
+
+module _ {A : Type 0} where
+  asked-cons : (l : List ℕ) (ls : List (List ℕ)) (o : Option (Option (Line A))) → line l ≡ o → asked (l ∷ ls) ≡ if_good o (asked ls)
+  unfolding asked
+  asked-cons l ls o e = ap (λ p. if_good p (asked ls)) e
+
+  answers-cons : (s : State A) (x : Line A) (xs : List (Line A)) (m : Bool) (ms : List Bool) → answers s (x ∷ xs) (m ∷ ms) ≡ ((answer s x m).1 ++ 10 ∷ []) ++ answers (answer s x m).0 xs ms
+  unfolding answers
+  answers-cons s x xs m ms = refl
+
+  answers-nil : (s : State A) (ms : List Bool) → answers s [] ms ≡ []
+  unfolding answers
+  answers-nil s ms = refl
+
+  are_marks-cons : (s : State A) (x : Line A) (xs : List (Line A)) (m : Bool) (ms : List Bool) → (m && never_marked s x) ≡ false → are_marks s (x ∷ xs) (m ∷ ms) ≡ are_marks (answer s x m).0 xs ms
+  unfolding are_marks
+  are_marks-cons s x xs m ms e = rw e refl
+
+  are_marks-nil : (s : State A) → are_marks s [] [] ≡ true
+  unfolding are_marks
+  are_marks-nil s = refl
+
+  -- a line whose step was made
+  pub replies : (old new : State A → Type 0) (asked : Line A) (x : Step A) (reply : Reply A) (before after : List ℕ) → asked ≡ Do x
+      → ((s : State A) → old s → (reply ≡ (step s x).reply) × new (step s x).state) → after ≡ before ++ (outcome_text (Replied reply) ++ 10 ∷ [])
+      → IsAnswered old new asked false before after
+  replies old new asked x reply before after is made text = λ s stood.
+      let done = made s stood in
+      rw is (record { stands = done.1; text = text ∙ ap (λ r. before ++ (outcome_text (Replied r) ++ 10 ∷ [])) done.0; lawful = refl })
+
+  -- as many marks as there are lines, none of them set
+  abbrev no_marks : List (Line A) → List Bool
+  no_marks xs = replicate (length xs) false
+
+  are_marks-no_marks : (s : State A) (xs : List (Line A)) → are_marks s xs (no_marks xs) ≡ true
+  unfolding are_marks
+  are_marks-no_marks s [] = refl
+  are_marks-no_marks s (x ∷ xs) = are_marks-no_marks (answer s x false).0 xs
+
+  -- ---- the start, and each line
+
+  at_start : (script : List ℕ) (limits : Limits) (Stands : State A → Type 0) → Stands (opening limits) → IsAt script limits Stands [] none_counted (lines script)
+  at_start script limits Stands stands = record {
+    state = opening limits;
+    marks = [];
+    stands = stands;
+    texts = λ more. refl;
+    lawful = λ more. refl;
+    bad = refl;
+    lines_count = omega arith;
+    steps_count = omega arith;
+    nomem_count = refl;
+    steps_below = omega arith;
+    nomem_below = omega arith;
+  }
+
+  module _ (script text : List ℕ) (limits : Limits) (Stands : State A → Type 0) (counted : Totals) (l : List ℕ) (rest : List (List ℕ)) where
+    -- a line that asks nothing
+    pub skips : line {A = A} l ≡ Some None → IsAt script limits Stands text counted (l ∷ rest) → IsAt script limits Stands text (record counted { lines = counted.lines + 1 }) rest
+    skips e at =
+        let same : asked {A = A} (l ∷ rest) ≡ asked rest = asked-cons l rest (Some None) e in
+        record {
+          state = at.state;
+          marks = at.marks;
+          stands = at.stands;
+          texts = λ more. at.texts more ∙ ap (λ xs. text ++ answers at.state xs more) same;
+          lawful = λ more. at.lawful more ∙ ap (λ xs. are_marks at.state xs more) same;
+          bad = at.bad ∙ first_bad-cons A (counted.lines + 1) l rest (Some None) e;
+          lines_count = omega (arith, at.lines_count);
+          steps_count = ap (λ xs. counted.steps + count_by is_step xs) (sym same) ∙ at.steps_count;
+          nomem_count = at.nomem_count;
+          steps_below = omega (arith, at.steps_below);
+          nomem_below = omega (arith, at.nomem_below);
+        }
+
+    -- a line that is answered
+    pub runs : (x : Line A) (After : State A → Type 0) (before added new : List ℕ) (mark : Bool) → line {A = A} l ≡ Some (Some x) → IsAnswered Stands After x mark added new → text ≡ before ++ added
+        → IsAt script limits Stands text counted (l ∷ rest)
+        → IsAt script limits After (before ++ new) (record { lines = counted.lines + 1; steps = counted.steps + 1; nomem = counted.nomem + cond mark 1 0 }) rest
+    runs x After before added new mark e answered split at =
+        let done = answered at.state at.stands in
+        let next : State A = (answer at.state x mark).0 in
+        let written : List ℕ = (answer at.state x mark).1 ++ 10 ∷ [] in
+        let grown : before ++ new ≡ text ++ ((answer at.state x mark).1 ++ 10 ∷ []) =
+        ap (λ t. before ++ t) done.text ∙ sym (append_assoc before added ((answer at.state x mark).1 ++ 10 ∷ [])) ∙ ap (λ t. t ++ ((answer at.state x mark).1 ++ 10 ∷ [])) (sym split) in
+        let more_asked : asked {A = A} (l ∷ rest) ≡ x ∷ asked rest = asked-cons l rest (Some (Some x)) e in
+        let count : count_by is_step (asked {A = A} (l ∷ rest)) ≡ 1 + count_by is_step (asked {A = A} rest) =
+        ap (count_by is_step) more_asked ∙ sum_by-cons (λ y. cond (is_step y) 1 0) x (asked rest) ∙ ap (λ b. cond b 1 0 + count_by is_step (asked {A = A} rest)) (is_step-all x) in
+        record {
+          state = next;
+          marks = at.marks ++ mark ∷ [];
+          stands = done.stands;
+          texts = λ more.
+              ap (answers (opening limits) (asked (lines script))) (append_assoc at.marks (mark ∷ []) more)
+              ∙ at.texts (mark ∷ more)
+              ∙ ap (λ xs. text ++ answers at.state xs (mark ∷ more)) more_asked
+              ∙ ap (λ t. text ++ t) (answers-cons at.state x (asked rest) mark more)
+              ∙ sym (append_assoc text written (answers next (asked rest) more))
+              ∙ ap (λ t. t ++ answers next (asked rest) more) (sym grown);
+          lawful = λ more.
+              ap (are_marks (opening limits) (asked (lines script))) (append_assoc at.marks (mark ∷ []) more)
+              ∙ at.lawful (mark ∷ more)
+              ∙ ap (λ xs. are_marks at.state xs (mark ∷ more)) more_asked
+              ∙ are_marks-cons at.state x (asked rest) mark more done.lawful;
+          bad = at.bad ∙ first_bad-cons A (counted.lines + 1) l rest (Some (Some x)) e;
+          lines_count = omega (arith, at.lines_count);
+          steps_count = omega (arith, count, at.steps_count);
+          nomem_count = ap (λ n. n + cond mark 1 0) at.nomem_count ∙ sym (sum_by_push (λ m. cond m 1 0) at.marks mark);
+          steps_below = omega (arith, at.steps_below);
+          nomem_below = omega (arith, at.nomem_below, at_most_one mark);
+        }
+
+    -- a bad line
+    is_bad : line {A = A} l ≡ None → IsAt script limits Stands text counted (l ∷ rest) → (first_bad A 1 (lines script) ≡ Some (counted.lines + 1)) × WritesOutput A script limits text
+    is_bad e at =
+        let none : asked {A = A} (l ∷ rest) ≡ [] = asked-cons l rest None e in
+        let lawful : are_marks (opening {A = A} limits) (asked (lines script)) at.marks ≡ true =
+        ap (are_marks (opening limits) (asked (lines script))) (sym (append-nil at.marks)) ∙ at.lawful [] ∙ ap (λ xs. are_marks at.state xs []) none ∙ are_marks-nil at.state in
+        let all : text ≡ answers (opening {A = A} limits) (asked (lines script)) at.marks =
+        sym (ap (answers (opening limits) (asked (lines script))) (sym (append-nil at.marks)) ∙ at.texts [] ∙ ap (λ xs. text ++ answers at.state xs []) none ∙ ap (λ t. text ++ t) (answers-nil at.state []) ∙ append-nil text) in
+        (at.bad ∙ first_bad-cons A (counted.lines + 1) l rest None e, (at.marks, lawful, all))
+
+    -- the counts fit
+    below : length script ≤ 16777216 → IsAt script limits Stands text counted (l ∷ rest) → counted.lines < 16777216
+    below short at = omega (arith, at.lines_count, length-lines script)
+
+  -- ---- the end
+
+  module _ (script text : List ℕ) (limits : Limits) (Stands : State A → Type 0) (counted : Totals) where
+    -- no line is left
+    at_end : IsAt script limits Stands text counted [] → (first_bad A 1 (lines script) ≡ None) × WritesAndCounts A script limits counted text
+    at_end at =
+        let lawful : are_marks (opening {A = A} limits) (asked (lines script)) at.marks ≡ true =
+        ap (are_marks (opening limits) (asked (lines script))) (sym (append-nil at.marks)) ∙ at.lawful [] ∙ ap (λ xs. are_marks at.state xs []) (asked-nil A) ∙ are_marks-nil at.state in
+        let all : text ≡ answers (opening {A = A} limits) (asked (lines script)) at.marks =
+        sym (ap (answers (opening limits) (asked (lines script))) (sym (append-nil at.marks)) ∙ at.texts [] ∙ ap (λ xs. text ++ answers at.state xs []) (asked-nil A) ∙ ap (λ t. text ++ t) (answers-nil at.state []) ∙ append-nil text) in
+        let all_lines : counted.lines ≡ length (lines script) = omega (arith, at.lines_count) in
+        let all_steps : counted.steps ≡ count_by is_step (asked {A = A} (lines script)) = omega (arith, at.steps_count, ap (count_by is_step) (asked-nil A)) in
+        let whole : counted ≡ totals A script at.marks = same_counts counted.lines counted.steps counted.nomem _ _ _ all_lines all_steps at.nomem_count in
+        (at.bad ∙ first_bad-nil A (counted.lines + 1), (at.marks, lawful, all, whole))
+
+    -- a front of the text is a front of some output
+    at_front : (rest : List (List ℕ)) (front more : List ℕ) → text ≡ front ++ more → IsAt script limits Stands text counted rest → WritesFrontOfOutput A script limits front
+    at_front rest front more e at =
+        let marks : List Bool = no_marks (asked {A = A} rest) in
+        let lawful : are_marks (opening {A = A} limits) (asked (lines script)) (at.marks ++ no_marks (asked {A = A} rest)) ≡ true = at.lawful (no_marks (asked {A = A} rest)) ∙ are_marks-no_marks at.state (asked rest) in
+        let all : answers (opening {A = A} limits) (asked (lines script)) (at.marks ++ no_marks (asked {A = A} rest)) ≡ front ++ (more ++ answers at.state (asked rest) (no_marks (asked {A = A} rest))) =
+        at.texts (no_marks (asked {A = A} rest)) ∙ ap (λ t. t ++ answers at.state (asked rest) (no_marks (asked {A = A} rest))) e ∙ append_assoc front more (answers at.state (asked rest) (no_marks (asked {A = A} rest))) in
+        (at.marks ++ no_marks (asked {A = A} rest), more ++ answers at.state (asked rest) (no_marks (asked {A = A} rest)), lawful, all)
+
+-- nothing is a front of any output
+pub nothing_in_front : (A : Type 0) (script : List ℕ) (limits : Limits) → WritesFrontOfOutput A script limits []
+nothing_in_front A script limits =
+    (no_marks (asked {A = A} (lines script)), output A script limits (no_marks (asked {A = A} (lines script))), are_marks-no_marks (opening {A = A} limits) (asked (lines script)), refl)
+
+-- ---- between two lines, with what was written
+
+-- Some of the text before the rest of the lines was written, and the rest of it waits.
+pub record IsUnderway {A : Type 0} (script : List ℕ) (limits : Limits) (Stands : State A → Type 0) (waiting : List ℕ) (counted : Totals) (rest : List (List ℕ)) (old now : Option (List ℕ)) : Type 0 where
+  pub flushed : List ℕ
+  pub written : Appends old now flushed
+  pub at : IsAt script limits Stands (flushed ++ waiting) counted rest
+
+module _ {A : Type 0} {script waiting : List ℕ} {limits : Limits} {Stands : State A → Type 0} {counted : Totals} {rest : List (List ℕ)} {old now : Option (List ℕ)} where
+  -- the writer took all that waited
+  pub flushes : (new : Option (List ℕ)) → Appends now new waiting → IsUnderway script limits Stands waiting counted rest old now → IsUnderway script limits Stands [] counted rest old new
+  flushes new took way = record {
+    flushed = way.flushed ++ waiting;
+    written = Appends-trans old now new way.flushed waiting way.written took;
+    at = rw (append-nil (way.flushed ++ waiting)) way.at;
+  }
+
+  -- the writer took a front of what waited
+  pub fails_to_write : (new : Option (List ℕ)) → length script ≤ 16777216 → (count : ℕ) × (count ≤ length waiting) × Appends now new (take count waiting)
+      → IsUnderway script limits Stands waiting counted rest old now → (text : List ℕ) × Appends old new text × IsRun A script limits (Err faults.Write) text
+  fails_to_write new short took way =
+      let cut : way.flushed ++ waiting ≡ (way.flushed ++ take took.0 waiting) ++ drop took.0 waiting =
+      ap (λ t. way.flushed ++ t) (sym (take-append-drop took.0 waiting)) ∙ sym (append_assoc way.flushed (take took.0 waiting) (drop took.0 waiting)) in (
+        way.flushed ++ take took.0 waiting,
+        Appends-trans old now new way.flushed (take took.0 waiting) way.written took.2,
+        (short, at_front script (way.flushed ++ waiting) limits Stands counted rest (way.flushed ++ take took.0 waiting) (drop took.0 waiting) cut way.at),
+      )
+
+  -- memory was wanting, and what waited isn't written
+  pub lacks_memory : IsUnderway script limits Stands waiting counted rest old now → (text : List ℕ) × Appends old now text × IsRun A script limits (Err faults.NoMemory) text
+  lacks_memory way = (way.flushed, way.written, at_front script (way.flushed ++ waiting) limits Stands counted rest way.flushed waiting refl way.at)
+
+  -- no line was left, and the writer took all that waited
+  pub ends : (new : Option (List ℕ)) → length script ≤ 16777216 → rest ≡ [] → Appends now new waiting
+      → IsUnderway script limits Stands waiting counted rest old now → (text : List ℕ) × Appends old new text × IsRun A script limits (Ok counted) text
+  ends new short none took way =
+      let whole = at_end script (way.flushed ++ waiting) limits Stands counted (rw none at way.at) in
+      (way.flushed ++ waiting, Appends-trans old now new way.flushed waiting way.written took, (short, whole.0, whole.1))
+
+module _ {A : Type 0} {script waiting : List ℕ} {limits : Limits} {Stands : State A → Type 0} {counted : Totals} {l : List ℕ} {rest : List (List ℕ)} {old now : Option (List ℕ)} where
+  -- the next line was run
+  pub goes_on : (After : State A → Type 0) (left : List ℕ) (next : Totals)
+      → ((front : List ℕ) → IsAt script limits Stands (front ++ waiting) counted (l ∷ rest) → IsAt script limits After (front ++ left) next rest)
+      → IsUnderway script limits Stands waiting counted (l ∷ rest) old now → IsUnderway script limits After left next rest old now
+  goes_on After left next run way = record { flushed = way.flushed; written = way.written; at = run way.flushed way.at }
+
+  -- the next line is bad, and the writer took all that waited
+  pub ends_at_bad : (new : Option (List ℕ)) (n : ℕ) → length script ≤ 16777216 → line {A = A} l ≡ None → n ≡ counted.lines + 1 → Appends now new waiting
+      → IsUnderway script limits Stands waiting counted (l ∷ rest) old now → (text : List ℕ) × Appends old new text × IsRun A script limits (Err (faults.BadLine n)) text
+  ends_at_bad new n short bad number took way =
+      let stop = is_bad script (way.flushed ++ waiting) limits Stands counted l rest bad way.at in
+      (way.flushed ++ waiting, Appends-trans old now new way.flushed waiting way.written took, (short, rw number stop.0, stop.1))
+
+  -- the number of the next line fits
+  pub number_fits : length script ≤ 16777216 → IsUnderway script limits Stands waiting counted (l ∷ rest) old now → counted.lines < 16777216
+  number_fits short way = below script (way.flushed ++ waiting) limits Stands counted l rest short way.at
+
+pub starts : {A : Type 0} (script : List ℕ) (limits : Limits) (Stands : State A → Type 0) (old : Option (List ℕ)) → Stands (opening limits) → IsUnderway script limits Stands [] none_counted (lines script) old old
+starts script limits Stands old stands = record { flushed = []; written = Appends-nil old; at = at_start script limits Stands stands }

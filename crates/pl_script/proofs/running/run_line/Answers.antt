@@ -1,0 +1,15 @@
+use Rattle.std.proofs.Common.{◌≡◌, Some, ap, ◌∙◌, ◌++◌, cond, refl, rules}
+use Rattle.std.specs.Prelude.{string_bytes}
+use Rattle.pl_script.proofs.RunSteps.{skips, runs}
+use Rattle.pl_script.proofs.running.run_line.Goals as goal
+
+pub returns-in_default : goal.returns-in_default
+returns-in_default g c = λ script front limits rest at.
+    skips script (front ++ string_bytes c.args.out.now) limits _ c.args.totals.now c.args.line.now rest (c.in_ok-asked.ensures ∙ ap (λ o. Some o) c.in_default.is) at
+
+pub returns : goal.returns
+returns g c = λ script front limits rest at.
+    let nomem-is : c.from.result ≡ cond c.in_ok-answer_line.field-0 1 0 = search rules in
+    rw nomem-is
+    (runs script (front ++ string_bytes c.args.out.now) limits _ c.args.totals.now c.args.line.now rest c.in-Some.asked _ front (string_bytes c.args.out.now) _ c.in_ok-answer_line.field-0
+    (c.in_ok-asked.ensures ∙ ap (λ o. Some o) c.in-Some.is) c.in_ok-answer_line.ensures refl at)

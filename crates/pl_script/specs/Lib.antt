@@ -1,0 +1,4 @@
+pub mod Parsed
+pub mod Streams
+pub mod LineByLine
+pub mod Running
