@@ -1,7 +1,11 @@
 //! Scripts: lists of lines that ask for steps of a kernel, and the text that their replies make.
 //!
-//! `parse_line` reads one line, `show` writes the text of one reply, and `run_script` runs a whole script between a
-//! reader and a writer. What a line asks and what a script prints stands in the definitions of `pl_model`.
+//! `parse_line` reads one line, `show` gives the text of one reply, and `run_script` runs a whole script from a reader to
+//! a writer. What a line asks and what a script prints is defined in `pl_model`, in `specs/Lines.antt` and
+//! `specs/Script.antt`.
+//!
+//! The lines are `start`, `resume C`, `interrupt C`, `P pipe`, `P pipe nonblock`, `P read FD N`, `P write FD BYTES` and
+//! `P close FD`, and those that ask nothing: blank ones and comments, which begin with `#`.
 #![tactic(auto)]
 
 mod bytes;
