@@ -1,24 +1,19 @@
 //! `piperun`: runs a script of pipe calls from standard input, and prints the reply to each.
 #![tactic(auto)]
 
-use pl_run::{Fault, LIMITS, status, write_fault};
+use pl_run::{Fault, LIMITS, check_words, status, write_fault};
 use pl_script::{MAX_READS, Reads, Writes, run_script};
 use std::process::ExitCode;
 use std::{env, io};
 
-/// No words are known yet, so any word is a bad command line.
-fn check_words(rt: &HostRuntime) -> Result<(), Fault> {
-    let Ok(words) = env::args(rt) else {
+fn run(rt: &HostRuntime) -> Result<(), Fault> {
+    let Ok(args) = env::args(rt) else {
         return Err(Fault::NoMemory);
     };
-    if words.len() > 1 {
-        return Err(Fault::CommandLine);
-    }
-    Ok(())
-}
-
-fn run(rt: &HostRuntime) -> Result<(), Fault> {
-    check_words(rt)?;
+    let Ok(words) = args.skip(1).collect::<Vec<String>>(rt.alloc()) else {
+        return Err(Fault::NoMemory);
+    };
+    check_words(words.as_slice())?;
     let mut reader = Reads::new(rt.stdin(), MAX_READS);
     let mut writer = Writes::new(io::writer(rt));
     run_script(rt.alloc(), &mut reader, &mut writer, LIMITS)?;

@@ -1,5 +1,7 @@
 -- What a close comes to at the kernel's keys.
 use Rattle.std.proofs.Common.{◌≡◌, ℕ, ◌<◌, Bool, true, false, List, [], Option, Some, None, IfSome, refl, sym, ◌∙◌, ap, subst, nat_eq, nat_lt, length, arith}
+use Rattle.std.specs.Set.{is_member}
+use Rattle.pl_model.specs.Live.{in_parked}
 use Rattle.std.specs.Prelude.{if◌then◌else◌, not, ◌&&◌, ◌||◌, ℤ, pos, negsuc, option_map, option_and_then, nat_le}
 use Rattle.std.specs.List.{list_any}
 use Rattle.pl_model.specs.declared.calls.Call.{Call}
@@ -21,7 +23,8 @@ use Rattle.pl_model.specs.Begin.{begin_close, natural}
 use Rattle.pl_model.specs.Step.{begin, core_step, ended, stepped}
 use Rattle.pl_model.specs.Numbered.{numbers}
 use Rattle.pl_model.proofs.Tidy.{has_end}
-use Rattle.pl_model.proofs.Changes.{left, left_lives, left_pipe, close-settled}
+use Rattle.pl_model.proofs.Settles.{left, left_pipe}
+use Rattle.pl_model.proofs.Changes.{closed_lives, close-settled}
 use Rattle.pl_kernel.specs.declared.tables.End.{End}
 use Rattle.pl_kernel.specs.Held.{Held, at, is_pid, row_at, row_of, is_end_on, description_of, core_of}
 use Rattle.pl_kernel.specs.Sound.{IsSound, with_row}
@@ -93,16 +96,16 @@ module _ {A : Type 0} (k : Held) (sound : IsSound A k) (pid : ℕ) (process : is
       unfolding core_of
       pipe_is = is
 
-      unparked : c.parked ≡ []
-      unfolding core_of
-      unparked = refl
+      unkept : is_member nat_eq (in_parked c) d ≡ false
+      unfolding core_of in_parked
+      unkept = refl
 
       unnamed : c.names ≡ []
       unfolding core_of
       unnamed = refl
 
     abbrev rest : Core A numbers
-    rest = left c sound.settled unparked unnamed pid (natural fd) d (description_of e) rows_named rows_alone here_described p refl
+    rest = left c (close_row c pid (natural fd)) d
 
     rest_described : rest.descriptions ≡ (λ q. option_map description_of (at new.ends q))
     unfolding core_of
@@ -110,7 +113,7 @@ module _ {A : Type 0} (k : Held) (sound : IsSound A k) (pid : ℕ) (process : is
 
     -- the ends that are left are those that the kernel holds
     rest_ends : (test : Mode → Bool) → has_end rest test (PipeNode p) ≡ list_any (is_end_on test p) new.ends
-    rest_ends test = has_end-is rest new.ends rest_described (λ q f h. left_lives c sound.settled unparked unnamed pid (natural fd) d (description_of e) rows_named rows_alone here_described p refl q (description_of f) ((λ i. rest_described i q) ∙ ap (option_map description_of) h)) test p
+    rest_ends test = has_end-is rest new.ends rest_described (λ q f h. closed_lives c sound.settled unnamed pid (natural fd) d (description_of e) unkept rows_named rows_alone here_described p refl q (description_of f) ((λ i. rest_described i q) ∙ ap (option_map description_of) h)) test p
 
     abbrev has_reader : Bool
     has_reader = list_any (is_end_on reads p) new.ends
@@ -125,7 +128,7 @@ module _ {A : Type 0} (k : Held) (sound : IsSound A k) (pid : ℕ) (process : is
     abbrev pub left_of : Option Pipe
     left_of = kept_if (has_reader || has_writer) (Some (record y { hung = has_reader && (not has_writer && had_writer) }))
 
-    left-is : left_pipe c sound.settled unparked unnamed pid (natural fd) d (description_of e) rows_named rows_alone here_described p refl y ≡ left_of
+    left-is : left_pipe c (close_row c pid (natural fd)) d p y ≡ left_of
     unfolding core_of
     left-is =
         (λ i. kept_if (rest_ends any_mode i) (Some (record y { hung = rest_ends reads i && (not (rest_ends writes i) && (hung_is i || ends-is k sound writes p i)) })))
@@ -170,7 +173,7 @@ module _ {A : Type 0} (k : Held) (sound : IsSound A k) (pid : ℕ) (process : is
             limits = limits i;
           })
           ∙ (λ i. record rest { pipes = set_at nat_eq (at k.pipes) p (sym left-is i) })
-          ∙ sym (close-settled c sound.settled unparked unnamed pid (natural fd) d (description_of e) rows_named rows_alone here_described p refl y pipe_is)
+          ∙ sym (close-settled c sound.settled unnamed pid (natural fd) d (description_of e) unkept rows_named rows_alone here_described p refl y pipe_is)
 
       pub close-closes : Does k x reply.Unit new
       close-closes = does_plain k new x _ reply.Unit closes refl core_is

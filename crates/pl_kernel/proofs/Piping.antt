@@ -14,7 +14,8 @@ use Rattle.pl_model.specs.Flags.{nonblock_if}
 use Rattle.pl_model.specs.Map.{set_at}
 use Rattle.pl_model.specs.Keys.{NewKeys, PipeNode, FileNode, Drawing, Draws, drawn}
 use Rattle.pl_model.specs.State.{Core, Description, Pipe, empty_pipe}
-use Rattle.pl_model.specs.Live.{is_live, live_count}
+use Rattle.pl_model.specs.Live.{is_live, live_count, in_parked}
+use Rattle.std.specs.Set.{is_member}
 use Rattle.pl_model.specs.Settle.{settle}
 use Rattle.pl_model.specs.Trial.{Begins, Begun, Answered, found, refuse_if}
 use Rattle.pl_model.specs.Tables.{lowest}
@@ -39,9 +40,9 @@ module _ {A : Type 0} (k : Held) (sound : IsSound A k) where
   abbrev state : Core A numbers
   state = core_of k
 
-  unparked : state.parked ≡ []
-  unfolding core_of
-  unparked = refl
+  unkept : (d : ℕ) → is_member nat_eq (in_parked state) d ≡ false
+  unfolding core_of in_parked
+  unkept d = refl
 
   rows_are : (pid fd : ℕ) → state.rows pid fd ≡ row_at k.tables pid fd
   unfolding core_of
@@ -49,7 +50,7 @@ module _ {A : Type 0} (k : Held) (sound : IsSound A k) where
 
   -- a description is live exactly where its end is held
   same_live : (d : ℕ) → is_live state d ≡ is_some (at k.ends d)
-  same_live d = both_ways (is_live state d) (is_some (at k.ends d)) (λ h. there (live_row state unparked d h)) (λ h. by (at k.ends d) refl h)
+  same_live d = both_ways (is_live state d) (is_some (at k.ends d)) (λ h. there (live_row state d (unkept d) h)) (λ h. by (at k.ends d) refl h)
     where
       there : Row state d → is_some (at k.ends d) ≡ true
       there r = sound.named r.pid r.fd d (sym (rows_are r.pid r.fd) ∙ r.names)

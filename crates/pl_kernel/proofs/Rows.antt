@@ -14,7 +14,7 @@ use Rattle.pl_model.specs.Numbered.{numbers}
 use Rattle.pl_model.specs.Laws.{IsSettled}
 use Rattle.pl_model.proofs.Members.{and_left, and_right}
 use Rattle.pl_model.proofs.Settled.{settled}
-use Rattle.pl_model.proofs.Changes.{at_other, at_key}
+use Rattle.pl_model.proofs.Settles.{at_other, at_key}
 use Rattle.pl_kernel.specs.declared.tables.End.{End}
 use Rattle.pl_kernel.specs.Held.{Held, at, row_at, is_end_on}
 use Rattle.pl_kernel.specs.Sound.{IsSound, with_row}

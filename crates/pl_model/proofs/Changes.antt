@@ -1,7 +1,7 @@
 -- What the end of a step makes of each change that a call makes to a settled state.
-use Rattle.std.proofs.Common.{◌≡◌, ◌≢◌, ℕ, ◌+◌, ◌<◌, ◌≤◌, Bool, true, false, cond, List, [], ◌∷◌, Option, Some, None, refl, sym, ◌∙◌, ap, subst, inl, inr, nat_eq, arith}
-use Rattle.std.specs.Prelude.{◌||◌, ◌&&◌, not, option_map, IfSome}
-use Rattle.std.specs.List.{list_any}
+use Rattle.std.proofs.Common.{◌≡◌, ◌≢◌, ℕ, ◌+◌, ◌<◌, ◌≤◌, Bool, true, false, cond, List, [], Option, Some, None, refl, sym, ◌∙◌, ap, inl, inr, nat_eq}
+use Rattle.std.specs.Prelude.{◌||◌, ◌&&◌}
+use Rattle.std.specs.Set.{is_member}
 use Rattle.std.proofs.lemmas.Bool.{eq-eqb, ne_eqb}
 use Rattle.std.proofs.lemmas.Bool.Decides.{eqb_tells}
 use Rattle.pl_model.specs.declared.calls.Mode.{Mode}
@@ -9,25 +9,19 @@ use Rattle.pl_model.specs.declared.calls.Mode.TheVariants as mode
 use Rattle.pl_model.specs.declared.flags.OpenFlags.{OpenFlags}
 use Rattle.pl_model.specs.Numbers.{open_max, most_processes}
 use Rattle.pl_model.specs.Modes.{any_mode, reads, writes}
-use Rattle.pl_model.specs.Map.{kept_if, set_at}
+use Rattle.pl_model.specs.Map.{set_at}
 use Rattle.pl_model.specs.Keys.{Node, NewKeys, PipeNode, FileNode, same_node}
 use Rattle.pl_model.specs.State.{Core, Description, Pipe, empty_pipe, set_pipe}
-use Rattle.pl_model.specs.Live.{in_rows, in_parked, pids, is_live, is_end, is_held, has_name}
+use Rattle.pl_model.specs.Live.{in_rows, in_parked, pids, is_live, is_end, is_held}
 use Rattle.pl_model.specs.Settle.{settle, settled_pipe, is_kept, is_hung}
 use Rattle.pl_model.specs.Tables.{start, close_row}
 use Rattle.pl_model.specs.Begin.{make_pipe}
 use Rattle.pl_model.specs.Numbered.{numbers}
 use Rattle.pl_model.specs.StandsFor.{AreUnused}
 use Rattle.pl_model.specs.Laws.{IsSettled}
-use Rattle.pl_model.proofs.Members.{both_ways, or_left, or_right, and_left, and_right}
-use Rattle.pl_model.proofs.Tidy.{Row, row_found, row_live, live_same, live_row, is_on, has_end, end_found, end_passes, SameEnds, has_end-same, tidy_pipe, settled_pipe-is, settles_to, tidy, settled-live, settled-kept, settled-file, kept-same, settled_pipe-same}
-
--- what a map has at another key, and at the key
-pub at_other : {X : Type 0} (m : ℕ → X) (k q : ℕ) (x : X) → k ≢ q → set_at nat_eq m k x q ≡ m q
-at_other m k q x n = ap (λ b. cond b x (m q)) (ne_eqb k q n)
-
-pub at_key : {X : Type 0} (m : ℕ → X) (k : ℕ) (x : X) → set_at nat_eq m k x k ≡ x
-at_key m k x = ap (λ b. cond b x (m k)) (eq-eqb k k refl)
+use Rattle.pl_model.proofs.Members.{both_ways, or_left}
+use Rattle.pl_model.proofs.Settles.{Alike, at_other, at_key, at_same, same-settled, moved-settled, left, left_pipe, left_lives, gone-settled}
+use Rattle.pl_model.proofs.Tidy.{Row, row_live, live_same, live_row, is_on, has_end, end_passes, SameEnds, tidy_pipe, settled_pipe-is, tidy, settled-live, settled-kept, settled-file, kept-same, settled_pipe-same}
 
 -- the bytes of a pipe with an end change
 module _ {A : Type 0} (c : Core A numbers) (settled : IsSettled c) (p : ℕ) (x : Pipe) (is : c.pipes p ≡ Some x) (held : is_held c (PipeNode p) ≡ true) (bytes : List ℕ) where
@@ -38,35 +32,8 @@ module _ {A : Type 0} (c : Core A numbers) (settled : IsSettled c) (p : ℕ) (x 
   unfolding in_rows in_parked pids
   same_live d = refl
 
-  same_ends : (node : Node numbers) → SameEnds c changed node
-  same_ends node = record { forth = λ d l o. (same_live d ∙ l, refl); back = λ d l o. (sym (same_live d) ∙ l, refl) }
-
-  hung_only : (h : Bool) → record x { hung = h } ≡ x → record x { bytes = bytes; hung = h } ≡ record x { bytes = bytes }
-  hung_only h e = ap (λ (z : Pipe). record x { bytes = bytes; hung = z.hung }) e
-
   pub bytes-settled : settle c changed ≡ changed
-  bytes-settled = tidy c changed (λ d y e. same_live d ∙ settled-live c settled d y e) kept (λ f y e. kept-same c changed refl (FileNode f) (same_ends (FileNode f)) ∙ settled-file c settled f y e)
-    where
-      here : settled_pipe c changed p (record x { bytes = bytes }) ≡ record x { bytes = bytes }
-      here =
-          let had = is_hung (c.pipes p) || has_end c writes (PipeNode p) in
-          let h = has_end c reads (PipeNode p) && (not (has_end c writes (PipeNode p)) && had) in
-          let was : record x { hung = h } ≡ x = ap (λ b. cond b (record x { hung = h }) empty_pipe) (sym held) ∙ sym (settled_pipe-is c c p x) ∙ (settled-kept c settled p x is).1 in
-          settled_pipe-same c changed refl p (record x { bytes = bytes }) (same_ends (PipeNode p))
-          ∙ settled_pipe-is c c p (record x { bytes = bytes })
-          ∙ ap (λ b. cond b (record x { bytes = bytes; hung = h }) empty_pipe) held
-          ∙ hung_only h was
-
-      kept : (q : ℕ) (y : Pipe) → changed.pipes q ≡ Some y → (is_kept changed (PipeNode q) ≡ true) × (settled_pipe c changed q y ≡ y)
-      kept q y e = elim (eqb_tells p q) as (λ _. (is_kept changed (PipeNode q) ≡ true) × (settled_pipe c changed q y ≡ y)) [
-        | inl t ↦
-            let y_is : record x { bytes = bytes } ≡ y = (let s : Some (record x { bytes = bytes }) ≡ Some y = ap (λ b. cond b (Some (record x { bytes = bytes })) (c.pipes q)) (sym t.0) ∙ e in cc) in
-            let at_p : is_kept changed (PipeNode p) ≡ true = kept-same c changed refl (PipeNode p) (same_ends (PipeNode p)) ∙ (settled-kept c settled p x is).0 in
-            (ap (λ k. is_kept changed (PipeNode k)) (sym t.1) ∙ at_p, ap (λ k. settled_pipe c changed k y) (sym t.1) ∙ ap (settled_pipe c changed p) (sym y_is) ∙ here ∙ y_is)
-        | inr t ↦
-            let was : c.pipes q ≡ Some y = sym (at_other c.pipes p q (Some (record x { bytes = bytes })) t.1) ∙ e in
-            (kept-same c changed refl (PipeNode q) (same_ends (PipeNode q)) ∙ (settled-kept c settled q y was).0, settled_pipe-same c changed refl q y (same_ends (PipeNode q)) ∙ (settled-kept c settled q y was).1)
-      ]
+  bytes-settled = moved-settled c changed settled (record { descriptions = refl; files = refl; names = refl }) same_live p x is held bytes refl
 
 -- a process starts, whose rows are empty
 module _ {A : Type 0} (c : Core A numbers) (settled : IsSettled c) (pid : ℕ) (empty : (fd : ℕ) → c.rows pid fd ≡ None) where
@@ -90,14 +57,8 @@ module _ {A : Type 0} (c : Core A numbers) (settled : IsSettled c) (pid : ℕ) (
         | inr t ↦ sym (at_other c.processes pid q true t.1) ∙ h
       ]
 
-  begun_ends : (node : Node numbers) → SameEnds c begun node
-  begun_ends node = record { forth = λ d l o. (begun_live d ∙ l, refl); back = λ d l o. (sym (begun_live d) ∙ l, refl) }
-
   pub start-settled : settle c begun ≡ begun
-  start-settled = tidy c begun
-      (λ d x e. begun_live d ∙ settled-live c settled d x e)
-      (λ p x e. (kept-same c begun refl (PipeNode p) (begun_ends (PipeNode p)) ∙ (settled-kept c settled p x e).0, settled_pipe-same c begun refl p x (begun_ends (PipeNode p)) ∙ (settled-kept c settled p x e).1))
-      (λ f x e. kept-same c begun refl (FileNode f) (begun_ends (FileNode f)) ∙ settled-file c settled f x e)
+  start-settled = same-settled c begun settled (record { descriptions = refl; files = refl; names = refl }) begun_live refl
 
 -- a pipe is made, its ends at two free descriptors of a process
 module _ {A : Type 0} (c : Core A numbers) (settled : IsSettled c) (new : NewKeys numbers) (unused : AreUnused c new) (pid first second : ℕ) (flags : OpenFlags)
@@ -239,16 +200,12 @@ module _ {A : Type 0} (c : Core A numbers) (settled : IsSettled c) (new : NewKey
             (kept-same c made refl (PipeNode p) same ∙ (settled-kept c settled p x was).0, settled_pipe-same c made refl p x same ∙ (settled-kept c settled p x was).1)
       ]
 
--- a descriptor is closed that alone names its description, with no call parked
-module _ {A : Type 0} (c : Core A numbers) (settled : IsSettled c) (unparked : c.parked ≡ []) (unnamed : c.names ≡ []) (pid fd gone : ℕ) (x : Description numbers)
-    (named : c.rows pid fd ≡ Some gone) (alone : (q k : ℕ) → c.rows q k ≡ Some gone → (q ≡ pid) × (k ≡ fd))
+-- a descriptor is closed that alone names its description, which no parked call keeps
+module _ {A : Type 0} (c : Core A numbers) (settled : IsSettled c) (unnamed : c.names ≡ []) (pid fd gone : ℕ) (x : Description numbers)
+    (unkept : is_member nat_eq (in_parked c) gone ≡ false) (named : c.rows pid fd ≡ Some gone) (alone : (q k : ℕ) → c.rows q k ≡ Some gone → (q ≡ pid) × (k ≡ fd))
     (described : c.descriptions gone ≡ Some x) (p : ℕ) (on : x.node ≡ PipeNode p) where
   abbrev closed : Core A numbers
   closed = close_row c pid fd
-
-  -- what is left of the descriptions
-  abbrev pub left : Core A numbers
-  left = record closed { descriptions = set_at nat_eq c.descriptions gone None }
 
   same_row : (q k d : ℕ) → d ≢ gone → c.rows q k ≡ Some d → closed.rows q k ≡ Some d
   same_row q k d n e = elim (eqb_tells q pid) as (λ _. closed.rows q k ≡ Some d) [
@@ -265,13 +222,17 @@ module _ {A : Type 0} (c : Core A numbers) (settled : IsSettled c) (unparked : c
     by true e = absurd (cc)
     by false e = e
 
-  pub left_live : (d : ℕ) → d ≢ gone → is_live closed d ≡ is_live c d
+  left_live : (d : ℕ) → d ≢ gone → is_live closed d ≡ is_live c d
   left_live d n = live_same c closed refl d
       (λ r. record { pid = r.pid; fd = r.fd; low = r.low; high = r.high; process = r.process; within = r.within; names = same_row r.pid r.fd d n r.names })
       (λ r. record { pid = r.pid; fd = r.fd; low = r.low; high = r.high; process = r.process; within = r.within; names = row_was_there r.pid r.fd d r.names })
 
+  unkept_then : is_member nat_eq (in_parked closed) gone ≡ false
+  unfolding in_parked
+  unkept_then = unkept
+
   no_live : is_live closed gone ≡ false
-  no_live = both_ways (is_live closed gone) false (λ h. absurd (no_row (live_row closed unparked gone h))) (λ h. absurd (cc))
+  no_live = both_ways (is_live closed gone) false (λ h. absurd (no_row (live_row closed gone unkept_then h))) (λ h. absurd (cc))
     where
       no_row : Row closed gone → ⊥
       no_row r =
@@ -280,118 +241,12 @@ module _ {A : Type 0} (c : Core A numbers) (settled : IsSettled c) (unparked : c
           let none : None ≡ Some gone = sym empty ∙ r.names in
           cc
 
-  live_of_left : (d : ℕ) → is_live left d ≡ is_live closed d
-  unfolding in_rows in_parked pids
-  live_of_left d = refl
+  abbrev alike : Alike c closed
+  alike = record { descriptions = refl; files = refl; names = refl }
 
-  -- each description that is left is live
-  pub left_lives : (d : ℕ) (y : Description numbers) → left.descriptions d ≡ Some y → is_live left d ≡ true
-  left_lives d y e = elim (eqb_tells gone d) as (λ _. is_live left d ≡ true) [
-    | inl t ↦ (let none : None ≡ Some y = ap (λ b. cond b None (c.descriptions d)) (sym t.0) ∙ e in absurd (cc))
-    | inr t ↦ live_of_left d ∙ left_live d (λ s. t.1 (sym s)) ∙ settled-live c settled d y (sym (at_other c.descriptions gone d None t.1) ∙ e)
-  ]
+  pub closed_lives : (d : ℕ) (y : Description numbers) → (left c closed gone).descriptions d ≡ Some y → is_live (left c closed gone) d ≡ true
+  closed_lives = left_lives c closed settled alike unnamed gone x described p on left_live no_live
 
-  -- the live descriptions on a node are those that are left
-  left_ends : (node : Node numbers) → SameEnds left closed node
-  left_ends node = record { forth = λ d l o. (sym (live_of_left d) ∙ l, agree d (sym (live_of_left d) ∙ l)); back = λ d l o. (live_of_left d ∙ l, agree d l) }
-    where
-      agree : (d : ℕ) → is_live closed d ≡ true → closed.descriptions d ≡ left.descriptions d
-      agree d l = elim (eqb_tells gone d) as (λ _. closed.descriptions d ≡ left.descriptions d) [
-        | inl t ↦ (let f : false ≡ true = sym no_live ∙ ap (is_live closed) t.1 ∙ l in absurd (cc))
-        | inr t ↦ sym (at_other c.descriptions gone d None t.1)
-      ]
-
-  -- another node has the ends that it had
-  other_ends : (node : Node numbers) → same_node {K = numbers} (PipeNode p) node ≡ false → SameEnds c closed node
-  other_ends node off = record { forth = forth; back = λ d l o. (at_live d l, refl) }
-    where
-      forth : (d : ℕ) → is_live c d ≡ true → is_on node (c.descriptions d) ≡ true → (is_live closed d ≡ true) × (closed.descriptions d ≡ c.descriptions d)
-      forth d l o = elim (eqb_tells d gone) as (λ _. (is_live closed d ≡ true) × (closed.descriptions d ≡ c.descriptions d)) [
-        | inl t ↦ (
-            let here : is_on node (Some x) ≡ true = ap (is_on node) (sym described) ∙ ap (λ z. is_on node (c.descriptions z)) (sym t.1) ∙ o in
-            let not_here : is_on node (Some x) ≡ false = (λ i. same_node {K = numbers} (on i) node && true) ∙ (λ i. off i && true) in
-            let f : false ≡ true = sym not_here ∙ here in
-            absurd (cc))
-        | inr t ↦ (left_live d t.1 ∙ l, refl)
-      ]
-
-      at_live : (d : ℕ) → is_live closed d ≡ true → is_live c d ≡ true
-      at_live d l = elim (eqb_tells d gone) as (λ _. is_live c d ≡ true) [
-        | inl t ↦ (let f : false ≡ true = sym no_live ∙ ap (is_live closed) (sym t.1) ∙ l in absurd (cc))
-        | inr t ↦ sym (left_live d t.1) ∙ l
-      ]
-
-  -- the pipe goes with its last end, and else is hung once its last writer left
-  abbrev pub left_pipe : Pipe → Option Pipe
-  left_pipe y =
-      kept_if (has_end left any_mode (PipeNode p))
-      (Some (record y { hung = has_end left reads (PipeNode p) && (not (has_end left writes (PipeNode p)) && (is_hung (c.pipes p) || has_end c writes (PipeNode p))) }))
-
-  pub close-settled : (y : Pipe) → c.pipes p ≡ Some y → settle c closed ≡ record left { pipes = set_at nat_eq c.pipes p (left_pipe y) }
-  close-settled y is = settles_to c closed (set_at nat_eq c.descriptions gone None) (set_at nat_eq c.pipes p (left_pipe y)) c.files at_d at_p (λ f. at_f f (c.files f) refl)
-    where
-      dead : (b : Bool) → ◌≡◌ {A = Option (Description numbers)} (kept_if b None) None
-      dead true = refl
-      dead false = refl
-
-      kept : (d : ℕ) (o : Option (Description numbers)) → c.descriptions d ≡ o → d ≢ gone → kept_if (is_live closed d) o ≡ o
-      kept d None e n = dead (is_live closed d)
-      kept d (Some z) e n = ap (λ b. kept_if b (Some z)) (left_live d n ∙ settled-live c settled d z e)
-
-      at_d : (d : ℕ) → kept_if (is_live closed d) (closed.descriptions d) ≡ set_at nat_eq c.descriptions gone None d
-      at_d d = elim (eqb_tells gone d) as (λ _. kept_if (is_live closed d) (closed.descriptions d) ≡ set_at nat_eq c.descriptions gone None d) [
-        | inl t ↦ ap (λ b. kept_if b (c.descriptions d)) (ap (is_live closed) (sym t.1) ∙ no_live) ∙ sym (ap (λ b. cond b None (c.descriptions d)) t.0)
-        | inr t ↦ kept d (c.descriptions d) refl (λ s. t.1 (sym s)) ∙ sym (at_other c.descriptions gone d None t.1)
-      ]
-
-      ends : (test : Mode → Bool) → has_end closed test (PipeNode p) ≡ has_end left test (PipeNode p)
-      ends = has_end-same left closed (PipeNode p) (left_ends (PipeNode p))
-
-      or_none : (b : Bool) → (b || list_any (λ e. same_node {K = numbers} e.1 (PipeNode p)) closed.names) ≡ b
-      or_none b = (λ i. b || list_any (λ e. same_node {K = numbers} e.1 (PipeNode p)) (unnamed i)) ∙ at b
-        where
-          at : (b : Bool) → (b || false) ≡ b
-          at true = refl
-          at false = refl
-
-      tidied : (h r w had : Bool) → option_map (tidy_pipe h r w had) (kept_if h (Some y)) ≡ kept_if h (Some (record y { hung = r && (not w && had) }))
-      tidied true r w had = refl
-      tidied false r w had = refl
-
-      here : option_map (settled_pipe c closed p) (kept_if (is_kept closed (PipeNode p)) (Some y)) ≡ left_pipe y
-      here =
-          ap (λ b. option_map (settled_pipe c closed p) (kept_if b (Some y))) (or_none (has_end closed any_mode (PipeNode p)) ∙ ends any_mode)
-          ∙ seen (has_end left any_mode (PipeNode p))
-          ∙ tidied (has_end left any_mode (PipeNode p)) (has_end left reads (PipeNode p)) (has_end left writes (PipeNode p)) (is_hung (c.pipes p) || has_end c writes (PipeNode p))
-        where
-          seen : (b : Bool) → option_map (settled_pipe c closed p) (kept_if b (Some y)) ≡ option_map (tidy_pipe (has_end left any_mode (PipeNode p)) (has_end left reads (PipeNode p)) (has_end left writes (PipeNode p)) (is_hung (c.pipes p) || has_end c writes (PipeNode p))) (kept_if b (Some y))
-          seen true =
-              ap (λ z. Some z) (settled_pipe-is c closed p y
-              ∙ (λ i. tidy_pipe (ends any_mode i) (ends reads i) (ends writes i) (is_hung (c.pipes p) || has_end c writes (PipeNode p)) y))
-          seen false = refl
-
-      at_other_pipe : (q : ℕ) (o : Option Pipe) → c.pipes q ≡ o → nat_eq p q ≡ false → option_map (settled_pipe c closed q) (kept_if (is_kept closed (PipeNode q)) o) ≡ o
-      at_other_pipe q None e n = none (is_kept closed (PipeNode q)) where
-        none : (b : Bool) → ◌≡◌ {A = Option Pipe} (option_map (settled_pipe c closed q) (kept_if b None)) None
-        none true = refl
-        none false = refl
-      at_other_pipe q (Some z) e n =
-          let same = other_ends (PipeNode q) n in
-          ap (λ b. option_map (settled_pipe c closed q) (kept_if b (Some z))) (kept-same c closed refl (PipeNode q) same ∙ (settled-kept c settled q z e).0)
-          ∙ ap (λ y. Some y) (settled_pipe-same c closed refl q z same ∙ (settled-kept c settled q z e).1)
-
-      at_p : (q : ℕ) → option_map (settled_pipe c closed q) (kept_if (is_kept closed (PipeNode q)) (closed.pipes q)) ≡ set_at nat_eq c.pipes p (left_pipe y) q
-      at_p q = elim (eqb_tells p q) as (λ _. option_map (settled_pipe c closed q) (kept_if (is_kept closed (PipeNode q)) (closed.pipes q)) ≡ set_at nat_eq c.pipes p (left_pipe y) q) [
-        | inl t ↦
-            ap (λ k. option_map (settled_pipe c closed k) (kept_if (is_kept closed (PipeNode k)) (c.pipes k))) (sym t.1)
-            ∙ ap (λ o. option_map (settled_pipe c closed p) (kept_if (is_kept closed (PipeNode p)) o)) is
-            ∙ here ∙ sym (ap (λ b. cond b (left_pipe y) (c.pipes q)) t.0)
-        | inr t ↦ at_other_pipe q (c.pipes q) refl t.0 ∙ sym (at_other c.pipes p q (left_pipe y) t.1)
-      ]
-
-      at_f : (f : ℕ) (o : Option (List ℕ)) → c.files f ≡ o → kept_if (is_kept closed (FileNode f)) o ≡ o
-      at_f f None e = none (is_kept closed (FileNode f)) where
-        none : (b : Bool) → ◌≡◌ {A = Option (List ℕ)} (kept_if b None) None
-        none true = refl
-        none false = refl
-      at_f f (Some z) e = ap (λ b. kept_if b (Some z)) (kept-same c closed refl (FileNode f) (other_ends (FileNode f) refl) ∙ settled-file c settled f z e)
+  pub close-settled : (y : Pipe) → c.pipes p ≡ Some y →
+      settle c closed ≡ record (left c closed gone) { pipes = set_at nat_eq c.pipes p (left_pipe c closed gone p y) }
+  close-settled y is = gone-settled c closed settled alike unnamed gone x described p on left_live no_live y (at_same c.pipes p (Some y) is)

@@ -10,4 +10,5 @@ pub mod Sound
 pub mod Examples
 pub mod Members
 pub mod Tidy
+pub mod Settles
 pub mod Changes

@@ -1,23 +1,22 @@
 -- What settling comes to, where it is known who is live.
-use Rattle.std.proofs.Common.{◌≡◌, ◌≢◌, ℕ, ◌+◌, ◌<◌, ◌≤◌, Bool, true, false, cond, List, [], ◌∷◌, ◌++◌, Option, Some, None, refl, sym, ◌∙◌, ap, subst, inl, inr, nat_eq, nat_lt, length, arith}
+use Rattle.std.proofs.Common.{◌≡◌, ℕ, ◌+◌, ◌<◌, ◌≤◌, Bool, true, false, cond, List, Option, Some, None, refl, sym, ◌∙◌, ap, nat_eq, nat_lt, arith}
 use Rattle.std.proofs.Math.Path.{fun_ext}
 use Rattle.std.specs.Prelude.{◌==◌, ◌||◌, ◌&&◌, not, option_map}
-use Rattle.std.specs.List.{list_any, filter, flat_map, filter_map}
-use Rattle.std.specs.Set.{distinct_count, is_member}
+use Rattle.std.specs.List.{list_any, flat_map, filter_map}
+use Rattle.std.specs.Set.{is_member}
 use Rattle.std.proofs.lemmas.List.Folds.{list_any-append}
-use Rattle.std.proofs.lemmas.Bool.{eq-eqb, ne_eqb, eqb-true}
-use Rattle.std.proofs.lemmas.Bool.Decides.{eqb_tells}
+use Rattle.std.proofs.lemmas.Bool.{eq-eqb, eqb-true}
 use Rattle.pl_model.specs.declared.calls.Mode.{Mode}
 use Rattle.pl_model.specs.Numbers.{numbers_from, open_max, most_processes}
 use Rattle.pl_model.specs.Modes.{any_mode, reads, writes}
 use Rattle.pl_model.specs.Map.{kept_if}
 use Rattle.pl_model.specs.Keys.{Node, PipeNode, FileNode, same_node}
 use Rattle.pl_model.specs.State.{Core, Description, Pipe, Waiting, empty_pipe}
-use Rattle.pl_model.specs.Live.{in_use, in_rows, in_parked, pids, is_live, is_end, is_held, readers, writers, live_with, has_name}
-use Rattle.pl_model.specs.Settle.{settle, settled_pipe, is_kept, is_hung, had_writer}
+use Rattle.pl_model.specs.Live.{in_use, in_rows, in_parked, pids, is_live, is_end, is_held, readers, writers, live_with}
+use Rattle.pl_model.specs.Settle.{settle, settled_pipe, is_kept, is_hung}
 use Rattle.pl_model.specs.Numbered.{numbers}
 use Rattle.pl_model.specs.Laws.{IsSettled}
-use Rattle.pl_model.proofs.Members.{both_ways, and_left, and_right, or_left, or_right, member_found, member_passes, some_count, is_here, member_filter_map, member_flat, any_filter, any_number, number_passes}
+use Rattle.pl_model.proofs.Members.{both_ways, and_left, and_right, or_left, member_found, member_passes, some_count, is_here, member_filter_map, member_flat, any_filter, any_number, number_passes}
 
 -- a row of a process names the description
 pub record Row {A : Type 0} (c : Core A numbers) (d : ℕ) : Type 0 where
@@ -72,18 +71,14 @@ module _ {A : Type 0} (c u : Core A numbers) (same_parked : u.parked ≡ c.parke
       (both_ways (is_member nat_eq (in_rows u) d) (is_member nat_eq (in_rows c) d) (λ h. row_member c d (back (row_found u d h))) (λ h. row_member u d (forth (row_found c d h))))
       ∙ sym (list_any-append (nat_eq d) (in_rows c) (in_parked c))
 
--- with no parked call, what is live is what rows name
-module _ {A : Type 0} (c : Core A numbers) (unparked : c.parked ≡ []) where
+-- a live description that no parked call keeps is named by a row
+module _ {A : Type 0} (c : Core A numbers) (d : ℕ) (unkept : is_member nat_eq (in_parked c) d ≡ false) where
   or_false : (b : Bool) → (b || false) ≡ b
   or_false true = refl
   or_false false = refl
 
-  pub live_row : (d : ℕ) → is_live c d ≡ true → Row c d
-  unfolding in_parked
-  live_row d h = row_found c d (
-      sym (or_false _)
-      ∙ ap (λ ps. is_member nat_eq (in_rows c) d || is_member nat_eq (flat_map (λ (w : ℕ × Waiting A numbers). w.1.kept) ps) d) (sym unparked)
-      ∙ sym (list_any-append (nat_eq d) (in_rows c) (in_parked c)) ∙ h)
+  pub live_row : is_live c d ≡ true → Row c d
+  live_row h = row_found c d (sym (or_false _) ∙ (λ i. is_member nat_eq (in_rows c) d || sym unkept i) ∙ sym (list_any-append (nat_eq d) (in_rows c) (in_parked c)) ∙ h)
 
 -- the description is on the node
 abbrev pub is_on : Node numbers → Option (Description numbers) → Bool

@@ -1,10 +1,13 @@
-//! What `piperun` says of a run: the limits that it runs under, and its faults with their lines and statuses.
+//! What `piperun` is told and says: the words of its command line, the limits of a run, and the faults with their lines and
+//! statuses.
 #![tactic(auto)]
 
 mod fault;
+mod words;
 
 pub use fault::{Fault, status, write_fault};
 use pl_model::Limits;
+pub use words::check_words;
 
 /// The limits of a run: calls are numbered from 1, and a file has at most 16,777,216 bytes.
 pub const LIMITS: Limits = Limits {

@@ -1,0 +1,220 @@
+-- What settling makes of a settled state in which the bytes of one pipe may have changed, and one description of it may
+-- have gone. Calls differ only in whom they leave live.
+use Rattle.std.proofs.Common.{◌≡◌, ◌≢◌, ℕ, Bool, true, false, cond, List, [], Option, Some, None, refl, sym, ◌∙◌, ap, inl, inr, nat_eq}
+use Rattle.std.proofs.Math.Path.{fun_ext}
+use Rattle.std.specs.Prelude.{◌||◌, ◌&&◌, not, option_map}
+use Rattle.std.specs.List.{list_any}
+use Rattle.std.proofs.lemmas.Bool.{eq-eqb, ne_eqb}
+use Rattle.std.proofs.lemmas.Bool.Decides.{eqb_tells}
+use Rattle.pl_model.specs.declared.calls.Mode.{Mode}
+use Rattle.pl_model.specs.Modes.{any_mode, reads, writes}
+use Rattle.pl_model.specs.Map.{kept_if, set_at}
+use Rattle.pl_model.specs.Keys.{Node, PipeNode, FileNode, same_node}
+use Rattle.pl_model.specs.State.{Core, Description, Pipe, empty_pipe}
+use Rattle.pl_model.specs.Live.{in_rows, in_parked, pids, is_live, is_held}
+use Rattle.pl_model.specs.Settle.{settle, settled_pipe, is_kept, is_hung}
+use Rattle.pl_model.specs.Numbered.{numbers}
+use Rattle.pl_model.specs.Laws.{IsSettled}
+use Rattle.pl_model.proofs.Tidy.{is_on, has_end, SameEnds, has_end-same, tidy_pipe, settled_pipe-is, settles_to, tidy, settled-live, settled-kept, settled-file, kept-same, settled_pipe-same}
+
+-- what a map has at another key, and at the key
+pub at_other : {X : Type 0} (m : ℕ → X) (k q : ℕ) (x : X) → k ≢ q → set_at nat_eq m k x q ≡ m q
+at_other m k q x n = ap (λ b. cond b x (m q)) (ne_eqb k q n)
+
+pub at_key : {X : Type 0} (m : ℕ → X) (k : ℕ) (x : X) → set_at nat_eq m k x k ≡ x
+at_key m k x = ap (λ b. cond b x (m k)) (eq-eqb k k refl)
+
+pub at_same : {X : Type 0} (m : ℕ → X) (k : ℕ) (x : X) → m k ≡ x → m ≡ set_at nat_eq m k x
+at_same m k x e = fun_ext (λ q. elim (eqb_tells k q) as (λ _. m q ≡ set_at nat_eq m k x q) [
+  | inl t ↦ ap m (sym t.1) ∙ e ∙ sym (ap (λ b. cond b x (m q)) t.0)
+  | inr t ↦ sym (at_other m k q x t.1)
+])
+
+-- what settling looks at and the step didn't touch
+pub record Alike {A : Type 0} (c u : Core A numbers) : Type 0 where
+  pub descriptions : u.descriptions ≡ c.descriptions
+  pub files : u.files ≡ c.files
+  pub names : u.names ≡ c.names
+
+-- the same descriptions are live
+module _ {A : Type 0} (c u : Core A numbers) (settled : IsSettled c) (alike : Alike c u) (live : (d : ℕ) → is_live u d ≡ is_live c d) where
+  same_ends : (node : Node numbers) → SameEnds c u node
+  same_ends node = record { forth = λ d l o. (live d ∙ l, (λ i. alike.descriptions i d)); back = λ d l o. (sym (live d) ∙ l, (λ i. alike.descriptions i d)) }
+
+  described_live : (d : ℕ) (y : Description numbers) → u.descriptions d ≡ Some y → is_live u d ≡ true
+  described_live d y e = live d ∙ settled-live c settled d y (sym (λ i. alike.descriptions i d) ∙ e)
+
+  file_kept : (f : ℕ) (y : List ℕ) → u.files f ≡ Some y → is_kept u (FileNode f) ≡ true
+  file_kept f y e = kept-same c u alike.names (FileNode f) (same_ends (FileNode f)) ∙ settled-file c settled f y (sym (λ i. alike.files i f) ∙ e)
+
+  pipe_kept : (q : ℕ) (y : Pipe) → c.pipes q ≡ Some y → (is_kept u (PipeNode q) ≡ true) × (settled_pipe c u q y ≡ y)
+  pipe_kept q y was = (
+    kept-same c u alike.names (PipeNode q) (same_ends (PipeNode q)) ∙ (settled-kept c settled q y was).0,
+    settled_pipe-same c u alike.names q y (same_ends (PipeNode q)) ∙ (settled-kept c settled q y was).1,
+  )
+
+  -- nothing else changed
+  pub same-settled : u.pipes ≡ c.pipes → settle c u ≡ u
+  same-settled pipes = tidy c u described_live (λ q y e. pipe_kept q y (sym (λ i. pipes i q) ∙ e)) file_kept
+
+  -- the bytes of a pipe with an end changed
+  module _ (p : ℕ) (x : Pipe) (is : c.pipes p ≡ Some x) (held : is_held c (PipeNode p) ≡ true) (bytes : List ℕ)
+      (pipes : u.pipes ≡ set_at nat_eq c.pipes p (Some (record x { bytes = bytes }))) where
+    hung_only : (h : Bool) → record x { hung = h } ≡ x → record x { bytes = bytes; hung = h } ≡ record x { bytes = bytes }
+    hung_only h e = ap (λ (z : Pipe). record x { bytes = bytes; hung = z.hung }) e
+
+    here : settled_pipe c u p (record x { bytes = bytes }) ≡ record x { bytes = bytes }
+    here =
+        let had = is_hung (c.pipes p) || has_end c writes (PipeNode p) in
+        let h = has_end c reads (PipeNode p) && (not (has_end c writes (PipeNode p)) && had) in
+        let was : record x { hung = h } ≡ x = ap (λ b. cond b (record x { hung = h }) empty_pipe) (sym held) ∙ sym (settled_pipe-is c c p x) ∙ (settled-kept c settled p x is).1 in
+        settled_pipe-same c u alike.names p (record x { bytes = bytes }) (same_ends (PipeNode p))
+        ∙ settled_pipe-is c c p (record x { bytes = bytes })
+        ∙ ap (λ b. cond b (record x { bytes = bytes; hung = h }) empty_pipe) held
+        ∙ hung_only h was
+
+    kept : (q : ℕ) (y : Pipe) → u.pipes q ≡ Some y → (is_kept u (PipeNode q) ≡ true) × (settled_pipe c u q y ≡ y)
+    kept q y e = elim (eqb_tells p q) as (λ _. (is_kept u (PipeNode q) ≡ true) × (settled_pipe c u q y ≡ y)) [
+      | inl t ↦
+          let set : set_at nat_eq c.pipes p (Some (record x { bytes = bytes })) q ≡ Some y = sym (λ i. pipes i q) ∙ e in
+          let y_is : record x { bytes = bytes } ≡ y = (let s : Some (record x { bytes = bytes }) ≡ Some y = ap (λ b. cond b (Some (record x { bytes = bytes })) (c.pipes q)) (sym t.0) ∙ set in cc) in
+          (ap (λ k. is_kept u (PipeNode k)) (sym t.1) ∙ (pipe_kept p x is).0, ap (λ k. settled_pipe c u k y) (sym t.1) ∙ ap (settled_pipe c u p) (sym y_is) ∙ here ∙ y_is)
+      | inr t ↦ pipe_kept q y (sym (at_other c.pipes p q (Some (record x { bytes = bytes })) t.1) ∙ sym (λ i. pipes i q) ∙ e)
+    ]
+
+    pub moved-settled : settle c u ≡ u
+    moved-settled = tidy c u described_live kept file_kept
+
+module _ {A : Type 0} (c u : Core A numbers) (gone : ℕ) where
+  -- what is left of the descriptions
+  abbrev pub left : Core A numbers
+  left = record u { descriptions = set_at nat_eq c.descriptions gone None }
+
+  -- and of a pipe: it goes with its last end, and else is hung once its last writer left
+  abbrev pub left_pipe : ℕ → Pipe → Option Pipe
+  left_pipe p y =
+      kept_if (has_end left any_mode (PipeNode p))
+      (Some (record y { hung = has_end left reads (PipeNode p) && (not (has_end left writes (PipeNode p)) && (is_hung (c.pipes p) || has_end c writes (PipeNode p))) }))
+
+-- A description of a pipe's end isn't live any more, and all others are as they were. The bytes of that pipe may have
+-- changed.
+module _ {A : Type 0} (c u : Core A numbers) (settled : IsSettled c) (alike : Alike c u) (unnamed : c.names ≡ []) (gone : ℕ) (x : Description numbers)
+    (described : c.descriptions gone ≡ Some x) (p : ℕ) (on : x.node ≡ PipeNode p) (others : (d : ℕ) → d ≢ gone → is_live u d ≡ is_live c d) (dead : is_live u gone ≡ false) where
+  abbrev rest : Core A numbers
+  rest = left c u gone
+
+  -- each description of before is there
+  there : (d : ℕ) → u.descriptions d ≡ c.descriptions d
+  there d = λ i. alike.descriptions i d
+
+  live_of_left : (d : ℕ) → is_live rest d ≡ is_live u d
+  unfolding in_rows in_parked pids
+  live_of_left d = refl
+
+  -- each description that is left is live
+  pub left_lives : (d : ℕ) (y : Description numbers) → rest.descriptions d ≡ Some y → is_live rest d ≡ true
+  left_lives d y e = elim (eqb_tells gone d) as (λ _. is_live rest d ≡ true) [
+    | inl t ↦ (let none : None ≡ Some y = ap (λ b. cond b None (c.descriptions d)) (sym t.0) ∙ e in absurd (cc))
+    | inr t ↦ live_of_left d ∙ others d (λ s. t.1 (sym s)) ∙ settled-live c settled d y (sym (at_other c.descriptions gone d None t.1) ∙ e)
+  ]
+
+  -- the live descriptions on a node are those that are left
+  left_ends : (node : Node numbers) → SameEnds rest u node
+  left_ends node = record { forth = λ d l o. (sym (live_of_left d) ∙ l, agree d (sym (live_of_left d) ∙ l)); back = λ d l o. (live_of_left d ∙ l, agree d l) }
+    where
+      agree : (d : ℕ) → is_live u d ≡ true → u.descriptions d ≡ rest.descriptions d
+      agree d l = elim (eqb_tells gone d) as (λ _. u.descriptions d ≡ rest.descriptions d) [
+        | inl t ↦ (let f : false ≡ true = sym dead ∙ ap (is_live u) t.1 ∙ l in absurd (cc))
+        | inr t ↦ there d ∙ sym (at_other c.descriptions gone d None t.1)
+      ]
+
+  -- another node has the ends that it had
+  other_ends : (node : Node numbers) → same_node {K = numbers} (PipeNode p) node ≡ false → SameEnds c u node
+  other_ends node off = record { forth = forth; back = λ d l o. (at_live d l, there d) }
+    where
+      forth : (d : ℕ) → is_live c d ≡ true → is_on node (c.descriptions d) ≡ true → (is_live u d ≡ true) × (u.descriptions d ≡ c.descriptions d)
+      forth d l o = elim (eqb_tells d gone) as (λ _. (is_live u d ≡ true) × (u.descriptions d ≡ c.descriptions d)) [
+        | inl t ↦ (
+            let here : is_on node (Some x) ≡ true = ap (is_on node) (sym described) ∙ ap (λ z. is_on node (c.descriptions z)) (sym t.1) ∙ o in
+            let not_here : is_on node (Some x) ≡ false = (λ i. same_node {K = numbers} (on i) node && true) ∙ (λ i. off i && true) in
+            let f : false ≡ true = sym not_here ∙ here in
+            absurd (cc))
+        | inr t ↦ (others d t.1 ∙ l, there d)
+      ]
+
+      at_live : (d : ℕ) → is_live u d ≡ true → is_live c d ≡ true
+      at_live d l = elim (eqb_tells d gone) as (λ _. is_live c d ≡ true) [
+        | inl t ↦ (let f : false ≡ true = sym dead ∙ ap (is_live u) (sym t.1) ∙ l in absurd (cc))
+        | inr t ↦ sym (others d t.1) ∙ l
+      ]
+
+  pub gone-settled : (y : Pipe) → u.pipes ≡ set_at nat_eq c.pipes p (Some y) → settle c u ≡ record rest { pipes = set_at nat_eq c.pipes p (left_pipe c u gone p y) }
+  gone-settled y pipes = settles_to c u (set_at nat_eq c.descriptions gone None) (set_at nat_eq c.pipes p (left_pipe c u gone p y)) u.files at_d at_p (λ f. at_f f (u.files f) refl)
+    where
+      nothing : (b : Bool) → ◌≡◌ {A = Option (Description numbers)} (kept_if b None) None
+      nothing true = refl
+      nothing false = refl
+
+      kept : (d : ℕ) (o : Option (Description numbers)) → c.descriptions d ≡ o → d ≢ gone → kept_if (is_live u d) o ≡ o
+      kept d None e n = nothing (is_live u d)
+      kept d (Some z) e n = ap (λ b. kept_if b (Some z)) (others d n ∙ settled-live c settled d z e)
+
+      at_d : (d : ℕ) → kept_if (is_live u d) (u.descriptions d) ≡ set_at nat_eq c.descriptions gone None d
+      at_d d = elim (eqb_tells gone d) as (λ _. kept_if (is_live u d) (u.descriptions d) ≡ set_at nat_eq c.descriptions gone None d) [
+        | inl t ↦ ap (λ b. kept_if b (u.descriptions d)) (ap (is_live u) (sym t.1) ∙ dead) ∙ sym (ap (λ b. cond b None (c.descriptions d)) t.0)
+        | inr t ↦ ap (kept_if (is_live u d)) (there d) ∙ kept d (c.descriptions d) refl (λ s. t.1 (sym s)) ∙ sym (at_other c.descriptions gone d None t.1)
+      ]
+
+      ends : (test : Mode → Bool) → has_end u test (PipeNode p) ≡ has_end rest test (PipeNode p)
+      ends = has_end-same rest u (PipeNode p) (left_ends (PipeNode p))
+
+      or_none : (b : Bool) → (b || list_any (λ e. same_node {K = numbers} e.1 (PipeNode p)) u.names) ≡ b
+      or_none b = (λ i. b || list_any (λ e. same_node {K = numbers} e.1 (PipeNode p)) (alike.names i)) ∙ (λ i. b || list_any (λ e. same_node {K = numbers} e.1 (PipeNode p)) (unnamed i)) ∙ at b
+        where
+          at : (b : Bool) → (b || false) ≡ b
+          at true = refl
+          at false = refl
+
+      tidied : (h r w had : Bool) → option_map (tidy_pipe h r w had) (kept_if h (Some y)) ≡ kept_if h (Some (record y { hung = r && (not w && had) }))
+      tidied true r w had = refl
+      tidied false r w had = refl
+
+      here : option_map (settled_pipe c u p) (kept_if (is_kept u (PipeNode p)) (Some y)) ≡ left_pipe c u gone p y
+      here =
+          ap (λ b. option_map (settled_pipe c u p) (kept_if b (Some y))) (or_none (has_end u any_mode (PipeNode p)) ∙ ends any_mode)
+          ∙ seen (has_end rest any_mode (PipeNode p))
+          ∙ tidied (has_end rest any_mode (PipeNode p)) (has_end rest reads (PipeNode p)) (has_end rest writes (PipeNode p)) (is_hung (c.pipes p) || has_end c writes (PipeNode p))
+        where
+          seen : (b : Bool) → option_map (settled_pipe c u p) (kept_if b (Some y)) ≡ option_map (tidy_pipe (has_end rest any_mode (PipeNode p)) (has_end rest reads (PipeNode p)) (has_end rest writes (PipeNode p)) (is_hung (c.pipes p) || has_end c writes (PipeNode p))) (kept_if b (Some y))
+          seen true =
+              ap (λ z. Some z) (settled_pipe-is c u p y
+              ∙ (λ i. tidy_pipe (ends any_mode i) (ends reads i) (ends writes i) (is_hung (c.pipes p) || has_end c writes (PipeNode p)) y))
+          seen false = refl
+
+      at_other_pipe : (q : ℕ) (o : Option Pipe) → c.pipes q ≡ o → nat_eq p q ≡ false → option_map (settled_pipe c u q) (kept_if (is_kept u (PipeNode q)) o) ≡ o
+      at_other_pipe q None e n = none (is_kept u (PipeNode q)) where
+        none : (b : Bool) → ◌≡◌ {A = Option Pipe} (option_map (settled_pipe c u q) (kept_if b None)) None
+        none true = refl
+        none false = refl
+      at_other_pipe q (Some z) e n =
+          let same = other_ends (PipeNode q) n in
+          ap (λ b. option_map (settled_pipe c u q) (kept_if b (Some z))) (kept-same c u alike.names (PipeNode q) same ∙ (settled-kept c settled q z e).0)
+          ∙ ap (λ y. Some y) (settled_pipe-same c u alike.names q z same ∙ (settled-kept c settled q z e).1)
+
+      at_p : (q : ℕ) → option_map (settled_pipe c u q) (kept_if (is_kept u (PipeNode q)) (u.pipes q)) ≡ set_at nat_eq c.pipes p (left_pipe c u gone p y) q
+      at_p q = elim (eqb_tells p q) as (λ _. option_map (settled_pipe c u q) (kept_if (is_kept u (PipeNode q)) (u.pipes q)) ≡ set_at nat_eq c.pipes p (left_pipe c u gone p y) q) [
+        | inl t ↦
+            ap (λ k. option_map (settled_pipe c u k) (kept_if (is_kept u (PipeNode k)) (u.pipes k))) (sym t.1)
+            ∙ ap (λ o. option_map (settled_pipe c u p) (kept_if (is_kept u (PipeNode p)) o)) ((λ i. pipes i p) ∙ at_key c.pipes p (Some y))
+            ∙ here ∙ sym (ap (λ b. cond b (left_pipe c u gone p y) (c.pipes q)) t.0)
+        | inr t ↦
+            ap (λ o. option_map (settled_pipe c u q) (kept_if (is_kept u (PipeNode q)) o)) ((λ i. pipes i q) ∙ at_other c.pipes p q (Some y) t.1)
+            ∙ at_other_pipe q (c.pipes q) refl t.0 ∙ sym (at_other c.pipes p q (left_pipe c u gone p y) t.1)
+      ]
+
+      at_f : (f : ℕ) (o : Option (List ℕ)) → u.files f ≡ o → kept_if (is_kept u (FileNode f)) o ≡ o
+      at_f f None e = none (is_kept u (FileNode f)) where
+        none : (b : Bool) → ◌≡◌ {A = Option (List ℕ)} (kept_if b None) None
+        none true = refl
+        none false = refl
+      at_f f (Some z) e = ap (λ b. kept_if b (Some z)) (kept-same c u alike.names (FileNode f) (other_ends (FileNode f) refl) ∙ settled-file c settled f z (sym (λ i. alike.files i f) ∙ e))
