@@ -12,3 +12,4 @@ pub mod Members
 pub mod Tidy
 pub mod Settles
 pub mod Changes
+pub mod Parking

@@ -30,6 +30,10 @@ pub or_right : (a b : Bool) → b ≡ true → (a || b) ≡ true
 or_right true b h = refl
 or_right false b h = h
 
+pub or_elim : {C : Type 0} (a b : Bool) → (a ≡ true → C) → (b ≡ true → C) → (a || b) ≡ true → C
+or_elim true b f g h = f refl
+or_elim false b f g h = g h
+
 -- a member that passes the test
 pub member_found : (t : ℕ → Bool) (xs : List ℕ) → list_any t xs ≡ true → (d : ℕ) × (is_member nat_eq xs d ≡ true) × (t d ≡ true)
 member_found t [] h = absurd (cc)
@@ -83,11 +87,11 @@ member_filter_map d f (k ∷ ks) = by (f k) (member_filter_map d f ks)
     by None e = e
     by (Some y) e = ap (λ b. nat_eq d y || b) e
 
-pub member_flat : (d : ℕ) (f : ℕ → List ℕ) (ks : List ℕ) → is_member nat_eq (flat_map f ks) d ≡ list_any (λ k. is_member nat_eq (f k) d) ks
+pub member_flat : {X : Type 0} (d : ℕ) (f : X → List ℕ) (ks : List X) → is_member nat_eq (flat_map f ks) d ≡ list_any (λ k. is_member nat_eq (f k) d) ks
 member_flat d f [] = refl
 member_flat d f (k ∷ ks) = list_any-append (nat_eq d) (f k) (flat_map f ks) ∙ ap (λ b. is_member nat_eq (f k) d || b) (member_flat d f ks)
 
-pub any_filter : (t p : ℕ → Bool) (xs : List ℕ) → list_any t (filter p xs) ≡ list_any (λ x. p x && t x) xs
+pub any_filter : {X : Type 0} (t p : X → Bool) (xs : List X) → list_any t (filter p xs) ≡ list_any (λ x. p x && t x) xs
 any_filter t p [] = refl
 any_filter t p (x ∷ xs) = by (p x) (any_filter t p xs)
   where

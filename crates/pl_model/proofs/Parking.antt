@@ -1,0 +1,114 @@
+-- What the end of a step makes of a call that is parked, tried again in vain, or ended.
+use Rattle.std.proofs.Common.{◌≡◌, ◌≢◌, ℕ, Bool, true, false, cond, [], ◌∷◌, Some, refl, sym, ◌∙◌, ap, nat_eq}
+use Rattle.std.specs.Prelude.{◌||◌, ◌&&◌, not}
+use Rattle.std.specs.List.{list_any}
+use Rattle.std.specs.Set.{is_member}
+use Rattle.std.proofs.lemmas.List.Folds.{list_any-append}
+use Rattle.pl_model.specs.Map.{Map, get, put, without, set_at}
+use Rattle.pl_model.specs.State.{Core, Waiting, Description, Pipe}
+use Rattle.pl_model.specs.Keys.{PipeNode}
+use Rattle.pl_model.specs.Live.{in_rows, in_parked, pids, is_live}
+use Rattle.pl_model.specs.Settle.{settle}
+use Rattle.pl_model.specs.Step.{parked, parked_again, without_call}
+use Rattle.pl_model.specs.Numbered.{numbers}
+use Rattle.pl_model.specs.Laws.{IsSettled}
+use Rattle.pl_model.proofs.Members.{both_ways, or_left, or_right, or_elim, and_right, member_flat}
+use Rattle.pl_model.proofs.Settles.{same-settled, left, left_pipe, gone-settled, at_same}
+
+module _ {A : Type 0} where
+  -- a parked call keeps the description
+  abbrev pub keeps : Map ℕ (Waiting A numbers) → ℕ → Bool
+  keeps calls d = list_any (λ e. is_member nat_eq e.1.kept d) calls
+
+  -- a call of this number keeps it
+  abbrev pub keeps_as : ℕ → Map ℕ (Waiting A numbers) → ℕ → Bool
+  keeps_as n calls d = list_any (λ e. nat_eq n e.0 && is_member nat_eq e.1.kept d) calls
+
+  live-is : (c : Core A numbers) (d : ℕ) → is_live c d ≡ (is_member nat_eq (in_rows c) d || keeps c.parked d)
+  unfolding in_parked
+  live-is c d =
+      list_any-append (nat_eq d) (in_rows c) (in_parked c)
+      ∙ ap (λ b. is_member nat_eq (in_rows c) d || b) (member_flat d (λ (e : ℕ × Waiting A numbers). e.1.kept) c.parked)
+
+  keeps_put : (calls : Map ℕ (Waiting A numbers)) (n : ℕ) (w now : Waiting A numbers) (d : ℕ) → get nat_eq calls n ≡ Some w → now.kept ≡ w.kept →
+      keeps (put nat_eq calls n now) d ≡ keeps calls d
+  keeps_put [] n w now d here same = absurd (cc)
+  keeps_put (e ∷ es) n w now d here same = by (nat_eq e.0 n) here (keeps_put es n w now d)
+    where
+      by : (b : Bool) → cond b (Some e.1) (get nat_eq es n) ≡ Some w → (get nat_eq es n ≡ Some w → now.kept ≡ w.kept → keeps (put nat_eq es n now) d ≡ keeps es d) →
+          keeps (cond b ((n, now) ∷ es) (e ∷ put nat_eq es n now)) d ≡ keeps (e ∷ es) d
+      by true h rest = (let is : e.1 ≡ w = cc in λ i. is_member nat_eq ((same ∙ ap (λ z. z.kept) (sym is)) i) d || keeps es d)
+      by false h rest = ap (λ b. is_member nat_eq e.1.kept d || b) (rest h same)
+
+  -- without the calls of a number, a description that none of them keeps is kept as before
+  keeps_without : (calls : Map ℕ (Waiting A numbers)) (n d : ℕ) → keeps_as n calls d ≡ false → keeps (without nat_eq calls n) d ≡ keeps calls d
+  keeps_without [] n d h = refl
+  keeps_without (e ∷ es) n d h = by (nat_eq n e.0) h (keeps_without es n d)
+    where
+      dropped : (x y k m : Bool) → (m || k) ≡ false → (k ≡ false → x ≡ y) → x ≡ (m || y)
+      dropped x y k true h rest = absurd (cc)
+      dropped x y k false h rest = rest h
+
+      by : (b : Bool) → ((b && is_member nat_eq e.1.kept d) || keeps_as n es d) ≡ false → (keeps_as n es d ≡ false → keeps (without nat_eq es n) d ≡ keeps es d) →
+          keeps (cond (not b) (e ∷ without nat_eq es n) (without nat_eq es n)) d ≡ (is_member nat_eq e.1.kept d || keeps es d)
+      by true h rest = dropped (keeps (without nat_eq es n) d) (keeps es d) (keeps_as n es d) (is_member nat_eq e.1.kept d) h rest
+      by false h rest = ap (λ b. is_member nat_eq e.1.kept d || b) (rest h)
+
+  keeps_as_keeps : (calls : Map ℕ (Waiting A numbers)) (n d : ℕ) → keeps_as n calls d ≡ true → keeps calls d ≡ true
+  keeps_as_keeps [] n d h = absurd (cc)
+  keeps_as_keeps (e ∷ es) n d h =
+      or_elim (nat_eq n e.0 && is_member nat_eq e.1.kept d) (keeps_as n es d)
+      (λ k. or_left (is_member nat_eq e.1.kept d) _ (and_right (nat_eq n e.0) _ k))
+      (λ k. or_right (is_member nat_eq e.1.kept d) _ (keeps_as_keeps es n d k)) h
+
+module _ {A : Type 0} (c : Core A numbers) (settled : IsSettled c) where
+  -- a call is parked whose descriptions are live
+  module _ (w : Waiting A numbers) (live : (d : ℕ) → is_member nat_eq w.kept d ≡ true → is_live c d ≡ true) where
+    pub parked_live : (d : ℕ) → is_live (parked c w) d ≡ is_live c d
+    unfolding in_rows pids
+    parked_live d =
+        live-is (parked c w) d
+        ∙ ap (λ b. is_member nat_eq (in_rows c) d || b) (list_any-append (λ (e : ℕ × Waiting A numbers). is_member nat_eq e.1.kept d) c.parked ((c.next_call, w) ∷ []))
+        ∙ both_ways _ _
+        (λ h. or_elim (is_member nat_eq (in_rows c) d) _
+        (λ r. live-is c d ∙ or_left _ _ r)
+        (λ k. or_elim (keeps c.parked d) _ (λ p. live-is c d ∙ or_right _ _ p) (λ m. or_elim (is_member nat_eq w.kept d) false (live d) (λ f. absurd (cc)) m) k) h)
+        (λ h. or_elim (is_member nat_eq (in_rows c) d) (keeps c.parked d) (λ r. or_left _ _ r) (λ p. or_right _ _ (or_left _ _ p)) (sym (live-is c d) ∙ h))
+
+    pub park-settled : settle c (parked c w) ≡ parked c w
+    park-settled = same-settled c (parked c w) settled (record { descriptions = refl; files = refl; names = refl }) parked_live refl
+
+  -- a parked call is tried again, and still waits
+  module _ (n : ℕ) (w now : Waiting A numbers) (here : get nat_eq c.parked n ≡ Some w) (same : now.kept ≡ w.kept) where
+    pub again_live : (d : ℕ) → is_live (parked_again c n now) d ≡ is_live c d
+    unfolding in_rows pids
+    again_live d = live-is (parked_again c n now) d ∙ ap (λ b. is_member nat_eq (in_rows c) d || b) (keeps_put c.parked n w now d here same) ∙ sym (live-is c d)
+
+    pub again-settled : settle c (parked_again c n now) ≡ parked_again c n now
+    again-settled = same-settled c (parked_again c n now) settled (record { descriptions = refl; files = refl; names = refl }) again_live refl
+
+  -- a parked call ends: who isn't kept by it is live as before
+  pub ended_live : (n d : ℕ) → keeps_as n c.parked d ≡ false → is_live (without_call c n) d ≡ is_live c d
+  unfolding in_rows pids
+  ended_live n d h = live-is (without_call c n) d ∙ ap (λ b. is_member nat_eq (in_rows c) d || b) (keeps_without c.parked n d h) ∙ sym (live-is c d)
+
+  -- and if those that it kept are live, nothing goes
+  module _ (n : ℕ) (still : (d : ℕ) → keeps_as n c.parked d ≡ true → is_live (without_call c n) d ≡ true) where
+    all_live : (d : ℕ) → is_live (without_call c n) d ≡ is_live c d
+    all_live d = by (keeps_as n c.parked d) refl
+      where
+        by : (b : Bool) → keeps_as n c.parked d ≡ b → is_live (without_call c n) d ≡ is_live c d
+        by true h = still d h ∙ sym (live-is c d ∙ or_right (is_member nat_eq (in_rows c) d) _ (keeps_as_keeps c.parked n d h))
+        by false h = ended_live n d h
+
+    pub end-settled : settle c (without_call c n) ≡ without_call c n
+    end-settled = same-settled c (without_call c n) settled (record { descriptions = refl; files = refl; names = refl }) all_live refl
+
+  -- and if the one on a pipe's end that it kept isn't, that one goes
+  module _ (unnamed : c.names ≡ []) (n gone : ℕ) (x : Description numbers) (described : c.descriptions gone ≡ Some x) (p : ℕ) (on : x.node ≡ PipeNode p)
+      (only : (d : ℕ) → d ≢ gone → keeps_as n c.parked d ≡ false) (dead : is_live (without_call c n) gone ≡ false) where
+    pub end-gone-settled : (y : Pipe) → c.pipes p ≡ Some y →
+        settle c (without_call c n) ≡ record (left c (without_call c n) gone) { pipes = set_at nat_eq c.pipes p (left_pipe c (without_call c n) gone p y) }
+    end-gone-settled y is =
+        gone-settled c (without_call c n) settled (record { descriptions = refl; files = refl; names = refl }) unnamed gone x described p on
+        (λ d other. ended_live n d (only d other)) dead y (at_same c.pipes p (Some y) is)
