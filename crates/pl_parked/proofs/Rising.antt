@@ -1,5 +1,5 @@
 -- Maps whose numbers rise: what they have at a number, and what an edit leaves.
-use Rattle.std.proofs.Common.{◌≡◌, ◌≢◌, ℕ, zero, suc, ◌+◌, ◌<◌, ◌≤◌, Bool, true, false, not, List, [], ◌∷◌, ◌++◌, Option, Some, None, IfSome, IsSome, refl, sym, ◌∙◌, ap, subst, inl, inr, nat_eq, cond, length, slice_get, slice_set, slice_index_or, option_map, arith}
+use Rattle.std.proofs.Common.{◌≡◌, ◌≢◌, ℕ, zero, suc, ◌+◌, ◌<◌, ◌≤◌, Bool, true, false, not, List, [], ◌∷◌, ◌++◌, Option, Some, None, IfSome, IfNone, IsSome, refl, sym, ◌∙◌, ap, subst, inl, inr, nat_eq, cond, length, slice_get, slice_set, slice_index_or, option_map, arith}
 use Rattle.std.specs.List.{find, filter, remove}
 use Rattle.std.proofs.lemmas.Bool.Decides.{eqb_tells}
 use Rattle.pl_model.specs.Map.{Map, get, put, without}
@@ -10,8 +10,21 @@ pub IfSome_by : {X : Type 0} (o : Option X) (P : X → Type 0) → ((x : X) → 
 IfSome_by None P h = tt
 IfSome_by (Some x) P h = h x refl
 
-pub IsSome_by : {X : Type 0} (o : Option X) (x : X) → o ≡ Some x → IsSome o
-IsSome_by o x e = ap (λ v. elim v as (λ _. Bool) [ None ↦ false | Some _ ↦ true ]) e
+pub IfNone_by : {X : Type 0} (o : Option X) (P : Type 0) → P → IfNone o P
+IfNone_by None P h = h
+IfNone_by (Some x) P h = tt
+
+pub same_number : (a b : ℕ) → nat_eq a b ≡ true → a ≡ b
+same_number a b h = elim (eqb_tells a b) as (λ _. a ≡ b) [
+  | inl t ↦ t.1
+  | inr t ↦ absurd (let no : true ≡ false = sym h ∙ t.0 in cc)
+]
+
+pub not_same : (a b : ℕ) → nat_eq a b ≡ false → a ≢ b
+not_same a b h e = elim (eqb_tells a b) as (λ _. ⊥) [
+  | inl t ↦ let no : true ≡ false = sym t.0 ∙ h in cc
+  | inr t ↦ t.1 e
+]
 
 module _ {X : Type 0} where
   pub Rise-bounds : (low next : ℕ) (es : Map ℕ X) → Rise low next es → low ≤ next

@@ -1,13 +1,18 @@
 -- A binary search by number.
-use Rattle.std.proofs.Common.{◌≡◌, ◌≢◌, ℕ, zero, suc, ◌+◌, ◌<◌, ◌≤◌, List, [], ◌∷◌, Option, Some, None, IfSome, IfNone, Result, Ok, Err, refl, sym, ◌∙◌, ap, subst, inl, inr, ⊎_elim, nat_eq, length, slice_index_or, arith}
+use Rattle.std.proofs.Common.{◌≡◌, ◌≢◌, ℕ, zero, suc, ◌+◌, ◌<◌, ◌≤◌, List, [], ◌∷◌, Option, Some, None, IfSome, IfNone, Result, Ok, Err, refl, sym, ◌∙◌, ap, subst, inl, inr, ◌⊎◌, ⊎_elim, nat_eq, length, slice_index_or, arith}
 use Rattle.std.specs.Result.{MatchResult, result_ok}
 use Rattle.std.specs.Ordering.{nat_cmp, ordering_index, MatchOrdering}
 use Rattle.std.specs.Cmp.{ranks}
 use Rattle.std.specs.List.Sorted.{IsBinarySearchResult, IsSearchInRange}
+use Rattle.std.specs.declared.cmp.Ordering.TheVariants.{Equal}
+use Rattle.std.proofs.lemmas.Bool.{cases_order}
 use Rattle.std.proofs.lemmas.Bool.Decides.{nat_tests}
 use Rattle.pl_model.specs.Map.{Map, get}
 use Rattle.pl_parked.specs.Calls.{Rise, number_at}
 use Rattle.pl_parked.proofs.Rising.{number_here, get-absent, Rise-lower}
+
+order : (a b : ℕ) → (a < b) ⊎ (b ≤ a)
+order a b = ⊎_elim (λ e. inr (omega arith)) (λ o. ⊎_elim (λ l. inl l) (λ l. inr (omega arith)) o) (cases_order a b)
 
 higher : (x a b : ℕ) → a ≤ b → ordering_index (nat_cmp a x) ≤ ordering_index (nat_cmp b x)
 higher x a b le = grind (arith, nat_tests)

@@ -115,8 +115,9 @@ impl<A: Allocator> Parked<A> {
         ensures least { IfSome result (λ number. (other : ℕ) → IfSome (get nat_eq self.now.calls other) (λ call. call.pid ≡ pid → number ≤ other)) }
         ensures none { IfNone result ((number : ℕ) → IfSome (get nat_eq self.now.calls number) (λ call. ¬ (call.pid ≡ pid))) }
     {
-        let entry = self.first_of(pid)?;
-        Some(entry.0)
+        let _ = &self.entries;
+        let (number, _) = self.first_of(pid)?;
+        Some(*number)
     }
 
     /// Says how many bytes the write of a number took so far. It takes no memory.
