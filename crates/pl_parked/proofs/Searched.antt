@@ -31,7 +31,7 @@ module _ {X : Type 0} where
 
   -- a binary search by number finds the entry of the number, if there is one
   module _ (n next : ℕ) (es : Map ℕ X) (r : Rise 0 next es) where
-    pub searched_here : (o : Result ℕ ℕ) → IsSearchInRange o (length es) → IsBinarySearchResult (λ (e : ℕ × X). nat_cmp e.0 n) es o → IfSome (result_ok o) (λ k. number_at es k ≡ Some n)
+    searched_here : (o : Result ℕ ℕ) → IsSearchInRange o (length es) → IsBinarySearchResult (λ (e : ℕ × X). nat_cmp e.0 n) es o → IfSome (result_ok o) (λ k. number_at es k ≡ Some n)
     searched_here (Err i) b h = tt
     searched_here (Ok i) b h = by es b h
       where
@@ -41,7 +41,7 @@ module _ {X : Type 0} where
             let at = subst (λ o. MatchOrdering o ((slice_index_or (e ∷ es) i e).0 < n) ((slice_index_or (e ∷ es) i e).0 ≡ n) (n < (slice_index_or (e ∷ es) i e).0)) (f e) (ranks (slice_index_or (e ∷ es) i e).0 n) in
             number_here (e ∷ es) i e l ∙ ap (λ m. Some m) at
 
-    pub searched_none : (o : Result ℕ ℕ) → IsBinarySearchResult (λ (e : ℕ × X). nat_cmp e.0 n) es o → IfNone (result_ok o) (get nat_eq es n ≡ None)
+    searched_none : (o : Result ℕ ℕ) → IsBinarySearchResult (λ (e : ℕ × X). nat_cmp e.0 n) es o → IfNone (result_ok o) (get nat_eq es n ≡ None)
     searched_none (Ok i) h = tt
     searched_none (Err i) h = get-absent n es apart
       where
@@ -53,3 +53,6 @@ module _ {X : Type 0} where
             (λ b. let c = subst (λ o. MatchOrdering o (at.0 < n) (at.0 ≡ n) (n < at.0)) (parted.0 k d (omega arith) b) (ranks at.0 n) in omega arith)
             (λ a. let c = subst (λ o. MatchOrdering o (at.0 < n) (at.0 ≡ n) (n < at.0)) (parted.1 k d a l) (ranks at.0 n) in omega arith)
             (order k i)
+
+    pub searched : (o : Result ℕ ℕ) → IsSearchInRange o (length es) → IsBinarySearchResult (λ (e : ℕ × X). nat_cmp e.0 n) es o → IfSome (result_ok o) (λ k. number_at es k ≡ Some n) × IfNone (result_ok o) (get nat_eq es n ≡ None)
+    searched o b h = (searched_here o b h, searched_none o h)
