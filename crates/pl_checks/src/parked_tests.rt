@@ -135,8 +135,9 @@ fn a_want_of_memory_changes_nothing(rt: HostRuntime) -> Result<(), Fail> {
     let mut parked = Parked::new(&heap, 1);
     let mut refusals = 0;
     for number in 1..20u64 {
-        let call = read(&heap, 1, number as u32)?;
-        let same_call = read(&heap, 1, number as u32)?;
+        let pid = number as u32;
+        let call = read(&heap, pid, 10)?;
+        let same_call = read(&heap, pid, 10)?;
         heap.refuse(1);
         match parked.park(call) {
             Ok(given) => assert_eq!(rt; given, number),
@@ -150,14 +151,14 @@ fn a_want_of_memory_changes_nothing(rt: HostRuntime) -> Result<(), Fail> {
                 assert_eq!(rt; parked.park(same_call), Ok(number), "once there is memory");
             }
         }
+        assert_eq!(rt; parked.get(number).map(|call| call.pid), Some(pid));
         heap.refuse(0);
-        let call = read(&heap, 1, number as u32)?;
-        assert_eq!(rt; parked.get(number), Some(&call));
     }
     assert!(rt; 0 < refusals, "the first call needs memory");
     heap.refuse(1);
-    assert_eq!(rt; parked.next_of_process(1), Some(1));
-    assert!(rt; parked.take(1).is_some());
+    assert_eq!(rt; parked.next_of_process(5), Some(5));
+    assert!(rt; parked.take(5).is_some());
+    assert_eq!(rt; parked.next_of_process(5), None);
     assert!(rt; !heap.refused(), "a call that goes takes no memory");
     Ok(())
 }

@@ -1,6 +1,6 @@
 -- Maps whose numbers rise: what they have at a number, and what an edit leaves.
-use Rattle.std.proofs.Common.{◌≡◌, ◌≢◌, ℕ, zero, suc, ◌+◌, ◌<◌, ◌≤◌, Bool, true, false, not, List, [], ◌∷◌, ◌++◌, Option, Some, None, IfSome, IfNone, IsSome, refl, sym, ◌∙◌, ap, subst, inl, inr, nat_eq, cond, length, slice_get, slice_set, slice_index_or, option_map, arith}
-use Rattle.std.specs.List.{find, filter, remove}
+use Rattle.std.proofs.Common.{◌≡◌, ◌≢◌, ℕ, zero, suc, ◌+◌, ◌<◌, ◌≤◌, Bool, true, false, not, [], ◌∷◌, ◌++◌, Option, Some, None, IfSome, IfNone, IsSome, refl, sym, ◌∙◌, ap, subst, inl, inr, nat_eq, cond, length, slice_set, slice_index_or, arith}
+use Rattle.std.specs.List.{find, remove}
 use Rattle.std.proofs.lemmas.Bool.Decides.{eqb_tells}
 use Rattle.pl_model.specs.Map.{Map, get, put, without}
 use Rattle.pl_parked.specs.Calls.{Rise, number_at}

@@ -1,6 +1,6 @@
 -- A binary search by number.
-use Rattle.std.proofs.Common.{◌≡◌, ◌≢◌, ℕ, zero, suc, ◌+◌, ◌<◌, ◌≤◌, List, [], ◌∷◌, Option, Some, None, IfSome, IfNone, Result, Ok, Err, refl, sym, ◌∙◌, ap, subst, inl, inr, ◌⊎◌, ⊎_elim, nat_eq, length, slice_index_or, arith}
-use Rattle.std.specs.Result.{MatchResult, result_ok}
+use Rattle.std.proofs.Common.{◌≡◌, ◌≢◌, ℕ, zero, suc, ◌+◌, ◌<◌, ◌≤◌, [], ◌∷◌, Some, None, IfSome, IfNone, Result, Ok, Err, ◌∙◌, ap, subst, inl, inr, ◌⊎◌, ⊎_elim, nat_eq, length, slice_index_or, arith}
+use Rattle.std.specs.Result.{result_ok}
 use Rattle.std.specs.Ordering.{nat_cmp, ordering_index, MatchOrdering}
 use Rattle.std.specs.Cmp.{ranks}
 use Rattle.std.specs.List.Sorted.{IsBinarySearchResult, IsSearchInRange}

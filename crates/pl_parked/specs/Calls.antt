@@ -1,5 +1,5 @@
 -- The calls that wait.
-use Rattle.std.specs.Prelude.{◌≤◌, ℕ, ◌+◌, Bool, [], ◌∷◌, List, Option, nat_eq, slice_get, option_map}
+use Rattle.std.specs.Prelude.{◌≤◌, ℕ, ◌+◌, Bool, [], ◌∷◌, Option, nat_eq, slice_get, option_map}
 use Rattle.pl_model.specs.Map.{Map}
 use Rattle.pl_parked.specs.declared.call.ParkedCall.{ParkedCall}
 

@@ -4,7 +4,7 @@ ghost use Rattle.std.specs.Option.{option_copied};
 ghost use Rattle.std.specs.List.{find};
 ghost use Rattle.pl_model.specs.Numbers.{last_call};
 ghost use Rattle.pl_model.specs.Map.{get, put, without};
-ghost use Rattle.pl_parked.specs.Calls.{number_at, is_of};
+ghost use Rattle.pl_parked.specs.Calls.{Rise, number_at, is_of};
 
 use crate::call::ParkedCall;
 use crate::fault::ParkFault;
@@ -50,9 +50,10 @@ impl<A: Allocator> Parked<A> {
         self.next == u64::MAX
     }
 
-    /// The number that the next call gets, if one is left.
+    /// The number that the next call gets, if one is left. It is above those of all calls that wait.
     pub fn next_number(&self) -> u64
-        ensures { result ≡ self.now.next }
+        ensures value { result ≡ self.now.next }
+        ensures rise { Rise 0 self.now.next self.now.calls }
     {
         self.next
     }
@@ -115,6 +116,7 @@ impl<A: Allocator> Parked<A> {
         ensures least { IfSome result (λ number. (other : ℕ) → IfSome (get nat_eq self.now.calls other) (λ call. call.pid ≡ pid → number ≤ other)) }
         ensures none { IfNone result ((number : ℕ) → IfSome (get nat_eq self.now.calls number) (λ call. ¬ (call.pid ≡ pid))) }
     {
+        // A proof learns here that the numbers rise, so that the first entry has the least.
         let _ = &self.entries;
         let (number, _) = self.first_of(pid)?;
         Some(*number)
@@ -142,6 +144,8 @@ impl<A: Allocator> Parked<A> {
         ensures here { IfSome result (λ place. number_at self.now.calls place ≡ Some number) }
         ensures none { IfNone result (get nat_eq self.now.calls number ≡ None) }
     {
-        self.entries.binary_search_by_key(&number, |entry| entry.0).ok()
+        self.entries
+            .binary_search_by_key(&number, |entry| entry.0)
+            .ok()
     }
 }

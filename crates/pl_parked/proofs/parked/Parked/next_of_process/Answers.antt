@@ -9,8 +9,8 @@ use Rattle.pl_parked.proofs.parked.Parked.next_of_process.Goals as goal
 pub returns-in_err-number-clause-none : goal.returns-in_err-number-clause-none
 returns-in_err-number-clause-none g c =
     IfNone_by _ ((number : ℕ) → IfSome (get nat_eq c.args.self.now.calls number) (λ call. ¬ (call.pid ≡ c.args.pid)))
-      (λ number. IfSome_by (get nat_eq c.args.self.now.calls number) (λ call. ¬ (call.pid ≡ c.args.pid)) (λ call at.
-        not_same call.pid c.args.pid (found-none (λ call. nat_eq call.pid c.args.pid) c.args.self.now.calls (sym c.in_err-number.ensures) number call at)))
+    (λ number. IfSome_by (get nat_eq c.args.self.now.calls number) (λ call. ¬ (call.pid ≡ c.args.pid)) (λ call at.
+    not_same call.pid c.args.pid (found-none (λ call. nat_eq call.pid c.args.pid) c.args.self.now.calls (sym c.in_err-number.ensures) number call at)))
 
 pub returns-clause-parked : goal.returns-clause-parked
 returns-clause-parked g c =

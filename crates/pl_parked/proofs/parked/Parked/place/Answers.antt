@@ -1,8 +1,5 @@
-use Rattle.std.proofs.Common.{rules, ap, length, subst, nat_eq, Some, None, IfSome, IfNone, ◌≡◌}
+use Rattle.std.proofs.Common.{rules}
 use Rattle.std.proofs.lemmas.Fn.{always_returns_same}
-use Rattle.std.specs.Result.{result_ok}
-use Rattle.pl_model.specs.Map.{get}
-use Rattle.pl_parked.specs.Calls.{Calls, number_at}
 use Rattle.pl_parked.proofs.Searched.{searched}
 use Rattle.pl_parked.proofs.parked.Parked.place.Goals as goal
 

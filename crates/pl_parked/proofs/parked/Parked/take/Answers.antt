@@ -1,6 +1,5 @@
-use Rattle.std.proofs.Common.{◌≡◌, ◌<◌, ap, sym, ◌∙◌, subst, slice_index_or, length, nat_eq}
+use Rattle.std.proofs.Common.{◌<◌, ap, sym, ◌∙◌, subst, slice_index_or, length}
 use Rattle.std.specs.List.{remove}
-use Rattle.pl_model.specs.Map.{without}
 use Rattle.pl_parked.specs.Calls.{Calls, Rise}
 use Rattle.pl_parked.proofs.Rising.{here_call, at-within, without-absent, without-at, Rise-remove}
 use Rattle.pl_parked.proofs.parked.Parked.take.Goals as goal
@@ -19,7 +18,7 @@ invariant_of-self g c = rw c.remove-call.ensures.items (Rise-remove 0 _ c.in_ok-
 pub returns-clause-call : goal.returns-clause-call
 returns-clause-call g c =
     sym (here_call c.args.number _ c.in_ok-place.place c.args.self.now.calls c.remove-call.result (subst (λ (v : Calls _). Rise 0 v.next v.calls) c.self.view_is c.self.invariant) c.in_ok-place.ensures.here
-      (c.remove-call.ensures.value ∙ ap (λ (v : Calls _). slice_index_or v.calls c.in_ok-place.place c.remove-call.result) c.self.view_is))
+    (c.remove-call.ensures.value ∙ ap (λ (v : Calls _). slice_index_or v.calls c.in_ok-place.place c.remove-call.result) c.self.view_is))
 
 pub returns-clause-rest : goal.returns-clause-rest
 returns-clause-rest g c =
