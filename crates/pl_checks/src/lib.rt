@@ -3,6 +3,8 @@
 
 #[cfg(test)]
 mod kernel_tests;
+#[cfg(test)]
+mod parked_tests;
 pub mod refusing;
 #[cfg(test)]
 mod script_tests;

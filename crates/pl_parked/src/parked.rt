@@ -1,0 +1,151 @@
+//! The calls that wait, by number.
+ghost use Rattle.std.specs.Prelude.{ℕ, ◌≡◌, ◌+◌, ◌≤◌, ◌++◌, ◌==◌, [], ◌∷◌, ◌↔◌, IfOk, OnOk, OnErr, IfSome, IfNone, IsSome, Some, None, nat_eq, length, slice_get, option_map};
+ghost use Rattle.std.specs.Option.{option_copied};
+ghost use Rattle.std.specs.List.{find};
+ghost use Rattle.pl_model.specs.Numbers.{last_call};
+ghost use Rattle.pl_model.specs.Map.{get, put, without};
+ghost use Rattle.pl_parked.specs.Calls.{Rise, number_at, is_of};
+
+use crate::call::ParkedCall;
+use crate::fault::ParkFault;
+use std::alloc::{Allocator, Global};
+use std::marker::Model;
+
+/// The calls that wait, by number, and the number that the next one gets. Contracts see the list of them, in rising order
+/// of number.
+#[derive(Drop)]
+pub struct Parked<A: Allocator = Global> {
+    entries: Vec<(u64, ParkedCall<A>), A>,
+    next: u64,
+}
+
+impl<A: Allocator> Model for Parked<A> {
+    ghost use Rattle.pl_parked.specs.Calls.{Calls};
+
+    ghost Value = { Calls A };
+
+    ghost use Rattle.pl_parked.specs.CallsView.{view_of};
+    ghost use Rattle.pl_parked.specs.Calls.{Rise};
+
+    ghost view = { view_of };
+
+    ghost invariant = { λ p. Rise 0 p.next p.entries.items };
+}
+
+impl<A: Allocator> Parked<A> {
+    /// No calls. The first one parked gets the number `first`. It takes no memory.
+    pub fn new(alloc: A, first: u64) -> Self
+        ensures { result ≡ record { calls = []; next = first } }
+    {
+        Parked {
+            entries: Vec::new(alloc),
+            next: first,
+        }
+    }
+
+    /// Whether no number is left for one call more.
+    pub fn spent(&self) -> bool
+        ensures { result ≡ (self.now.next == last_call) }
+    {
+        self.next == u64::MAX
+    }
+
+    /// The number that the next call gets, if one is left. It is above those of all calls that wait.
+    pub fn next_number(&self) -> u64
+        ensures value { result ≡ self.now.next }
+        ensures rise { Rise 0 self.now.next self.now.calls }
+    {
+        self.next
+    }
+
+    /// Parks a call, and answers its number: one more than the last one given. `CallsSpent` exactly where no number is
+    /// left, and this takes no memory; `NoMemory` where a number is left, and there is no memory for one call more. An
+    /// error leaves all as it was.
+    pub fn park(&mut self, call: ParkedCall<A>) -> Result<u64, ParkFault>
+        ensures number { IfOk result (λ number. number ≡ self.old.next) }
+        ensures ok { OnOk result (self.new ≡ record { calls = self.old.calls ++ (self.old.next, call) ∷ []; next = self.old.next + 1 }) }
+        ensures spent { (result ≡ Err ParkFault.CallsSpent) ↔ (self.old.next ≡ last_call) }
+        ensures err { OnErr result (self.new ≡ self.old) }
+    {
+        if self.spent() {
+            return Err(ParkFault::CallsSpent);
+        }
+        if self.entries.try_reserve(1).is_err() {
+            return Err(ParkFault::NoMemory);
+        }
+        let number = self.next;
+        self.entries.push_reserved((number, call));
+        self.next = number + 1;
+        Ok(number)
+    }
+
+    /// Takes back the call that was parked last, and gives its number to the next call. It takes no memory.
+    pub fn unpark(&mut self, number: u64) -> ParkedCall<A>
+        requires last { number + 1 ≡ self.old.next }
+        requires here { IsSome (get nat_eq self.old.calls number) }
+        ensures calls { self.old.calls ≡ self.new.calls ++ (number, result) ∷ [] }
+        ensures next { self.new.next ≡ number }
+    {
+        let (_, call) = self.entries.pop().unwrap();
+        self.next = number;
+        call
+    }
+
+    /// The call of a number.
+    pub fn get(&self, number: u64) -> Option<&ParkedCall<A>>
+        ensures { option_copied result ≡ get nat_eq self.now.calls number }
+    {
+        let place = self.place(number)?;
+        Some(&self.entries[place].1)
+    }
+
+    /// Takes the call of a number out. The number isn't given again. It takes no memory.
+    pub fn take(&mut self, number: u64) -> Option<ParkedCall<A>>
+        ensures call { result ≡ get nat_eq self.old.calls number }
+        ensures rest { self.new ≡ record self.old { calls = without nat_eq self.old.calls number } }
+    {
+        let place = self.place(number)?;
+        let (_, call) = self.entries.remove(place);
+        Some(call)
+    }
+
+    /// The least number of the calls of a process, if it has any.
+    pub fn next_of_process(&self, pid: u32) -> Option<u64>
+        ensures value { result ≡ option_map (λ entry. entry.0) (find (is_of pid) self.now.calls) }
+        ensures parked { IfSome result (λ number. IfSome (get nat_eq self.now.calls number) (λ call. call.pid ≡ pid)) }
+        ensures least { IfSome result (λ number. (other : ℕ) → IfSome (get nat_eq self.now.calls other) (λ call. call.pid ≡ pid → number ≤ other)) }
+        ensures none { IfNone result ((number : ℕ) → IfSome (get nat_eq self.now.calls number) (λ call. ¬ (call.pid ≡ pid))) }
+    {
+        // A proof learns here that the numbers rise, so that the first entry has the least.
+        let _ = &self.entries;
+        let (number, _) = self.first_of(pid)?;
+        Some(*number)
+    }
+
+    /// Says how many bytes the write of a number took so far. It takes no memory.
+    pub fn set_taken(&mut self, number: u64, taken: u32)
+        requires { IsSome (get nat_eq self.old.calls number) }
+        ensures { IfSome (get nat_eq self.old.calls number) (λ call. self.new ≡ record self.old { calls = put nat_eq self.old.calls number (record call { taken = taken }) }) }
+    {
+        let place = self.place(number).unwrap();
+        let entry = &mut self.entries[place];
+        entry.1.taken = taken;
+    }
+
+    // The first entry of a process.
+    fn first_of(&self, pid: u32) -> Option<&(u64, ParkedCall<A>)>
+        ensures { option_copied result ≡ find (is_of pid) self.now.calls }
+    {
+        self.entries.iter().find(|entry| entry.1.pid == pid)
+    }
+
+    // Where the call of a number stands.
+    fn place(&self, number: u64) -> Option<usize>
+        ensures here { IfSome result (λ place. number_at self.now.calls place ≡ Some number) }
+        ensures none { IfNone result (get nat_eq self.now.calls number ≡ None) }
+    {
+        self.entries
+            .binary_search_by_key(&number, |entry| entry.0)
+            .ok()
+    }
+}
