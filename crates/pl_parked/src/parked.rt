@@ -58,9 +58,13 @@ impl<A: Allocator> Parked<A> {
         self.next
     }
 
-    /// Parks a call, and answers its number: one more than the last one given. `CallsSpent` exactly where no number is
-    /// left, and this takes no memory; `NoMemory` where a number is left, and there is no memory for one call more. An
-    /// error leaves all as it was.
+    /// Parks a call under the next number, and answers that number. An error leaves all as it was.
+    ///
+    /// # Errors
+    ///
+    /// - `CallsSpent` exactly where no number is left: the next would be 18,446,744,073,709,551,615, which is never given. It
+    ///   takes no memory.
+    /// - `NoMemory` where a number is left, and there is no memory for one call more.
     pub fn park(&mut self, call: ParkedCall<A>) -> Result<u64, ParkFault>
         ensures number { IfOk result (λ number. number ≡ self.old.next) }
         ensures ok { OnOk result (self.new ≡ record { calls = self.old.calls ++ (self.old.next, call) ∷ []; next = self.old.next + 1 }) }
