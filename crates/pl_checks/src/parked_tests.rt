@@ -40,7 +40,10 @@ fn the_last_number_is_given(rt: HostRuntime) -> Result<(), Fail> {
     assert!(rt; !parked.spent());
     assert_eq!(rt; parked.park(read(alloc, 1, 10)?), Ok(LAST));
     assert!(rt; parked.spent());
-    assert_eq!(rt; parked.park(read(alloc, 1, 11)?), Err(ParkFault::CallsSpent));
+    assert_eq!(rt;
+        parked.park(read(alloc, 1, 11)?),
+        Err(ParkFault::CallsSpent)
+    );
     assert_eq!(rt; parked.take(LAST), Some(read(alloc, 1, 10)?));
     assert_eq!(rt; parked.take(LAST), None);
     assert_eq!(rt;
