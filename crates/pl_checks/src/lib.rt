@@ -3,8 +3,6 @@
 
 #[cfg(test)]
 mod kernel_tests;
-#[cfg(test)]
-mod parked_tests;
 pub mod refusing;
 #[cfg(test)]
 mod script_tests;
