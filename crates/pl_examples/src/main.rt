@@ -9,9 +9,10 @@ use std::process::ExitCode;
 use std::{fs, io};
 
 /// A script is `NAME.script`, and what it prints `NAME.out`: its output, and the line of its fault.
-const NAMES: [&str; 4] = [
+const NAMES: [&str; 5] = [
     "bytes_before_end_of_file",
     "full_pipe",
+    "parking",
     "refusals",
     "bad_line",
 ];

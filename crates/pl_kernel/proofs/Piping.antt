@@ -13,8 +13,13 @@ use Rattle.pl_model.specs.Numbers.{open_max, most_descriptions}
 use Rattle.pl_model.specs.Flags.{nonblock_if}
 use Rattle.pl_model.specs.Map.{set_at}
 use Rattle.pl_model.specs.Keys.{NewKeys, PipeNode, FileNode, Drawing, Draws, drawn}
-use Rattle.pl_model.specs.State.{Core, Description, Pipe, empty_pipe}
-use Rattle.pl_model.specs.Live.{is_live, live_count, in_parked}
+use Rattle.std.specs.Prelude.{All, slice_index_or}
+use Rattle.std.proofs.lemmas.List.Folds.{list_any_at}
+use Rattle.pl_model.specs.Map.{get}
+use Rattle.pl_parked.specs.Calls.{Rise}
+use Rattle.pl_kernel.specs.Sound.{IsWaiting}
+use Rattle.pl_model.specs.State.{Core, Waiting, Description, Pipe, empty_pipe}
+use Rattle.pl_model.specs.Live.{is_live, live_count, in_rows}
 use Rattle.std.specs.Set.{is_member}
 use Rattle.pl_model.specs.Settle.{settle}
 use Rattle.pl_model.specs.Trial.{Begins, Begun, Answered, found, refuse_if}
@@ -24,11 +29,15 @@ use Rattle.pl_model.specs.Step.{Stepped, begin, core_step, ended, stepped, begun
 use Rattle.pl_model.specs.Numbered.{numbers}
 use Rattle.pl_model.specs.StandsFor.{AreUnused, Comes}
 use Rattle.pl_model.specs.Memory.{is_refusal}
-use Rattle.pl_model.proofs.Members.{both_ways}
-use Rattle.pl_model.proofs.Tidy.{Row, live_row}
+use Rattle.pl_model.proofs.Members.{both_ways, or_elim}
+use Rattle.pl_model.proofs.Tidy.{Row, row_found}
+use Rattle.pl_model.proofs.Parking.{live-is}
+use Rattle.pl_model.proofs.Parking.{keeps as machine_keeps}
+use Rattle.pl_parked.specs.Calls.{keeps}
+use Rattle.pl_kernel.proofs.Calls.{keeps-parked}
 use Rattle.pl_model.proofs.Changes.{pipe-settled}
 use Rattle.pl_kernel.specs.declared.tables.End.{End}
-use Rattle.pl_kernel.specs.Held.{Held, at, is_pid, row_at, lowest_of, description_of, core_of}
+use Rattle.pl_kernel.specs.Held.{Held, at, is_pid, row_at, lowest_of, description_of, parked_of, core_of}
 use Rattle.pl_kernel.specs.Sound.{IsSound, with_row}
 use Rattle.pl_kernel.specs.Makes.{Does, MayWant}
 use Rattle.pl_kernel.proofs.Ends.{live_count-is}
@@ -36,21 +45,23 @@ use Rattle.pl_kernel.proofs.Begun.{lives, does_same, step-refused, step-draws}
 use Rattle.pl_kernel.proofs.TableRows.{pid_low, pid_high, first_found}
 use Rattle.pl_kernel.proofs.Rows.{settled_after, of_sound, IsNamed, named-added, On, on-put, on-added, map-set_at}
 
-module _ {A : Type 0} (k : Held) (sound : IsSound A k) where
+module _ {A : Type 0} (k : Held A) (sound : IsSound A k) where
   abbrev state : Core A numbers
   state = core_of k
-
-  unkept : (d : ℕ) → is_member nat_eq (in_parked state) d ≡ false
-  unfolding core_of in_parked
-  unkept d = refl
 
   rows_are : (pid fd : ℕ) → state.rows pid fd ≡ row_at k.tables pid fd
   unfolding core_of
   rows_are pid fd = refl
 
+  keeps_are : (d : ℕ) → machine_keeps state.parked d ≡ keeps k.calls.calls d
+  unfolding core_of
+  keeps_are d = keeps-parked k.calls.calls d
+
   -- a description is live exactly where its end is held
   same_live : (d : ℕ) → is_live state d ≡ is_some (at k.ends d)
-  same_live d = both_ways (is_live state d) (is_some (at k.ends d)) (λ h. there (live_row state d (unkept d) h)) (λ h. by (at k.ends d) refl h)
+  same_live d = both_ways (is_live state d) (is_some (at k.ends d))
+      (λ h. or_elim (is_member nat_eq (in_rows state) d) (machine_keeps state.parked d) (λ m. there (row_found state d m)) (λ m. sound.kept d (sym (keeps_are d) ∙ m)) (sym (live-is state d) ∙ h))
+      (λ h. by (at k.ends d) refl h)
     where
       there : Row state d → is_some (at k.ends d) ≡ true
       there r = sound.named r.pid r.fd d (sym (rows_are r.pid r.fd) ∙ r.names)
@@ -62,7 +73,7 @@ module _ {A : Type 0} (k : Held) (sound : IsSound A k) where
   pub counted : live_count state ≡ count_by is_some k.ends
   counted = live_count-is state k.ends same_live
 
-module _ {A : Type 0} (k : Held) (sound : IsSound A k) (pid : ℕ) (process : is_pid k.tables pid ≡ true) (nonblock : Bool) where
+module _ {A : Type 0} (k : Held A) (sound : IsSound A k) (pid : ℕ) (process : is_pid k.tables pid ≡ true) (nonblock : Bool) where
   abbrev c : Core A numbers
   c = core_of k
 
@@ -134,7 +145,7 @@ module _ {A : Type 0} (k : Held) (sound : IsSound A k) (pid : ℕ) (process : is
         pipe-wants = λ new. ap (λ (a : Drawing numbers (Stepped A numbers)). is_refusal (drawn {X = Stepped A numbers} new a).reply) draws
 
         -- the ends and the pipe stand under keys that were vacant
-        module _ (p d d' : ℕ) (vacant_pipe : at k.pipes p ≡ None) (vacant : at k.ends d ≡ None) (vacant' : at k.ends d' ≡ None) (apart : d ≢ d') (new : Held) (limits : new.limits ≡ k.limits)
+        module _ (p d d' : ℕ) (vacant_pipe : at k.pipes p ≡ None) (vacant : at k.ends d ≡ None) (vacant' : at k.ends d' ≡ None) (apart : d ≢ d') (new : Held A) (limits : new.limits ≡ k.limits) (calls : new.calls ≡ k.calls)
             (processes : length new.tables ≡ length k.tables)
             (rows : row_at new.tables ≡ with_row (with_row (row_at k.tables) pid first (Some d)) pid second (Some d'))
             (ends : at new.ends ≡ set_at nat_eq (set_at nat_eq (at k.ends) d (Some (record { pipe = p; mode = mode.Read; nonblock = nonblock }))) d' (Some (record { pipe = p; mode = mode.Write; nonblock = nonblock })))
@@ -151,8 +162,8 @@ module _ {A : Type 0} (k : Held) (sound : IsSound A k) (pid : ℕ) (process : is
           unused : AreUnused c keys
           unfolding core_of
           unused = record {
-            description = record { rows = λ q j e. no_row d vacant q j e; descriptions = ap (option_map description_of) vacant; parked = λ i w l. absurd (omega arith) };
-            other_description = record { rows = λ q j e. no_row d' vacant' q j e; descriptions = ap (option_map description_of) vacant'; parked = λ i w l. absurd (omega arith) };
+            description = record { rows = λ q j e. no_row d vacant q j e; descriptions = ap (option_map description_of) vacant; parked = no_kept d vacant };
+            other_description = record { rows = λ q j e. no_row d' vacant' q j e; descriptions = ap (option_map description_of) vacant'; parked = no_kept d' vacant' };
             apart = apart;
             pipe = record { node = record { descriptions = λ q. off_pipe (at k.ends q) (sound.on q); names = λ i w l. absurd (omega arith) }; pipes = vacant_pipe };
             file = record { node = record { descriptions = λ q. off_file (at k.ends q); names = λ i w l. absurd (omega arith) }; files = refl };
@@ -161,6 +172,13 @@ module _ {A : Type 0} (k : Held) (sound : IsSound A k) (pid : ℕ) (process : is
               no_end : (o : Option End) → o ≡ None → IsSome o → ⊥
               no_end None e h = cc
               no_end (Some y) e h = cc
+
+              no_kept : (d : ℕ) → at k.ends d ≡ None → All (λ (e : ℕ × Waiting A numbers). All (λ k. k ≢ d) e.1.kept) c.parked
+              no_kept d v = λ i w l. λ j z m. λ same.
+                  let e = slice_index_or c.parked i w in
+                  let member : is_member nat_eq e.1.kept d ≡ true = list_any_at (nat_eq d) e.1.kept j z m (eq-eqb d (slice_index_or e.1.kept j z) (sym same)) in
+                  let kept : machine_keeps c.parked d ≡ true = list_any_at (λ (e : ℕ × Waiting A numbers). is_member nat_eq e.1.kept d) c.parked i w l member in
+                  no_end (at k.ends d) v (sound.kept d (sym (keeps-parked k.calls.calls d) ∙ kept))
 
               no_row : (d : ℕ) → at k.ends d ≡ None → (q j : ℕ) → row_at k.tables q j ≡ Some d → ⊥
               no_row d v q j e = no_end (at k.ends d) v (sound.named q j d e)
@@ -186,8 +204,8 @@ module _ {A : Type 0} (k : Held) (sound : IsSound A k) (pid : ℕ) (process : is
             pipes = pipes i;
             files = λ f. None;
             names = [];
-            parked = [];
-            next_call = c.next_call;
+            parked = parked_of (calls i).calls;
+            next_call = (calls i).next;
             limits = limits i;
           }
             where
@@ -217,11 +235,22 @@ module _ {A : Type 0} (k : Held) (sound : IsSound A k) (pid : ℕ) (process : is
               let named : IsNamed (row_at new.tables) (at new.ends) = subst (λ m. IsNamed m (at new.ends)) (sym rows) (subst (λ m. IsNamed (with_row (with_row (row_at k.tables) pid first (Some d)) pid second (Some d')) m) (sym ends) both) in
               record {
                 few = omega (arith, processes, sound.few);
+                kept = λ q h. subst (λ m. IsSome (m q)) (sym ends) (still_there q (sound.kept q (ap (λ z. keeps z.calls q) (sym calls) ∙ h)));
+                waiting = λ m. subst (λ z. IfSome (get nat_eq z.calls m) (IsWaiting A)) (sym calls) (sound.waiting m);
+                rise = subst (λ z. Rise 0 z.next z.calls) (sym calls) sound.rise;
                 named = named.named;
                 once = named.once;
                 on = subst (λ m. On m (at new.pipes)) (sym ends) (subst (λ m. On (set_at nat_eq (set_at nat_eq (at k.ends) d (Some reader)) d' (Some writer)) m) (sym pipes) on);
                 settled = settled_after (core_of {A = A} new) c (make_pipe c keys pid first second (nonblock_if nonblock)) high;
               }
+            where
+              still_there : (q : ℕ) → IsSome (at k.ends q) → IsSome (set_at nat_eq (set_at nat_eq (at k.ends) d (Some reader)) d' (Some writer) q)
+              still_there q h = by (nat_eq d' q) (nat_eq d q)
+                where
+                  by : (a b : Bool) → IsSome (cond a (Some writer) (cond b (Some reader) (at k.ends q)))
+                  by true b = refl
+                  by false true = refl
+                  by false false = h
 
 -- a place of a table fits a descriptor
 pub fits_place : (n : ℕ) → n < open_max → FitsSigned w32 (pos n)

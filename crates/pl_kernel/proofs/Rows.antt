@@ -29,7 +29,7 @@ pub record IsNamed (rows : ℕ → ℕ → Option ℕ) (ends : ℕ → Option En
   pub named : (pid fd d : ℕ) → rows pid fd ≡ Some d → IsSome (ends d)
   pub once : (pid fd other place d : ℕ) → rows pid fd ≡ Some d → rows other place ≡ Some d → (pid ≡ other) × (fd ≡ place)
 
-pub of_sound : {A : Type 0} (k : Held) → IsSound A k → IsNamed (row_at k.tables) (at k.ends)
+pub of_sound : {A : Type 0} (k : Held A) → IsSound A k → IsNamed (row_at k.tables) (at k.ends)
 of_sound k sound = record { named = sound.named; once = sound.once }
 
 module _ (rows : ℕ → ℕ → Option ℕ) (ends : ℕ → Option End) (holds : IsNamed rows ends) (pid fd : ℕ) where
@@ -74,6 +74,17 @@ module _ (rows : ℕ → ℕ → Option ℕ) (ends : ℕ → Option End) (holds 
       same c (Here a b s) (There h) = absurd (not_old c _ _ s h)
       same c (There h) (Here a b s) = absurd (not_old c _ _ s h)
       same c (There h) (There h') = holds.once _ _ _ _ c h h'
+
+  -- a row is gone
+  pub named-cleared : IsNamed (with_row rows pid fd None) ends
+  named-cleared = record {
+    named = λ q k c h. holds.named q k c (old q k c (place None q k c h));
+    once = λ q k q' k' c h h'. holds.once q k q' k' c (old q k c (place None q k c h)) (old q' k' c (place None q' k' c h'));
+  }
+    where
+      old : (q k c : ℕ) → Place None q k c → rows q k ≡ Some c
+      old q k c (Here a b s) = absurd (cc)
+      old q k c (There h) = h
 
   -- a row and its key are gone
   pub named-removed : (d : ℕ) → rows pid fd ≡ Some d → IsNamed (with_row rows pid fd None) (set_at nat_eq ends d None)

@@ -90,7 +90,7 @@ module _ (ts : List (List (Option ℕ))) where
   pub no_rows : (fd : ℕ) → row_at ts (length ts + 1) fd ≡ None
   no_rows fd = not_next fd
 
-module _ {A : Type 0} (k : Held) (sound : IsSound A k) where
+module _ {A : Type 0} (k : Held A) (sound : IsSound A k) where
   abbrev c : Core A numbers
   c = core_of k
 
@@ -122,7 +122,7 @@ module _ {A : Type 0} (k : Held) (sound : IsSound A k) where
     pub start-wants : MayWant {A = A} k x
     start-wants = wants_plain k k x _ (came (Some (length k.tables + 1)) next) refl
 
-    abbrev new : Held
+    abbrev new : Held A
     new = record k { tables = k.tables ++ empty ∷ [] }
 
     core_is : core_of {A = A} new ≡ settle c (start c (length k.tables + 1))
@@ -137,6 +137,9 @@ module _ {A : Type 0} (k : Held) (sound : IsSound A k) where
     pub start-sound : IsSound A new
     start-sound = record {
       few = omega (arith, more_length k.tables, few);
+      kept = sound.kept;
+      waiting = sound.waiting;
+      rise = sound.rise;
       named = λ pid fd d e. sound.named pid fd d (sym (λ i. rows-more k.tables i pid fd) ∙ e);
       once = λ pid fd other place d e f. sound.once pid fd other place d (sym (λ i. rows-more k.tables i pid fd) ∙ e) (sym (λ i. rows-more k.tables i other place) ∙ f);
       on = sound.on;
@@ -144,8 +147,8 @@ module _ {A : Type 0} (k : Held) (sound : IsSound A k) where
     }
 
 -- a new kernel
-abbrev nothing : Limits → Held
-nothing limits = record { tables = []; ends = []; pipes = []; limits = limits }
+abbrev nothing : {A : Type 0} → Limits → Held A
+nothing limits = record { tables = []; ends = []; pipes = []; calls = record { calls = []; next = limits.first_call }; limits = limits }
 
 no_pid : (pid : ℕ) → (nat_lt 0 pid && nat_le pid 0) ≡ false
 no_pid pid = grind arith
@@ -167,13 +170,16 @@ module _ (A : Type 0) (limits : Limits) where
     files = λ f. None;
     names = [];
     parked = [];
-    next_call = 18446744073709551615;
+    next_call = limits.first_call;
     limits = limits;
   }
 
   pub sound_nothing : IsSound A (nothing limits)
   sound_nothing = record {
     few = omega arith;
+    kept = λ d h. absurd (cc);
+    waiting = λ number. tt;
+    rise = omega arith;
     named = λ pid fd d e. (let t : None ≡ Some d = sym (no_row pid fd) ∙ e in absurd (cc));
     once = λ pid fd other place d e f. (let t : None ≡ Some d = sym (no_row pid fd) ∙ e in absurd (cc));
     on = λ d. tt;

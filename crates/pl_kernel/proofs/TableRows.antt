@@ -4,12 +4,17 @@ use Rattle.std.proofs.Math.Path.{fun_ext}
 use Rattle.std.proofs.Math.ListN.{get_or-map}
 use Rattle.std.proofs.lemmas.List.{get_or-set_same, get_or-set_other, length-set, length-map, map-set}
 use Rattle.std.proofs.lemmas.List.Elements.{All-set}
+use Rattle.std.proofs.lemmas.Bool.{eqb-true, eq-eqb}
 use Rattle.std.proofs.lemmas.Bool.Decides.{eqb_tells}
-use Rattle.std.specs.Prelude.{if◌then◌else◌, ◌&&◌, nat_le, slice_set, slice_index_or, is_none, All}
+use Rattle.std.proofs.lemmas.List.Folds.{list_any_at}
+use Rattle.std.specs.List.{list_any}
+use Rattle.std.specs.Option.{option_eq}
+use Rattle.std.specs.Prelude.{if◌then◌else◌, ◌||◌, ◌&&◌, nat_le, slice_set, slice_index_or, is_none, All}
 use Rattle.pl_model.specs.Numbers.{open_max, first_from}
-use Rattle.pl_kernel.specs.Held.{is_pid, row_at, lowest_of}
+use Rattle.pl_kernel.specs.Held.{is_pid, is_key, row_at, lowest_of}
 use Rattle.pl_kernel.specs.Sound.{with_row}
 use Rattle.pl_kernel.specs.TablesView.{HasSizes}
+use Rattle.pl_kernel.proofs.Views.{within}
 
 pub pid_low : (pid n : ℕ) → (nat_lt 0 pid && nat_le pid n) ≡ true → 1 ≤ pid
 pid_low pid n h = grind arith
@@ -154,3 +159,63 @@ module _ {X : Type 0} (f : X → List (Option ℕ)) (xs : List X) (pid : ℕ) (x
 
   pub sizes_set : (fd : ℕ) (d : Option ℕ) (y : X) → fd < length (f x) → f y ≡ slice_set (f x) fd d → HasSizes (map f xs) → HasSizes (map f (slice_set xs (pid - 1) y))
   sizes_set fd d y l e sizes = subst HasSizes (sym (map-set f xs (pid - 1) y ∙ ap (slice_set (map f xs) (pid - 1)) e)) (sizes-set (map f xs) pid fd (f x) d process table_is l sizes (table_wide sizes.wide))
+
+-- the test of a place
+pub key_is : (key : ℕ) (o : Option ℕ) → option_eq nat_eq o (Some key) ≡ is_key key o
+key_is key None = refl
+key_is key (Some d) = refl
+
+-- whether a row names a key
+module _ {X : Type 0} (f : X → List (Option ℕ)) (xs : List X) (key : ℕ) where
+  -- none of the first n tables has it
+  abbrev pub NoneOf : ℕ → Type 0
+  NoneOf n = (i : ℕ) → i < n → list_any (is_key key) (slice_index_or (map f xs) i []) ≡ false
+
+  item_is : (i : ℕ) (x : X) → i < length xs → x ≡ slice_index_or xs i x → f x ≡ slice_index_or (map f xs) i []
+  item_is i x l is = ap f is ∙ sym (get_or-map f xs i x) ∙ get_or_any (map f xs) i (f x) [] (let e : length (map f xs) ≡ length xs = simp length-map refl in omega (arith, e, l))
+
+  pub none_more : (n : ℕ) (x : X) → n < length xs → x ≡ slice_index_or xs n x → list_any (is_key key) (f x) ≡ false → NoneOf n → NoneOf (n + 1)
+  none_more n x l is without_it before = λ i m. elim (eqb_tells i n) as (λ _. list_any (is_key key) (slice_index_or (map f xs) i []) ≡ false) [
+    | inl t ↦ ap (λ j. list_any (is_key key) (slice_index_or (map f xs) j [])) t.1 ∙ ap (list_any (is_key key)) (sym (item_is n x l is)) ∙ without_it
+    | inr t ↦ before i (let apart : i ≢ n = t.1 in omega (arith, apart, m))
+  ]
+
+  there : (ys : List (Option ℕ)) → list_any (is_key key) ys ≡ true → (j : ℕ) × (j < length ys) × (slice_index_or ys j None ≡ Some key)
+  there [] h = absurd (cc)
+  there (None ∷ ys) h = (let r = there ys h in (suc r.0, omega (arith, r.1), r.2))
+  there (Some d ∷ ys) h = by (there ys) (nat_eq d key) refl h
+    where
+      by : (list_any (is_key key) ys ≡ true → (j : ℕ) × (j < length ys) × (slice_index_or ys j None ≡ Some key)) → (b : Bool) → nat_eq d key ≡ b → (b || list_any (is_key key) ys) ≡ true
+          → (j : ℕ) × (j < length (Some d ∷ ys)) × (slice_index_or (Some d ∷ ys) j None ≡ Some key)
+      by rest true t h = (0, omega arith, ap (λ z. Some z) (eqb-true d key t))
+      by rest false t h = (let r = rest h in (suc r.0, omega (arith, r.1), r.2))
+
+  pub some_named : (i : ℕ) (x : X) → i < length xs → x ≡ slice_index_or xs i x → list_any (is_key key) (f x) ≡ true → All (λ table. length table ≡ open_max) (map f xs)
+      → (pid : ℕ) × (fd : ℕ) × (fd < open_max) × (row_at (map f xs) pid fd ≡ Some key)
+  some_named i x l is with_it wide =
+      let r = there (f x) with_it in
+      let many : length (map f xs) ≡ length xs = simp length-map refl in
+      let width : length (f x) ≡ open_max = ap length (item_is i x l is) ∙ wide i [] (omega (arith, many, l)) in (
+        i + 1,
+        r.0,
+        omega (arith, r.1, width),
+        ap (λ b. if b then (slice_index_or (slice_index_or (map f xs) ((i + 1) - 1) []) r.0 None) else None) (here i (length (map f xs)) (omega (arith, many, l)))
+            ∙ ap (λ t. slice_index_or t r.0 None) (ap (λ j. slice_index_or (map f xs) j []) (let e : (i + 1) - 1 ≡ i = omega arith in e) ∙ sym (item_is i x l is)) ∙ r.2,
+      )
+    where
+      here : (i n : ℕ) → i < n → (nat_lt 0 (i + 1) && nat_le (i + 1) n) ≡ true
+      here i n l = grind arith
+
+  pub none_named : (n : ℕ) → length xs ≤ n → NoneOf n → (pid fd : ℕ) → row_at (map f xs) pid fd ≡ Some key → ⊥
+  none_named n l none pid fd row = by (is_pid (map f xs) pid) refl row
+    where
+      by : (b : Bool) → is_pid (map f xs) pid ≡ b → (if b then (slice_index_or (slice_index_or (map f xs) (pid - 1) []) fd None) else None) ≡ Some key → ⊥
+      by true t row =
+          let table = slice_index_or (map f xs) (pid - 1) [] in
+          let many : length (map f xs) ≡ length xs = simp length-map refl in
+          let low = pid_low pid (length (map f xs)) t in
+          let high = pid_high pid (length (map f xs)) t in
+          let yes : list_any (is_key key) table ≡ true = list_any_at (is_key key) table fd None (within table fd key row) (ap (is_key key) row ∙ eq-eqb key key refl) in
+          let f : false ≡ true = sym (none (pid - 1) (omega (arith, many, l, low, high))) ∙ yes in
+          cc
+      by false t row = cc

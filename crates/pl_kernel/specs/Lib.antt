@@ -1,6 +1,9 @@
 pub mod Held
 pub mod PipesView
 pub mod TablesView
+pub mod KernelView
+pub mod Left
 pub mod Sound
+pub mod Parking
 pub mod Makes
 pub mod Decided

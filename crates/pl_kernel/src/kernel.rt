@@ -1,12 +1,18 @@
 //! The kernel and its steps.
-ghost use Rattle.std.specs.Prelude.{◌≡◌, ◌≤◌, [], if◌then◌else◌, length, true, IfOk, OnErr, IsOk, IsTrue};
+ghost use Rattle.pl_model.specs.Numbers.{most_bytes};
+ghost use Rattle.pl_kernel.specs.Parking.{written};
+ghost use Rattle.std.specs.Prelude.{◌≡◌, ◌≤◌, ◌==◌, [], nat_eq, if◌then◌else◌, length, take, true, Some, None, IfOk, OnOk, OnErr, IsOk, IsTrue, IsSome, IfSome};
 
 use crate::access::Access;
-use crate::decisions::{case_of_read, case_of_write, hung_after_close};
+use crate::decisions;
+use crate::leaving::discard_end;
 use crate::memory::NoMemory;
 use crate::pipes::Pipes;
 use crate::tables::{End, Tables};
-use pl_model::{Bytes8, Call, Errno, Limits, Mode, Outcome, ReadCase, Reply, Step, WriteCase};
+use pl_model::{
+    Bytes8, Call, Errno, KeyList, Limits, Mode, Outcome, ReadCase, Reply, Step, WriteCase,
+};
+use pl_parked::{ParkFault, Parked, ParkedCall};
 use std::alloc::{Allocator, Global};
 use std::marker::Model;
 
@@ -23,17 +29,20 @@ pub struct Kernel<A: Allocator = Global> {
     limits: Limits,
     tables: Tables<A>,
     pipes: Pipes<A>,
+    parked: Parked<A>,
 }
 
 impl<A: Allocator> Model for Kernel<A> {
     ghost use Rattle.pl_kernel.specs.Held.{Held};
+
+    ghost Value = { Held A };
+
+    ghost use Rattle.pl_kernel.specs.KernelView.{view_of};
     ghost use Rattle.pl_kernel.specs.Sound.{IsSound};
 
-    ghost Value = { Held };
+    ghost view = { view_of };
 
-    ghost view = { λ k. record { tables = k.tables.tables; ends = k.tables.ends; pipes = k.pipes; limits = k.limits } };
-
-    ghost invariant = { λ k. IsSound A (record { tables = k.tables.tables; ends = k.tables.ends; pipes = k.pipes; limits = k.limits }) };
+    ghost invariant = { λ k. IsSound A (view_of k) };
 }
 
 /// The read of no bytes, which is end of file.
@@ -43,26 +52,33 @@ fn no_bytes<A: Allocator>(alloc: A) -> Reply<A>
     Reply::Bytes(Bytes8::from_vec(Vec::new(alloc)).unwrap())
 }
 
-/// The answer to a call that would wait: no call can be parked yet.
-fn refused_wait<A: Allocator>(nonblock: bool) -> Reply<A>
-    ensures { result ≡ (if nonblock then Reply.Fault Errno.EAGAIN else Reply.CallsSpent) }
+/// The bytes of a write, and none of another call.
+fn bytes_of<A: Allocator>(call: &Call<A>) -> &[u8]
+    ensures value { result.now ≡ written call.now }
+    ensures few { length result.now ≤ most_bytes }
 {
-    if nonblock {
-        Reply::Fault(Errno::EAGAIN)
-    } else {
-        Reply::CallsSpent
+    match call {
+        Call::Write { bytes, .. } => bytes.as_slice(),
+        _ => &[],
     }
 }
 
 impl<A: Allocator + Copy> Kernel<A> {
     ghost use Rattle.pl_model.specs.Numbered.{opening};
     ghost use Rattle.pl_model.specs.Memory.{is_frugal, is_frugal_call};
-    ghost use Rattle.pl_kernel.specs.Held.{is_pid};
+    ghost use Rattle.pl_model.specs.Map.{get};
+    ghost use Rattle.pl_model.specs.Numbers.{last_call};
+    ghost use Rattle.pl_model.specs.Settle.{settle};
+    ghost use Rattle.pl_model.specs.Step.{without_call};
+    ghost use Rattle.pl_model.specs.Transfer.{read_case, write_case, room};
+    ghost use Rattle.pl_kernel.specs.Decided.{FitsRoom};
+    ghost use Rattle.pl_kernel.specs.Held.{at, is_pid, core_of};
+    ghost use Rattle.pl_kernel.specs.Left.{has_reader, has_writer};
+    ghost use Rattle.pl_kernel.specs.Sound.{MayWait};
+    ghost use Rattle.pl_kernel.specs.Parking.{refusal, call_on, with_call, Adds, ReadWaits, WriteWaits};
     ghost use Rattle.pl_kernel.specs.Makes.{Stands, Makes, MakesAll, WantsMemory, Does, MayWant};
 
-    /// A kernel with no process. It takes no memory.
-    ///
-    /// `limits.first_call` has no effect yet, since no call can be parked.
+    /// A kernel with no process, whose first parked call gets the number `limits.first_call`. It takes no memory.
     pub fn new(alloc: A, limits: Limits) -> Kernel<A>
         requires { limits.file_max ≤ 16777216 }
         ensures { Stands result (opening {A = A} limits) }
@@ -72,6 +88,7 @@ impl<A: Allocator + Copy> Kernel<A> {
             limits,
             tables: Tables::new(alloc),
             pipes: Pipes::new(alloc),
+            parked: Parked::new(alloc, limits.first_call),
         }
     }
 
@@ -119,62 +136,161 @@ impl<A: Allocator + Copy> Kernel<A> {
         Ok(Reply::Fds(first as i32, second as i32))
     }
 
+    // What a read of n bytes, not 0, of a pipe comes to.
+    fn case_of_read(&self, pipe: usize, n: u32) -> ReadCase
+        requires { IsSome (at self.now.pipes pipe) }
+        ensures { IfSome (at self.now.pipes pipe) (λ x. result ≡ read_case n (length x.bytes) (has_writer self.now.ends pipe)) }
+    {
+        let held = self.pipes.held(pipe);
+        let has_writer = self.tables.has_end(pipe, Access::Writing);
+        decisions::case_of_read(n as usize, held, has_writer)
+    }
+
+    // What a write of bytes, not none, of which some were taken before, to a pipe comes to.
+    fn case_of_write(&self, pipe: usize, length: usize, taken: usize, may_wait: bool) -> WriteCase
+        requires pipe { IsSome (at self.now.pipes pipe) }
+        requires taken { taken ≤ length }
+        ensures case { IfSome (at self.now.pipes pipe) (λ x. result ≡ write_case length taken (room x) (has_reader self.now.ends pipe) may_wait) }
+        ensures fits { IfSome (at self.now.pipes pipe) (λ x. FitsRoom result length taken (room x)) }
+    {
+        let room = self.pipes.room(pipe);
+        let has_reader = self.tables.has_end(pipe, Access::Reading);
+        decisions::case_of_write(length, taken, room, has_reader, may_wait)
+    }
+
     fn read(&mut self, pid: u32, fd: i32, n: u32) -> Result<Reply<A>, NoMemory>
         requires { IsTrue (is_pid self.old.tables pid) }
         ensures done { IfOk result (λ reply. Does self.old (Step.Begin pid (Call.Read fd n)) reply self.new) }
         ensures undone { OnErr result (self.new ≡ self.old) }
         ensures wanted { OnErr result (MayWant {A = A} self.old (Step.Begin pid (Call.Read fd n))) }
     {
-        let Some(end) = self.tables.end_for(pid, fd, Access::Reading) else {
+        let Some(open) = self.tables.end_for(pid, fd, Access::Reading) else {
             return Ok(Reply::Fault(Errno::EBADF));
         };
         if n == 0 {
             return Ok(no_bytes(self.alloc));
         }
-        let held = self.pipes.held(end.pipe);
-        let has_writer = self.tables.has_end(end.pipe, Access::Writing);
-        match case_of_read(n as usize, held, has_writer) {
+        match self.case_of_read(open.end.pipe, n) {
             ReadCase::Gives(count) => {
-                let bytes = self.pipes.take(end.pipe, count)?;
+                let bytes = self.pipes.take(open.end.pipe, count)?;
                 Ok(Reply::Bytes(Bytes8::from_vec(bytes).unwrap()))
             }
             ReadCase::EndOfFile => Ok(no_bytes(self.alloc)),
-            ReadCase::Waits => Ok(refused_wait(end.nonblock)),
+            ReadCase::Waits => {
+                if let Some(refusal) = self.refusal_to_wait(open.end.nonblock) {
+                    return Ok(refusal);
+                }
+                let number = self.park(pid, Call::Read { fd, n }, open.key, 0)?;
+                Ok(Reply::Parked(number))
+            }
         }
     }
 
-    fn write(&mut self, pid: u32, fd: i32, bytes: &Bytes8<A>) -> Result<Reply<A>, NoMemory>
+    fn write(&mut self, pid: u32, fd: i32, bytes: Bytes8<A>) -> Result<Reply<A>, NoMemory>
         requires { IsTrue (is_pid self.old.tables pid) }
-        ensures done { IfOk result (λ reply. Does self.old (Step.Begin pid (Call.Write fd bytes.now)) reply self.new) }
+        ensures done { IfOk result (λ reply. Does self.old (Step.Begin pid (Call.Write fd bytes)) reply self.new) }
         ensures undone { OnErr result (self.new ≡ self.old) }
-        ensures wanted { OnErr result (MayWant {A = A} self.old (Step.Begin pid (Call.Write fd bytes.now))) }
+        ensures wanted { OnErr result (MayWant {A = A} self.old (Step.Begin pid (Call.Write fd bytes))) }
     {
-        let Some(end) = self.tables.end_for(pid, fd, Access::Writing) else {
+        let Some(open) = self.tables.end_for(pid, fd, Access::Writing) else {
             return Ok(Reply::Fault(Errno::EBADF));
         };
-        let bytes = bytes.as_slice();
-        if bytes.is_empty() {
+        let length = bytes.as_slice().len();
+        if length == 0 {
             return Ok(Reply::Count {
                 n: 0,
                 sigpipe: false,
             });
         }
-        let room = self.pipes.room(end.pipe);
-        let has_reader = self.tables.has_end(end.pipe, Access::Reading);
-        match case_of_write(bytes.len(), 0, room, has_reader, !end.nonblock) {
+        match self.case_of_write(open.end.pipe, length, 0, !open.end.nonblock) {
             WriteCase::Broken => Ok(Reply::Fault(Errno::EPIPE)),
             WriteCase::CutShort => Ok(Reply::Count {
                 n: 0,
                 sigpipe: true,
             }),
             WriteCase::Ends { from, to } => {
-                self.pipes.append(end.pipe, &bytes[from..to])?;
+                self.pipes
+                    .append(open.end.pipe, &bytes.as_slice()[from..to])?;
                 Ok(Reply::Count {
                     n: to as u32,
                     sigpipe: false,
                 })
             }
-            WriteCase::Waits { .. } => Ok(refused_wait(end.nonblock)),
+            WriteCase::Waits { to, .. } => {
+                if let Some(refusal) = self.refusal_to_wait(open.end.nonblock) {
+                    return Ok(refusal);
+                }
+                let number = self.park_write(pid, Call::Write { fd, bytes }, open.key, to)?;
+                Ok(Reply::Parked(number))
+            }
+        }
+    }
+
+    // Why a call that would wait doesn't, if it doesn't. This is tested before any memory is asked for.
+    fn refusal_to_wait(&self, nonblock: bool) -> Option<Reply<A>>
+        ensures { result ≡ refusal nonblock self.now.calls.next }
+    {
+        if nonblock {
+            return Some(Reply::Fault(Errno::EAGAIN));
+        }
+        if self.parked.spent() {
+            return Some(Reply::CallsSpent);
+        }
+        None
+    }
+
+    // Parks a call that keeps the description of a key.
+    fn park(&mut self, pid: u32, call: Call<A>, key: usize, taken: u32) -> Result<u64, NoMemory>
+        requires left { ¬ (self.old.calls.next ≡ last_call) }
+        requires here { IsSome (at self.old.ends key) }
+        requires may { MayWait call taken }
+        ensures number { IfOk result (λ number. number ≡ self.old.calls.next) }
+        ensures ok { OnOk result (self.new ≡ with_call self.old (call_on key pid call taken)) }
+        ensures err { OnErr result (self.new ≡ self.old) }
+    {
+        let mut kept = Vec::with_capacity(self.alloc, 1)?;
+        kept.push_reserved(key);
+        let Ok(number) = self.parked.park(ParkedCall {
+            pid,
+            call,
+            kept: KeyList::from_vec(kept),
+            fifo: None,
+            taken,
+            met: false,
+        })
+        else {
+            return Err(NoMemory);
+        };
+        Ok(number)
+    }
+
+    // Parks a write, and then adds the bytes of its first turn. Where these find no memory the call is taken back.
+    fn park_write(
+        &mut self,
+        pid: u32,
+        call: Call<A>,
+        key: usize,
+        taken: usize,
+    ) -> Result<u64, NoMemory>
+        requires left { ¬ (self.old.calls.next ≡ last_call) }
+        requires here { IsSome (at self.old.ends key) }
+        requires may { MayWait call taken }
+        requires taken { taken ≤ length (written call) }
+        requires room { IfSome (at self.old.ends key) (λ e. IfSome (at self.old.pipes e.pipe) (λ x. taken ≤ room x)) }
+        ensures number { IfOk result (λ number. number ≡ self.old.calls.next) }
+        ensures ok { OnOk result (IfSome (at self.old.ends key) (λ e. Adds (with_call self.old (call_on key pid call taken)) e.pipe (take taken (written call)) self.new)) }
+        ensures err { OnErr result (self.new ≡ self.old) }
+    {
+        let pipe = self.tables.end(key).pipe;
+        let number = self.park(pid, call, key, taken as u32)?;
+        let call = self.parked.get(number).unwrap();
+        let bytes = bytes_of(&call.call);
+        match self.pipes.append(pipe, &bytes[..taken]) {
+            Ok(()) => Ok(number),
+            Err(NoMemory) => {
+                self.parked.unpark(number);
+                Err(NoMemory)
+            }
         }
     }
 
@@ -185,21 +301,132 @@ impl<A: Allocator + Copy> Kernel<A> {
         let Some(key) = self.tables.find(pid, fd) else {
             return Reply::Fault(Errno::EBADF);
         };
+        self.tables.close(pid, fd as usize);
+        if self.parked.keeps(key) {
+            return Reply::Unit;
+        }
+        discard_end(&mut self.tables, &mut self.pipes, key);
+        Reply::Unit
+    }
+
+    // Ends a parked call. The end that it kept goes, where nothing else names it.
+    fn end_call(&mut self, number: u64)
+        requires { IsSome (get nat_eq self.old.calls.calls number) }
+        ensures { core_of self.new ≡ settle (core_of self.old) (without_call (core_of self.old) number) }
+    {
+        let call = self.parked.take(number).unwrap();
+        let key = call.kept.as_slice()[0];
+        if self.tables.names(key) {
+            return;
+        }
+        if self.parked.keeps(key) {
+            return;
+        }
+        discard_end(&mut self.tables, &mut self.pipes, key);
+    }
+
+    fn resume_read(&mut self, number: u64, key: usize, n: u32) -> Result<Reply<A>, NoMemory>
+        requires { ReadWaits self.old number key n }
+        ensures done { IfOk result (λ reply. Does self.old (Step.Resume number) reply self.new) }
+        ensures undone { OnErr result (self.new ≡ self.old) }
+        ensures wanted { OnErr result (MayWant {A = A} self.old (Step.Resume number)) }
+    {
         let pipe = self.tables.end(key).pipe;
-        let was_hung = self.pipes.is_hung(pipe);
-        let had_writer = self.tables.has_end(pipe, Access::Writing);
-        self.tables.close(pid, fd as usize, key);
-        let has_reader = self.tables.has_end(pipe, Access::Reading);
-        let has_writer = self.tables.has_end(pipe, Access::Writing);
-        match hung_after_close(has_reader, has_writer, was_hung, had_writer) {
-            Some(hung) => {
-                self.pipes.set_hung(pipe, hung);
-                Reply::Unit
+        match self.case_of_read(pipe, n) {
+            ReadCase::Gives(count) => {
+                let bytes = self.pipes.take(pipe, count)?;
+                self.end_call(number);
+                Ok(Reply::Bytes(Bytes8::from_vec(bytes).unwrap()))
             }
-            None => {
-                self.pipes.discard(pipe);
-                Reply::Unit
+            ReadCase::EndOfFile => {
+                self.end_call(number);
+                Ok(no_bytes(self.alloc))
             }
+            ReadCase::Waits => Ok(Reply::Parked(number)),
+        }
+    }
+
+    fn resume_write(
+        &mut self,
+        number: u64,
+        key: usize,
+        length: usize,
+        taken: u32,
+    ) -> Result<Reply<A>, NoMemory>
+        requires { WriteWaits self.old number key length taken }
+        ensures done { IfOk result (λ reply. Does self.old (Step.Resume number) reply self.new) }
+        ensures undone { OnErr result (self.new ≡ self.old) }
+        ensures wanted { OnErr result (MayWant {A = A} self.old (Step.Resume number)) }
+    {
+        let pipe = self.tables.end(key).pipe;
+        match self.case_of_write(pipe, length, taken as usize, true) {
+            WriteCase::Broken => {
+                self.end_call(number);
+                Ok(Reply::Fault(Errno::EPIPE))
+            }
+            WriteCase::CutShort => {
+                self.end_call(number);
+                Ok(Reply::Count {
+                    n: taken,
+                    sigpipe: true,
+                })
+            }
+            WriteCase::Ends { from, to } => {
+                let call = self.parked.get(number).unwrap();
+                self.pipes.append(pipe, &bytes_of(&call.call)[from..to])?;
+                self.end_call(number);
+                Ok(Reply::Count {
+                    n: to as u32,
+                    sigpipe: false,
+                })
+            }
+            WriteCase::Waits { from, to } => {
+                let call = self.parked.get(number).unwrap();
+                self.pipes.append(pipe, &bytes_of(&call.call)[from..to])?;
+                self.parked.set_taken(number, to as u32);
+                Ok(Reply::Parked(number))
+            }
+        }
+    }
+
+    fn resume(&mut self, number: u64) -> Result<Reply<A>, NoMemory>
+        ensures done { IfOk result (λ reply. Does self.old (Step.Resume number) reply self.new) }
+        ensures undone { OnErr result (self.new ≡ self.old) }
+        ensures wanted { OnErr result (MayWant {A = A} self.old (Step.Resume number)) }
+    {
+        let Some(call) = self.parked.get(number) else {
+            return Ok(Reply::NoCall);
+        };
+        let key = call.kept.as_slice()[0];
+        match &call.call {
+            Call::Read { n, .. } => {
+                let n = *n;
+                self.resume_read(number, key, n)
+            }
+            Call::Write { bytes, .. } => {
+                let length = bytes.as_slice().len();
+                let taken = call.taken;
+                self.resume_write(number, key, length, taken)
+            }
+            Call::Pipe { .. } | Call::Close { .. } => unreachable!(),
+        }
+    }
+
+    fn interrupt(&mut self, number: u64) -> Reply<A>
+        ensures { Does self.old (Step.Interrupt number) result self.new }
+    {
+        let Some(call) = self.parked.get(number) else {
+            return Reply::NoCall;
+        };
+        let taken = call.taken;
+        self.end_call(number);
+        if taken > 0 {
+            Reply::Count {
+                n: taken,
+                sigpipe: false,
+            }
+        } else {
+            Reply::Fault(Errno::EINTR)
         }
     }
 
@@ -213,7 +440,7 @@ impl<A: Allocator + Copy> Kernel<A> {
         match call {
             Call::Pipe { nonblock } => self.pipe(pid, nonblock),
             Call::Read { fd, n } => self.read(pid, fd, n),
-            Call::Write { fd, bytes } => self.write(pid, fd, &bytes),
+            Call::Write { fd, bytes } => self.write(pid, fd, bytes),
             Call::Close { fd } => Ok(self.close(pid, fd)),
         }
     }
@@ -232,14 +459,8 @@ impl<A: Allocator + Copy> Kernel<A> {
                 }
                 self.begin(pid, call)
             }
-            Step::Resume(_) => {
-                let _ = &self.tables;
-                Ok(Reply::NoCall)
-            }
-            Step::Interrupt(_) => {
-                let _ = &self.tables;
-                Ok(Reply::NoCall)
-            }
+            Step::Resume(number) => self.resume(number),
+            Step::Interrupt(number) => Ok(self.interrupt(number)),
         }
     }
 

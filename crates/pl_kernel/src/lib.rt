@@ -7,6 +7,7 @@
 mod access;
 mod decisions;
 mod kernel;
+mod leaving;
 mod memory;
 mod pipes;
 mod queue;

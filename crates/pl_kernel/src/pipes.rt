@@ -2,6 +2,7 @@
 ghost use Rattle.std.specs.Prelude.{◌≡◌, ◌+◌, ◌-◌, ◌≤◌, ◌++◌, [], length, take, drop, IfOk, OnErr, OnOk, IsSome, IfSome, Some, None, nat_eq};
 ghost use Rattle.pl_model.specs.Numbers.{first_capacity};
 ghost use Rattle.pl_model.specs.State.{empty_pipe};
+ghost use Rattle.pl_model.specs.Transfer.{room};
 ghost use Rattle.pl_model.specs.Map.{set_at};
 ghost use Rattle.pl_kernel.specs.Held.{at, change_at};
 
@@ -80,7 +81,7 @@ impl<A: Allocator + Copy> Pipes<A> {
     /// How many more bytes a pipe can hold.
     pub(crate) fn room(&self, key: usize) -> usize
         requires { IsSome (at self.now key) }
-        ensures value { IfSome (at self.now key) (λ x. result ≡ x.capacity - length x.bytes) }
+        ensures value { IfSome (at self.now key) (λ x. result ≡ room x) }
         ensures few { result ≤ first_capacity }
     {
         let buffer = &self.buffers[key];
@@ -101,6 +102,7 @@ impl<A: Allocator + Copy> Pipes<A> {
         requires here { IsSome (at self.old key) }
         requires held { IfSome (at self.old key) (λ x. count ≤ length x.bytes) }
         ensures bytes { IfOk result (λ bytes. IfSome (at self.old key) (λ x. bytes.items ≡ take count x.bytes)) }
+        ensures few { IfOk result (λ bytes. length bytes.items ≤ first_capacity) }
         ensures ok { OnOk result (at self.new ≡ change_at key (λ x. record x { bytes = drop count x.bytes }) (at self.old)) }
         ensures err { OnErr result (self.new ≡ self.old) }
     {
@@ -114,7 +116,7 @@ impl<A: Allocator + Copy> Pipes<A> {
     /// Adds bytes at the end of a pipe that has room for them.
     pub(crate) fn append(&mut self, key: usize, more: &[u8]) -> Result<(), NoMemory>
         requires here { IsSome (at self.old key) }
-        requires room { IfSome (at self.old key) (λ x. length x.bytes + length more.now ≤ x.capacity) }
+        requires room { IfSome (at self.old key) (λ x. length more.now ≤ room x) }
         ensures ok { OnOk result (at self.new ≡ change_at key (λ x. record x { bytes = x.bytes ++ more.now }) (at self.old)) }
         ensures err { OnErr result (self.new ≡ self.old) }
     {

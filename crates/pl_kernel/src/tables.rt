@@ -1,9 +1,9 @@
 //! Processes with their tables of descriptors, and the ends of pipes that these name.
-ghost use Rattle.std.specs.Prelude.{◌≡◌, ◌+◌, ◌<◌, ◌≤◌, ◌++◌, [], ◌∷◌, length, IsTrue, IfOk, OnErr, OnOk, IsSome, IfSome, Some, None, nat_eq, replicate, count_by, is_some, pos};
+ghost use Rattle.std.specs.Prelude.{ℕ, ◌≡◌, ◌+◌, ◌<◌, ◌≤◌, ◌++◌, [], ◌∷◌, length, IsTrue, IsFalse, IfOk, OnErr, OnOk, IsSome, IfSome, Some, None, nat_eq, replicate, count_by, is_some, pos};
 ghost use Rattle.std.specs.List.{list_any};
 ghost use Rattle.pl_model.specs.Numbers.{open_max, most_processes};
 ghost use Rattle.pl_model.specs.Map.{set_at};
-ghost use Rattle.pl_kernel.specs.Held.{at, is_pid, row_at, row_of, lowest_of, end_of, allowed_end, is_end_on, allows};
+ghost use Rattle.pl_kernel.specs.Held.{at, is_pid, is_key, row_at, row_of, lowest_of, end_of, allowed_end, is_end_on, allows};
 ghost use Rattle.pl_kernel.specs.Sound.{with_row};
 
 use crate::access::Access;
@@ -22,6 +22,13 @@ pub(crate) struct End {
     pub(crate) pipe: usize,
     pub(crate) mode: Mode,
     pub(crate) nonblock: bool,
+}
+
+/// An end with its key.
+#[derive(Clone, Copy)]
+pub(crate) struct OpenEnd {
+    pub(crate) key: usize,
+    pub(crate) end: End,
 }
 
 /// The tables of the processes, and the ends by key. Contracts see both as lists.
@@ -49,6 +56,18 @@ fn empty_table<A: Allocator>(alloc: A) -> Result<Vec<Option<usize>, A>, AllocErr
     ensures { IfOk result (λ table. table.items ≡ replicate open_max None) }
 {
     vec![in alloc; None; PLACES]
+}
+
+/// Whether a place of a table has the key.
+fn has_key(table: &[Option<usize>], key: usize) -> bool
+    ensures { result ≡ list_any (is_key key) table.now }
+{
+    for place in table {
+        if *place == Some(key) {
+            return true;
+        }
+    }
+    false
 }
 
 impl<A: Allocator + Copy> Tables<A> {
@@ -104,13 +123,13 @@ impl<A: Allocator + Copy> Tables<A> {
     }
 
     /// The end that a descriptor of a process names, where its mode allows the access.
-    pub(crate) fn end_for(&self, pid: u32, fd: i32, access: Access) -> Option<End>
+    pub(crate) fn end_for(&self, pid: u32, fd: i32, access: Access) -> Option<OpenEnd>
         ensures { result ≡ allowed_end (allows access) (end_of self.now.tables self.now.ends pid fd) }
     {
         let key = self.find(pid, fd)?;
         let end = *self.ends.get(key)?;
         if access.is_allowed_by(end.mode) {
-            Some(end)
+            Some(OpenEnd { key, end })
         } else {
             None
         }
@@ -172,17 +191,37 @@ impl<A: Allocator + Copy> Tables<A> {
         key
     }
 
-    /// Closes a descriptor, and the end of the key that it names. It takes no memory.
-    pub(crate) fn close(&mut self, pid: u32, fd: usize, key: usize)
+    /// Closes a descriptor. The end that it named stays. It takes no memory.
+    pub(crate) fn close(&mut self, pid: u32, fd: usize)
         requires process { IsTrue (is_pid self.old.tables pid) }
         requires place { fd < open_max }
-        ensures ends { at self.new.ends ≡ set_at nat_eq (at self.old.ends) key None }
         ensures rows { row_at self.new.tables ≡ with_row (row_at self.old.tables) pid fd None }
         ensures processes { length self.new.tables ≡ length self.old.tables }
+        ensures ends { self.new.ends ≡ self.old.ends }
     {
-        let _gone = self.ends.try_remove(key);
         let table = &mut self.tables[pid as usize - 1];
         table[fd] = None;
+    }
+
+    /// Whether a descriptor names the end of a key.
+    pub(crate) fn names(&self, key: usize) -> bool
+        ensures some { IsTrue result → (pid : ℕ) × (fd : ℕ) × (fd < open_max) × (row_at self.now.tables pid fd ≡ Some key) }
+        ensures none { IsFalse result → (pid fd : ℕ) → ¬ (row_at self.now.tables pid fd ≡ Some key) }
+    {
+        for table in self.tables.iter() {
+            if has_key(table, key) {
+                return true;
+            }
+        }
+        false
+    }
+
+    /// Lets an end go. It takes no memory.
+    pub(crate) fn discard(&mut self, key: usize)
+        ensures ends { at self.new.ends ≡ set_at nat_eq (at self.old.ends) key None }
+        ensures tables { self.new.tables ≡ self.old.tables }
+    {
+        let _gone = self.ends.try_remove(key);
     }
 
     /// Whether an end on a pipe allows the access.

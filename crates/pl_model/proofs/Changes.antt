@@ -1,5 +1,5 @@
 -- What the end of a step makes of each change that a call makes to a settled state.
-use Rattle.std.proofs.Common.{◌≡◌, ◌≢◌, ℕ, ◌+◌, ◌<◌, ◌≤◌, Bool, true, false, cond, List, [], Option, Some, None, refl, sym, ◌∙◌, ap, inl, inr, nat_eq}
+use Rattle.std.proofs.Common.{◌≡◌, ◌≢◌, ℕ, ◌+◌, ◌<◌, ◌≤◌, Bool, true, false, cond, List, Option, Some, None, refl, sym, ◌∙◌, ap, inl, inr, nat_eq}
 use Rattle.std.specs.Prelude.{◌||◌, ◌&&◌}
 use Rattle.std.specs.Set.{is_member}
 use Rattle.std.proofs.lemmas.Bool.{eq-eqb, ne_eqb}
@@ -20,7 +20,7 @@ use Rattle.pl_model.specs.Numbered.{numbers}
 use Rattle.pl_model.specs.StandsFor.{AreUnused}
 use Rattle.pl_model.specs.Laws.{IsSettled}
 use Rattle.pl_model.proofs.Members.{both_ways, or_left}
-use Rattle.pl_model.proofs.Settles.{Alike, at_other, at_key, at_same, same-settled, moved-settled, left, left_pipe, left_lives, gone-settled}
+use Rattle.pl_model.proofs.Settles.{at_other, at_key, same-settled, moved-settled}
 use Rattle.pl_model.proofs.Tidy.{Row, row_live, live_same, live_row, is_on, has_end, end_passes, SameEnds, tidy_pipe, settled_pipe-is, tidy, settled-live, settled-kept, settled-file, kept-same, settled_pipe-same}
 
 -- the bytes of a pipe with an end change
@@ -200,10 +200,8 @@ module _ {A : Type 0} (c : Core A numbers) (settled : IsSettled c) (new : NewKey
             (kept-same c made refl (PipeNode p) same ∙ (settled-kept c settled p x was).0, settled_pipe-same c made refl p x same ∙ (settled-kept c settled p x was).1)
       ]
 
--- a descriptor is closed that alone names its description, which no parked call keeps
-module _ {A : Type 0} (c : Core A numbers) (settled : IsSettled c) (unnamed : c.names ≡ []) (pid fd gone : ℕ) (x : Description numbers)
-    (unkept : is_member nat_eq (in_parked c) gone ≡ false) (named : c.rows pid fd ≡ Some gone) (alone : (q k : ℕ) → c.rows q k ≡ Some gone → (q ≡ pid) × (k ≡ fd))
-    (described : c.descriptions gone ≡ Some x) (p : ℕ) (on : x.node ≡ PipeNode p) where
+-- a descriptor is closed
+module _ {A : Type 0} (c : Core A numbers) (pid fd gone : ℕ) (named : c.rows pid fd ≡ Some gone) where
   abbrev closed : Core A numbers
   closed = close_row c pid fd
 
@@ -222,31 +220,23 @@ module _ {A : Type 0} (c : Core A numbers) (settled : IsSettled c) (unnamed : c.
     by true e = absurd (cc)
     by false e = e
 
-  left_live : (d : ℕ) → d ≢ gone → is_live closed d ≡ is_live c d
-  left_live d n = live_same c closed refl d
+  -- who isn't named by it is live as before
+  pub closed_live : (d : ℕ) → d ≢ gone → is_live closed d ≡ is_live c d
+  closed_live d n = live_same c closed refl d
       (λ r. record { pid = r.pid; fd = r.fd; low = r.low; high = r.high; process = r.process; within = r.within; names = same_row r.pid r.fd d n r.names })
       (λ r. record { pid = r.pid; fd = r.fd; low = r.low; high = r.high; process = r.process; within = r.within; names = row_was_there r.pid r.fd d r.names })
 
-  unkept_then : is_member nat_eq (in_parked closed) gone ≡ false
+  -- the one that it alone named, and that no parked call keeps, isn't live any more
+  pub closed_dead : ((q k : ℕ) → c.rows q k ≡ Some gone → (q ≡ pid) × (k ≡ fd)) → is_member nat_eq (in_parked c) gone ≡ false → is_live closed gone ≡ false
   unfolding in_parked
-  unkept_then = unkept
-
-  no_live : is_live closed gone ≡ false
-  no_live = both_ways (is_live closed gone) false (λ h. absurd (no_row (live_row closed gone unkept_then h))) (λ h. absurd (cc))
+  closed_dead alone unkept = both_ways (is_live closed gone) false (λ h. absurd (no_row alone (live_row closed gone (still unkept) h))) (λ h. absurd (cc))
     where
-      no_row : Row closed gone → ⊥
-      no_row r =
+      still : is_member nat_eq (in_parked c) gone ≡ false → is_member nat_eq (in_parked closed) gone ≡ false
+      still e = e
+
+      no_row : ((q k : ℕ) → c.rows q k ≡ Some gone → (q ≡ pid) × (k ≡ fd)) → Row closed gone → ⊥
+      no_row alone r =
           let a = alone r.pid r.fd (row_was_there r.pid r.fd gone r.names) in
           let empty : closed.rows r.pid r.fd ≡ None = (λ i. cond (eq-eqb r.pid pid a.0 i && eq-eqb r.fd fd a.1 i) None (c.rows r.pid r.fd)) in
           let none : None ≡ Some gone = sym empty ∙ r.names in
           cc
-
-  abbrev alike : Alike c closed
-  alike = record { descriptions = refl; files = refl; names = refl }
-
-  pub closed_lives : (d : ℕ) (y : Description numbers) → (left c closed gone).descriptions d ≡ Some y → is_live (left c closed gone) d ≡ true
-  closed_lives = left_lives c closed settled alike unnamed gone x described p on left_live no_live
-
-  pub close-settled : (y : Pipe) → c.pipes p ≡ Some y →
-      settle c closed ≡ record (left c closed gone) { pipes = set_at nat_eq c.pipes p (left_pipe c closed gone p y) }
-  close-settled y is = gone-settled c closed settled alike unnamed gone x described p on left_live no_live y (at_same c.pipes p (Some y) is)

@@ -14,7 +14,7 @@ use Rattle.pl_model.specs.Words.{words, without_return, number, signed, hex_byte
 use Rattle.pl_model.specs.Lines.{pipe_of, read_of, write_of, close_of, call_of, start_of, resume_of, interrupt_of, begin_of, words_line, line_of_words, line}
 use Rattle.pl_model.specs.Shown.{hex_text, bytes_text, reply_text, outcome_text}
 use Rattle.pl_model.specs.Script.{lines, asked, answers}
-use Rattle.pl_model.specs.Worked.{BytesBeforeEndOfFile, PartialAndWholeNotWaiting, ReadOfNothing, WriteOfNothing, LastWriterCloses, TableOfWrites, ScriptOfBytesBeforeEndOfFile, EmptyScript, ScriptWithoutLineFeed, ScriptOfNoProcess}
+use Rattle.pl_model.specs.Worked.{BytesBeforeEndOfFile, PartialAndWholeNotWaiting, ReadOfNothing, WriteOfNothing, LastWriterCloses, SmallWriteAtItsBoundary, InterruptedLargeWrite, ParkedCallKeepsItsEnd, LastReaderLeaves, CallNumbersSpent, TableOfWrites, ScriptOfBytesBeforeEndOfFile, EmptyScript, ScriptWithoutLineFeed, ScriptOfNoProcess}
 
 module _ (A : Type 0) where
   pub bytes_before_end_of_file : BytesBeforeEndOfFile A
@@ -36,6 +36,26 @@ module _ (A : Type 0) where
   pub last_writer_closes : LastWriterCloses A
   unfolding first_from numbers_from pids in_rows in_parked readers writers settle flowed read_pipe write_pipe lowest lowest_pid begin_pipe begin_read begin_write begin_close try begin happen core_step step
   last_writer_closes limits = refl
+
+  pub small_write_at_its_boundary : SmallWriteAtItsBoundary A
+  unfolding first_from numbers_from pids in_rows in_parked readers writers settle flowed read_pipe write_pipe lowest lowest_pid begin_pipe begin_read begin_write begin_close try begin happen core_step step
+  small_write_at_its_boundary file_max = refl
+
+  pub interrupted_large_write : InterruptedLargeWrite A
+  unfolding first_from numbers_from pids in_rows in_parked readers writers settle flowed read_pipe write_pipe lowest lowest_pid begin_pipe begin_read begin_write begin_close try begin happen core_step step
+  interrupted_large_write file_max = refl
+
+  pub parked_call_keeps_its_end : ParkedCallKeepsItsEnd A
+  unfolding first_from numbers_from pids in_rows in_parked readers writers settle flowed read_pipe write_pipe lowest lowest_pid begin_pipe begin_read begin_write begin_close try begin happen core_step step
+  parked_call_keeps_its_end file_max = refl
+
+  pub last_reader_leaves : LastReaderLeaves A
+  unfolding first_from numbers_from pids in_rows in_parked readers writers settle flowed read_pipe write_pipe lowest lowest_pid begin_pipe begin_read begin_write begin_close try begin happen core_step step
+  last_reader_leaves file_max = refl
+
+  pub call_numbers_spent : CallNumbersSpent A
+  unfolding first_from numbers_from pids in_rows in_parked readers writers settle flowed read_pipe write_pipe lowest lowest_pid begin_pipe begin_read begin_write begin_close try begin happen core_step step
+  call_numbers_spent file_max = refl
 
   pub script_of_bytes_before_end_of_file : ScriptOfBytesBeforeEndOfFile A
   unfolding first_from numbers_from pids in_rows in_parked readers writers settle flowed read_pipe write_pipe lowest lowest_pid begin_pipe begin_read begin_write begin_close try begin happen core_step step words without_return number signed hex_bytes repeated digits_or_repeated bytes_of pipe_of read_of write_of close_of call_of start_of resume_of interrupt_of begin_of words_line line_of_words line hex_text bytes_text reply_text outcome_text lines asked answers digits

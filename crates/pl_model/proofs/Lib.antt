@@ -13,3 +13,4 @@ pub mod Tidy
 pub mod Settles
 pub mod Changes
 pub mod Parking
+pub mod InTurn

@@ -1,19 +1,18 @@
 -- What the end of a step makes of a call that is parked, tried again in vain, or ended.
-use Rattle.std.proofs.Common.{◌≡◌, ◌≢◌, ℕ, Bool, true, false, cond, [], ◌∷◌, Some, refl, sym, ◌∙◌, ap, nat_eq}
+use Rattle.std.proofs.Common.{◌≡◌, ℕ, Bool, true, false, cond, [], ◌∷◌, Some, refl, sym, ◌∙◌, ap, nat_eq}
 use Rattle.std.specs.Prelude.{◌||◌, ◌&&◌, not}
 use Rattle.std.specs.List.{list_any}
 use Rattle.std.specs.Set.{is_member}
 use Rattle.std.proofs.lemmas.List.Folds.{list_any-append}
-use Rattle.pl_model.specs.Map.{Map, get, put, without, set_at}
-use Rattle.pl_model.specs.State.{Core, Waiting, Description, Pipe}
-use Rattle.pl_model.specs.Keys.{PipeNode}
+use Rattle.pl_model.specs.Map.{Map, get, put, without}
+use Rattle.pl_model.specs.State.{Core, Waiting}
 use Rattle.pl_model.specs.Live.{in_rows, in_parked, pids, is_live}
 use Rattle.pl_model.specs.Settle.{settle}
 use Rattle.pl_model.specs.Step.{parked, parked_again, without_call}
 use Rattle.pl_model.specs.Numbered.{numbers}
 use Rattle.pl_model.specs.Laws.{IsSettled}
 use Rattle.pl_model.proofs.Members.{both_ways, or_left, or_right, or_elim, and_right, member_flat}
-use Rattle.pl_model.proofs.Settles.{same-settled, left, left_pipe, gone-settled, at_same}
+use Rattle.pl_model.proofs.Settles.{same-settled}
 
 module _ {A : Type 0} where
   -- a parked call keeps the description
@@ -24,7 +23,8 @@ module _ {A : Type 0} where
   abbrev pub keeps_as : ℕ → Map ℕ (Waiting A numbers) → ℕ → Bool
   keeps_as n calls d = list_any (λ e. nat_eq n e.0 && is_member nat_eq e.1.kept d) calls
 
-  live-is : (c : Core A numbers) (d : ℕ) → is_live c d ≡ (is_member nat_eq (in_rows c) d || keeps c.parked d)
+  -- a description is live by a row, or by a parked call
+  pub live-is : (c : Core A numbers) (d : ℕ) → is_live c d ≡ (is_member nat_eq (in_rows c) d || keeps c.parked d)
   unfolding in_parked
   live-is c d =
       list_any-append (nat_eq d) (in_rows c) (in_parked c)
@@ -91,24 +91,3 @@ module _ {A : Type 0} (c : Core A numbers) (settled : IsSettled c) where
   pub ended_live : (n d : ℕ) → keeps_as n c.parked d ≡ false → is_live (without_call c n) d ≡ is_live c d
   unfolding in_rows pids
   ended_live n d h = live-is (without_call c n) d ∙ ap (λ b. is_member nat_eq (in_rows c) d || b) (keeps_without c.parked n d h) ∙ sym (live-is c d)
-
-  -- and if those that it kept are live, nothing goes
-  module _ (n : ℕ) (still : (d : ℕ) → keeps_as n c.parked d ≡ true → is_live (without_call c n) d ≡ true) where
-    all_live : (d : ℕ) → is_live (without_call c n) d ≡ is_live c d
-    all_live d = by (keeps_as n c.parked d) refl
-      where
-        by : (b : Bool) → keeps_as n c.parked d ≡ b → is_live (without_call c n) d ≡ is_live c d
-        by true h = still d h ∙ sym (live-is c d ∙ or_right (is_member nat_eq (in_rows c) d) _ (keeps_as_keeps c.parked n d h))
-        by false h = ended_live n d h
-
-    pub end-settled : settle c (without_call c n) ≡ without_call c n
-    end-settled = same-settled c (without_call c n) settled (record { descriptions = refl; files = refl; names = refl }) all_live refl
-
-  -- and if the one on a pipe's end that it kept isn't, that one goes
-  module _ (unnamed : c.names ≡ []) (n gone : ℕ) (x : Description numbers) (described : c.descriptions gone ≡ Some x) (p : ℕ) (on : x.node ≡ PipeNode p)
-      (only : (d : ℕ) → d ≢ gone → keeps_as n c.parked d ≡ false) (dead : is_live (without_call c n) gone ≡ false) where
-    pub end-gone-settled : (y : Pipe) → c.pipes p ≡ Some y →
-        settle c (without_call c n) ≡ record (left c (without_call c n) gone) { pipes = set_at nat_eq c.pipes p (left_pipe c (without_call c n) gone p y) }
-    end-gone-settled y is =
-        gone-settled c (without_call c n) settled (record { descriptions = refl; files = refl; names = refl }) unnamed gone x described p on
-        (λ d other. ended_live n d (only d other)) dead y (at_same c.pipes p (Some y) is)

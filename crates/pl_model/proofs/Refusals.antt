@@ -10,6 +10,7 @@ use Rattle.pl_model.specs.declared.cases.WriteCase.{WriteCase}
 use Rattle.pl_model.specs.declared.replies.Reply.{Reply}
 use Rattle.pl_model.specs.declared.replies.Reply.TheVariants.{Fault, NoProcess, NoCall, CallsSpent, Parked}
 use Rattle.pl_model.specs.declared.replies.Errno.TheVariants.{EINTR}
+use Rattle.pl_model.specs.declared.replies.Errno.{Errno}
 use Rattle.pl_model.specs.Numbers.{last_call}
 use Rattle.pl_model.specs.Map.{get}
 use Rattle.pl_model.specs.Memory.{is_refusal}
@@ -20,9 +21,9 @@ use Rattle.pl_model.specs.Trial.{Trial, Done, Wait, Flow, still, flowed, pipe_at
 use Rattle.pl_model.specs.Transfer.{count, read_row, write_row, read_case, write_case, read_pipe, write_pipe, read_file, write_file, read_node, write_node}
 use Rattle.pl_model.specs.Tables.{lowest_pid}
 use Rattle.pl_model.specs.Begin.{begin_pipe, begin_read, begin_write, begin_close}
-use Rattle.pl_model.specs.Step.{Stepped, with_kept, try, begin, begun, happen, core_step, ended, first_tried, interrupted, parked, resumed, started, stepped, tried_again, waiting}
+use Rattle.pl_model.specs.Step.{Stepped, with_kept, try, begin, begun, happen, core_step, ended, first_tried, interrupted, parked, resumed, started, stepped, tried_again, waiting, without_call}
 use Rattle.pl_model.specs.Numbered.{numbers, State, next_numbers, step_of, step}
-use Rattle.pl_model.specs.Laws.{IsSettled, is_refused}
+use Rattle.pl_model.specs.Laws.{IsSettled, is_refused, Ends}
 use Rattle.pl_model.proofs.Ways.{LeadsTo, Refusable, ways, trial_if}
 
 module _ {A : Type 0} where
@@ -193,3 +194,33 @@ module _ {A : Type 0} (s : State A) (x : Step A) (settled : IsSettled s.core) wh
   pub refused-unchanged : is_refused x (step s x).reply ≡ true → ((step s x).state.core ≡ s.core) × ((step s x).flow ≡ still)
   unfolding step core_step
   refused-unchanged = of_step-unchanged (core_step s.core x) (ended-unchanged (happen s.core x) (happen-unchanged (next_numbers s) s.core x))
+
+-- A fault of a parked call ends it, and changes nothing else.
+module _ {A : Type 0} (s : State A) (c : ℕ) (errno : Errno) where
+  abbrev core : Core A numbers
+  core = s.core
+
+  abbrev EndsAlone : Stepped A numbers → Type 0
+  EndsAlone h = (settle core h.state ≡ settle core (without_call core c)) × (h.flow ≡ still)
+
+  resumed-alone : (w : Option (Waiting A numbers)) → (resumed core c w).reply ≡ Fault errno → EndsAlone (resumed core c w)
+  resumed-alone None r = absurd (cc)
+  resumed-alone (Some w) r = again (try core w w.call true) (try-fair core w w.call true) r
+    where
+      again : (t : Trial A numbers) → IsFair core t → (tried_again c w t).reply ≡ Fault errno → EndsAlone (tried_again c w t)
+      again (Wait u flow taken) fair r = absurd (cc)
+      again (Done u flow reply) fair r =
+          let same : (u ≡ core) × (flow ≡ still) = subst (λ z. Fair core u flow z) r fair in
+          (ap (λ z. settle core (without_call z c)) ((λ i. flowed (same.0 i) (same.1 i)) ∙ flowed-still core), same.1)
+
+  interrupted-alone : (w : Option (Waiting A numbers)) → (interrupted core c w).reply ≡ Fault errno → EndsAlone (interrupted core c w)
+  interrupted-alone None r = absurd (cc)
+  interrupted-alone (Some w) r = (refl, refl)
+
+  pub resumed_ends : (step s (Resume c)).reply ≡ Fault errno → Ends s c (step s (Resume c))
+  unfolding step core_step happen
+  resumed_ends r = resumed-alone (get nat_eq core.parked c) r
+
+  pub interrupted_ends : (step s (Interrupt c)).reply ≡ Fault errno → Ends s c (step s (Interrupt c))
+  unfolding step core_step happen
+  interrupted_ends r = interrupted-alone (get nat_eq core.parked c) r

@@ -2,7 +2,7 @@
 -- have gone. Calls differ only in whom they leave live.
 use Rattle.std.proofs.Common.{◌≡◌, ◌≢◌, ℕ, Bool, true, false, cond, List, [], Option, Some, None, refl, sym, ◌∙◌, ap, inl, inr, nat_eq}
 use Rattle.std.proofs.Math.Path.{fun_ext}
-use Rattle.std.specs.Prelude.{◌||◌, ◌&&◌, not, option_map}
+use Rattle.std.specs.Prelude.{◌==◌, ◌||◌, ◌&&◌, not, nat_lt, option_map}
 use Rattle.std.specs.List.{list_any}
 use Rattle.std.proofs.lemmas.Bool.{eq-eqb, ne_eqb}
 use Rattle.std.proofs.lemmas.Bool.Decides.{eqb_tells}
@@ -10,9 +10,9 @@ use Rattle.pl_model.specs.declared.calls.Mode.{Mode}
 use Rattle.pl_model.specs.Modes.{any_mode, reads, writes}
 use Rattle.pl_model.specs.Map.{kept_if, set_at}
 use Rattle.pl_model.specs.Keys.{Node, PipeNode, FileNode, same_node}
-use Rattle.pl_model.specs.State.{Core, Description, Pipe, empty_pipe}
-use Rattle.pl_model.specs.Live.{in_rows, in_parked, pids, is_live, is_held}
-use Rattle.pl_model.specs.Settle.{settle, settled_pipe, is_kept, is_hung}
+use Rattle.pl_model.specs.State.{Core, Description, Pipe, empty_pipe, set_pipe}
+use Rattle.pl_model.specs.Live.{in_rows, in_parked, pids, is_live, is_held, readers, writers}
+use Rattle.pl_model.specs.Settle.{settle, settled_pipe, is_kept, is_hung, had_writer}
 use Rattle.pl_model.specs.Numbered.{numbers}
 use Rattle.pl_model.specs.Laws.{IsSettled}
 use Rattle.pl_model.proofs.Tidy.{is_on, has_end, SameEnds, has_end-same, tidy_pipe, settled_pipe-is, settles_to, tidy, settled-live, settled-kept, settled-file, kept-same, settled_pipe-same}
@@ -28,6 +28,23 @@ pub at_same : {X : Type 0} (m : ℕ → X) (k : ℕ) (x : X) → m k ≡ x → m
 at_same m k x e = fun_ext (λ q. elim (eqb_tells k q) as (λ _. m q ≡ set_at nat_eq m k x q) [
   | inl t ↦ ap m (sym t.1) ∙ e ∙ sym (ap (λ b. cond b x (m q)) t.0)
   | inr t ↦ sym (at_other m k q x t.1)
+])
+
+-- Of the state before a step, settling only asks which pipes had a writer.
+pub settle-before : {A : Type 0} (b c u : Core A numbers) → ((p : ℕ) → had_writer b p ≡ had_writer c p) → settle b u ≡ settle c u
+unfolding settle
+settle-before b c u same = λ i. record u {
+  descriptions = λ d. kept_if (is_live u d) (u.descriptions d);
+  pipes = λ p. option_map (λ x. cond (is_held u (PipeNode p)) (record x { hung = nat_lt 0 (readers u p) && (writers u p == 0 && same p i) }) empty_pipe) (kept_if (is_kept u (PipeNode p)) (u.pipes p));
+  files = λ f. kept_if (is_kept u (FileNode f)) (u.files f);
+}
+
+-- the bytes of a pipe are none of that
+pub had-writer-bytes : {A : Type 0} (c : Core A numbers) (p : ℕ) (x : Pipe) (bytes : List ℕ) → c.pipes p ≡ Some x → (q : ℕ) → had_writer (set_pipe c p (record x { bytes = bytes })) q ≡ had_writer c q
+unfolding writers in_rows in_parked pids
+had-writer-bytes c p x bytes is q = ap (λ b. b || nat_lt 0 (writers c q)) (elim (eqb_tells p q) as (λ _. is_hung (set_at nat_eq c.pipes p (Some (record x { bytes = bytes })) q) ≡ is_hung (c.pipes q)) [
+  | inl t ↦ ap (λ b. is_hung (cond b (Some (record x { bytes = bytes })) (c.pipes q))) t.0 ∙ sym (ap is_hung (ap c.pipes (sym t.1) ∙ is))
+  | inr t ↦ ap (λ b. is_hung (cond b (Some (record x { bytes = bytes })) (c.pipes q))) t.0
 ])
 
 -- what settling looks at and the step didn't touch

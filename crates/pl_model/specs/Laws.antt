@@ -1,15 +1,17 @@
 -- What is proved of the machine itself, for any allocator type A of its calls.
-use Rattle.std.specs.Prelude.{◌≡◌, ℕ, ◌++◌, Bool, true, false, List}
+use Rattle.std.specs.Prelude.{◌≡◌, ℕ, ◌++◌, Bool, true, false, List, nat_lt}
 use Rattle.pl_model.specs.declared.calls.Limits.{Limits}
 use Rattle.pl_model.specs.declared.calls.Step.{Step}
-use Rattle.pl_model.specs.declared.calls.Step.TheVariants.{Start, Begin}
+use Rattle.pl_model.specs.declared.calls.Step.TheVariants.{Start, Begin, Resume, Interrupt}
+use Rattle.pl_model.specs.declared.replies.Errno.{Errno}
 use Rattle.pl_model.specs.declared.replies.Reply.{Reply}
 use Rattle.pl_model.specs.declared.replies.Reply.TheVariants.{Fault, NoProcess, NoCall, CallsSpent}
 use Rattle.pl_model.specs.State.{Core}
-use Rattle.pl_model.specs.Settle.{settle}
+use Rattle.pl_model.specs.Live.{is_live, writers}
+use Rattle.pl_model.specs.Settle.{settle, had_writer}
 use Rattle.pl_model.specs.Trial.{still}
-use Rattle.pl_model.specs.Step.{core_step}
-use Rattle.pl_model.specs.Numbered.{numbers, State, opening, step}
+use Rattle.pl_model.specs.Step.{core_step, without_call}
+use Rattle.pl_model.specs.Numbered.{numbers, State, After, opening, step}
 use Rattle.pl_model.specs.Run.{after}
 use Rattle.pl_model.specs.Stream.{held}
 use Rattle.pl_model.specs.Streams.{added, left, added_by, left_by}
@@ -56,6 +58,24 @@ StaysBelowCounters A = (s : State A) (x : Step A) → IsBelowCounters s → IsBe
 abbrev pub EndsSettled : Type 0 → Type 0
 EndsSettled A = (s : State A) (x : Step A) → IsSettled (step s x).state.core
 
+-- The second state is the first with fewer rows, and fewer parked calls.
+pub record HasFewer {A : Type 0} (u v : Core A numbers) : Type 0 where
+  pub descriptions : v.descriptions ≡ u.descriptions
+  pub pipes : v.pipes ≡ u.pipes
+  pub files : v.files ≡ u.files
+  pub names : v.names ≡ u.names
+  pub live : (d : ℕ) → is_live v d ≡ true → is_live u d ≡ true
+
+-- the rows and calls of v over what s holds under keys
+abbrev pub with_held_of : {A : Type 0} → Core A numbers → Core A numbers → Core A numbers
+with_held_of s v = record v { descriptions = s.descriptions; pipes = s.pipes; files = s.files }
+
+-- What leaves in turn is settled as if it left at once, from any state before in which a pipe had a writer if it has one.
+abbrev pub SettlesInTurn : Type 0 → Type 0
+SettlesInTurn A =
+    (before u v : Core A numbers) → HasFewer u v → ((p : ℕ) → nat_lt 0 (writers u p) ≡ true → had_writer before p ≡ true) →
+    settle (settle before u) (with_held_of (settle before u) v) ≡ settle before v
+
 -- The step was refused: by a fault where a call begins or a process starts, or because there is no such process or
 -- parked call, or no number for one more. (A fault at Resume or Interrupt ends a parked call.)
 abbrev pub is_refused : {A : Type 0} → Step A → Reply A → Bool
@@ -71,6 +91,16 @@ abbrev pub RefusesWithoutChange : Type 0 → Type 0
 RefusesWithoutChange A =
     (s : State A) (x : Step A) → IsSettled s.core → is_refused x (step s x).reply ≡ true →
     ((step s x).state.core ≡ s.core) × ((step s x).flow ≡ still)
+
+-- the state without the call is what is settled, and no byte moved
+abbrev pub Ends : {A : Type 0} → State A → ℕ → After A → Type 0
+Ends s c after = (after.state.core ≡ settle s.core (without_call s.core c)) × (after.flow ≡ still)
+
+-- A fault at Resume or Interrupt ends that parked call and moves no byte. What else changes is what the end of the step
+-- settles.
+pub record EndsTheCallAlone (A : Type 0) : Type 0 where
+  pub resumed : (s : State A) (c : ℕ) (errno : Errno) → (step s (Resume c)).reply ≡ Fault errno → Ends s c (step s (Resume c))
+  pub interrupted : (s : State A) (c : ℕ) (errno : Errno) → (step s (Interrupt c)).reply ≡ Fault errno → Ends s c (step s (Interrupt c))
 
 -- The stream law, for each pipe: what it held and what a step added is what the step took out and what it holds.
 abbrev pub KeepsTheStream : Type 0 → Type 0

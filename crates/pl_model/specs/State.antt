@@ -5,7 +5,7 @@ use Rattle.pl_model.specs.declared.calls.Mode.{Mode}
 use Rattle.pl_model.specs.declared.calls.Call.{Call}
 use Rattle.pl_model.specs.declared.calls.Limits.{Limits}
 use Rattle.pl_model.specs.declared.flags.OpenFlags.{OpenFlags}
-use Rattle.pl_model.specs.Numbers.{first_capacity, open_max, last_call}
+use Rattle.pl_model.specs.Numbers.{first_capacity, open_max}
 use Rattle.pl_model.specs.Keys.{Keys, Node}
 use Rattle.pl_model.specs.Map.{Map, set_at}
 
@@ -54,10 +54,6 @@ pub record Core (A : Type 0) (K : Keys) : Type 0 where
 abbrev pub empty_pipe : Pipe
 empty_pipe = record { bytes = []; capacity = first_capacity; hung = false }
 
--- The number of the first parked call. No call can be parked yet, so it is the one that is never given.
-abbrev pub first_number : Limits → ℕ
-first_number limits = last_call
-
 module _ {A : Type 0} {K : Keys} where
   -- nothing has happened yet
   abbrev pub opening_core : Limits → Core A K
@@ -70,7 +66,7 @@ module _ {A : Type 0} {K : Keys} where
         files = λ f. None;
         names = [];
         parked = [];
-        next_call = first_number limits;
+        next_call = limits.first_call;
         limits = limits;
       }
 

@@ -4,11 +4,11 @@ use Rattle.std.specs.List.{flat_map}
 use Rattle.pl_model.specs.declared.calls.Call.{Call}
 use Rattle.pl_model.specs.declared.calls.Limits.{Limits}
 use Rattle.pl_model.specs.declared.calls.Step.{Step}
-use Rattle.pl_model.specs.declared.calls.Step.TheVariants.{Start, Begin}
+use Rattle.pl_model.specs.declared.calls.Step.TheVariants.{Start, Begin, Resume, Interrupt}
 use Rattle.pl_model.specs.declared.cases.WriteCase.{WriteCase}
 use Rattle.pl_model.specs.declared.replies.Reply.{Reply}
-use Rattle.pl_model.specs.declared.replies.Reply.TheVariants.{Pid, Fds, Count, Bytes, Unit, Fault}
-use Rattle.pl_model.specs.declared.replies.Errno.TheVariants.{EAGAIN, EPIPE}
+use Rattle.pl_model.specs.declared.replies.Reply.TheVariants.{Pid, Fds, Count, Bytes, Unit, Fault, Parked, NoCall, CallsSpent}
+use Rattle.pl_model.specs.declared.replies.Errno.TheVariants.{EAGAIN, EINTR, EPIPE}
 use Rattle.pl_model.specs.Transfer.{write_case}
 use Rattle.pl_model.specs.Numbered.{opening}
 use Rattle.pl_model.specs.Run.{replies}
@@ -71,6 +71,46 @@ LastWriterCloses A =
     Answers A
     (pipe ∷ write 1 (codes "ab") ∷ close 1 ∷ read 0 1 ∷ read 0 9 ∷ read 0 9 ∷ [])
     (Fds (pos 0) (pos 1) ∷ Count 2 false ∷ Unit ∷ Bytes (codes "a") ∷ Bytes (codes "b") ∷ no_bytes ∷ [])
+
+-- the same, where the first parked call has the number n
+abbrev pub AnswersFrom : (A : Type 0) → ℕ → List (Step A) → List (Reply A) → Type 0
+AnswersFrom A n steps wanted =
+    (file_max : ℕ) → replies (opening {A = A} (record { first_call = n; file_max = file_max })) (Start ∷ steps) ≡ Pid 1 ∷ wanted
+
+-- a write of at most 4,096 bytes waits until all of it goes in
+abbrev pub SmallWriteAtItsBoundary : Type 0 → Type 0
+SmallWriteAtItsBoundary A =
+    AnswersFrom A 1
+    (pipe ∷ write 1 (replicate 62536 97) ∷ write 1 (replicate 4000 98) ∷ read 0 999 ∷ Resume 1 ∷ read 0 1 ∷ Resume 1 ∷ read 0 1
+    ∷ write 1 (99 ∷ 99 ∷ []) ∷ Interrupt 2 ∷ Resume 2 ∷ [])
+    (Fds (pos 0) (pos 1) ∷ Count 62536 false ∷ Parked 1 ∷ Bytes (replicate 999 97) ∷ Parked 1 ∷ Bytes (97 ∷ []) ∷ Count 4000 false
+    ∷ Bytes (97 ∷ []) ∷ Parked 2 ∷ Fault EINTR ∷ NoCall ∷ [])
+
+abbrev pub InterruptedLargeWrite : Type 0 → Type 0
+InterruptedLargeWrite A =
+    AnswersFrom A 1
+    (pipe ∷ write 1 (replicate 70000 97) ∷ Interrupt 1 ∷ Interrupt 1 ∷ [])
+    (Fds (pos 0) (pos 1) ∷ Parked 1 ∷ Count 65536 false ∷ NoCall ∷ [])
+
+-- the read's description is closed, and stays an end until the read is answered
+abbrev pub ParkedCallKeepsItsEnd : Type 0 → Type 0
+ParkedCallKeepsItsEnd A =
+    AnswersFrom A 1
+    (pipe ∷ read 0 1 ∷ close 0 ∷ write 1 (97 ∷ []) ∷ Resume 1 ∷ write 1 (98 ∷ []) ∷ [])
+    (Fds (pos 0) (pos 1) ∷ Parked 1 ∷ Unit ∷ Count 1 false ∷ Bytes (97 ∷ []) ∷ Fault EPIPE ∷ [])
+
+abbrev pub LastReaderLeaves : Type 0 → Type 0
+LastReaderLeaves A =
+    AnswersFrom A 1
+    (pipe ∷ write 1 (replicate 70000 97) ∷ close 0 ∷ Resume 1 ∷ write 1 (98 ∷ []) ∷ write 1 [] ∷ [])
+    (Fds (pos 0) (pos 1) ∷ Parked 1 ∷ Unit ∷ Count 65536 true ∷ Fault EPIPE ∷ Count 0 false ∷ [])
+
+-- no number is left, and no byte is taken
+abbrev pub CallNumbersSpent : Type 0 → Type 0
+CallNumbersSpent A =
+    AnswersFrom A 18446744073709551615
+    (pipe ∷ read 0 1 ∷ write 1 (replicate 70000 97) ∷ read 0 1 ∷ [])
+    (Fds (pos 0) (pos 1) ∷ CallsSpent ∷ CallsSpent ∷ CallsSpent ∷ [])
 
 -- The table of writes, a line for each row of it.
 pub record TableOfWrites : Type 0 where

@@ -32,9 +32,10 @@ impl<A: Allocator> Bytes8<A> {
         }
     }
 
-    /// The bytes, in order.
+    /// The bytes, in order: at most 16,777,216.
     pub fn as_slice(&self) -> &[u8]
-        ensures { result.now ≡ self.now }
+        ensures value { result.now ≡ self.now }
+        ensures few { length result.now ≤ most_bytes }
     {
         self.bytes.as_slice()
     }

@@ -1,5 +1,5 @@
 //! What is proved of the machine itself. Each function does nothing: its contract is the law.
-ghost use Rattle.pl_model.specs.Laws.{CommutesWithRenaming, SimulatesTheFlatMachine, OpensSound, StaysSound, RunsSound, StaysBelowCounters, EndsSettled, RefusesWithoutChange, KeepsTheStream, RunsKeepTheStream};
+ghost use Rattle.pl_model.specs.Laws.{CommutesWithRenaming, SimulatesTheFlatMachine, OpensSound, StaysSound, RunsSound, StaysBelowCounters, EndsSettled, SettlesInTurn, RefusesWithoutChange, EndsTheCallAlone, KeepsTheStream, RunsKeepTheStream};
 
 use std::alloc::Allocator;
 
@@ -26,14 +26,21 @@ pub fn counters<A: Allocator>()
     ensures { StaysBelowCounters A }
 {}
 
-/// The end of a step leaves nothing more to settle.
+/// The end of a step leaves nothing more to settle, and what leaves in turn is settled as if it left at once.
 pub fn settling<A: Allocator>()
-    ensures { EndsSettled A }
+    ensures whole { EndsSettled A }
+    ensures in_turn { SettlesInTurn A }
 {}
 
 /// A step that is refused leaves the state as it was, and moves no byte.
 pub fn refusals<A: Allocator>()
     ensures { RefusesWithoutChange A }
+{}
+
+/// A fault at Resume or Interrupt ends that parked call, moves no byte, and changes nothing else but what the end of the
+/// step settles.
+pub fn faults<A: Allocator>()
+    ensures { EndsTheCallAlone A }
 {}
 
 /// The stream law: what a pipe held and gained is what it lost and holds, for each step and for whole runs.

@@ -1,5 +1,5 @@
 //! What the definitions answer in small examples. Each function does nothing: its contract is the example, computed.
-ghost use Rattle.pl_model.specs.Worked.{BytesBeforeEndOfFile, PartialAndWholeNotWaiting, ReadOfNothing, WriteOfNothing, LastWriterCloses, TableOfWrites, ScriptOfBytesBeforeEndOfFile, EmptyScript, ScriptWithoutLineFeed, ScriptOfNoProcess};
+ghost use Rattle.pl_model.specs.Worked.{BytesBeforeEndOfFile, PartialAndWholeNotWaiting, ReadOfNothing, WriteOfNothing, LastWriterCloses, SmallWriteAtItsBoundary, InterruptedLargeWrite, ParkedCallKeepsItsEnd, LastReaderLeaves, CallNumbersSpent, TableOfWrites, ScriptOfBytesBeforeEndOfFile, EmptyScript, ScriptWithoutLineFeed, ScriptOfNoProcess};
 
 use std::alloc::Allocator;
 
@@ -10,6 +10,15 @@ pub fn steps<A: Allocator>()
     ensures read_of_nothing { ReadOfNothing A }
     ensures write_of_nothing { WriteOfNothing A }
     ensures last_writer_closes { LastWriterCloses A }
+{}
+
+/// Calls that wait.
+pub fn waiting<A: Allocator>()
+    ensures small_write_at_its_boundary { SmallWriteAtItsBoundary A }
+    ensures interrupted_large_write { InterruptedLargeWrite A }
+    ensures parked_call_keeps_its_end { ParkedCallKeepsItsEnd A }
+    ensures last_reader_leaves { LastReaderLeaves A }
+    ensures call_numbers_spent { CallNumbersSpent A }
 {}
 
 /// The table of writes at each of its rows.

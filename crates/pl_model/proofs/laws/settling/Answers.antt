@@ -1,5 +1,6 @@
 use Rattle.pl_model.proofs.Sound.{step-settled}
+use Rattle.pl_model.proofs.InTurn.{in_turn}
 use Rattle.pl_model.proofs.laws.settling.Goals as goal
 
 pub returns : goal.returns
-returns g c = step-settled
+returns g c = record { whole = step-settled; in_turn = in_turn }

@@ -3,6 +3,7 @@ use Rattle.std.specs.Prelude.{count_by, is_some}
 use Rattle.pl_model.specs.declared.calls.Mode.TheVariants as mode
 use Rattle.pl_model.specs.Numbers.{most_descriptions}
 use Rattle.pl_model.specs.Map.{set_at}
+use Rattle.pl_kernel.specs.KernelView.{view_of}
 use Rattle.pl_kernel.specs.Held.{Held, at, is_pid, row_at}
 use Rattle.pl_kernel.specs.Sound.{with_row}
 use Rattle.pl_kernel.proofs.IfOk.{on_err}
@@ -12,13 +13,13 @@ use Rattle.pl_kernel.proofs.kernel.Kernel.pipe.Goals as goal
 
 pub returns-in_default-clause-done : goal.returns-in_default-clause-done
 returns-in_default-clause-done g c =
-    let k : Held = record { tables = c.self.inside.tables.tables; ends = c.self.inside.tables.ends; pipes = c.self.inside.pipes; limits = c.self.inside.limits } in
+    let k = view_of c.self.inside in
     let process : is_pid k.tables c.args.pid ≡ true = ap (λ z. is_pid z.tables c.args.pid) c.self.view_is ∙ c.requires in
     rw (← c.self.view_is) (pipe-none k c.self.invariant c.args.pid process c.args.nonblock (sym c.lowest.ensures ∙ c.in_default.is))
 
 pub overflow_add-first : goal.overflow_add-first
 overflow_add-first g c =
-    let k : Held = record { tables = c.self.inside.tables.tables; ends = c.self.inside.tables.ends; pipes = c.self.inside.pipes; limits = c.self.inside.limits } in
+    let k = view_of c.self.inside in
     let process : is_pid k.tables c.args.pid ≡ true = ap (λ z. is_pid z.tables c.args.pid) c.self.view_is ∙ c.requires in
     let first = sym c.lowest.ensures ∙ c.in-Some.is in
     let free = first_free k c.self.invariant c.args.pid process c.args.nonblock c.in-Some.first first in
@@ -26,7 +27,7 @@ overflow_add-first g c =
 
 pub lowest-requires-2-clause-least : goal.lowest-requires-2-clause-least
 lowest-requires-2-clause-least g c =
-    let k : Held = record { tables = c.self.inside.tables.tables; ends = c.self.inside.tables.ends; pipes = c.self.inside.pipes; limits = c.self.inside.limits } in
+    let k = view_of c.self.inside in
     let process : is_pid k.tables c.args.pid ≡ true = ap (λ z. is_pid z.tables c.args.pid) c.self.view_is ∙ c.requires in
     let first = sym c.lowest.ensures ∙ c.in-Some.is in
     let free = first_free k c.self.invariant c.args.pid process c.args.nonblock c.in-Some.first first in
@@ -34,14 +35,14 @@ lowest-requires-2-clause-least g c =
 
 pub returns-in_default-lowest-clause-done : goal.returns-in_default-lowest-clause-done
 returns-in_default-lowest-clause-done g c =
-    let k : Held = record { tables = c.self.inside.tables.tables; ends = c.self.inside.tables.ends; pipes = c.self.inside.pipes; limits = c.self.inside.limits } in
+    let k = view_of c.self.inside in
     let process : is_pid k.tables c.args.pid ≡ true = ap (λ z. is_pid z.tables c.args.pid) c.self.view_is ∙ c.requires in
     let first = sym c.lowest.ensures ∙ c.in-Some.is in
     rw (← c.self.view_is) (pipe-one k c.self.invariant c.args.pid process c.args.nonblock c.in-Some.first first (sym c.lowest-2.ensures ∙ c.in_default-lowest.is))
 
 pub returns-then-live-clause-done : goal.returns-then-live-clause-done
 returns-then-live-clause-done g c =
-    let k : Held = record { tables = c.self.inside.tables.tables; ends = c.self.inside.tables.ends; pipes = c.self.inside.pipes; limits = c.self.inside.limits } in
+    let k = view_of c.self.inside in
     let process : is_pid k.tables c.args.pid ≡ true = ap (λ z. is_pid z.tables c.args.pid) c.self.view_is ∙ c.requires in
     let first = sym c.lowest.ensures ∙ c.in-Some.is in
     let second = sym c.lowest-2.ensures ∙ c.in-Some-lowest.is in
@@ -50,7 +51,7 @@ returns-then-live-clause-done g c =
 
 pub returns-in_err-reserve_two-clause-wanted : goal.returns-in_err-reserve_two-clause-wanted
 returns-in_err-reserve_two-clause-wanted g c =
-    let k : Held = record { tables = c.self.inside.tables.tables; ends = c.self.inside.tables.ends; pipes = c.self.inside.pipes; limits = c.self.inside.limits } in
+    let k = view_of c.self.inside in
     let process : is_pid k.tables c.args.pid ≡ true = ap (λ z. is_pid z.tables c.args.pid) c.self.view_is ∙ c.requires in
     let first = sym c.lowest.ensures ∙ c.in-Some.is in
     let second = sym c.lowest-2.ensures ∙ c.in-Some-lowest.is in
@@ -59,7 +60,7 @@ returns-in_err-reserve_two-clause-wanted g c =
 
 pub returns-in_err-pipe-clause-wanted : goal.returns-in_err-pipe-clause-wanted
 returns-in_err-pipe-clause-wanted g c =
-    let k : Held = record { tables = c.self.inside.tables.tables; ends = c.self.inside.tables.ends; pipes = c.self.inside.pipes; limits = c.self.inside.limits } in
+    let k = view_of c.self.inside in
     let process : is_pid k.tables c.args.pid ≡ true = ap (λ z. is_pid z.tables c.args.pid) c.self.view_is ∙ c.requires in
     let first = sym c.lowest.ensures ∙ c.in-Some.is in
     let second = sym c.lowest-2.ensures ∙ c.in-Some-lowest.is in
@@ -68,14 +69,14 @@ returns-in_err-pipe-clause-wanted g c =
 
 pub open-requires-clause-place : goal.open-requires-clause-place
 open-requires-clause-place g c =
-    let k : Held = record { tables = c.self.inside.tables.tables; ends = c.self.inside.tables.ends; pipes = c.self.inside.pipes; limits = c.self.inside.limits } in
+    let k = view_of c.self.inside in
     let process : is_pid k.tables c.args.pid ≡ true = ap (λ z. is_pid z.tables c.args.pid) c.self.view_is ∙ c.requires in
     let first = sym c.lowest.ensures ∙ c.in-Some.is in
     (first_free k c.self.invariant c.args.pid process c.args.nonblock c.in-Some.first first).1
 
 pub open-requires-2-clause-place : goal.open-requires-2-clause-place
 open-requires-2-clause-place g c =
-    let k : Held = record { tables = c.self.inside.tables.tables; ends = c.self.inside.tables.ends; pipes = c.self.inside.pipes; limits = c.self.inside.limits } in
+    let k = view_of c.self.inside in
     let process : is_pid k.tables c.args.pid ≡ true = ap (λ z. is_pid z.tables c.args.pid) c.self.view_is ∙ c.requires in
     let first = sym c.lowest.ensures ∙ c.in-Some.is in
     let second = sym c.lowest-2.ensures ∙ c.in-Some-lowest.is in
@@ -83,7 +84,7 @@ open-requires-2-clause-place g c =
 
 pub overflow_cast-result : goal.overflow_cast-result
 overflow_cast-result g c =
-    let k : Held = record { tables = c.self.inside.tables.tables; ends = c.self.inside.tables.ends; pipes = c.self.inside.pipes; limits = c.self.inside.limits } in
+    let k = view_of c.self.inside in
     let process : is_pid k.tables c.args.pid ≡ true = ap (λ z. is_pid z.tables c.args.pid) c.self.view_is ∙ c.requires in
     let first = sym c.lowest.ensures ∙ c.in-Some.is in
     let free = first_free k c.self.invariant c.args.pid process c.args.nonblock c.in-Some.first first in
@@ -91,7 +92,7 @@ overflow_cast-result g c =
 
 pub overflow_cast-result-2 : goal.overflow_cast-result-2
 overflow_cast-result-2 g c =
-    let k : Held = record { tables = c.self.inside.tables.tables; ends = c.self.inside.tables.ends; pipes = c.self.inside.pipes; limits = c.self.inside.limits } in
+    let k = view_of c.self.inside in
     let process : is_pid k.tables c.args.pid ≡ true = ap (λ z. is_pid z.tables c.args.pid) c.self.view_is ∙ c.requires in
     let first = sym c.lowest.ensures ∙ c.in-Some.is in
     let second = sym c.lowest-2.ensures ∙ c.in-Some-lowest.is in
@@ -100,7 +101,7 @@ overflow_cast-result-2 g c =
 
 pub invariant_of-self-2 : goal.invariant_of-self-2
 invariant_of-self-2 g c =
-    let k : Held = record { tables = c.self.inside.tables.tables; ends = c.self.inside.tables.ends; pipes = c.self.inside.pipes; limits = c.self.inside.limits } in
+    let k = view_of c.self.inside in
     let process : is_pid k.tables c.args.pid ≡ true = ap (λ z. is_pid z.tables c.args.pid) c.self.view_is ∙ c.requires in
     let first = sym c.lowest.ensures ∙ c.in-Some.is in
     let second = sym c.lowest-2.ensures ∙ c.in-Some-lowest.is in
@@ -110,15 +111,15 @@ invariant_of-self-2 g c =
     let vacant : at k.ends c.open.result ≡ None = ap (λ z. at z c.open.result) (sym ends_kept) ∙ c.open.ensures.vacant in
     let ends_one = c.open.ensures.ends ∙ ap (λ z. set_at nat_eq (at z) c.open.result (Some (record { pipe = c.in_ok-pipe.pipe; mode = mode.Read; nonblock = c.args.nonblock }))) ends_kept in
     let other = vacant_other (at k.ends) (at c.open.new.self.ends) c.open.result c.open-2.result _ ends_one c.open-2.ensures.vacant in
-    let new : Held = record { tables = c.open-2.new.self.tables; ends = c.open-2.new.self.ends; pipes = c.make.new.self; limits = c.self.inside.limits } in
+    let new : Held g.row.A.Denot = record { tables = c.open-2.new.self.tables; ends = c.open-2.new.self.ends; pipes = c.make.new.self; calls = c.self.inside.parked; limits = c.self.inside.limits } in
     let processes : length new.tables ≡ length k.tables = c.open-2.ensures.processes ∙ c.open.ensures.processes ∙ ap (λ z. length z) tables_kept in
     let rows : row_at new.tables ≡ with_row (with_row (row_at k.tables) c.args.pid c.in-Some.first (Some c.open.result)) c.args.pid c.in-Some-lowest.second (Some c.open-2.result) = c.open-2.ensures.rows ∙ ap (λ z. with_row z c.args.pid c.in-Some-lowest.second (Some c.open-2.result)) (c.open.ensures.rows ∙ ap (λ z. with_row (row_at z) c.args.pid c.in-Some.first (Some c.open.result)) tables_kept) in
     let ends = c.open-2.ensures.ends ∙ ap (λ z. set_at nat_eq z c.open-2.result (Some (record { pipe = c.in_ok-pipe.pipe; mode = mode.Write; nonblock = c.args.nonblock }))) ends_one in
-    pipe-sound k c.self.invariant c.args.pid process c.args.nonblock c.in-Some.first first c.in-Some-lowest.second second few c.in_ok-pipe.pipe c.open.result c.open-2.result c.in_ok-pipe.ensures.vacant vacant other.0 other.1 new refl processes rows ends c.in_ok-pipe.ensures.ok
+    pipe-sound k c.self.invariant c.args.pid process c.args.nonblock c.in-Some.first first c.in-Some-lowest.second second few c.in_ok-pipe.pipe c.open.result c.open-2.result c.in_ok-pipe.ensures.vacant vacant other.0 other.1 new refl refl processes rows ends c.in_ok-pipe.ensures.ok
 
 pub returns-clause-done : goal.returns-clause-done
 returns-clause-done g c =
-    let k : Held = record { tables = c.self.inside.tables.tables; ends = c.self.inside.tables.ends; pipes = c.self.inside.pipes; limits = c.self.inside.limits } in
+    let k = view_of c.self.inside in
     let process : is_pid k.tables c.args.pid ≡ true = ap (λ z. is_pid z.tables c.args.pid) c.self.view_is ∙ c.requires in
     let first = sym c.lowest.ensures ∙ c.in-Some.is in
     let second = sym c.lowest-2.ensures ∙ c.in-Some-lowest.is in
@@ -128,8 +129,8 @@ returns-clause-done g c =
     let vacant : at k.ends c.open.result ≡ None = ap (λ z. at z c.open.result) (sym ends_kept) ∙ c.open.ensures.vacant in
     let ends_one = c.open.ensures.ends ∙ ap (λ z. set_at nat_eq (at z) c.open.result (Some (record { pipe = c.in_ok-pipe.pipe; mode = mode.Read; nonblock = c.args.nonblock }))) ends_kept in
     let other = vacant_other (at k.ends) (at c.open.new.self.ends) c.open.result c.open-2.result _ ends_one c.open-2.ensures.vacant in
-    let new : Held = record { tables = c.open-2.new.self.tables; ends = c.open-2.new.self.ends; pipes = c.make.new.self; limits = c.self.inside.limits } in
+    let new : Held g.row.A.Denot = record { tables = c.open-2.new.self.tables; ends = c.open-2.new.self.ends; pipes = c.make.new.self; calls = c.self.inside.parked; limits = c.self.inside.limits } in
     let processes : length new.tables ≡ length k.tables = c.open-2.ensures.processes ∙ c.open.ensures.processes ∙ ap (λ z. length z) tables_kept in
     let rows : row_at new.tables ≡ with_row (with_row (row_at k.tables) c.args.pid c.in-Some.first (Some c.open.result)) c.args.pid c.in-Some-lowest.second (Some c.open-2.result) = c.open-2.ensures.rows ∙ ap (λ z. with_row z c.args.pid c.in-Some-lowest.second (Some c.open-2.result)) (c.open.ensures.rows ∙ ap (λ z. with_row (row_at z) c.args.pid c.in-Some.first (Some c.open.result)) tables_kept) in
     let ends = c.open-2.ensures.ends ∙ ap (λ z. set_at nat_eq z c.open-2.result (Some (record { pipe = c.in_ok-pipe.pipe; mode = mode.Write; nonblock = c.args.nonblock }))) ends_one in
-    rw (← c.self.view_is, to_z_place c.in-Some.first (first_free k c.self.invariant c.args.pid process c.args.nonblock c.in-Some.first first).1, to_z_place c.in-Some-lowest.second (second_free k c.self.invariant c.args.pid process c.args.nonblock c.in-Some.first first c.in-Some-lowest.second second).1) (pipe-makes k c.self.invariant c.args.pid process c.args.nonblock c.in-Some.first first c.in-Some-lowest.second second few c.in_ok-pipe.pipe c.open.result c.open-2.result c.in_ok-pipe.ensures.vacant vacant other.0 other.1 new refl processes rows ends c.in_ok-pipe.ensures.ok)
+    rw (← c.self.view_is, to_z_place c.in-Some.first (first_free k c.self.invariant c.args.pid process c.args.nonblock c.in-Some.first first).1, to_z_place c.in-Some-lowest.second (second_free k c.self.invariant c.args.pid process c.args.nonblock c.in-Some.first first c.in-Some-lowest.second second).1) (pipe-makes k c.self.invariant c.args.pid process c.args.nonblock c.in-Some.first first c.in-Some-lowest.second second few c.in_ok-pipe.pipe c.open.result c.open-2.result c.in_ok-pipe.ensures.vacant vacant other.0 other.1 new refl refl processes rows ends c.in_ok-pipe.ensures.ok)

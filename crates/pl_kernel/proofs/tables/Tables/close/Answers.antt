@@ -1,8 +1,6 @@
-use Rattle.std.proofs.Common.{None, arith, ap, ◌∙◌, refl, nat_eq}
-use Rattle.pl_model.specs.Map.{set_at}
-use Rattle.pl_kernel.specs.Held.{at, is_pid, row_at}
+use Rattle.std.proofs.Common.{None, arith, ap, ◌∙◌, refl}
+use Rattle.pl_kernel.specs.Held.{is_pid, row_at}
 use Rattle.pl_kernel.specs.Sound.{with_row}
-use Rattle.pl_kernel.proofs.Views.{at-updates}
 use Rattle.pl_kernel.proofs.TableRows.{table_wide, row_set, sizes_set}
 use Rattle.pl_kernel.proofs.tables.Tables.close.Goals as goal
 
@@ -17,9 +15,6 @@ invariant_of-self g c =
     let process = ap (λ k. is_pid k.tables c.args.pid) c.self.view_is ∙ c.requires.process in
     let wide = table_wide (λ t. t.items) c.self.inside.tables.items c.args.pid c.index_mut-table.result.now c.index_mut-table.ensures.value process c.self.invariant.wide in
     sizes_set (λ t. t.items) c.self.inside.tables.items c.args.pid c.index_mut-table.result.now c.index_mut-table.ensures.value process c.args.fd None _ (omega (arith, wide, c.requires.place)) refl c.self.invariant
-
-pub returns-clause-ends : goal.returns-clause-ends
-returns-clause-ends g c = at-updates _ _ _ _ c.try_remove-gone.ensures.updates ∙ ap (λ k. set_at nat_eq (at k.ends) c.args.key None) c.self.view_is
 
 pub returns-clause-rows : goal.returns-clause-rows
 returns-clause-rows g c =

@@ -1,0 +1,41 @@
+-- The first of some numbers that passes a test.
+use Rattle.std.proofs.Common.{◌≡◌, ◌≢◌, ℕ, zero, suc, ◌+◌, ◌<◌, ◌≤◌, Bool, true, false, Option, Some, None, refl, sym, ◌∙◌, ap, inl, inr, arith}
+use Rattle.std.proofs.lemmas.Bool.Decides.{eqb_tells}
+use Rattle.pl_model.specs.Numbers.{first_from}
+
+module _ (test : ℕ → Bool) where
+  pub first_is : (n k x : ℕ) → k ≤ x → x < k + n → test x ≡ true → ((y : ℕ) → k ≤ y → y < x → test y ≡ false) → first_from test n k ≡ Some x
+  unfolding first_from
+  first_is zero k x low high h before = absurd (omega arith)
+  first_is (suc n) k x low high h before = by (first_is n (k + 1) x)
+    where
+      by : (k + 1 ≤ x → x < (k + 1) + n → test x ≡ true → ((y : ℕ) → k + 1 ≤ y → y < x → test y ≡ false) → first_from test n (k + 1) ≡ Some x) → (elim (test k) as (λ _. Option ℕ) [ true ↦ Some k | false ↦ first_from test n (k + 1) ]) ≡ Some x
+      by rest = elim (eqb_tells k x) as (λ _. (elim (test k) as (λ _. Option ℕ) [ true ↦ Some k | false ↦ first_from test n (k + 1) ]) ≡ Some x) [
+        | inl e ↦ ap (λ b. elim b as (λ _. Option ℕ) [ true ↦ Some k | false ↦ first_from test n (k + 1) ]) (ap test e.1 ∙ h) ∙ ap (λ z. Some z) e.1
+        | inr e ↦
+            let apart : k ≢ x = e.1 in
+            ap (λ b. elim b as (λ _. Option ℕ) [ true ↦ Some k | false ↦ first_from test n (k + 1) ]) (before k (omega arith) (omega (arith, apart)))
+            ∙ rest (omega (arith, apart)) (omega arith) h (λ y l m. before y (omega arith) m)
+      ]
+
+  pub first_none : (n k : ℕ) → ((y : ℕ) → k ≤ y → y < k + n → test y ≡ false) → first_from test n k ≡ None
+  unfolding first_from
+  first_none zero k all = refl
+  first_none (suc n) k all =
+      ap (λ b. elim b as (λ _. Option ℕ) [ true ↦ Some k | false ↦ first_from test n (k + 1) ]) (all k (omega arith) (omega arith))
+      ∙ first_none n (k + 1) (λ y l m. all y (omega arith) (omega arith))
+
+  pub first_found : (n k x : ℕ) → first_from test n k ≡ Some x → (test x ≡ true) × (k ≤ x) × (x < k + n)
+  unfolding first_from
+  first_found zero k x e = absurd (cc)
+  first_found (suc n) k x e = by (first_found n (k + 1) x) (test k) refl e
+    where
+      by : (first_from test n (k + 1) ≡ Some x → (test x ≡ true) × (k + 1 ≤ x) × (x < (k + 1) + n)) → (b : Bool) → test k ≡ b → (elim b as (λ _. Option ℕ) [ true ↦ Some k | false ↦ first_from test n (k + 1) ]) ≡ Some x → (test x ≡ true) × (k ≤ x) × (x < k + suc n)
+      by rest true t e = (let s : k ≡ x = cc in (ap test (sym s) ∙ t, omega (arith, s), omega (arith, s)))
+      by rest false t e = (let r = rest e in (r.0, omega (arith, r.1), omega (arith, r.2)))
+
+-- tests that agree have the same first
+pub first_agree : (p q : ℕ → Bool) → ((x : ℕ) → p x ≡ q x) → (n k : ℕ) → first_from p n k ≡ first_from q n k
+unfolding first_from
+first_agree p q h zero k = refl
+first_agree p q h (suc n) k = λ i. elim (h k i) as (λ _. Option ℕ) [ true ↦ Some k | false ↦ first_agree p q h n (k + 1) i ]

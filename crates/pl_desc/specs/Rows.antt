@@ -1,0 +1,110 @@
+-- What tables and lists by key have at a place.
+use Rattle.std.specs.Prelude.{ℕ, ℤ, pos, negsuc, ◌+◌, ◌-◌, nat_lt, nat_eq, Bool, false, not, ◌&&◌, List, [], Option, None, Some, is_none, is_some, if◌then◌else◌, slice_index_or, slice_set, count_by}
+use Rattle.std.specs.List.{sum_by}
+use Rattle.pl_model.specs.Numbers.{open_max, most_processes, first_from}
+
+-- the greatest number of a machine word, which is no key of a list that a machine holds
+abbrev pub no_key : ℕ
+no_key = 18446744073709551615
+
+-- what a list has at a key
+abbrev pub at : {V : Type 0} → List (Option V) → ℕ → Option V
+at xs key = slice_index_or xs key None
+
+-- The tables of the processes 1, 2 and so on, with none where there is no such process. A table has, by descriptor, the
+-- key that each names.
+abbrev pub Tables : Type 0
+Tables = List (Option (List (Option ℕ)))
+
+-- the table of a process
+abbrev pub table_of : Tables → ℕ → Option (List (Option ℕ))
+table_of tables pid = if nat_lt 0 pid then at tables (pid - 1) else None
+
+-- whether there is such a process
+abbrev pub is_pid : Tables → ℕ → Bool
+is_pid tables pid = is_some (table_of tables pid)
+
+-- the rows of a table, and none of no table
+abbrev pub rows_in : Option (List (Option ℕ)) → List (Option ℕ)
+rows_in None = []
+rows_in (Some table) = table
+
+-- the keys under the descriptors of a process
+abbrev pub rows_of : Tables → ℕ → List (Option ℕ)
+rows_of tables pid = rows_in (table_of tables pid)
+
+-- the key under a descriptor of a process
+abbrev pub row_at : Tables → ℕ → ℕ → Option ℕ
+row_at tables pid fd = at (rows_of tables pid) fd
+
+-- the same for any whole number; one outside 0 to 255 has none
+abbrev pub row_of : Tables → ℕ → ℤ → Option ℕ
+row_of tables pid (pos fd) = if nat_lt fd open_max then row_at tables pid fd else None
+row_of tables pid (negsuc n) = None
+
+-- POSIX.1-2017, File Descriptor Allocation: the least free descriptor of a process, from `least` on
+abbrev pub lowest_of : Tables → ℕ → ℕ → Option ℕ
+lowest_of tables pid least = first_from (λ fd. is_none (row_at tables pid fd)) (open_max - least) least
+
+-- the least open descriptor of a process
+abbrev pub first_open : Tables → ℕ → Option ℕ
+first_open tables pid = first_from (λ fd. is_some (row_at tables pid fd)) open_max 0
+
+-- the least free pid
+abbrev pub free_pid : Tables → Option ℕ
+free_pid tables = first_from (λ pid. not (is_pid tables pid)) most_processes 1
+
+-- the rows with this at a descriptor of a process
+abbrev pub with_row : (ℕ → ℕ → Option ℕ) → ℕ → ℕ → Option ℕ → ℕ → ℕ → Option ℕ
+with_row rows pid fd d = λ q k. if nat_eq q pid && nat_eq k fd then d else rows q k
+
+-- the rows with nothing at a descriptor, which may be any whole number
+abbrev pub without_row : (ℕ → ℕ → Option ℕ) → ℕ → ℤ → ℕ → ℕ → Option ℕ
+without_row rows pid (pos fd) = with_row rows pid fd None
+without_row rows pid (negsuc n) = rows
+
+-- the rows with nothing at a descriptor, if there is one
+abbrev pub without_first : (ℕ → ℕ → Option ℕ) → ℕ → Option ℕ → ℕ → ℕ → Option ℕ
+without_first rows pid None = rows
+without_first rows pid (Some fd) = with_row rows pid fd None
+
+-- the rows with those of one process under another pid
+abbrev pub with_rows_of : (ℕ → ℕ → Option ℕ) → ℕ → ℕ → ℕ → ℕ → Option ℕ
+with_rows_of rows pid other = λ q k. if nat_eq q other then rows pid k else rows q k
+
+-- whether a row names the key
+abbrev pub names : ℕ → Option ℕ → Bool
+names key None = false
+names key (Some other) = nat_eq other key
+
+-- how many rows of a table name a key
+abbrev pub named_in : ℕ → Option (List (Option ℕ)) → ℕ
+named_in key table = count_by (names key) (rows_in table)
+
+-- how many rows name a key
+unfoldable pub naming : Tables → ℕ → ℕ
+naming tables key = sum_by (named_in key) tables
+
+-- the tables with this one under a pid
+abbrev pub with_table : Tables → ℕ → Option (List (Option ℕ)) → Tables
+with_table tables pid table = slice_set tables (pid - 1) table
+
+-- the number that a list of them has at a key
+abbrev pub count_at : List ℕ → ℕ → ℕ
+count_at xs key = slice_index_or xs key 0
+
+-- the numbers with that of one key changed
+abbrev pub change_count : ℕ → (ℕ → ℕ) → (ℕ → ℕ) → ℕ → ℕ
+change_count key f m = λ q. if nat_eq key q then f (m q) else m q
+
+-- one more hold, and one less
+abbrev pub one_more : ℕ → ℕ
+one_more n = n + 1
+
+abbrev pub one_less : ℕ → ℕ
+one_less n = n - 1
+
+-- the numbers with that of a key one more, where there is a key
+abbrev pub more_if : Option ℕ → (ℕ → ℕ) → ℕ → ℕ
+more_if None m = m
+more_if (Some key) m = change_count key one_more m

@@ -1,0 +1,462 @@
+//! The descriptions that are open, and the processes whose descriptors name them.
+ghost use Rattle.std.specs.Prelude.{◌≡◌, ℕ, ◌+◌, ◌-◌, ◌<◌, ◌≤◌, ◌^◌, ◌↔◌, [], length, IsTrue, IsOk, IfOk, OnErr, OnOk, IsSome, IfSome, OnSome, IfNone, Some, None, true, false, nat_eq, option_map, option_and_then, if◌then◌else◌};
+ghost use Rattle.std.specs.Option.{option_copied};
+ghost use Rattle.pl_model.specs.Numbers.{open_max, most_processes, most_descriptions};
+ghost use Rattle.pl_model.specs.Map.{set_at};
+ghost use Rattle.pl_model.specs.Modes.{reads, writes};
+ghost use Rattle.pl_desc.specs.Rows.{at, table_of, rows_of, is_pid, row_at, row_of, lowest_of, first_open, free_pid, with_row, without_row, without_first, with_rows_of, count_at, change_count, one_more, one_less, more_if};
+ghost use Rattle.pl_desc.specs.Descs.{change_at, ends_on, live_count, HasRoom, IsNoLess, IsTidy, holders, last_hold, fresh, released};
+
+use crate::description::{Description, hold_all};
+use crate::ends::Counts;
+use crate::fault::{NoMemory, OpenFault, StartFault};
+use crate::released::Released;
+use crate::table::Table;
+use crate::tables::{clear_row, put_row, reserve_place};
+use pl_model::{Mode, Node, OpenFlags};
+use slab::Slab;
+use std::alloc::{Allocator, Global};
+use std::marker::Model;
+
+/// The most processes at one time.
+const MOST_PROCESSES: usize = 1_024;
+
+/// The most descriptions at one time.
+const MOST_DESCRIPTIONS: usize = 4_096;
+
+/// The descriptions that are open, and the processes whose descriptors name them (POSIX.1-2017, Open File Description,
+/// File Descriptor). A row is a descriptor with the description that it names. A description is held by each row that names
+/// it, and by loose holds, which the caller counts as its own; it is open as long as it is held.
+#[derive(Drop)]
+pub struct Descs<A: Allocator = Global> {
+    alloc: A,
+    tables: Vec<Option<Table<A>>, A>,
+    descriptions: Slab<Description, A>,
+    counts: Counts<A>,
+}
+
+impl<A: Allocator> Model for Descs<A> {
+    ghost use Rattle.pl_desc.specs.Descs.{Descs as Described};
+
+    ghost Value = { Described };
+
+    ghost use Rattle.pl_desc.specs.DescsView.{view_of};
+    ghost use Rattle.pl_desc.specs.Slots.{IsSound};
+    ghost use Rattle.pl_desc.specs.Ends.{ends_at};
+
+    ghost view = { view_of };
+
+    ghost invariant = { λ k. IsSound k.tables.items k.descriptions.slots (ends_at k.counts) };
+}
+
+impl<A: Allocator + Copy> Descs<A> {
+    /// No processes, and nothing open. It takes no memory.
+    pub fn new(alloc: A) -> Descs<A>
+        ensures value { result ≡ record { tables = []; opened = []; loose = []; room = record { descriptions = 0; pipes = 0; files = 0 } } }
+        ensures tidy { IsTidy result }
+    {
+        Descs {
+            alloc,
+            tables: Vec::new(alloc),
+            descriptions: Slab::new(alloc),
+            counts: Counts::new(alloc),
+        }
+    }
+
+    /// Whether there is such a process.
+    pub fn has(&self, pid: u32) -> bool
+        ensures value { result ≡ is_pid self.now.tables pid }
+        ensures tidy { IsTidy self.now }
+    {
+        // A proof learns here what holds of all of it.
+        let _ = &self.tables;
+        self.table(pid).is_some()
+    }
+
+    /// Starts a process with no open descriptor, under the least free pid of 1 to 1,024, and answers the pid. An error
+    /// leaves all as it was.
+    ///
+    /// # Errors
+    ///
+    /// - `Eagain` exactly where no pid is free, since there are 1,024 processes (POSIX.1-2017, fork). It takes no memory.
+    /// - `NoMemory` where a pid is free, and there is no memory for one process more.
+    pub fn start(&mut self) -> Result<u32, StartFault>
+        ensures pid { IfOk result (λ pid. free_pid self.old.tables ≡ Some pid) }
+        ensures pids { IfOk result (λ pid. is_pid self.new.tables ≡ set_at nat_eq (is_pid self.old.tables) pid true) }
+        ensures rows { OnOk result (row_at self.new.tables ≡ row_at self.old.tables) }
+        ensures rest { self.new ≡ record self.old { tables = self.new.tables } }
+        ensures full { (result ≡ Err StartFault.Eagain) ↔ (free_pid self.old.tables ≡ None) }
+        ensures tidy { OnOk result (IsTidy self.new) }
+        ensures err { OnErr result (self.new ≡ self.old) }
+    {
+        let Some(pid) = self.free_pid() else {
+            return Err(StartFault::Eagain);
+        };
+        let Ok(table) = Table::new(self.alloc) else {
+            return Err(StartFault::NoMemory);
+        };
+        if reserve_place(&mut self.tables, pid).is_err() {
+            return Err(StartFault::NoMemory);
+        }
+        self.tables[pid as usize - 1] = Some(table);
+        Ok(pid)
+    }
+
+    /// Starts a process whose descriptors name the same descriptions as those of a process that is there (POSIX.1-2017,
+    /// fork), under the least free pid of 1 to 1,024, and answers the pid. Each description has fewer than 2^100 loose holds.
+    /// An error leaves all as it was.
+    ///
+    /// # Errors
+    ///
+    /// - `Eagain` exactly where no pid is free, since there are 1,024 processes. It takes no memory.
+    /// - `NoMemory` where a pid is free, and there is no memory for one process more.
+    pub fn copy_table(&mut self, pid: u32) -> Result<u32, StartFault>
+        requires process { IsTrue (is_pid self.old.tables pid) }
+        requires few { (key : ℕ) → count_at self.old.loose key < 2 ^ 100 }
+        ensures pid { IfOk result (λ other. free_pid self.old.tables ≡ Some other) }
+        ensures pids { IfOk result (λ other. is_pid self.new.tables ≡ set_at nat_eq (is_pid self.old.tables) other true) }
+        ensures rows { IfOk result (λ other. row_at self.new.tables ≡ with_rows_of (row_at self.old.tables) pid other) }
+        ensures rest { self.new ≡ record self.old { tables = self.new.tables } }
+        ensures full { (result ≡ Err StartFault.Eagain) ↔ (free_pid self.old.tables ≡ None) }
+        ensures tidy { OnOk result (IsTidy self.new) }
+        ensures err { OnErr result (self.new ≡ self.old) }
+    {
+        let Some(other) = self.free_pid() else {
+            return Err(StartFault::Eagain);
+        };
+        let Ok(table) = self.copied(pid) else {
+            return Err(StartFault::NoMemory);
+        };
+        if reserve_place(&mut self.tables, other).is_err() {
+            return Err(StartFault::NoMemory);
+        }
+        hold_all(&mut self.descriptions, &table);
+        self.tables[other as usize - 1] = Some(table);
+        Ok(other)
+    }
+
+    /// Ends a process, which has no open descriptor. Its pid is free. It takes no memory.
+    pub fn end(&mut self, pid: u32)
+        requires process { IsTrue (is_pid self.old.tables pid) }
+        requires closed { (fd : ℕ) → row_at self.old.tables pid fd ≡ None }
+        ensures pids { is_pid self.new.tables ≡ set_at nat_eq (is_pid self.old.tables) pid false }
+        ensures rows { row_at self.new.tables ≡ row_at self.old.tables }
+        ensures rest { self.new ≡ record self.old { tables = self.new.tables } }
+        ensures tidy { IsTidy self.new }
+    {
+        self.tables[pid as usize - 1] = None;
+    }
+
+    /// Closes the least open descriptor of a process, and answers the key that it named, of which the caller has a loose
+    /// hold; `None` where no descriptor is open. It takes no memory.
+    pub fn take_fd(&mut self, pid: u32) -> Option<usize>
+        requires { IsTrue (is_pid self.old.tables pid) }
+        ensures key { result ≡ option_and_then (row_at self.old.tables pid) (first_open self.old.tables pid) }
+        ensures rows { row_at self.new.tables ≡ without_first (row_at self.old.tables) pid (first_open self.old.tables pid) }
+        ensures pids { is_pid self.new.tables ≡ is_pid self.old.tables }
+        ensures loose { count_at self.new.loose ≡ more_if result (count_at self.old.loose) }
+        ensures holders { holders self.new ≡ holders self.old }
+        ensures rest { self.new ≡ record self.old { tables = self.new.tables; loose = self.new.loose } }
+        ensures tidy { IsTidy self.new }
+    {
+        let fd = self.first_open(pid)?;
+        let key = self.row(pid, fd);
+        clear_row(&mut self.tables, pid, fd);
+        key
+    }
+
+    /// The key that a descriptor of a process names, if it is open (POSIX.1-2017, File Descriptor). Where there is none, a
+    /// call on the descriptor is `EBADF`.
+    pub fn find(&self, pid: u32, fd: i32) -> Option<usize>
+        ensures { result ≡ row_of self.now.tables pid fd }
+    {
+        if fd < 0 || 255 < fd {
+            return None;
+        }
+        self.table(pid)?.get(fd as usize)
+    }
+
+    /// The least free descriptor of a process, from `least` (0 to 256) on (POSIX.1-2017, File Descriptor Allocation). Where
+    /// there is none, a call that opens one is `EMFILE`.
+    pub fn lowest(&self, pid: u32, least: usize) -> Option<usize>
+        requires process { IsTrue (is_pid self.now.tables pid) }
+        requires least { least ≤ open_max }
+        ensures { result ≡ lowest_of self.now.tables pid least }
+    {
+        self.table(pid)?.lowest(least)
+    }
+
+    /// Lets a free descriptor (0 to 255) of a process name a description, by a loose hold that the caller gives up. It
+    /// takes no memory.
+    pub fn install(&mut self, pid: u32, fd: usize, key: usize)
+        requires process { IsTrue (is_pid self.old.tables pid) }
+        requires place { fd < open_max }
+        requires free { row_at self.old.tables pid fd ≡ None }
+        requires held { 0 < count_at self.old.loose key }
+        ensures rows { row_at self.new.tables ≡ with_row (row_at self.old.tables) pid fd (Some key) }
+        ensures pids { is_pid self.new.tables ≡ is_pid self.old.tables }
+        ensures loose { count_at self.new.loose ≡ change_count key one_less (count_at self.old.loose) }
+        ensures holders { holders self.new ≡ holders self.old }
+        ensures rest { self.new ≡ record self.old { tables = self.new.tables; loose = self.new.loose } }
+        ensures tidy { IsTidy self.new }
+    {
+        // A key has a slot, so it isn't the number that stands at a free place.
+        let capacity = self.descriptions.capacity();
+        prove!(key < capacity);
+        put_row(&mut self.tables, pid, fd, key);
+    }
+
+    /// Closes a descriptor of a process (POSIX.1-2017, close), and answers the key that it named, of which the caller has a
+    /// loose hold. `None` is `EBADF`, and changes nothing. It takes no memory.
+    pub fn remove(&mut self, pid: u32, fd: i32) -> Option<usize>
+        ensures key { result ≡ row_of self.old.tables pid fd }
+        ensures rows { OnSome result (row_at self.new.tables ≡ without_row (row_at self.old.tables) pid fd) }
+        ensures pids { is_pid self.new.tables ≡ is_pid self.old.tables }
+        ensures loose { count_at self.new.loose ≡ more_if result (count_at self.old.loose) }
+        ensures holders { holders self.new ≡ holders self.old }
+        ensures rest { self.new ≡ record self.old { tables = self.new.tables; loose = self.new.loose } }
+        ensures tidy { OnSome result (IsTidy self.new) }
+        ensures none { IfNone result (self.new ≡ self.old) }
+    {
+        let key = self.find(pid, fd)?;
+        clear_row(&mut self.tables, pid, fd as usize);
+        Some(key)
+    }
+
+    /// Makes room for `count` more descriptions on a node, so that opening them takes no memory. Nothing else changes.
+    pub fn reserve(&mut self, node: Node, count: usize) -> Result<(), NoMemory>
+        ensures room { OnOk result (HasRoom self.new.room node count) }
+        ensures grows { IsNoLess self.old.room self.new.room 0 }
+        ensures kept { self.new ≡ record self.old { room = self.new.room } }
+        ensures succeeds { HasRoom self.old.room node count → IsOk result }
+    {
+        // No more descriptions are there than fit, so that room for none more needs no memory.
+        let capacity = self.descriptions.capacity();
+        let live = self.descriptions.len();
+        prove!(live <= capacity);
+        self.counts.reserve(node)?;
+        self.descriptions.reserve(count)?;
+        Ok(())
+    }
+
+    /// Opens a description on a node (POSIX.1-2017, open), at offset 0, and answers its key, of which the caller has a loose
+    /// hold. An error leaves all as it was, but for the room.
+    ///
+    /// # Errors
+    ///
+    /// - `Enfile` exactly where there are 4,096 descriptions. It takes no memory.
+    /// - `NoMemory` where there are fewer, and there is neither room nor memory for one more.
+    pub fn open_desc(
+        &mut self,
+        node: Node,
+        mode: Mode,
+        flags: OpenFlags,
+    ) -> Result<usize, OpenFault>
+        ensures vacant { IfOk result (λ key. at self.old.opened key ≡ None) }
+        ensures opened { IfOk result (λ key. at self.new.opened ≡ set_at nat_eq (at self.old.opened) key (Some (fresh node mode flags))) }
+        ensures loose { IfOk result (λ key. count_at self.new.loose ≡ change_count key one_more (count_at self.old.loose)) }
+        ensures live { OnOk result (live_count self.new.opened ≡ live_count self.old.opened + 1) }
+        ensures tables { self.new.tables ≡ self.old.tables }
+        ensures room { IsNoLess self.old.room self.new.room 1 }
+        ensures full { (result ≡ Err OpenFault.Enfile) ↔ (live_count self.old.opened ≡ most_descriptions) }
+        ensures succeeds { HasRoom self.old.room node 1 → live_count self.old.opened < most_descriptions → IsOk result }
+        ensures tidy { OnOk result (IsTidy self.new) }
+        ensures err { OnErr result (self.new ≡ record self.old { room = self.new.room }) }
+    {
+        if self.live() == MOST_DESCRIPTIONS {
+            return Err(OpenFault::Enfile);
+        }
+        if self.reserve(node, 1).is_err() {
+            return Err(OpenFault::NoMemory);
+        }
+        let key = self.descriptions.insert_reserved(Description {
+            node,
+            mode,
+            flags,
+            offset: 0,
+            holders: 1,
+        });
+        self.counts.add(node, mode);
+        Ok(key)
+    }
+
+    /// Adds a loose hold of a description, which has fewer than 2^100 of them. It takes no memory.
+    pub fn hold(&mut self, key: usize)
+        requires here { IsSome (at self.old.opened key) }
+        requires few { count_at self.old.loose key < 2 ^ 100 }
+        ensures loose { count_at self.new.loose ≡ change_count key one_more (count_at self.old.loose) }
+        ensures rest { self.new ≡ record self.old { loose = self.new.loose } }
+        ensures tidy { IsTidy self.new }
+    {
+        let held = &mut self.descriptions[key];
+        held.holders += 1;
+    }
+
+    /// Gives up a loose hold of a description, which is gone where that was its last holder (POSIX.1-2017, close). It takes
+    /// no memory.
+    pub fn release(&mut self, key: usize) -> Released
+        requires { 0 < count_at self.old.loose key }
+        ensures value { option_map (released (last_hold self.old key) self.new.opened) (at self.old.opened key) ≡ Some result }
+        ensures opened { at self.new.opened ≡ (if last_hold self.old key then set_at nat_eq (at self.old.opened) key None else at self.old.opened) }
+        ensures loose { count_at self.new.loose ≡ change_count key one_less (count_at self.old.loose) }
+        ensures live { live_count self.new.opened + (if last_hold self.old key then 1 else 0) ≡ live_count self.old.opened }
+        ensures tables { self.new.tables ≡ self.old.tables }
+        ensures room { IsNoLess self.old.room self.new.room 0 }
+        ensures tidy { IsTidy self.new }
+    {
+        let description = self.descriptions[key];
+        if 1 < description.holders {
+            let held = &mut self.descriptions[key];
+            held.holders -= 1;
+            return Released::Still;
+        }
+        let _gone = self.descriptions.try_remove(key);
+        self.counts.remove(description.node, description.mode);
+        let left = self.counts.at(description.node);
+        Released::Gone {
+            node: description.node,
+            mode: description.mode,
+            readers: left.readers,
+            writers: left.writers,
+        }
+    }
+
+    /// How many descriptions are open.
+    pub fn live(&self) -> usize
+        ensures value { result ≡ live_count self.now.opened }
+        ensures tidy { IsTidy self.now }
+    {
+        self.descriptions.len()
+    }
+
+    /// How many descriptions on a node are open for reading.
+    pub fn readers(&self, node: Node) -> usize
+        ensures { result ≡ ends_on reads self.now.opened node }
+    {
+        self.counts.at(node).readers
+    }
+
+    /// How many descriptions on a node are open for writing.
+    pub fn writers(&self, node: Node) -> usize
+        ensures { result ≡ ends_on writes self.now.opened node }
+    {
+        self.counts.at(node).writers
+    }
+
+    /// What a description is open on.
+    pub fn node(&self, key: usize) -> Node
+        requires { IsSome (at self.now.opened key) }
+        ensures { option_map (λ o. o.node) (at self.now.opened key) ≡ Some result }
+    {
+        self.descriptions[key].node
+    }
+
+    /// What a description is open for.
+    pub fn mode(&self, key: usize) -> Mode
+        requires { IsSome (at self.now.opened key) }
+        ensures { option_map (λ o. o.mode) (at self.now.opened key) ≡ Some result }
+    {
+        self.descriptions[key].mode
+    }
+
+    /// The status flags of a description.
+    pub fn flags(&self, key: usize) -> OpenFlags
+        requires { IsSome (at self.now.opened key) }
+        ensures { option_map (λ o. o.flags) (at self.now.opened key) ≡ Some result }
+    {
+        self.descriptions[key].flags
+    }
+
+    /// The offset of a description, in bytes.
+    pub fn offset(&self, key: usize) -> u64
+        requires { IsSome (at self.now.opened key) }
+        ensures { option_map (λ o. o.offset) (at self.now.opened key) ≡ Some result }
+    {
+        self.descriptions[key].offset
+    }
+
+    /// Sets the status flags of a description, which all descriptors that name it share (POSIX.1-2017, fcntl). It takes no
+    /// memory.
+    pub fn set_flags(&mut self, key: usize, flags: OpenFlags)
+        requires { IsSome (at self.old.opened key) }
+        ensures opened { at self.new.opened ≡ change_at key (λ o. record o { flags = flags }) (at self.old.opened) }
+        ensures live { live_count self.new.opened ≡ live_count self.old.opened }
+        ensures readers { ends_on reads self.new.opened ≡ ends_on reads self.old.opened }
+        ensures writers { ends_on writes self.new.opened ≡ ends_on writes self.old.opened }
+        ensures rest { self.new ≡ record self.old { opened = self.new.opened } }
+        ensures tidy { IsTidy self.new }
+    {
+        let description = &mut self.descriptions[key];
+        description.flags = flags;
+    }
+
+    /// Sets the offset of a description, in bytes, which all descriptors that name it share (POSIX.1-2017, lseek). It takes
+    /// no memory.
+    pub fn set_offset(&mut self, key: usize, offset: u64)
+        requires { IsSome (at self.old.opened key) }
+        ensures opened { at self.new.opened ≡ change_at key (λ o. record o { offset = offset }) (at self.old.opened) }
+        ensures live { live_count self.new.opened ≡ live_count self.old.opened }
+        ensures readers { ends_on reads self.new.opened ≡ ends_on reads self.old.opened }
+        ensures writers { ends_on writes self.new.opened ≡ ends_on writes self.old.opened }
+        ensures rest { self.new ≡ record self.old { opened = self.new.opened } }
+        ensures tidy { IsTidy self.new }
+    {
+        let description = &mut self.descriptions[key];
+        description.offset = offset;
+    }
+
+    // The table of a process.
+    fn table(&self, pid: u32) -> Option<&Table<A>>
+        ensures { option_copied result ≡ table_of self.now.tables pid }
+    {
+        if pid == 0 {
+            return None;
+        }
+        self.tables.get(pid as usize - 1)?.as_ref()
+    }
+
+    // A table whose descriptors name the same keys as those of a process.
+    fn copied(&self, pid: u32) -> Result<Table<A>, NoMemory>
+        requires { IsTrue (is_pid self.now.tables pid) }
+        ensures { IfOk result (λ table. table ≡ rows_of self.now.tables pid) }
+    {
+        match self.table(pid) {
+            Some(table) => table.copy(self.alloc),
+            None => Table::new(self.alloc),
+        }
+    }
+
+    // The least open descriptor of a process.
+    fn first_open(&self, pid: u32) -> Option<usize>
+        requires { IsTrue (is_pid self.now.tables pid) }
+        ensures { result ≡ first_open self.now.tables pid }
+    {
+        self.table(pid)?.first_open()
+    }
+
+    // The key that a descriptor of a process names.
+    fn row(&self, pid: u32, fd: usize) -> Option<usize>
+        requires { fd < open_max }
+        ensures { result ≡ row_at self.now.tables pid fd }
+    {
+        self.table(pid)?.get(fd)
+    }
+
+    // The least free pid. Where there is one, its table has a place, or the next one.
+    fn free_pid(&self) -> Option<u32>
+        ensures value { result ≡ free_pid self.now.tables }
+        ensures next { IfSome result (λ pid. (0 < pid) × (pid ≤ length self.now.tables + 1) × (pid ≤ most_processes)) }
+    {
+        let processes = self.tables.len();
+        for place in 0..processes {
+            if self.tables[place].is_none() {
+                return Some(place as u32 + 1);
+            }
+        }
+        if processes < MOST_PROCESSES {
+            Some(processes as u32 + 1)
+        } else {
+            None
+        }
+    }
+}

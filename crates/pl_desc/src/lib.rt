@@ -1,0 +1,16 @@
+//! Open file descriptions with the counts of their holders, and the tables of descriptors of processes.
+//!
+//! A description is open as long as something holds it: a descriptor, or a loose hold, as that of a call which waits.
+#![tactic(auto)]
+
+mod description;
+mod descs;
+mod ends;
+mod fault;
+mod released;
+mod table;
+mod tables;
+
+pub use descs::Descs;
+pub use fault::{NoMemory, OpenFault, StartFault};
+pub use released::Released;

@@ -1,0 +1,119 @@
+//! The table of descriptors of one process.
+ghost use Rattle.std.specs.Prelude.{◌≡◌, ◌+◌, ◌-◌, ◌<◌, ◌≤◌, length, IfOk, Some, None, replicate, slice_set, is_none, is_some};
+ghost use Rattle.pl_model.specs.Numbers.{open_max, first_from};
+ghost use Rattle.pl_desc.specs.Rows.{at, no_key};
+
+use crate::fault::NoMemory;
+use std::alloc::Allocator;
+use std::marker::Model;
+
+/// The places of a table (POSIX.1-2017, limits.h, OPEN_MAX).
+pub(crate) const PLACES: usize = 256;
+
+/// The descriptors whose places one mask has.
+const WIDTH: usize = 64;
+
+/// What stands at a free place: no key, since a key is below the length of a list.
+const FREE: usize = usize::MAX;
+
+/// The keys that the descriptors of a process name, by descriptor, and in four masks which places are free. Contracts see
+/// the list of what each descriptor names.
+#[derive(Drop)]
+pub(crate) struct Table<A: Allocator> {
+    keys: Vec<usize, A>,
+    free: [u64; 4],
+}
+
+impl<A: Allocator> Model for Table<A> {
+    ghost use Rattle.std.specs.Prelude.{ℕ, List, Option};
+
+    ghost Value = { List (Option ℕ) };
+
+    ghost use Rattle.pl_desc.specs.TableView.{view_of, IsMasked};
+
+    ghost view = { view_of };
+
+    ghost invariant = { λ t. IsMasked (view_of t) t.free };
+}
+
+impl<A: Allocator> Table<A> {
+    /// A table with no open descriptor.
+    pub(crate) fn new(alloc: A) -> Result<Table<A>, NoMemory>
+        ensures { IfOk result (λ table. table ≡ replicate open_max None) }
+    {
+        let keys = vec![in alloc; FREE; PLACES]?;
+        Ok(Table {
+            keys,
+            free: [u64::MAX; 4],
+        })
+    }
+
+    /// A table whose descriptors name the same keys.
+    pub(crate) fn copy(&self, alloc: A) -> Result<Table<A>, NoMemory>
+        ensures { IfOk result (λ table. table ≡ self.now) }
+    {
+        let keys = Vec::from_slice(alloc, &self.keys)?;
+        Ok(Table {
+            keys,
+            free: self.free,
+        })
+    }
+
+    /// The key that a descriptor names.
+    pub(crate) fn get(&self, fd: usize) -> Option<usize>
+        requires { fd < open_max }
+        ensures value { result ≡ at self.now fd }
+        ensures wide { length self.now ≡ open_max }
+    {
+        let key = self.keys[fd];
+        if key == FREE { None } else { Some(key) }
+    }
+
+    /// Lets a descriptor name a key.
+    pub(crate) fn put(&mut self, fd: usize, key: usize)
+        requires place { fd < open_max }
+        requires key { key < no_key }
+        ensures { self.new ≡ slice_set self.old fd (Some key) }
+    {
+        self.keys[fd] = key;
+        self.free[fd / WIDTH] &= !(1 << (fd % WIDTH));
+    }
+
+    /// Lets a descriptor name nothing.
+    pub(crate) fn clear(&mut self, fd: usize)
+        requires { fd < open_max }
+        ensures { self.new ≡ slice_set self.old fd None }
+    {
+        self.keys[fd] = FREE;
+        self.free[fd / WIDTH] |= 1 << (fd % WIDTH);
+    }
+
+    /// The least free descriptor, from `least` on (POSIX.1-2017, File Descriptor Allocation).
+    pub(crate) fn lowest(&self, least: usize) -> Option<usize>
+        requires { least ≤ open_max }
+        ensures { result ≡ first_from (λ fd. is_none (at self.now fd)) (open_max - least) least }
+    {
+        let mut from = least;
+        while from < PLACES {
+            let rest = self.free[from / WIDTH] >> (from % WIDTH);
+            if rest != 0 {
+                return Some(from + rest.trailing_zeros() as usize);
+            }
+            from = from - from % WIDTH + WIDTH;
+        }
+        None
+    }
+
+    /// The least open descriptor.
+    pub(crate) fn first_open(&self) -> Option<usize>
+        ensures { result ≡ first_from (λ fd. is_some (at self.now fd)) open_max 0 }
+    {
+        for word in 0..4usize {
+            let open = !self.free[word];
+            if open != 0 {
+                return Some(word * WIDTH + open.trailing_zeros() as usize);
+            }
+        }
+        None
+    }
+}

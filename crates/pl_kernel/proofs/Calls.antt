@@ -1,0 +1,223 @@
+-- The calls that wait, as the machine has them, through each change.
+use Rattle.std.proofs.Common.{◌≡◌, ◌≢◌, ℕ, ◌+◌, ◌<◌, ◌≤◌, Bool, true, false, not, cond, [], ◌∷◌, ◌++◌, length, length-append, map, Option, Some, None, IfSome, IsSome, refl, sym, ◌∙◌, ap, subst, inl, inr, nat_eq, arith}
+use Rattle.std.specs.Prelude.{◌||◌, ◌&&◌, option_map}
+use Rattle.std.specs.Set.{is_member}
+use Rattle.std.proofs.lemmas.List.Folds.{list_any-append}
+use Rattle.std.proofs.lemmas.Bool.{eq-eqb, ne_eqb}
+use Rattle.std.proofs.lemmas.Bool.Decides.{eqb_tells}
+use Rattle.pl_model.specs.Map.{Map, get, put, without}
+use Rattle.pl_model.proofs.Members.{or_left, or_right, or_elim}
+use Rattle.pl_model.proofs.Parking.{keeps_as}
+use Rattle.pl_model.proofs.Parking.{keeps as machine_keeps}
+use Rattle.pl_parked.specs.declared.call.ParkedCall.{ParkedCall}
+use Rattle.pl_parked.specs.Calls.{Rise, keeps}
+use Rattle.pl_parked.proofs.Rising.{Rise-lower, Rise-bounds}
+use Rattle.pl_kernel.specs.Held.{waiting_of, parked_of}
+
+-- a map with the value under each number changed
+module _ {X Y : Type 0} (f : X → Y) where
+  abbrev each : Map ℕ X → Map ℕ Y
+  each es = map (λ e. (e.0, f e.1)) es
+
+  get-each : (es : Map ℕ X) (n : ℕ) → get nat_eq (each es) n ≡ option_map f (get nat_eq es n)
+  get-each [] n = refl
+  get-each (e ∷ es) n = by (nat_eq e.0 n) (get-each es n)
+    where
+      by : (b : Bool) → get nat_eq (each es) n ≡ option_map f (get nat_eq es n) → cond b (Some (f e.1)) (get nat_eq (each es) n) ≡ option_map f (cond b (Some e.1) (get nat_eq es n))
+      by true rest = refl
+      by false rest = rest
+
+  put-each : (es : Map ℕ X) (n : ℕ) (x : X) → each (put nat_eq es n x) ≡ put nat_eq (each es) n (f x)
+  put-each [] n x = refl
+  put-each (e ∷ es) n x = by (nat_eq e.0 n) (put-each es n x)
+    where
+      by : (b : Bool) → each (put nat_eq es n x) ≡ put nat_eq (each es) n (f x) → each (cond b ((n, x) ∷ es) (e ∷ put nat_eq es n x)) ≡ cond b ((n, f x) ∷ each es) ((e.0, f e.1) ∷ put nat_eq (each es) n (f x))
+      by true rest = refl
+      by false rest = ap (λ ys. (e.0, f e.1) ∷ ys) rest
+
+  without-each : (es : Map ℕ X) (n : ℕ) → each (without nat_eq es n) ≡ without nat_eq (each es) n
+  without-each [] n = refl
+  without-each (e ∷ es) n = by (nat_eq n e.0) (without-each es n)
+    where
+      by : (b : Bool) → each (without nat_eq es n) ≡ without nat_eq (each es) n → each (cond (not b) (e ∷ without nat_eq es n) (without nat_eq es n)) ≡ cond (not b) ((e.0, f e.1) ∷ without nat_eq (each es) n) (without nat_eq (each es) n)
+      by true rest = rest
+      by false rest = ap (λ ys. (e.0, f e.1) ∷ ys) rest
+
+  more-each : (es : Map ℕ X) (n : ℕ) (x : X) → each (es ++ (n, x) ∷ []) ≡ each es ++ (n, f x) ∷ []
+  more-each [] n x = refl
+  more-each (e ∷ es) n x = ap (λ ys. (e.0, f e.1) ∷ ys) (more-each es n x)
+
+-- what a changed map has at a number
+module _ {X : Type 0} where
+  pub get_more : (es : Map ℕ X) (n : ℕ) (x : X) (P : X → Type 0) → P x → (m : ℕ) → IfSome (get nat_eq es m) P → IfSome (get nat_eq (es ++ (n, x) ∷ []) m) P
+  get_more [] n x P new m old = by (nat_eq n m)
+    where
+      by : (b : Bool) → IfSome (cond b (Some x) None) P
+      by true = new
+      by false = tt
+  get_more (e ∷ es) n x P new m old = by (nat_eq e.0 m) old (get_more es n x P new m)
+    where
+      by : (b : Bool) → IfSome (cond b (Some e.1) (get nat_eq es m)) P → (IfSome (get nat_eq es m) P → IfSome (get nat_eq (es ++ (n, x) ∷ []) m) P) → IfSome (cond b (Some e.1) (get nat_eq (es ++ (n, x) ∷ []) m)) P
+      by true h rest = h
+      by false h rest = rest h
+
+  pub get_put : (es : Map ℕ X) (n : ℕ) (x : X) (P : X → Type 0) → P x → (m : ℕ) → IfSome (get nat_eq es m) P → IfSome (get nat_eq (put nat_eq es n x) m) P
+  get_put [] n x P new m old = by (nat_eq n m)
+    where
+      by : (b : Bool) → IfSome (cond b (Some x) None) P
+      by true = new
+      by false = tt
+  get_put (e ∷ es) n x P new m old = elim (eqb_tells e.0 n) as (λ _. IfSome (get nat_eq (put nat_eq (e ∷ es) n x) m) P) [
+    | inl t ↦ subst (λ b. IfSome (get nat_eq (cond b ((n, x) ∷ es) (e ∷ put nat_eq es n x)) m) P) (sym t.0) (here (nat_eq n m) (subst (λ k. IfSome (cond (nat_eq k m) (Some e.1) (get nat_eq es m)) P) t.1 old))
+    | inr t ↦ subst (λ b. IfSome (get nat_eq (cond b ((n, x) ∷ es) (e ∷ put nat_eq es n x)) m) P) (sym t.0) (there (nat_eq e.0 m) old (get_put es n x P new m))
+  ]
+    where
+      here : (b : Bool) → IfSome (cond b (Some e.1) (get nat_eq es m)) P → IfSome (cond b (Some x) (get nat_eq es m)) P
+      here true h = new
+      here false h = h
+
+      there : (b : Bool) → IfSome (cond b (Some e.1) (get nat_eq es m)) P → (IfSome (get nat_eq es m) P → IfSome (get nat_eq (put nat_eq es n x) m) P) → IfSome (cond b (Some e.1) (get nat_eq (put nat_eq es n x) m)) P
+      there true h rest = h
+      there false h rest = rest h
+
+  without_absent : (es : Map ℕ X) (n : ℕ) → get nat_eq (without nat_eq es n) n ≡ None
+  without_absent [] n = refl
+  without_absent (y ∷ ys) n = elim (eqb_tells n y.0) as (λ _. get nat_eq (without nat_eq (y ∷ ys) n) n ≡ None) [
+    | inl t ↦ ap (λ b. get nat_eq (cond (not b) (y ∷ without nat_eq ys n) (without nat_eq ys n)) n) t.0 ∙ without_absent ys n
+    | inr t ↦ ap (λ b. get nat_eq (cond (not b) (y ∷ without nat_eq ys n) (without nat_eq ys n)) n) t.0 ∙ ap (λ b. cond b (Some y.1) (get nat_eq (without nat_eq ys n) n)) (ne_eqb y.0 n (λ e. t.1 (sym e))) ∙ without_absent ys n
+  ]
+
+  without_other : (es : Map ℕ X) (n m : ℕ) → n ≢ m → get nat_eq (without nat_eq es n) m ≡ get nat_eq es m
+  without_other [] n m other = refl
+  without_other (y ∷ ys) n m other = elim (eqb_tells n y.0) as (λ _. get nat_eq (without nat_eq (y ∷ ys) n) m ≡ get nat_eq (y ∷ ys) m) [
+    | inl t ↦
+        ap (λ b. get nat_eq (cond (not b) (y ∷ without nat_eq ys n) (without nat_eq ys n)) m) t.0 ∙ without_other ys n m other
+        ∙ sym (ap (λ b. cond b (Some y.1) (get nat_eq ys m)) (ne_eqb y.0 m (λ e. other (t.1 ∙ e))))
+    | inr t ↦
+        ap (λ b. get nat_eq (cond (not b) (y ∷ without nat_eq ys n) (without nat_eq ys n)) m) t.0
+        ∙ ap (λ o. cond (nat_eq y.0 m) (Some y.1) o) (without_other ys n m other)
+  ]
+
+  pub get_without : (es : Map ℕ X) (n : ℕ) (P : X → Type 0) (m : ℕ) → IfSome (get nat_eq es m) P → IfSome (get nat_eq (without nat_eq es n) m) P
+  get_without es n P m old = elim (eqb_tells n m) as (λ _. IfSome (get nat_eq (without nat_eq es n) m) P) [
+    | inl t ↦ subst (λ o. IfSome o P) (sym (ap (λ k. get nat_eq (without nat_eq es n) k) (sym t.1) ∙ without_absent es n)) tt
+    | inr t ↦ subst (λ o. IfSome o P) (sym (without_other es n m t.1)) old
+  ]
+
+  -- what is there is put there again
+  pub put_same : (es : Map ℕ X) (n : ℕ) (x : X) → get nat_eq es n ≡ Some x → put nat_eq es n x ≡ es
+  put_same [] n x h = absurd (cc)
+  put_same (e ∷ es) n x h = elim (eqb_tells e.0 n) as (λ _. put nat_eq (e ∷ es) n x ≡ e ∷ es) [
+    | inl t ↦
+        (let is : Some e.1 ≡ Some x = sym (ap (λ b. cond b (Some e.1) (get nat_eq es n)) t.0) ∙ h in
+        let same : e.1 ≡ x = cc in
+        ap (λ b. cond b ((n, x) ∷ es) (e ∷ put nat_eq es n x)) t.0 ∙ (λ i. (sym t.1 i, sym same i) ∷ es))
+    | inr t ↦ ap (λ b. cond b ((n, x) ∷ es) (e ∷ put nat_eq es n x)) t.0 ∙ ap (λ ys. e ∷ ys) (put_same es n x (sym (ap (λ b. cond b (Some e.1) (get nat_eq es n)) t.0) ∙ h))
+  ]
+
+  pub Rise-put : (low next : ℕ) (es : Map ℕ X) (n : ℕ) (x y : X) → get nat_eq es n ≡ Some y → Rise low next es → Rise low next (put nat_eq es n x)
+  Rise-put low next [] n x y h r = absurd (cc)
+  Rise-put low next (e ∷ es) n x y h r = elim (eqb_tells e.0 n) as (λ _. Rise low next (put nat_eq (e ∷ es) n x)) [
+    | inl t ↦ subst (λ b. Rise low next (cond b ((n, x) ∷ es) (e ∷ put nat_eq es n x))) (sym t.0) (subst (λ k. (low ≤ k) × Rise (k + 1) next es) t.1 r)
+    | inr t ↦ subst (λ b. Rise low next (cond b ((n, x) ∷ es) (e ∷ put nat_eq es n x))) (sym t.0) (r.0, Rise-put (e.0 + 1) next es n x y (sym (ap (λ b. cond b (Some e.1) (get nat_eq es n)) t.0) ∙ h) r.1)
+  ]
+
+  pub Rise-without : (low next : ℕ) (es : Map ℕ X) (n : ℕ) → Rise low next es → Rise low next (without nat_eq es n)
+  Rise-without low next [] n r = r
+  Rise-without low next (e ∷ es) n r = by (nat_eq n e.0) (Rise-without (e.0 + 1) next es n r.1)
+    where
+      by : (b : Bool) → Rise (e.0 + 1) next (without nat_eq es n) → Rise low next (cond (not b) (e ∷ without nat_eq es n) (without nat_eq es n))
+      by true rest = Rise-lower low (e.0 + 1) next (without nat_eq es n) (omega (arith, r.0)) rest
+      by false rest = (r.0, rest)
+
+  -- what stands before the last entry
+  pub same_front : (xs ys : Map ℕ X) (a b : ℕ × X) → xs ++ a ∷ [] ≡ ys ++ b ∷ [] → xs ≡ ys
+  same_front [] [] a b h = refl
+  same_front [] (y ∷ ys) a b h = absurd (let l = ap length h in let m = length-append ys (b ∷ []) in omega (arith, l, m))
+  same_front (x ∷ xs) [] a b h = absurd (let l = ap length h in let m = length-append xs (a ∷ []) in omega (arith, l, m))
+  same_front (x ∷ xs) (y ∷ ys) a b h = (let heads : x ≡ y = cc in let tails : xs ++ a ∷ [] ≡ ys ++ b ∷ [] = cc in λ i. heads i ∷ same_front xs ys a b tails i)
+
+  -- the next number has the call that was put under it
+  pub get_next : (low next : ℕ) (es : Map ℕ X) (x : X) → Rise low next es → get nat_eq (es ++ (next, x) ∷ []) next ≡ Some x
+  get_next low next [] x r = ap (λ b. cond b (Some x) None) (eq-eqb next next refl)
+  get_next low next (e ∷ es) x r = ap (λ b. cond b (Some e.1) (get nat_eq (es ++ (next, x) ∷ []) next)) (ne_eqb e.0 next (λ s. absurd (let b = Rise-bounds (e.0 + 1) next es r.1 in omega (arith, s, b)))) ∙ get_next (e.0 + 1) next es x r.1
+
+module _ {A : Type 0} where
+  pub get-parked : (calls : Map ℕ (ParkedCall A)) (n : ℕ) → get nat_eq (parked_of calls) n ≡ option_map waiting_of (get nat_eq calls n)
+  get-parked = get-each waiting_of
+
+  pub put-parked : (calls : Map ℕ (ParkedCall A)) (n : ℕ) (c : ParkedCall A) → parked_of (put nat_eq calls n c) ≡ put nat_eq (parked_of calls) n (waiting_of c)
+  put-parked = put-each waiting_of
+
+  pub without-parked : (calls : Map ℕ (ParkedCall A)) (n : ℕ) → parked_of (without nat_eq calls n) ≡ without nat_eq (parked_of calls) n
+  without-parked = without-each waiting_of
+
+  pub more-parked : (calls : Map ℕ (ParkedCall A)) (n : ℕ) (c : ParkedCall A) → parked_of (calls ++ (n, c) ∷ []) ≡ parked_of calls ++ (n, waiting_of c) ∷ []
+  more-parked = more-each waiting_of
+
+  pub keeps-parked : (calls : Map ℕ (ParkedCall A)) (d : ℕ) → machine_keeps (parked_of calls) d ≡ keeps calls d
+  keeps-parked [] d = refl
+  keeps-parked (e ∷ es) d = ap (λ b. is_member nat_eq e.1.kept d || b) (keeps-parked es d)
+
+  pub keeps_more : (calls : Map ℕ (ParkedCall A)) (n : ℕ) (c : ParkedCall A) (d : ℕ) → keeps (calls ++ (n, c) ∷ []) d ≡ true → (keeps calls d || is_member nat_eq c.kept d) ≡ true
+  keeps_more calls n c d h = or_elim (keeps calls d) (is_member nat_eq c.kept d || false) (λ k. or_left (keeps calls d) _ k)
+      (λ k. or_right (keeps calls d) _ (or_elim (is_member nat_eq c.kept d) false (λ m. m) (λ f. absurd (cc)) k))
+      (sym (list_any-append (λ (e : ℕ × ParkedCall A). is_member nat_eq e.1.kept d) calls ((n, c) ∷ [])) ∙ h)
+
+  pub keeps_put : (calls : Map ℕ (ParkedCall A)) (n : ℕ) (was now : ParkedCall A) (d : ℕ) → get nat_eq calls n ≡ Some was → now.kept ≡ was.kept → keeps (put nat_eq calls n now) d ≡ keeps calls d
+  keeps_put [] n was now d here same = absurd (cc)
+  keeps_put (e ∷ es) n was now d here same = by (nat_eq e.0 n) here (keeps_put es n was now d)
+    where
+      by : (b : Bool) → cond b (Some e.1) (get nat_eq es n) ≡ Some was → (get nat_eq es n ≡ Some was → now.kept ≡ was.kept → keeps (put nat_eq es n now) d ≡ keeps es d) →
+          keeps (cond b ((n, now) ∷ es) (e ∷ put nat_eq es n now)) d ≡ keeps (e ∷ es) d
+      by true h rest = (let is : e.1 ≡ was = cc in λ i. is_member nat_eq ((same ∙ ap (λ z. z.kept) (sym is)) i) d || keeps es d)
+      by false h rest = ap (λ b. is_member nat_eq e.1.kept d || b) (rest h same)
+
+  pub keeps_without : (calls : Map ℕ (ParkedCall A)) (n d : ℕ) → keeps (without nat_eq calls n) d ≡ true → keeps calls d ≡ true
+  keeps_without [] n d h = h
+  keeps_without (e ∷ es) n d h = by (nat_eq n e.0) h (keeps_without es n d)
+    where
+      by : (b : Bool) → keeps (cond (not b) (e ∷ without nat_eq es n) (without nat_eq es n)) d ≡ true → (keeps (without nat_eq es n) d ≡ true → keeps es d ≡ true) → (is_member nat_eq e.1.kept d || keeps es d) ≡ true
+      by true k rest = or_right (is_member nat_eq e.1.kept d) _ (rest k)
+      by false k rest = or_elim (is_member nat_eq e.1.kept d) (keeps (without nat_eq es n) d) (λ m. or_left _ _ m) (λ m. or_right (is_member nat_eq e.1.kept d) _ (rest m)) k
+
+  pub get_keeps : (calls : Map ℕ (ParkedCall A)) (n : ℕ) (c : ParkedCall A) (d : ℕ) → get nat_eq calls n ≡ Some c → is_member nat_eq c.kept d ≡ true → keeps calls d ≡ true
+  get_keeps [] n c d h m = absurd (cc)
+  get_keeps (e ∷ es) n c d h m = by (nat_eq e.0 n) h (λ t. get_keeps es n c d t m)
+    where
+      by : (b : Bool) → cond b (Some e.1) (get nat_eq es n) ≡ Some c → (get nat_eq es n ≡ Some c → keeps es d ≡ true) → (is_member nat_eq e.1.kept d || keeps es d) ≡ true
+      by true t rest = (let is : e.1 ≡ c = cc in or_left _ _ (ap (λ z. is_member nat_eq z.kept d) is ∙ m))
+      by false t rest = or_right (is_member nat_eq e.1.kept d) _ (rest t)
+
+  -- where each number stands once, a number keeps what its call keeps
+  keeps_as_low : (n low next : ℕ) (calls : Map ℕ (ParkedCall A)) (d : ℕ) → Rise low next calls → n < low → keeps_as n (parked_of calls) d ≡ false
+  keeps_as_low n low next [] d r l = refl
+  keeps_as_low n low next (e ∷ es) d r l =
+      (λ i. (ne_eqb n e.0 (λ s. absurd (omega (arith, r.0, l, s))) i && is_member nat_eq e.1.kept d) || keeps_as n (parked_of es) d)
+      ∙ keeps_as_low n (e.0 + 1) next es d r.1 (omega (arith, r.0, l))
+
+  pub keeps_as-is : (n low next : ℕ) (calls : Map ℕ (ParkedCall A)) (c : ParkedCall A) (d : ℕ) → Rise low next calls → get nat_eq calls n ≡ Some c → keeps_as n (parked_of calls) d ≡ is_member nat_eq c.kept d
+  keeps_as-is n low next [] c d r h = absurd (cc)
+  keeps_as-is n low next (e ∷ es) c d r h = elim (eqb_tells e.0 n) as (λ _. keeps_as n (parked_of (e ∷ es)) d ≡ is_member nat_eq c.kept d) [
+    | inl t ↦
+        (let is : Some e.1 ≡ Some c = sym (ap (λ b. cond b (Some e.1) (get nat_eq es n)) t.0) ∙ h in
+        let same : e.1 ≡ c = cc in
+        (λ i. (eq-eqb n e.0 (sym t.1) i && is_member nat_eq e.1.kept d) || keeps_as n (parked_of es) d)
+        ∙ (λ i. is_member nat_eq e.1.kept d || keeps_as_low n (e.0 + 1) next es d r.1 (omega (arith, t.1)) i)
+        ∙ or_false (is_member nat_eq e.1.kept d) ∙ ap (λ z. is_member nat_eq z.kept d) same)
+    | inr t ↦
+        (λ i. (ne_eqb n e.0 (λ s. t.1 (sym s)) i && is_member nat_eq e.1.kept d) || keeps_as n (parked_of es) d)
+        ∙ keeps_as-is n (e.0 + 1) next es c d r.1 (sym (ap (λ b. cond b (Some e.1) (get nat_eq es n)) t.0) ∙ h)
+  ]
+    where
+      or_false : (b : Bool) → (b || false) ≡ b
+      or_false true = refl
+      or_false false = refl
+
+-- a call that a slot lends
+pub lent_some : {X Y : Type 0} (f : X → Y) (o : Option X) (y : Y) → option_map f o ≡ Some y → IsSome o
+lent_some f None y h = absurd (cc)
+lent_some f (Some x) y h = refl
+
+pub lent_is : {X Y : Type 0} (f : X → Y) (o : Option X) (x : X) (y : Y) → option_map f o ≡ Some y → o ≡ Some x → f x ≡ y
+lent_is f o x y h is = (let same : Some (f x) ≡ Some y = sym (ap (option_map f) is) ∙ h in cc)

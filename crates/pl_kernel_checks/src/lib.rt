@@ -1,0 +1,11 @@
+//! What the kernel answers, step by step: as the worked examples and the order of refusals say.
+#![tactic(auto)]
+
+#[cfg(test)]
+mod examples;
+#[cfg(test)]
+mod first_use;
+#[cfg(test)]
+mod refusals;
+#[cfg(test)]
+mod transfers;

@@ -1,0 +1,7 @@
+//! Tests of the layers below the kernel, with memory and without: parked calls, and open file descriptions.
+#![tactic(auto)]
+
+#[cfg(test)]
+mod descs;
+#[cfg(test)]
+mod parked;

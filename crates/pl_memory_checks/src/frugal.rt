@@ -1,0 +1,137 @@
+//! Steps that take no memory answer as ever where none can be had.
+use pl_kernel::Kernel;
+use pl_model::{Errno, Limits};
+use pl_run::LIMITS;
+use pl_testing::asked::Ask::{
+    self, Close, Interrupt, Pipe, PipeNonblock, Read, Resume, Start, Write,
+};
+use pl_testing::asked::Data::{Many, Text};
+use pl_testing::asked::Want::{
+    self, CallsSpent, Count, Fault, Fds, NoCall, NoProcess, Parked, Pid, Unit,
+};
+use pl_testing::asked::{NEVER_GIVEN, outcome_of};
+use pl_testing::refusing::Refusing;
+use pl_testing::wanting::{moved, steps_of, takes_no_memory};
+use std::alloc::Global;
+use std::process::Abort;
+use std::test::Fail;
+
+/// The steps come to this where the calls are numbered from `first_call`, and those that are to take no memory ask for
+/// none.
+fn some_take_no_memory(
+    rt: &impl Abort,
+    alloc: Global,
+    first_call: u64,
+    rows: &[(Ask, Want)],
+) -> Result<(), Fail> {
+    let heap = Refusing::new(alloc);
+    let steps = steps_of(&heap, rows)?;
+    let mut kernel = Kernel::new(
+        &heap,
+        Limits {
+            first_call,
+            ..LIMITS
+        },
+    );
+    for (step, (ask, want)) in steps.into_iter().zip(rows) {
+        let is_frugal = takes_no_memory(*ask, *want);
+        heap.refuse(if is_frugal { 1 } else { 0 });
+        assert_eq!(rt;
+            moved(alloc, outcome_of(kernel.step(step)))?,
+            want.outcome(alloc)?,
+            "{ask:?}"
+        );
+        assert!(rt;
+            !is_frugal || heap.requests() == 0,
+            "{ask:?} asks for memory"
+        );
+    }
+    Ok(())
+}
+
+/// A refused step, a close and an interrupt answer as ever where no memory can be had, and ask for none.
+#[test]
+fn refusals_take_no_memory(rt: HostRuntime) -> Result<(), Fail> {
+    const WITHOUT_NUMBERS: &[(Ask, Want)] = &[
+        (Pipe(1), NoProcess),
+        (Start, Pid(1)),
+        (Write(2, 1, Text("a")), NoProcess),
+        (Pipe(1), Fds(0, 1)),
+        (PipeNonblock(1), Fds(2, 3)),
+        (Read(1, 1, 1), Fault(Errno::EBADF)),
+        (Write(1, 0, Text("a")), Fault(Errno::EBADF)),
+        (Close(1, 4), Fault(Errno::EBADF)),
+        (Read(1, 0, 1), CallsSpent),
+        (Read(1, 2, 1), Fault(Errno::EAGAIN)),
+        (Write(1, 1, Many(b'a', 65_536)), Count(65_536)),
+        (Write(1, 1, Text("b")), CallsSpent),
+        (Write(1, 1, Many(b'b', 70_000)), CallsSpent),
+        (Resume(1), NoCall),
+        (Interrupt(1), NoCall),
+        (Close(1, 2), Unit),
+        (Write(1, 3, Text("a")), Fault(Errno::EPIPE)),
+        (Close(1, 1), Unit),
+        (Close(1, 0), Unit),
+        (Close(1, 0), Fault(Errno::EBADF)),
+    ];
+    const WITH_CALLS: &[(Ask, Want)] = &[
+        (Start, Pid(1)),
+        (Pipe(1), Fds(0, 1)),
+        (Pipe(1), Fds(2, 3)),
+        (Read(1, 0, 1), Parked(1)),
+        (Write(1, 3, Many(b'a', 70_000)), Parked(2)),
+        (Write(1, 3, Text("b")), Parked(3)),
+        (Write(1, 3, Many(b'b', 70_000)), Parked(4)),
+        (Resume(5), NoCall),
+        (Interrupt(5), NoCall),
+        (Close(1, 0), Unit),
+        (Interrupt(1), Fault(Errno::EINTR)),
+        (Resume(1), NoCall),
+        (Write(1, 1, Text("a")), Fault(Errno::EPIPE)),
+        (Close(1, 2), Unit),
+        (Resume(3), Fault(Errno::EPIPE)),
+        (Interrupt(2), Count(65_536)),
+        (Resume(4), Fault(Errno::EPIPE)),
+        (Interrupt(4), NoCall),
+    ];
+    some_take_no_memory(&rt, rt.alloc(), NEVER_GIVEN, WITHOUT_NUMBERS)?;
+    some_take_no_memory(&rt, rt.alloc(), 1, WITH_CALLS)
+}
+
+/// The process, the descriptors and the descriptions for which there is no place are refused as ever where no memory can
+/// be had.
+#[test]
+fn full_tables_take_no_memory(rt: HostRuntime) -> Result<(), Fail> {
+    let alloc = rt.alloc();
+    let heap = Refusing::new(alloc);
+    let mut kernel = Kernel::new(&heap, LIMITS);
+    for pid in 1..1_025u32 {
+        let outcome = outcome_of(kernel.step(Start.step(&heap)?));
+        assert_eq!(rt; moved(alloc, outcome)?, Pid(pid).outcome(alloc)?);
+    }
+    for pid in 1..17u32 {
+        for i in 0..128u8 {
+            let first = 2 * i32::from(i);
+            let outcome = outcome_of(kernel.step(Pipe(pid).step(&heap)?));
+            assert_eq!(rt;
+                moved(alloc, outcome)?,
+                Fds(first, first + 1).outcome(alloc)?
+            );
+        }
+    }
+    heap.refuse(1);
+    for (ask, errno) in [
+        (Start, Errno::EAGAIN),
+        (Pipe(1), Errno::EMFILE),
+        (Pipe(17), Errno::ENFILE),
+    ] {
+        let outcome = outcome_of(kernel.step(ask.step(&heap)?));
+        assert_eq!(rt;
+            moved(alloc, outcome)?,
+            Fault(errno).outcome(alloc)?,
+            "{ask:?}"
+        );
+    }
+    assert_eq!(rt; heap.requests(), 0);
+    Ok(())
+}

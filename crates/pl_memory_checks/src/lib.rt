@@ -1,0 +1,9 @@
+//! What the kernel answers where a request for memory is refused.
+#![tactic(auto)]
+
+#[cfg(test)]
+mod frugal;
+#[cfg(test)]
+mod memory;
+#[cfg(test)]
+mod passed_over;

@@ -1,0 +1,145 @@
+//! Want of memory: a step that meets it changes nothing, and can be made again.
+use pl_kernel::{Kernel, NoMemory};
+use pl_model::Outcome;
+use pl_run::LIMITS;
+use pl_testing::asked::{Ask, Want, outcome_of};
+use pl_testing::examples::{
+    A_PARKED_CALL_KEEPS_ITS_END, A_SMALL_WRITE_AT_ITS_BOUNDARY, A_WAITING_WRITER_IS_A_WRITER,
+    AN_INTERRUPTED_LARGE_WRITE, BYTES_BEFORE_END_OF_FILE, PARTIAL_AND_WHOLE_NOT_WAITING,
+    THE_LAST_READER_LEAVES,
+};
+use pl_testing::refusing::Refusing;
+use pl_testing::wanting::{MOST_REQUESTS, moved, steps_of, takes_no_memory};
+use std::alloc::Global;
+use std::process::Abort;
+use std::test::Fail;
+
+/// Makes the steps of the table, and refuses the `n`th request for memory. A step that wants for memory is made again at
+/// once, and then has its reply.
+fn make_steps(
+    rt: &impl Abort,
+    alloc: Global,
+    heap: &Refusing<Global>,
+    rows: &[(Ask, Want)],
+    n: u64,
+) -> Result<(), Fail> {
+    let steps = steps_of(heap, rows)?;
+    let same_steps = steps_of(heap, rows)?;
+    heap.refuse(n);
+    let mut kernel = Kernel::new(heap, LIMITS);
+    let mut has_wanted = false;
+    for ((step, same_step), (ask, want)) in steps.into_iter().zip(same_steps).zip(rows) {
+        let outcome = match kernel.step(step) {
+            Ok(reply) => Outcome::Replied(reply),
+            Err(NoMemory) => {
+                assert!(rt;
+                    !takes_no_memory(*ask, *want),
+                    "{ask:?} takes memory, where request {n} is refused"
+                );
+                assert!(rt;
+                    heap.refused() && !has_wanted,
+                    "{ask:?} wants for memory, where request {n} is refused"
+                );
+                has_wanted = true;
+                outcome_of(kernel.step(same_step))
+            }
+        };
+        assert_eq!(rt;
+            moved(alloc, outcome)?,
+            want.outcome(alloc)?,
+            "{ask:?}, where request {n} is refused"
+        );
+    }
+    Ok(())
+}
+
+/// Runs the steps of the table, and refuses the `n`th request for memory. A run that is refused is made again, and then
+/// answers all steps; in any other run the steps have their replies up to one that wants for memory.
+fn make_run(
+    rt: &impl Abort,
+    alloc: Global,
+    heap: &Refusing<Global>,
+    rows: &[(Ask, Want)],
+    n: u64,
+) -> Result<(), Fail> {
+    let steps = steps_of(heap, rows)?;
+    let same_steps = steps_of(heap, rows)?;
+    heap.refuse(n);
+    let mut kernel = Kernel::new(heap, LIMITS);
+    let (outcomes, is_whole) = match kernel.run(steps) {
+        Ok(outcomes) => (outcomes, !heap.refused()),
+        Err(NoMemory) => {
+            assert!(rt; heap.refused(), "a run is refused, and no request");
+            (kernel.run(same_steps)?, true)
+        }
+    };
+    assert_eq!(rt; outcomes.len(), rows.len(), "where request {n} is refused");
+    for (outcome, (ask, want)) in outcomes.into_iter().zip(rows) {
+        let outcome = moved(alloc, outcome)?;
+        if outcome == Outcome::NoMemory {
+            assert!(rt;
+                !is_whole,
+                "{ask:?} wants for memory, where request {n} is refused"
+            );
+            return Ok(());
+        }
+        assert_eq!(rt;
+            outcome,
+            want.outcome(alloc)?,
+            "{ask:?}, where request {n} is refused"
+        );
+    }
+    Ok(())
+}
+
+/// Refuses each request of the table in turn, until a run meets no refusal.
+fn refuse_each(rt: &impl Abort, alloc: Global, rows: &[(Ask, Want)]) -> Result<(), Fail> {
+    let heap = Refusing::new(alloc);
+    for n in 1..MOST_REQUESTS {
+        make_steps(rt, alloc, &heap, rows, n)?;
+        if !heap.refused() {
+            break;
+        }
+    }
+    assert!(rt;
+        heap.requests() > 0 && !heap.refused(),
+        "the steps make {} requests",
+        heap.requests()
+    );
+    for n in 1..MOST_REQUESTS {
+        make_run(rt, alloc, &heap, rows, n)?;
+        if !heap.refused() {
+            break;
+        }
+    }
+    assert!(rt;
+        heap.requests() > 0 && !heap.refused(),
+        "the run makes {} requests",
+        heap.requests()
+    );
+    Ok(())
+}
+
+#[test]
+fn bytes_before_end_of_file_survives_refusals(rt: HostRuntime) -> Result<(), Fail> {
+    refuse_each(&rt, rt.alloc(), &BYTES_BEFORE_END_OF_FILE)
+}
+
+#[test]
+fn partial_and_whole_not_waiting_survives_refusals(rt: HostRuntime) -> Result<(), Fail> {
+    refuse_each(&rt, rt.alloc(), &PARTIAL_AND_WHOLE_NOT_WAITING)
+}
+
+#[test]
+fn calls_that_wait_survive_refusals(rt: HostRuntime) -> Result<(), Fail> {
+    for rows in [
+        A_SMALL_WRITE_AT_ITS_BOUNDARY.as_slice(),
+        AN_INTERRUPTED_LARGE_WRITE.as_slice(),
+        THE_LAST_READER_LEAVES.as_slice(),
+        A_PARKED_CALL_KEEPS_ITS_END.as_slice(),
+        A_WAITING_WRITER_IS_A_WRITER.as_slice(),
+    ] {
+        refuse_each(&rt, rt.alloc(), rows)?;
+    }
+    Ok(())
+}

@@ -1,0 +1,287 @@
+//! Steps that find no memory: each is passed over, and the run goes on as if it had not been asked.
+use pl_kernel::Kernel;
+use pl_model::Errno::{EBADF, EINTR, EPIPE};
+use pl_model::Outcome;
+use pl_run::LIMITS;
+use pl_testing::asked::Ask::{self, Interrupt, Pipe, Read, Resume, Start, Write};
+use pl_testing::asked::Data::{Many, Text};
+use pl_testing::asked::Want::{
+    self, Bytes, Count, Fault, Fds, NoCall, NoProcess, Parked, Pid, Unit,
+};
+use pl_testing::asked::outcome_of;
+use pl_testing::examples::{
+    A_PARKED_CALL_KEEPS_ITS_END, A_SMALL_WRITE_AT_ITS_BOUNDARY, A_WAITING_WRITER_IS_A_WRITER,
+    AN_INTERRUPTED_LARGE_WRITE, THE_LAST_READER_LEAVES,
+};
+use pl_testing::refusing::Refusing;
+use pl_testing::wanting::{MOST_REQUESTS, moved, steps_of};
+use std::alloc::Global;
+use std::process::Abort;
+use std::test::Fail;
+
+const NOT_OPEN: Want = Fault(EBADF);
+
+const BROKEN: Want = Fault(EPIPE);
+
+const INTERRUPTED: Want = Fault(EINTR);
+
+const NOTHING: Want = Bytes(Text(""));
+
+const A: Want = Bytes(Text("a"));
+
+const B: Want = Bytes(Text("b"));
+
+/// What the steps come to where the `n`th request for memory is refused.
+fn outcomes_without(
+    alloc: Global,
+    heap: &Refusing<Global>,
+    rows: &[(Ask, Want)],
+    n: u64,
+) -> Result<Vec<Outcome>, Fail> {
+    let steps = steps_of(heap, rows)?;
+    heap.refuse(n);
+    let mut kernel = Kernel::new(heap, LIMITS);
+    let mut outcomes = Vec::new(alloc);
+    for step in steps {
+        let outcome = outcome_of(kernel.step(step));
+        outcomes.push(moved(alloc, outcome)?)?;
+    }
+    Ok(outcomes)
+}
+
+/// Refuses each request for memory of the steps in turn. Up to a step that finds none the steps come to what the rows say;
+/// from there on, to what `behind` says beside the step's place. Each of these places is met, and no other.
+fn each_is_passed_over(
+    rt: &impl Abort,
+    alloc: Global,
+    rows: &[(Ask, Want)],
+    behind: &[(usize, &[Want])],
+) -> Result<(), Fail> {
+    let heap = Refusing::new(alloc);
+    let mut are_met = Vec::from_elem(alloc, false, behind.len())?;
+    for n in 1..MOST_REQUESTS {
+        let outcomes = outcomes_without(alloc, &heap, rows, n)?;
+        let passed = outcomes
+            .iter()
+            .position(|outcome| *outcome == Outcome::NoMemory);
+        let mut wanted = Vec::new(alloc);
+        for (_, want) in rows.iter().take(passed.unwrap_or(rows.len())) {
+            wanted.push(want.outcome(alloc)?)?;
+        }
+        for ((place, wants), is_met) in behind.iter().zip(are_met.iter_mut()) {
+            if passed == Some(*place) {
+                wanted.push(Outcome::NoMemory)?;
+                for want in *wants {
+                    wanted.push(want.outcome(alloc)?)?;
+                }
+                *is_met = true;
+            }
+        }
+        assert_eq!(rt;
+            wanted.len(),
+            rows.len(),
+            "what is wanted where step {passed:?} finds no memory, and request {n} is refused"
+        );
+        for (outcome, (wanted, (ask, _))) in outcomes.iter().zip(wanted.iter().zip(rows)) {
+            assert_eq!(rt;
+                outcome,
+                wanted,
+                "{ask:?}, where step {passed:?} finds no memory, and request {n} is refused"
+            );
+        }
+        if !heap.refused() {
+            break;
+        }
+    }
+    assert!(rt;
+        heap.requests() > 0 && !heap.refused(),
+        "the steps make {} requests",
+        heap.requests()
+    );
+    for ((place, _), is_met) in behind.iter().zip(are_met.iter()) {
+        assert!(rt; *is_met, "step {place} always finds memory");
+    }
+    Ok(())
+}
+
+#[test]
+fn a_small_write_at_its_boundary(rt: HostRuntime) -> Result<(), Fail> {
+    const BEHIND: &[(usize, &[Want])] = &[
+        (
+            0,
+            &[
+                NoProcess, NoProcess, NoProcess, NoProcess, NoCall, NoProcess, NoCall, NoProcess,
+                NoProcess, NoCall, NoCall,
+            ],
+        ),
+        (
+            1,
+            &[
+                NOT_OPEN, NOT_OPEN, NOT_OPEN, NoCall, NOT_OPEN, NoCall, NOT_OPEN, NOT_OPEN, NoCall,
+                NoCall,
+            ],
+        ),
+        // Without the 62,536 bytes there is room for all others.
+        (
+            2,
+            &[
+                Count(4_000),
+                Bytes(Many(b'b', 999)),
+                NoCall,
+                B,
+                NoCall,
+                B,
+                Count(2),
+                NoCall,
+                NoCall,
+            ],
+        ),
+        (
+            3,
+            &[
+                Bytes(Many(b'a', 999)),
+                NoCall,
+                A,
+                NoCall,
+                A,
+                Count(2),
+                NoCall,
+                NoCall,
+            ],
+        ),
+        // The room is 3,001 bytes, then 3,002, which holds up no smaller write.
+        (4, &[Parked(1), A, Parked(1), A, Count(2), NoCall, NoCall]),
+        (6, &[Parked(1), A, Count(2), NoCall, NoCall]),
+        (7, &[A, Count(2), NoCall, NoCall]),
+        (8, &[Parked(2), INTERRUPTED, NoCall]),
+        (9, &[NoCall, NoCall]),
+    ];
+    each_is_passed_over(&rt, rt.alloc(), &A_SMALL_WRITE_AT_ITS_BOUNDARY, BEHIND)
+}
+
+#[test]
+fn an_interrupted_large_write(rt: HostRuntime) -> Result<(), Fail> {
+    const BEHIND: &[(usize, &[Want])] = &[
+        (0, &[NoProcess, NoProcess, NoCall, NoCall]),
+        (1, &[NOT_OPEN, NoCall, NoCall]),
+        (2, &[NoCall, NoCall]),
+    ];
+    each_is_passed_over(&rt, rt.alloc(), &AN_INTERRUPTED_LARGE_WRITE, BEHIND)
+}
+
+#[test]
+fn the_last_reader_leaves(rt: HostRuntime) -> Result<(), Fail> {
+    const BEHIND: &[(usize, &[Want])] = &[
+        (
+            0,
+            &[
+                NoProcess, NoProcess, NoProcess, NoCall, NoProcess, NoProcess,
+            ],
+        ),
+        (1, &[NOT_OPEN, NOT_OPEN, NoCall, NOT_OPEN, NOT_OPEN]),
+        (2, &[Unit, NoCall, BROKEN, Count(0)]),
+    ];
+    each_is_passed_over(&rt, rt.alloc(), &THE_LAST_READER_LEAVES, BEHIND)
+}
+
+/// A call that finds no memory as it is tried again stays parked, and keeps its end.
+#[test]
+fn a_parked_call_keeps_its_end(rt: HostRuntime) -> Result<(), Fail> {
+    const BEHIND: &[(usize, &[Want])] = &[
+        (
+            0,
+            &[
+                NoProcess, NoProcess, NoProcess, NoProcess, NoCall, NoProcess,
+            ],
+        ),
+        (1, &[NOT_OPEN, NOT_OPEN, NOT_OPEN, NoCall, NOT_OPEN]),
+        (2, &[Unit, BROKEN, NoCall, BROKEN]),
+        (4, &[Parked(1), Count(1)]),
+        (5, &[Count(1)]),
+    ];
+    each_is_passed_over(&rt, rt.alloc(), &A_PARKED_CALL_KEEPS_ITS_END, BEHIND)
+}
+
+#[test]
+fn a_waiting_writer_is_a_writer(rt: HostRuntime) -> Result<(), Fail> {
+    const BEHIND: &[(usize, &[Want])] = &[
+        (
+            0,
+            &[
+                NoProcess, NoProcess, NoProcess, NoProcess, NoProcess, NoCall, NoCall, NoProcess,
+            ],
+        ),
+        (
+            1,
+            &[
+                NOT_OPEN, NOT_OPEN, NOT_OPEN, NOT_OPEN, NoCall, NoCall, NOT_OPEN,
+            ],
+        ),
+        (2, &[Unit, NOTHING, NOTHING, NoCall, NoCall, NOTHING]),
+        // The next read takes one of the 65,536 bytes, and there is room for one more.
+        (
+            4,
+            &[
+                Bytes(Text("a")),
+                Parked(1),
+                NoCall,
+                Bytes(Many(b'a', 65_536)),
+            ],
+        ),
+        (5, &[Count(70_000), NoCall, Bytes(Many(b'a', 4_464))]),
+        (7, &[Bytes(Many(b'a', 4_464))]),
+        (8, &[]),
+    ];
+    each_is_passed_over(&rt, rt.alloc(), &A_WAITING_WRITER_IS_A_WRITER, BEHIND)
+}
+
+/// A write that finds no memory isn't parked, also where it is parked first and then wants memory for its bytes: the next
+/// call gets its number. One that finds none as it is tried again stays parked, with what it took before.
+#[test]
+fn a_large_write_is_taken_back(rt: HostRuntime) -> Result<(), Fail> {
+    const ROWS: &[(Ask, Want)] = &[
+        (Start, Pid(1)),
+        (Pipe(1), Fds(0, 1)),
+        (Write(1, 1, Many(b'a', 70_000)), Parked(1)),
+        (Read(1, 0, 5), Bytes(Text("aaaaa"))),
+        (Resume(1), Parked(1)),
+        (Interrupt(1), Count(65_541)),
+    ];
+    const BEHIND: &[(usize, &[Want])] = &[
+        (0, &[NoProcess, NoProcess, NoProcess, NoCall, NoCall]),
+        (1, &[NOT_OPEN, NOT_OPEN, NoCall, NoCall]),
+        (2, &[Parked(1), Parked(1), INTERRUPTED]),
+        (3, &[Parked(1), Count(65_536)]),
+        (4, &[Count(65_536)]),
+    ];
+    each_is_passed_over(&rt, rt.alloc(), ROWS, BEHIND)
+}
+
+/// A read that finds no memory takes no bytes, and stays parked where it was.
+#[test]
+fn reads_take_nothing(rt: HostRuntime) -> Result<(), Fail> {
+    const ROWS: &[(Ask, Want)] = &[
+        (Start, Pid(1)),
+        (Pipe(1), Fds(0, 1)),
+        (Read(1, 0, 3), Parked(1)),
+        (Write(1, 1, Text("ab")), Count(2)),
+        (Resume(1), Bytes(Text("ab"))),
+        (Read(1, 0, 1), Parked(2)),
+        (Interrupt(2), INTERRUPTED),
+        (Interrupt(1), NoCall),
+    ];
+    const BEHIND: &[(usize, &[Want])] = &[
+        (
+            0,
+            &[
+                NoProcess, NoProcess, NoProcess, NoCall, NoProcess, NoCall, NoCall,
+            ],
+        ),
+        (1, &[NOT_OPEN, NOT_OPEN, NoCall, NOT_OPEN, NoCall, NoCall]),
+        (2, &[Count(2), NoCall, A, NoCall, NoCall]),
+        (3, &[Parked(1), Parked(2), INTERRUPTED, INTERRUPTED]),
+        (4, &[A, NoCall, INTERRUPTED]),
+        (5, &[NoCall, NoCall]),
+    ];
+    each_is_passed_over(&rt, rt.alloc(), ROWS, BEHIND)
+}

@@ -1,0 +1,19 @@
+//! What lines ask, what scripts print, and how a run ends where a read, a write or a request for memory fails.
+#![tactic(auto)]
+
+#[cfg(test)]
+mod faults;
+#[cfg(test)]
+mod lines;
+#[cfg(test)]
+mod memory;
+#[cfg(test)]
+mod replies;
+#[cfg(test)]
+mod runs;
+#[cfg(test)]
+mod sessions;
+#[cfg(test)]
+mod streams;
+#[cfg(test)]
+mod trickling;

@@ -1,0 +1,173 @@
+//! Sessions: scripts of calls that wait, line by line with what each prints.
+use super::trickling::run_from;
+use pl_model::Totals;
+use pl_testing::asked::NEVER_GIVEN;
+use std::alloc::Global;
+use std::process::Abort;
+use std::test::Fail;
+
+const A_SMALL_WRITE_AT_ITS_BOUNDARY: &str = "\
+start => pid 1
+1 pipe => fds 0 1
+1 write 1 62536*61 => count 62536
+1 write 1 4000*62 => parked 1
+1 read 0 999 => data 999*61
+resume 1 => parked 1
+1 read 0 1 => data 61
+resume 1 => count 4000
+1 read 0 1 => data 61
+1 write 1 6363 => parked 2
+interrupt 2 => EINTR
+resume 2 => no call
+";
+
+const THE_LAST_READER_LEAVES: &str = "\
+start => pid 1
+1 pipe => fds 0 1
+1 write 1 70000*61 => parked 1
+1 close 0 => ok
+resume 1 => count 65536 sigpipe
+1 write 1 62 => EPIPE sigpipe
+1 write 1 - => count 0
+";
+
+const INTERRUPTED_LARGE_WRITES: &str = "\
+start => pid 1
+1 pipe => fds 0 1
+1 write 1 70000*61 => parked 1
+interrupt 1 => count 65536
+interrupt 1 => no call
+1 read 0 65536 => data 65536*61
+1 write 1 70000*62 => parked 2
+1 read 0 65536 => data 65536*62
+resume 2 => count 70000
+1 write 1 70000*63 => parked 3
+interrupt 3 => count 61072
+1 read 0 4464 => data 4464*62
+1 read 0 65536 => data 61072*63
+";
+
+const A_PARKED_CALL_KEEPS_ITS_END: &str = "\
+start => pid 1
+1 pipe => fds 0 1
+1 read 0 1 => parked 1
+1 close 0 => ok
+1 write 1 61 => count 1
+resume 1 => data 61
+1 write 1 62 => EPIPE sigpipe
+";
+
+const TWO_PROCESSES: &str = "\
+start => pid 1
+start => pid 2
+1 pipe => fds 0 1
+2 pipe => fds 0 1
+1 read 0 5 => parked 1
+2 read 0 5 => parked 2
+1 write 1 61 => count 1
+2 write 1 6262 => count 2
+resume 2 => data 6262
+resume 1 => data 61
+2 read 0 5 => parked 3
+2 close 1 => ok
+resume 3 => data -
+1 read 0 5 => parked 4
+interrupt 4 => EINTR
+";
+
+const NO_NUMBER_IS_LEFT: &str = "\
+start => pid 1
+1 pipe => fds 0 1
+1 read 0 1 => calls spent
+1 write 1 70000*61 => calls spent
+1 write 1 62 => count 1
+1 read 0 70000 => data 62
+resume 18446744073709551615 => no call
+interrupt 18446744073709551615 => no call
+";
+
+const THE_LAST_NUMBERS: &str = "\
+start => pid 1
+1 pipe => fds 0 1
+1 read 0 1 => parked 18446744073709551613
+1 read 0 2 => parked 18446744073709551614
+1 write 1 70000*61 => calls spent
+resume 18446744073709551613 => parked 18446744073709551613
+interrupt 18446744073709551613 => EINTR
+1 read 0 1 => calls spent
+1 write 1 626262 => count 3
+resume 18446744073709551614 => data 6262
+resume 18446744073709551614 => no call
+1 read 0 9 => data 62
+1 read 0 9 => calls spent
+1 close 1 => ok
+1 read 0 9 => data -
+";
+
+/// The script of a session, and what it prints. The session writes `N*hh` for N times the byte hh, whose digits are all
+/// printed.
+fn script_and_output(alloc: Global, session: &str) -> Result<(String, String), Fail> {
+    let mut script = String::new(alloc);
+    let mut output = String::new(alloc);
+    for line in session.lines() {
+        let (asked, printed) = line.split_once(" => ").ok_or("a line prints nothing")?;
+        script.push_str(asked)?;
+        script.push('\n')?;
+        match printed.split_once('*') {
+            Some((front, byte)) => {
+                let count = front.strip_prefix("data ").ok_or("no bytes")?;
+                let digits = byte.repeat(alloc, count.parse::<usize>()?)?;
+                output.push_str("data ")?;
+                output.push_str(digits.as_str())?;
+            }
+            None => output.push_str(printed)?,
+        }
+        output.push('\n')?;
+    }
+    Ok((script, output))
+}
+
+/// Each line of the session prints what it says, where the calls are numbered from `first_call`.
+fn is_printed(rt: &impl Abort, alloc: Global, first_call: u64, session: &str) -> Result<(), Fail> {
+    let (script, output) = script_and_output(alloc, session)?;
+    let mut written = Vec::new(alloc);
+    let result = run_from(alloc, first_call, script.as_bytes(), &mut written);
+    let lines = u32::try_from(session.lines().count())?;
+    let totals = Totals {
+        lines,
+        steps: lines,
+        nomem: 0,
+    };
+    assert_eq!(rt; result, Ok(totals), "the end of {session:?}");
+    assert_eq!(rt;
+        str::from_utf8(written.as_slice()),
+        Ok(output.as_str()),
+        "the output of {session:?}"
+    );
+    Ok(())
+}
+
+#[test]
+fn calls_wait(rt: HostRuntime) -> Result<(), Fail> {
+    for session in [
+        A_SMALL_WRITE_AT_ITS_BOUNDARY,
+        THE_LAST_READER_LEAVES,
+        INTERRUPTED_LARGE_WRITES,
+        A_PARKED_CALL_KEEPS_ITS_END,
+        TWO_PROCESSES,
+    ] {
+        is_printed(&rt, rt.alloc(), 1, session)?;
+    }
+    Ok(())
+}
+
+#[test]
+fn numbers_are_spent(rt: HostRuntime) -> Result<(), Fail> {
+    is_printed(&rt, rt.alloc(), NEVER_GIVEN, NO_NUMBER_IS_LEFT)?;
+    is_printed(
+        &rt,
+        rt.alloc(),
+        18_446_744_073_709_551_613,
+        THE_LAST_NUMBERS,
+    )
+}

@@ -1,0 +1,139 @@
+//! Tables of what is asked of a kernel, and what it is to answer.
+use pl_kernel::{Kernel, NoMemory};
+use pl_model::{Bytes8, Call, Errno, Outcome, Reply, Step};
+use std::alloc::{Allocator, Global};
+use std::test::Fail;
+
+/// The number that no call gets.
+pub const NEVER_GIVEN: u64 = 18_446_744_073_709_551_615;
+
+/// Bytes that are still to be made, at most 16,777,216 of them.
+#[derive(Clone, Copy, Debug)]
+pub enum Data {
+    Text(&'static str),
+    /// The byte, so many times.
+    Many(u8, usize),
+    /// From a place on, so many bytes of a text without end, whose byte at each place is the place's remainder by 251.
+    Part(usize, usize),
+}
+
+/// A step whose bytes are still to be made. A call names its process, then its descriptor, and a read the most bytes that it
+/// takes; `Resume` and `Interrupt` name a parked call by its number.
+#[derive(Clone, Copy, Debug)]
+pub enum Ask {
+    Start,
+    Resume(u64),
+    Interrupt(u64),
+    Pipe(u32),
+    PipeNonblock(u32),
+    Read(u32, i32, u32),
+    Write(u32, i32, Data),
+    Close(u32, i32),
+}
+
+/// A reply whose bytes are still to be made.
+#[derive(Clone, Copy, Debug)]
+pub enum Want {
+    Pid(u32),
+    Fds(i32, i32),
+    Count(u32),
+    /// The count of a write whose rest nobody can read.
+    CountSigpipe(u32),
+    Bytes(Data),
+    Unit,
+    Fault(Errno),
+    Parked(u64),
+    NoProcess,
+    NoCall,
+    CallsSpent,
+}
+
+impl Data {
+    fn bytes<A: Allocator>(self, alloc: A) -> Result<Bytes8<A>, Fail> {
+        let bytes = match self {
+            Data::Text(text) => Vec::from_slice(alloc, text.as_bytes())?,
+            Data::Many(byte, times) => Vec::from_elem(alloc, byte, times)?,
+            Data::Part(from, count) => {
+                let mut bytes = Vec::with_capacity(alloc, count)?;
+                for i in 0..count {
+                    bytes.push((from.wrapping_add(i) % 251) as u8)?;
+                }
+                bytes
+            }
+        };
+        Ok(Bytes8::from_vec(bytes).ok_or("more bytes than a call moves")?)
+    }
+}
+
+impl Ask {
+    /// The step, with its bytes in memory of `alloc`. It fails where there is no memory, and at more than 16,777,216 bytes.
+    pub fn step<A: Allocator>(self, alloc: A) -> Result<Step<A>, Fail> {
+        Ok(match self {
+            Ask::Start => Step::Start,
+            Ask::Resume(call) => Step::Resume(call),
+            Ask::Interrupt(call) => Step::Interrupt(call),
+            Ask::Pipe(pid) => Step::Begin(pid, Call::Pipe { nonblock: false }),
+            Ask::PipeNonblock(pid) => Step::Begin(pid, Call::Pipe { nonblock: true }),
+            Ask::Read(pid, fd, n) => Step::Begin(pid, Call::Read { fd, n }),
+            Ask::Write(pid, fd, data) => {
+                let bytes = data.bytes(alloc)?;
+                Step::Begin(pid, Call::Write { fd, bytes })
+            }
+            Ask::Close(pid, fd) => Step::Begin(pid, Call::Close { fd }),
+        })
+    }
+}
+
+impl Want {
+    /// What a step comes to that answers this. It fails where there is no memory, and at more than 16,777,216 bytes.
+    pub fn outcome(self, alloc: Global) -> Result<Outcome, Fail> {
+        Ok(Outcome::Replied(match self {
+            Want::Pid(pid) => Reply::Pid(pid),
+            Want::Fds(first, second) => Reply::Fds(first, second),
+            Want::Count(n) => Reply::Count { n, sigpipe: false },
+            Want::CountSigpipe(n) => Reply::Count { n, sigpipe: true },
+            Want::Bytes(data) => Reply::Bytes(data.bytes(alloc)?),
+            Want::Unit => Reply::Unit,
+            Want::Fault(errno) => Reply::Fault(errno),
+            Want::Parked(call) => Reply::Parked(call),
+            Want::NoProcess => Reply::NoProcess,
+            Want::NoCall => Reply::NoCall,
+            Want::CallsSpent => Reply::CallsSpent,
+        }))
+    }
+}
+
+/// What a step came to.
+pub fn outcome_of<A: Allocator>(answer: Result<Reply<A>, NoMemory>) -> Outcome<A> {
+    match answer {
+        Ok(reply) => Outcome::Replied(reply),
+        Err(NoMemory) => Outcome::NoMemory,
+    }
+}
+
+/// Makes the steps, in order, and fails at the first that doesn't come to what its row says, which it names. It fails too
+/// where there is no memory for the bytes of a row.
+pub fn all_answer(alloc: Global, kernel: &mut Kernel, rows: &[(Ask, Want)]) -> Result<(), Fail> {
+    for (i, (ask, want)) in rows.iter().enumerate() {
+        let outcome = outcome_of(kernel.step(ask.step(alloc)?));
+        if outcome != want.outcome(alloc)? {
+            return Err(Fail::new(format_args!(
+                "row {i}: {ask:?} is to answer {want:?}, and comes to {outcome:?}"
+            )));
+        }
+    }
+    Ok(())
+}
+
+/// The process makes 128 pipes, which fill its table. It fails where one has other descriptors than the next two.
+pub fn fill_table(alloc: Global, kernel: &mut Kernel, pid: u32) -> Result<(), Fail> {
+    for i in 0..128u8 {
+        let first = 2 * i32::from(i);
+        all_answer(
+            alloc,
+            kernel,
+            &[(Ask::Pipe(pid), Want::Fds(first, first + 1))],
+        )?;
+    }
+    Ok(())
+}

@@ -1,0 +1,11 @@
+//! What the kernel answers to calls that wait.
+#![tactic(auto)]
+
+#[cfg(test)]
+mod call_numbers;
+#[cfg(test)]
+mod kept_ends;
+#[cfg(test)]
+mod turns;
+#[cfg(test)]
+mod waiting;
