@@ -9,10 +9,11 @@ use std::process::ExitCode;
 use std::{fs, io};
 
 /// A script is `NAME.script`, and what it prints `NAME.out`: its output, and the line of its fault.
-const NAMES: [&str; 5] = [
+const NAMES: [&str; 6] = [
     "bytes_before_end_of_file",
     "full_pipe",
     "parking",
+    "shared",
     "refusals",
     "bad_line",
 ];

@@ -1,16 +1,11 @@
 -- The calls that wait, as the machine has them, through each change.
-use Rattle.std.proofs.Common.{◌≡◌, ◌≢◌, ℕ, ◌+◌, ◌<◌, ◌≤◌, Bool, true, false, not, cond, [], ◌∷◌, ◌++◌, length, length-append, map, Option, Some, None, IfSome, IsSome, refl, sym, ◌∙◌, ap, subst, inl, inr, nat_eq, arith}
-use Rattle.std.specs.Prelude.{◌||◌, ◌&&◌, option_map}
-use Rattle.std.specs.Set.{is_member}
-use Rattle.std.proofs.lemmas.List.Folds.{list_any-append}
+use Rattle.std.proofs.Common.{◌≡◌, ◌≢◌, ℕ, ◌+◌, ◌≤◌, Bool, true, false, not, cond, [], ◌∷◌, ◌++◌, length, length-append, map, Option, Some, None, IfSome, IsSome, refl, sym, ◌∙◌, ap, subst, inl, inr, nat_eq, arith}
+use Rattle.std.specs.Prelude.{option_map}
 use Rattle.std.proofs.lemmas.Bool.{eq-eqb, ne_eqb}
 use Rattle.std.proofs.lemmas.Bool.Decides.{eqb_tells}
 use Rattle.pl_model.specs.Map.{Map, get, put, without}
-use Rattle.pl_model.proofs.Members.{or_left, or_right, or_elim}
-use Rattle.pl_model.proofs.Parking.{keeps_as}
-use Rattle.pl_model.proofs.Parking.{keeps as machine_keeps}
 use Rattle.pl_parked.specs.declared.call.ParkedCall.{ParkedCall}
-use Rattle.pl_parked.specs.Calls.{Rise, keeps}
+use Rattle.pl_parked.specs.Calls.{Rise}
 use Rattle.pl_parked.proofs.Rising.{Rise-lower, Rise-bounds}
 use Rattle.pl_kernel.specs.Held.{waiting_of, parked_of}
 
@@ -154,65 +149,6 @@ module _ {A : Type 0} where
 
   pub more-parked : (calls : Map ℕ (ParkedCall A)) (n : ℕ) (c : ParkedCall A) → parked_of (calls ++ (n, c) ∷ []) ≡ parked_of calls ++ (n, waiting_of c) ∷ []
   more-parked = more-each waiting_of
-
-  pub keeps-parked : (calls : Map ℕ (ParkedCall A)) (d : ℕ) → machine_keeps (parked_of calls) d ≡ keeps calls d
-  keeps-parked [] d = refl
-  keeps-parked (e ∷ es) d = ap (λ b. is_member nat_eq e.1.kept d || b) (keeps-parked es d)
-
-  pub keeps_more : (calls : Map ℕ (ParkedCall A)) (n : ℕ) (c : ParkedCall A) (d : ℕ) → keeps (calls ++ (n, c) ∷ []) d ≡ true → (keeps calls d || is_member nat_eq c.kept d) ≡ true
-  keeps_more calls n c d h = or_elim (keeps calls d) (is_member nat_eq c.kept d || false) (λ k. or_left (keeps calls d) _ k)
-      (λ k. or_right (keeps calls d) _ (or_elim (is_member nat_eq c.kept d) false (λ m. m) (λ f. absurd (cc)) k))
-      (sym (list_any-append (λ (e : ℕ × ParkedCall A). is_member nat_eq e.1.kept d) calls ((n, c) ∷ [])) ∙ h)
-
-  pub keeps_put : (calls : Map ℕ (ParkedCall A)) (n : ℕ) (was now : ParkedCall A) (d : ℕ) → get nat_eq calls n ≡ Some was → now.kept ≡ was.kept → keeps (put nat_eq calls n now) d ≡ keeps calls d
-  keeps_put [] n was now d here same = absurd (cc)
-  keeps_put (e ∷ es) n was now d here same = by (nat_eq e.0 n) here (keeps_put es n was now d)
-    where
-      by : (b : Bool) → cond b (Some e.1) (get nat_eq es n) ≡ Some was → (get nat_eq es n ≡ Some was → now.kept ≡ was.kept → keeps (put nat_eq es n now) d ≡ keeps es d) →
-          keeps (cond b ((n, now) ∷ es) (e ∷ put nat_eq es n now)) d ≡ keeps (e ∷ es) d
-      by true h rest = (let is : e.1 ≡ was = cc in λ i. is_member nat_eq ((same ∙ ap (λ z. z.kept) (sym is)) i) d || keeps es d)
-      by false h rest = ap (λ b. is_member nat_eq e.1.kept d || b) (rest h same)
-
-  pub keeps_without : (calls : Map ℕ (ParkedCall A)) (n d : ℕ) → keeps (without nat_eq calls n) d ≡ true → keeps calls d ≡ true
-  keeps_without [] n d h = h
-  keeps_without (e ∷ es) n d h = by (nat_eq n e.0) h (keeps_without es n d)
-    where
-      by : (b : Bool) → keeps (cond (not b) (e ∷ without nat_eq es n) (without nat_eq es n)) d ≡ true → (keeps (without nat_eq es n) d ≡ true → keeps es d ≡ true) → (is_member nat_eq e.1.kept d || keeps es d) ≡ true
-      by true k rest = or_right (is_member nat_eq e.1.kept d) _ (rest k)
-      by false k rest = or_elim (is_member nat_eq e.1.kept d) (keeps (without nat_eq es n) d) (λ m. or_left _ _ m) (λ m. or_right (is_member nat_eq e.1.kept d) _ (rest m)) k
-
-  pub get_keeps : (calls : Map ℕ (ParkedCall A)) (n : ℕ) (c : ParkedCall A) (d : ℕ) → get nat_eq calls n ≡ Some c → is_member nat_eq c.kept d ≡ true → keeps calls d ≡ true
-  get_keeps [] n c d h m = absurd (cc)
-  get_keeps (e ∷ es) n c d h m = by (nat_eq e.0 n) h (λ t. get_keeps es n c d t m)
-    where
-      by : (b : Bool) → cond b (Some e.1) (get nat_eq es n) ≡ Some c → (get nat_eq es n ≡ Some c → keeps es d ≡ true) → (is_member nat_eq e.1.kept d || keeps es d) ≡ true
-      by true t rest = (let is : e.1 ≡ c = cc in or_left _ _ (ap (λ z. is_member nat_eq z.kept d) is ∙ m))
-      by false t rest = or_right (is_member nat_eq e.1.kept d) _ (rest t)
-
-  -- where each number stands once, a number keeps what its call keeps
-  keeps_as_low : (n low next : ℕ) (calls : Map ℕ (ParkedCall A)) (d : ℕ) → Rise low next calls → n < low → keeps_as n (parked_of calls) d ≡ false
-  keeps_as_low n low next [] d r l = refl
-  keeps_as_low n low next (e ∷ es) d r l =
-      (λ i. (ne_eqb n e.0 (λ s. absurd (omega (arith, r.0, l, s))) i && is_member nat_eq e.1.kept d) || keeps_as n (parked_of es) d)
-      ∙ keeps_as_low n (e.0 + 1) next es d r.1 (omega (arith, r.0, l))
-
-  pub keeps_as-is : (n low next : ℕ) (calls : Map ℕ (ParkedCall A)) (c : ParkedCall A) (d : ℕ) → Rise low next calls → get nat_eq calls n ≡ Some c → keeps_as n (parked_of calls) d ≡ is_member nat_eq c.kept d
-  keeps_as-is n low next [] c d r h = absurd (cc)
-  keeps_as-is n low next (e ∷ es) c d r h = elim (eqb_tells e.0 n) as (λ _. keeps_as n (parked_of (e ∷ es)) d ≡ is_member nat_eq c.kept d) [
-    | inl t ↦
-        (let is : Some e.1 ≡ Some c = sym (ap (λ b. cond b (Some e.1) (get nat_eq es n)) t.0) ∙ h in
-        let same : e.1 ≡ c = cc in
-        (λ i. (eq-eqb n e.0 (sym t.1) i && is_member nat_eq e.1.kept d) || keeps_as n (parked_of es) d)
-        ∙ (λ i. is_member nat_eq e.1.kept d || keeps_as_low n (e.0 + 1) next es d r.1 (omega (arith, t.1)) i)
-        ∙ or_false (is_member nat_eq e.1.kept d) ∙ ap (λ z. is_member nat_eq z.kept d) same)
-    | inr t ↦
-        (λ i. (ne_eqb n e.0 (λ s. t.1 (sym s)) i && is_member nat_eq e.1.kept d) || keeps_as n (parked_of es) d)
-        ∙ keeps_as-is n (e.0 + 1) next es c d r.1 (sym (ap (λ b. cond b (Some e.1) (get nat_eq es n)) t.0) ∙ h)
-  ]
-    where
-      or_false : (b : Bool) → (b || false) ≡ b
-      or_false true = refl
-      or_false false = refl
 
 -- a call that a slot lends
 pub lent_some : {X Y : Type 0} (f : X → Y) (o : Option X) (y : Y) → option_map f o ≡ Some y → IsSome o

@@ -13,7 +13,8 @@ use lib.IntN.{nat_abs}
 use Rattle.std.proofs.lemmas.Int.{ints}
 use Rattle.slab.specs.Slab.{Slab, Updates, entries_from}
 use Rattle.pl_model.specs.Map.{set_at}
-use Rattle.pl_kernel.specs.Held.{at, change_at}
+use Rattle.pl_desc.specs.Descs.{change_at}
+use Rattle.pl_desc.specs.Rows.{at}
 
 pub at-map : {T V : Type 0} (f : T → V) (xs : List (Option T)) (q : ℕ) → at (map (option_map f) xs) q ≡ option_map f (at xs q)
 at-map f xs q = get_or-map (option_map f) xs q None

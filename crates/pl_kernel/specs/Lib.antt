@@ -1,9 +1,10 @@
 pub mod Held
 pub mod PipesView
-pub mod TablesView
 pub mod KernelView
 pub mod Left
+pub mod Opens
 pub mod Sound
 pub mod Parking
 pub mod Makes
 pub mod Decided
+pub mod Duplicates

@@ -1,23 +1,26 @@
 //! The kernel and its steps.
-ghost use Rattle.pl_model.specs.Numbers.{most_bytes};
-ghost use Rattle.pl_kernel.specs.Parking.{written};
-ghost use Rattle.std.specs.Prelude.{◌≡◌, ◌≤◌, ◌==◌, [], nat_eq, if◌then◌else◌, length, take, true, Some, None, IfOk, OnOk, OnErr, IsOk, IsTrue, IsSome, IfSome};
+mod descriptors;
+mod processes;
 
-use crate::access::Access;
+ghost use Rattle.pl_model.specs.Numbers.{most_bytes};
+ghost use Rattle.pl_model.specs.Flags.{nonblock_if};
+ghost use Rattle.pl_kernel.specs.Parking.{written};
+ghost use Rattle.std.specs.Prelude.{◌≡◌, ◌≤◌, ◌==◌, [], nat_eq, if◌then◌else◌, length, take, true, Some, None, IfOk, OnOk, OnErr, IsOk, IsTrue, IsSome, IfSome, IfNone};
+
+use crate::access::{Access, OpenEnd};
 use crate::decisions;
-use crate::leaving::discard_end;
-use crate::memory::NoMemory;
+use crate::leaving::release;
+use crate::opening::open_at;
+use crate::parking::park_call;
 use crate::pipes::Pipes;
-use crate::tables::{End, Tables};
+use bitflags::Flags;
+use pl_desc::{Descs, NoMemory};
 use pl_model::{
-    Bytes8, Call, Errno, KeyList, Limits, Mode, Outcome, ReadCase, Reply, Step, WriteCase,
+    Bytes8, Call, Errno, Limits, Mode, Node, OpenFlags, Outcome, ReadCase, Reply, Step, WriteCase,
 };
-use pl_parked::{ParkFault, Parked, ParkedCall};
+use pl_parked::Parked;
 use std::alloc::{Allocator, Global};
 use std::marker::Model;
-
-/// The processes that there may be.
-const PROCESSES: usize = 1024;
 
 /// The descriptions that may be live at one time.
 const DESCRIPTIONS: usize = 4096;
@@ -27,7 +30,7 @@ const DESCRIPTIONS: usize = 4096;
 pub struct Kernel<A: Allocator = Global> {
     alloc: A,
     limits: Limits,
-    tables: Tables<A>,
+    descs: Descs<A>,
     pipes: Pipes<A>,
     parked: Parked<A>,
 }
@@ -38,11 +41,11 @@ impl<A: Allocator> Model for Kernel<A> {
     ghost Value = { Held A };
 
     ghost use Rattle.pl_kernel.specs.KernelView.{view_of};
-    ghost use Rattle.pl_kernel.specs.Sound.{IsSound};
+    ghost use Rattle.pl_kernel.specs.Sound.{IsSound, AreHeld};
 
     ghost view = { view_of };
 
-    ghost invariant = { λ k. IsSound A (view_of k) };
+    ghost invariant = { λ k. IsSound A (view_of k) × AreHeld A k.descs k.parked.calls };
 }
 
 /// The read of no bytes, which is end of file.
@@ -50,6 +53,17 @@ fn no_bytes<A: Allocator>(alloc: A) -> Reply<A>
     ensures { result ≡ Reply.Bytes [] }
 {
     Reply::Bytes(Bytes8::from_vec(Vec::new(alloc)).unwrap())
+}
+
+/// The status flags of the ends of a new pipe.
+fn flags_of(nonblock: bool) -> OpenFlags
+    ensures { result ≡ nonblock_if nonblock }
+{
+    if nonblock {
+        OpenFlags::NONBLOCK
+    } else {
+        OpenFlags::empty()
+    }
 }
 
 /// The bytes of a write, and none of another call.
@@ -72,7 +86,10 @@ impl<A: Allocator + Copy> Kernel<A> {
     ghost use Rattle.pl_model.specs.Step.{without_call};
     ghost use Rattle.pl_model.specs.Transfer.{read_case, write_case, room};
     ghost use Rattle.pl_kernel.specs.Decided.{FitsRoom};
-    ghost use Rattle.pl_kernel.specs.Held.{at, is_pid, core_of};
+    ghost use Rattle.pl_desc.specs.Rows.{at, is_pid};
+    ghost use Rattle.pl_model.specs.Begin.{open_for};
+    ghost use Rattle.pl_kernel.specs.Held.{core_of, allows};
+    ghost use Rattle.pl_kernel.specs.Opens.{OpenOn, Opens};
     ghost use Rattle.pl_kernel.specs.Left.{has_reader, has_writer};
     ghost use Rattle.pl_kernel.specs.Sound.{MayWait};
     ghost use Rattle.pl_kernel.specs.Parking.{refusal, call_on, with_call, Adds, ReadWaits, WriteWaits};
@@ -86,23 +103,10 @@ impl<A: Allocator + Copy> Kernel<A> {
         Kernel {
             alloc,
             limits,
-            tables: Tables::new(alloc),
+            descs: Descs::new(alloc),
             pipes: Pipes::new(alloc),
             parked: Parked::new(alloc, limits.first_call),
         }
-    }
-
-    fn start(&mut self) -> Result<Reply<A>, NoMemory>
-        ensures done { IfOk result (λ reply. Does self.old Step.Start reply self.new) }
-        ensures undone { OnErr result (self.new ≡ self.old) }
-        ensures wanted { OnErr result (MayWant {A = A} self.old Step.Start) }
-    {
-        let processes = self.tables.processes();
-        if processes == PROCESSES {
-            return Ok(Reply::Fault(Errno::EAGAIN));
-        }
-        self.tables.start()?;
-        Ok(Reply::Pid(processes as u32 + 1))
     }
 
     fn pipe(&mut self, pid: u32, nonblock: bool) -> Result<Reply<A>, NoMemory>
@@ -111,38 +115,58 @@ impl<A: Allocator + Copy> Kernel<A> {
         ensures undone { OnErr result (self.new ≡ self.old) }
         ensures wanted { OnErr result (MayWant {A = A} self.old (Step.Begin pid (Call.Pipe nonblock))) }
     {
-        let Some(first) = self.tables.lowest(pid, 0) else {
+        let Some(first) = self.descs.lowest(pid, 0) else {
             return Ok(Reply::Fault(Errno::EMFILE));
         };
-        let Some(second) = self.tables.lowest(pid, first + 1) else {
+        let Some(second) = self.descs.lowest(pid, first + 1) else {
             return Ok(Reply::Fault(Errno::EMFILE));
         };
-        if self.tables.live() > DESCRIPTIONS - 2 {
+        if self.descs.live() > DESCRIPTIONS - 2 {
             return Ok(Reply::Fault(Errno::ENFILE));
         }
-        self.tables.reserve_two()?;
-        let pipe = self.pipes.make()?;
-        let reader = End {
-            pipe,
-            mode: Mode::Read,
-            nonblock,
-        };
-        let writer = End {
-            mode: Mode::Write,
-            ..reader
-        };
-        self.tables.open(pid, first, reader);
-        self.tables.open(pid, second, writer);
+        let flags = flags_of(nonblock);
+        let node = Node::Pipe(self.pipes.next_key());
+        self.descs.reserve(node, 2)?;
+        self.pipes.make()?;
+        open_at(&mut self.descs, pid, first, node, Mode::Read, flags);
+        open_at(&mut self.descs, pid, second, node, Mode::Write, flags);
         Ok(Reply::Fds(first as i32, second as i32))
+    }
+
+    // The pipe that a description is open on.
+    fn pipe_of(&self, key: usize) -> usize
+        requires { IsSome (at self.now.opened key) }
+        ensures { OpenOn self.now key result }
+    {
+        match self.descs.node(key) {
+            Node::Pipe(pipe) => pipe,
+            Node::File(_) => unreachable!(),
+        }
+    }
+
+    // The end of a pipe that a descriptor names, where its mode allows the access.
+    fn end_for(&self, pid: u32, fd: i32, access: Access) -> Option<OpenEnd>
+        ensures some { IfSome result (Opens self.now (allows access) pid fd) }
+        ensures none { IfNone result (open_for (allows access) (core_of {A = A} self.now) pid fd ≡ None) }
+    {
+        let key = self.descs.find(pid, fd)?;
+        if !access.is_allowed_by(self.descs.mode(key)) {
+            return None;
+        }
+        Some(OpenEnd {
+            key,
+            pipe: self.pipe_of(key),
+            nonblock: self.descs.flags(key).contains(OpenFlags::NONBLOCK),
+        })
     }
 
     // What a read of n bytes, not 0, of a pipe comes to.
     fn case_of_read(&self, pipe: usize, n: u32) -> ReadCase
         requires { IsSome (at self.now.pipes pipe) }
-        ensures { IfSome (at self.now.pipes pipe) (λ x. result ≡ read_case n (length x.bytes) (has_writer self.now.ends pipe)) }
+        ensures { IfSome (at self.now.pipes pipe) (λ x. result ≡ read_case n (length x.bytes) (has_writer self.now.opened pipe)) }
     {
         let held = self.pipes.held(pipe);
-        let has_writer = self.tables.has_end(pipe, Access::Writing);
+        let has_writer = self.descs.writers(Node::Pipe(pipe)) > 0;
         decisions::case_of_read(n as usize, held, has_writer)
     }
 
@@ -150,11 +174,11 @@ impl<A: Allocator + Copy> Kernel<A> {
     fn case_of_write(&self, pipe: usize, length: usize, taken: usize, may_wait: bool) -> WriteCase
         requires pipe { IsSome (at self.now.pipes pipe) }
         requires taken { taken ≤ length }
-        ensures case { IfSome (at self.now.pipes pipe) (λ x. result ≡ write_case length taken (room x) (has_reader self.now.ends pipe) may_wait) }
+        ensures case { IfSome (at self.now.pipes pipe) (λ x. result ≡ write_case length taken (room x) (has_reader self.now.opened pipe) may_wait) }
         ensures fits { IfSome (at self.now.pipes pipe) (λ x. FitsRoom result length taken (room x)) }
     {
         let room = self.pipes.room(pipe);
-        let has_reader = self.tables.has_end(pipe, Access::Reading);
+        let has_reader = self.descs.readers(Node::Pipe(pipe)) > 0;
         decisions::case_of_write(length, taken, room, has_reader, may_wait)
     }
 
@@ -164,20 +188,20 @@ impl<A: Allocator + Copy> Kernel<A> {
         ensures undone { OnErr result (self.new ≡ self.old) }
         ensures wanted { OnErr result (MayWant {A = A} self.old (Step.Begin pid (Call.Read fd n))) }
     {
-        let Some(open) = self.tables.end_for(pid, fd, Access::Reading) else {
+        let Some(open) = self.end_for(pid, fd, Access::Reading) else {
             return Ok(Reply::Fault(Errno::EBADF));
         };
         if n == 0 {
             return Ok(no_bytes(self.alloc));
         }
-        match self.case_of_read(open.end.pipe, n) {
+        match self.case_of_read(open.pipe, n) {
             ReadCase::Gives(count) => {
-                let bytes = self.pipes.take(open.end.pipe, count)?;
+                let bytes = self.pipes.take(open.pipe, count)?;
                 Ok(Reply::Bytes(Bytes8::from_vec(bytes).unwrap()))
             }
             ReadCase::EndOfFile => Ok(no_bytes(self.alloc)),
             ReadCase::Waits => {
-                if let Some(refusal) = self.refusal_to_wait(open.end.nonblock) {
+                if let Some(refusal) = self.refusal_to_wait(open.nonblock) {
                     return Ok(refusal);
                 }
                 let number = self.park(pid, Call::Read { fd, n }, open.key, 0)?;
@@ -192,7 +216,7 @@ impl<A: Allocator + Copy> Kernel<A> {
         ensures undone { OnErr result (self.new ≡ self.old) }
         ensures wanted { OnErr result (MayWant {A = A} self.old (Step.Begin pid (Call.Write fd bytes))) }
     {
-        let Some(open) = self.tables.end_for(pid, fd, Access::Writing) else {
+        let Some(open) = self.end_for(pid, fd, Access::Writing) else {
             return Ok(Reply::Fault(Errno::EBADF));
         };
         let length = bytes.as_slice().len();
@@ -202,25 +226,24 @@ impl<A: Allocator + Copy> Kernel<A> {
                 sigpipe: false,
             });
         }
-        match self.case_of_write(open.end.pipe, length, 0, !open.end.nonblock) {
+        match self.case_of_write(open.pipe, length, 0, !open.nonblock) {
             WriteCase::Broken => Ok(Reply::Fault(Errno::EPIPE)),
             WriteCase::CutShort => Ok(Reply::Count {
                 n: 0,
                 sigpipe: true,
             }),
             WriteCase::Ends { from, to } => {
-                self.pipes
-                    .append(open.end.pipe, &bytes.as_slice()[from..to])?;
+                self.pipes.append(open.pipe, &bytes.as_slice()[from..to])?;
                 Ok(Reply::Count {
                     n: to as u32,
                     sigpipe: false,
                 })
             }
             WriteCase::Waits { to, .. } => {
-                if let Some(refusal) = self.refusal_to_wait(open.end.nonblock) {
+                if let Some(refusal) = self.refusal_to_wait(open.nonblock) {
                     return Ok(refusal);
                 }
-                let number = self.park_write(pid, Call::Write { fd, bytes }, open.key, to)?;
+                let number = self.park_write(pid, Call::Write { fd, bytes }, open, to)?;
                 Ok(Reply::Parked(number))
             }
         }
@@ -242,25 +265,14 @@ impl<A: Allocator + Copy> Kernel<A> {
     // Parks a call that keeps the description of a key.
     fn park(&mut self, pid: u32, call: Call<A>, key: usize, taken: u32) -> Result<u64, NoMemory>
         requires left { ¬ (self.old.calls.next ≡ last_call) }
-        requires here { IsSome (at self.old.ends key) }
+        requires here { IsSome (at self.old.opened key) }
         requires may { MayWait call taken }
         ensures number { IfOk result (λ number. number ≡ self.old.calls.next) }
         ensures ok { OnOk result (self.new ≡ with_call self.old (call_on key pid call taken)) }
         ensures err { OnErr result (self.new ≡ self.old) }
     {
-        let mut kept = Vec::with_capacity(self.alloc, 1)?;
-        kept.push_reserved(key);
-        let Ok(number) = self.parked.park(ParkedCall {
-            pid,
-            call,
-            kept: KeyList::from_vec(kept),
-            fifo: None,
-            taken,
-            met: false,
-        })
-        else {
-            return Err(NoMemory);
-        };
+        let number = park_call(self.alloc, &mut self.parked, pid, call, key, taken)?;
+        self.descs.hold(key);
         Ok(number)
     }
 
@@ -269,24 +281,33 @@ impl<A: Allocator + Copy> Kernel<A> {
         &mut self,
         pid: u32,
         call: Call<A>,
-        key: usize,
+        end: OpenEnd,
         taken: usize,
     ) -> Result<u64, NoMemory>
         requires left { ¬ (self.old.calls.next ≡ last_call) }
-        requires here { IsSome (at self.old.ends key) }
+        requires on { OpenOn self.old end.key end.pipe }
         requires may { MayWait call taken }
         requires taken { taken ≤ length (written call) }
-        requires room { IfSome (at self.old.ends key) (λ e. IfSome (at self.old.pipes e.pipe) (λ x. taken ≤ room x)) }
+        requires room { IfSome (at self.old.pipes end.pipe) (λ x. taken ≤ room x) }
         ensures number { IfOk result (λ number. number ≡ self.old.calls.next) }
-        ensures ok { OnOk result (IfSome (at self.old.ends key) (λ e. Adds (with_call self.old (call_on key pid call taken)) e.pipe (take taken (written call)) self.new)) }
+        ensures ok { OnOk result (Adds (with_call self.old (call_on end.key pid call taken)) end.pipe (take taken (written call)) self.new) }
         ensures err { OnErr result (self.new ≡ self.old) }
     {
-        let pipe = self.tables.end(key).pipe;
-        let number = self.park(pid, call, key, taken as u32)?;
+        let number = park_call(
+            self.alloc,
+            &mut self.parked,
+            pid,
+            call,
+            end.key,
+            taken as u32,
+        )?;
         let call = self.parked.get(number).unwrap();
         let bytes = bytes_of(&call.call);
-        match self.pipes.append(pipe, &bytes[..taken]) {
-            Ok(()) => Ok(number),
+        match self.pipes.append(end.pipe, &bytes[..taken]) {
+            Ok(()) => {
+                self.descs.hold(end.key);
+                Ok(number)
+            }
             Err(NoMemory) => {
                 self.parked.unpark(number);
                 Err(NoMemory)
@@ -294,35 +315,13 @@ impl<A: Allocator + Copy> Kernel<A> {
         }
     }
 
-    fn close(&mut self, pid: u32, fd: i32) -> Reply<A>
-        requires { IsTrue (is_pid self.old.tables pid) }
-        ensures { Does self.old (Step.Begin pid (Call.Close fd)) result self.new }
-    {
-        let Some(key) = self.tables.find(pid, fd) else {
-            return Reply::Fault(Errno::EBADF);
-        };
-        self.tables.close(pid, fd as usize);
-        if self.parked.keeps(key) {
-            return Reply::Unit;
-        }
-        discard_end(&mut self.tables, &mut self.pipes, key);
-        Reply::Unit
-    }
-
-    // Ends a parked call. The end that it kept goes, where nothing else names it.
-    fn end_call(&mut self, number: u64)
+    // Ends a parked call, which keeps its description no more.
+    pub(super) fn end_call(&mut self, number: u64)
         requires { IsSome (get nat_eq self.old.calls.calls number) }
         ensures { core_of self.new ≡ settle (core_of self.old) (without_call (core_of self.old) number) }
     {
         let call = self.parked.take(number).unwrap();
-        let key = call.kept.as_slice()[0];
-        if self.tables.names(key) {
-            return;
-        }
-        if self.parked.keeps(key) {
-            return;
-        }
-        discard_end(&mut self.tables, &mut self.pipes, key);
+        release(&mut self.descs, &mut self.pipes, call.kept.as_slice()[0]);
     }
 
     fn resume_read(&mut self, number: u64, key: usize, n: u32) -> Result<Reply<A>, NoMemory>
@@ -331,7 +330,7 @@ impl<A: Allocator + Copy> Kernel<A> {
         ensures undone { OnErr result (self.new ≡ self.old) }
         ensures wanted { OnErr result (MayWant {A = A} self.old (Step.Resume number)) }
     {
-        let pipe = self.tables.end(key).pipe;
+        let pipe = self.pipe_of(key);
         match self.case_of_read(pipe, n) {
             ReadCase::Gives(count) => {
                 let bytes = self.pipes.take(pipe, count)?;
@@ -358,7 +357,7 @@ impl<A: Allocator + Copy> Kernel<A> {
         ensures undone { OnErr result (self.new ≡ self.old) }
         ensures wanted { OnErr result (MayWant {A = A} self.old (Step.Resume number)) }
     {
-        let pipe = self.tables.end(key).pipe;
+        let pipe = self.pipe_of(key);
         match self.case_of_write(pipe, length, taken as usize, true) {
             WriteCase::Broken => {
                 self.end_call(number);
@@ -408,7 +407,7 @@ impl<A: Allocator + Copy> Kernel<A> {
                 let taken = call.taken;
                 self.resume_write(number, key, length, taken)
             }
-            Call::Pipe { .. } | Call::Close { .. } => unreachable!(),
+            _ => unreachable!(),
         }
     }
 
@@ -441,7 +440,14 @@ impl<A: Allocator + Copy> Kernel<A> {
             Call::Pipe { nonblock } => self.pipe(pid, nonblock),
             Call::Read { fd, n } => self.read(pid, fd, n),
             Call::Write { fd, bytes } => self.write(pid, fd, bytes),
+            Call::Dup { fd } => Ok(self.dup(pid, fd)),
+            Call::Dup2 { fd, target } => Ok(self.dup2(pid, fd, target)),
+            Call::DupFd { fd, least } => Ok(self.dup_fd(pid, fd, least)),
             Call::Close { fd } => Ok(self.close(pid, fd)),
+            Call::GetFl { fd } => Ok(self.get_fl(pid, fd)),
+            Call::SetFl { fd, flags } => Ok(self.set_fl(pid, fd, flags)),
+            Call::Fork => self.fork(pid),
+            Call::Exit => Ok(self.exit(pid)),
         }
     }
 
@@ -454,7 +460,7 @@ impl<A: Allocator + Copy> Kernel<A> {
         match step {
             Step::Start => self.start(),
             Step::Begin(pid, call) => {
-                if !self.tables.has_process(pid) {
+                if !self.descs.has(pid) {
                     return Ok(Reply::NoProcess);
                 }
                 self.begin(pid, call)
@@ -468,7 +474,8 @@ impl<A: Allocator + Copy> Kernel<A> {
     ///
     /// For each state of the flat machine for which the kernel stands, the reply is the flat machine's, and the kernel
     /// stands for its next state. On `NoMemory` the kernel is as it was. `NoMemory` never comes where the flat machine's
-    /// reply is an error, `NoProcess`, `NoCall` or `CallsSpent`, nor at Close and Interrupt, which take no memory.
+    /// reply is an error, `NoProcess`, `NoCall` or `CallsSpent`, nor at Close, Dup, Dup2, DupFd, GetFl, SetFl, Exit and Interrupt,
+    /// which take no memory.
     pub fn step(&mut self, step: Step<A>) -> Result<Reply<A>, NoMemory>
         ensures made { IfOk result (λ reply. Makes self.old step reply self.new) }
         ensures unmade { OnErr result (self.new ≡ self.old) }

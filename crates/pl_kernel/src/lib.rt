@@ -8,10 +8,10 @@ mod access;
 mod decisions;
 mod kernel;
 mod leaving;
-mod memory;
+mod opening;
+mod parking;
 mod pipes;
 mod queue;
-mod tables;
 
 pub use kernel::Kernel;
-pub use memory::NoMemory;
+pub use pl_desc::NoMemory;

@@ -4,10 +4,11 @@ ghost use Rattle.pl_model.specs.Numbers.{first_capacity};
 ghost use Rattle.pl_model.specs.State.{empty_pipe};
 ghost use Rattle.pl_model.specs.Transfer.{room};
 ghost use Rattle.pl_model.specs.Map.{set_at};
-ghost use Rattle.pl_kernel.specs.Held.{at, change_at};
+ghost use Rattle.pl_desc.specs.Descs.{change_at};
+ghost use Rattle.pl_desc.specs.Rows.{at};
 
-use crate::memory::NoMemory;
 use crate::queue::Queue;
+use pl_desc::NoMemory;
 use slab::Slab;
 use std::alloc::Allocator;
 use std::marker::Model;
@@ -22,7 +23,7 @@ struct Buffer<A: Allocator> {
     hung: bool,
 }
 
-/// The pipes, by key. Contracts see the list of them.
+/// The pipes, by key. Contracts see the list of them, and the key that the next one gets.
 #[derive(Drop)]
 pub(crate) struct Pipes<A: Allocator> {
     alloc: A,
@@ -30,22 +31,20 @@ pub(crate) struct Pipes<A: Allocator> {
 }
 
 impl<A: Allocator> Model for Pipes<A> {
-    ghost use Rattle.std.specs.Prelude.{List, Option};
-    ghost use Rattle.pl_model.specs.State.{Pipe};
-
-    ghost Value = { List (Option Pipe) };
-
     ghost use Rattle.pl_kernel.specs.PipesView.{view_of, AllFit};
+    ghost use Rattle.pl_kernel.specs.PipesView.{Pipes as HeldPipes};
+
+    ghost Value = { HeldPipes };
 
     ghost view = { view_of };
 
-    ghost invariant = { λ k. AllFit (view_of k) };
+    ghost invariant = { λ k. AllFit (view_of k).pipes };
 }
 
 impl<A: Allocator + Copy> Pipes<A> {
     /// No pipes. It takes no memory.
     pub(crate) fn new(alloc: A) -> Pipes<A>
-        ensures { result ≡ [] }
+        ensures { result.pipes ≡ [] }
     {
         Pipes {
             alloc,
@@ -53,10 +52,18 @@ impl<A: Allocator + Copy> Pipes<A> {
         }
     }
 
+    /// The key that the next pipe gets.
+    pub(crate) fn next_key(&self) -> usize
+        ensures { result ≡ self.now.next }
+    {
+        self.buffers.vacant_key()
+    }
+
     /// Makes an empty pipe, and answers its key.
     pub(crate) fn make(&mut self) -> Result<usize, NoMemory>
-        ensures vacant { IfOk result (λ key. at self.old key ≡ None) }
-        ensures ok { IfOk result (λ key. at self.new ≡ set_at nat_eq (at self.old) key (Some empty_pipe)) }
+        ensures vacant { IfOk result (λ key. at self.old.pipes key ≡ None) }
+        ensures key { IfOk result (λ key. key ≡ self.old.next) }
+        ensures ok { IfOk result (λ key. at self.new.pipes ≡ set_at nat_eq (at self.old.pipes) key (Some empty_pipe)) }
         ensures err { OnErr result (self.new ≡ self.old) }
     {
         self.buffers.reserve(1)?;
@@ -70,8 +77,8 @@ impl<A: Allocator + Copy> Pipes<A> {
 
     /// How many bytes a pipe holds.
     pub(crate) fn held(&self, key: usize) -> usize
-        requires { IsSome (at self.now key) }
-        ensures value { IfSome (at self.now key) (λ x. result ≡ length x.bytes) }
+        requires { IsSome (at self.now.pipes key) }
+        ensures value { IfSome (at self.now.pipes key) (λ x. result ≡ length x.bytes) }
         ensures few { result ≤ first_capacity }
     {
         let buffer = &self.buffers[key];
@@ -80,8 +87,8 @@ impl<A: Allocator + Copy> Pipes<A> {
 
     /// How many more bytes a pipe can hold.
     pub(crate) fn room(&self, key: usize) -> usize
-        requires { IsSome (at self.now key) }
-        ensures value { IfSome (at self.now key) (λ x. result ≡ room x) }
+        requires { IsSome (at self.now.pipes key) }
+        ensures value { IfSome (at self.now.pipes key) (λ x. result ≡ room x) }
         ensures few { result ≤ first_capacity }
     {
         let buffer = &self.buffers[key];
@@ -90,8 +97,8 @@ impl<A: Allocator + Copy> Pipes<A> {
 
     /// Whether a pipe is hung.
     pub(crate) fn is_hung(&self, key: usize) -> bool
-        requires { IsSome (at self.now key) }
-        ensures { IfSome (at self.now key) (λ x. result ≡ x.hung) }
+        requires { IsSome (at self.now.pipes key) }
+        ensures { IfSome (at self.now.pipes key) (λ x. result ≡ x.hung) }
     {
         let buffer = &self.buffers[key];
         buffer.hung
@@ -99,11 +106,11 @@ impl<A: Allocator + Copy> Pipes<A> {
 
     /// Takes the first bytes out of a pipe.
     pub(crate) fn take(&mut self, key: usize, count: usize) -> Result<Vec<u8, A>, NoMemory>
-        requires here { IsSome (at self.old key) }
-        requires held { IfSome (at self.old key) (λ x. count ≤ length x.bytes) }
-        ensures bytes { IfOk result (λ bytes. IfSome (at self.old key) (λ x. bytes.items ≡ take count x.bytes)) }
+        requires here { IsSome (at self.old.pipes key) }
+        requires held { IfSome (at self.old.pipes key) (λ x. count ≤ length x.bytes) }
+        ensures bytes { IfOk result (λ bytes. IfSome (at self.old.pipes key) (λ x. bytes.items ≡ take count x.bytes)) }
         ensures few { IfOk result (λ bytes. length bytes.items ≤ first_capacity) }
-        ensures ok { OnOk result (at self.new ≡ change_at key (λ x. record x { bytes = drop count x.bytes }) (at self.old)) }
+        ensures ok { OnOk result (at self.new.pipes ≡ change_at key (λ x. record x { bytes = drop count x.bytes }) (at self.old.pipes)) }
         ensures err { OnErr result (self.new ≡ self.old) }
     {
         let alloc = self.alloc;
@@ -115,9 +122,9 @@ impl<A: Allocator + Copy> Pipes<A> {
 
     /// Adds bytes at the end of a pipe that has room for them.
     pub(crate) fn append(&mut self, key: usize, more: &[u8]) -> Result<(), NoMemory>
-        requires here { IsSome (at self.old key) }
-        requires room { IfSome (at self.old key) (λ x. length more.now ≤ room x) }
-        ensures ok { OnOk result (at self.new ≡ change_at key (λ x. record x { bytes = x.bytes ++ more.now }) (at self.old)) }
+        requires here { IsSome (at self.old.pipes key) }
+        requires room { IfSome (at self.old.pipes key) (λ x. length more.now ≤ room x) }
+        ensures ok { OnOk result (at self.new.pipes ≡ change_at key (λ x. record x { bytes = x.bytes ++ more.now }) (at self.old.pipes)) }
         ensures err { OnErr result (self.new ≡ self.old) }
     {
         let buffer = &mut self.buffers[key];
@@ -127,15 +134,15 @@ impl<A: Allocator + Copy> Pipes<A> {
 
     /// Lets a pipe go.
     pub(crate) fn discard(&mut self, key: usize)
-        ensures { at self.new ≡ set_at nat_eq (at self.old) key None }
+        ensures { at self.new.pipes ≡ set_at nat_eq (at self.old.pipes) key None }
     {
         let _gone = self.buffers.try_remove(key);
     }
 
     /// Says whether a pipe is hung.
     pub(crate) fn set_hung(&mut self, key: usize, hung: bool)
-        requires { IsSome (at self.old key) }
-        ensures { at self.new ≡ change_at key (λ x. record x { hung = hung }) (at self.old) }
+        requires { IsSome (at self.old.pipes key) }
+        ensures { at self.new.pipes ≡ change_at key (λ x. record x { hung = hung }) (at self.old.pipes) }
     {
         let buffer = &mut self.buffers[key];
         buffer.hung = hung;

@@ -1,5 +1,5 @@
 //! Descriptions and processes where there is memory, where a limit is met, and where the Nth request for memory is refused.
-use pl_desc::{Descs, NoMemory, OpenFault, StartFault};
+use pl_desc::{Descs, NoMemory, OpenFault, Released, StartFault};
 use pl_model::{Mode, Node, OpenFlags};
 use pl_testing::refusing::Refusing;
 use std::test::Fail;
@@ -88,5 +88,33 @@ fn a_reserve_is_enough(rt: HostRuntime) -> Result<(), Fail> {
     assert!(rt; writer.is_ok());
     assert!(rt; !heap.refused());
     assert_eq!(rt; descs.live(), 2);
+    Ok(())
+}
+
+/// A description is there until the last row that names it goes (POSIX.1-2017, fork and close).
+#[test]
+fn the_last_hold_of_a_description(rt: HostRuntime) -> Result<(), Fail> {
+    let node = Node::Pipe(7);
+    let mut descs = Descs::new(rt.alloc());
+    let parent = descs.start()?;
+    assert_eq!(rt; parent, 1);
+    let key = descs.open_desc(node, Mode::Read, OpenFlags::NONBLOCK)?;
+    assert_eq!(rt; descs.readers(node), 1);
+    assert_eq!(rt; descs.lowest(parent, 0), Some(0));
+    descs.install(parent, 0, key);
+    let child = descs.copy_table(parent)?;
+    assert_eq!(rt; child, 2);
+    let named = descs.remove(parent, 0).ok_or("not open")?;
+    assert_eq!(rt; named, key);
+    assert_eq!(rt; descs.release(named), Released::Still);
+    let named = descs.remove(child, 0).ok_or("not open")?;
+    assert_eq!(rt; named, key);
+    let gone = Released::Gone {
+        node,
+        mode: Mode::Read,
+        readers: 0,
+        writers: 0,
+    };
+    assert_eq!(rt; descs.release(named), gone);
     Ok(())
 }

@@ -132,40 +132,6 @@ fn a_write_takes_more(rt: HostRuntime) -> Result<(), Fail> {
     Ok(())
 }
 
-/// A key is kept while a call keeps it, be it alone, the second of two, or kept by two calls.
-#[test]
-fn keys_are_kept(rt: HostRuntime) -> Result<(), Fail> {
-    let alloc = rt.alloc();
-    let mut parked = Parked::new(alloc, 1);
-    assert!(rt; !parked.keeps(3));
-    assert_eq!(rt; parked.park(read(alloc, 1, 10)?), Ok(1));
-    assert_eq!(rt; parked.park(write(alloc, 2, 2)?), Ok(2));
-    assert_eq!(rt; parked.park(read(alloc, 3, 10)?), Ok(3));
-    let mut call = read(alloc, 1, 10)?;
-    call.kept = KeyList::from_vec(Vec::from_slice(alloc, &[7, 8])?);
-    assert_eq!(rt; parked.park(call), Ok(4));
-    for (key, is_kept) in [
-        (0, false),
-        (1, false),
-        (3, true),
-        (4, true),
-        (5, false),
-        (7, true),
-        (8, true),
-        (usize::MAX, false),
-    ] {
-        assert_eq!(rt; parked.keeps(key), is_kept, "key {key}");
-    }
-    assert!(rt; parked.take(1).is_some());
-    assert!(rt; parked.keeps(3), "the third call keeps it too");
-    assert!(rt; parked.take(3).is_some());
-    assert!(rt; !parked.keeps(3));
-    assert!(rt; parked.keeps(4) && parked.keeps(8));
-    assert!(rt; parked.take(4).is_some());
-    assert!(rt; !parked.keeps(7) && !parked.keeps(8));
-    Ok(())
-}
-
 #[test]
 fn a_want_of_memory_changes_nothing(rt: HostRuntime) -> Result<(), Fail> {
     let heap = Refusing::new(rt.alloc());

@@ -1,13 +1,14 @@
 //! Steps that take no memory answer as ever where none can be had.
 use pl_kernel::Kernel;
-use pl_model::{Errno, Limits};
+use pl_model::{Errno, Limits, Mode, OpenFlags};
 use pl_run::LIMITS;
 use pl_testing::asked::Ask::{
-    self, Close, Interrupt, Pipe, PipeNonblock, Read, Resume, Start, Write,
+    self, Close, Dup, Dup2, DupFd, Exit, Fork, GetFl, Interrupt, Pipe, PipeNonblock, Read, Resume,
+    SetFl, Start, Write,
 };
 use pl_testing::asked::Data::{Many, Text};
 use pl_testing::asked::Want::{
-    self, CallsSpent, Count, Fault, Fds, NoCall, NoProcess, Parked, Pid, Unit,
+    self, CallsSpent, Count, Fault, Fd, Fds, Flags, NoCall, NoProcess, Parked, Pid, Unit,
 };
 use pl_testing::asked::{NEVER_GIVEN, outcome_of};
 use pl_testing::refusing::Refusing;
@@ -98,6 +99,49 @@ fn refusals_take_no_memory(rt: HostRuntime) -> Result<(), Fail> {
     some_take_no_memory(&rt, rt.alloc(), 1, WITH_CALLS)
 }
 
+/// A call that names, closes or tells of descriptors, and an exit, answer where no memory can be had, and ask for none: also
+/// where a pipe goes with its bytes, or a process with its calls.
+#[test]
+fn calls_on_descriptors_take_no_memory(rt: HostRuntime) -> Result<(), Fail> {
+    const APPEND: &[OpenFlags] = &[OpenFlags::APPEND];
+    const ROWS: &[(Ask, Want)] = &[
+        (Fork(1), NoProcess),
+        (Exit(1), NoProcess),
+        (Start, Pid(1)),
+        (Pipe(1), Fds(0, 1)),
+        (Pipe(1), Fds(2, 3)),
+        (Write(1, 3, Text("ab")), Count(2)),
+        (Dup(1, 0), Fd(4)),
+        (DupFd(1, 1, 255), Fd(255)),
+        (DupFd(1, 1, 255), Fault(Errno::EMFILE)),
+        (DupFd(1, 1, 256), Fault(Errno::EINVAL)),
+        (Dup(1, 5), Fault(Errno::EBADF)),
+        (Dup2(1, 0, 256), Fault(Errno::EBADF)),
+        (SetFl(1, 4, APPEND), Unit),
+        (GetFl(1, 0), Flags(Mode::Read, APPEND)),
+        (GetFl(1, 5), Fault(Errno::EBADF)),
+        (SetFl(1, 5, APPEND), Fault(Errno::EBADF)),
+        (Dup2(1, 0, 0), Fd(0)),
+        (Dup2(1, 0, 4), Fd(4)),
+        (Fork(1), Pid(2)),
+        (Read(1, 0, 1), Parked(1)),
+        (Read(2, 4, 1), Parked(2)),
+        (Write(2, 1, Many(b'a', 70_000)), Parked(3)),
+        // the two ends of the pipe that holds "ab"
+        (Close(2, 2), Unit),
+        (Close(2, 3), Unit),
+        (Dup2(1, 0, 2), Fd(2)),
+        (Dup2(1, 1, 3), Fd(3)),
+        (Exit(2), Unit),
+        (Interrupt(2), NoCall),
+        (Interrupt(3), NoCall),
+        (Exit(1), Unit),
+        (Resume(1), NoCall),
+        (Dup(1, 0), NoProcess),
+    ];
+    some_take_no_memory(&rt, rt.alloc(), 1, ROWS)
+}
+
 /// The process, the descriptors and the descriptions for which there is no place are refused as ever where no memory can
 /// be had.
 #[test]
@@ -122,7 +166,9 @@ fn full_tables_take_no_memory(rt: HostRuntime) -> Result<(), Fail> {
     heap.refuse(1);
     for (ask, errno) in [
         (Start, Errno::EAGAIN),
+        (Fork(1), Errno::EAGAIN),
         (Pipe(1), Errno::EMFILE),
+        (Dup(1, 0), Errno::EMFILE),
         (Pipe(17), Errno::ENFILE),
     ] {
         let outcome = outcome_of(kernel.step(ask.step(&heap)?));

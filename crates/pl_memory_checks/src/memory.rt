@@ -5,8 +5,9 @@ use pl_run::LIMITS;
 use pl_testing::asked::{Ask, Want, outcome_of};
 use pl_testing::examples::{
     A_PARKED_CALL_KEEPS_ITS_END, A_SMALL_WRITE_AT_ITS_BOUNDARY, A_WAITING_WRITER_IS_A_WRITER,
-    AN_INTERRUPTED_LARGE_WRITE, BYTES_BEFORE_END_OF_FILE, PARTIAL_AND_WHOLE_NOT_WAITING,
-    THE_LAST_READER_LEAVES,
+    AN_EXIT_DROPS_PARKED_CALLS, AN_INTERRUPTED_LARGE_WRITE, BYTES_BEFORE_END_OF_FILE,
+    FLAGS_OF_SHARED_DESCRIPTIONS, INTERLEAVING_WITH_A_LARGE_WRITE, PARTIAL_AND_WHOLE_NOT_WAITING,
+    THE_LAST_READER_LEAVES, THREE_NAMES_OF_ONE_WRITE_END,
 };
 use pl_testing::refusing::Refusing;
 use pl_testing::wanting::{MOST_REQUESTS, moved, steps_of, takes_no_memory};
@@ -138,6 +139,19 @@ fn calls_that_wait_survive_refusals(rt: HostRuntime) -> Result<(), Fail> {
         THE_LAST_READER_LEAVES.as_slice(),
         A_PARKED_CALL_KEEPS_ITS_END.as_slice(),
         A_WAITING_WRITER_IS_A_WRITER.as_slice(),
+    ] {
+        refuse_each(&rt, rt.alloc(), rows)?;
+    }
+    Ok(())
+}
+
+#[test]
+fn calls_that_share_descriptions_survive_refusals(rt: HostRuntime) -> Result<(), Fail> {
+    for rows in [
+        FLAGS_OF_SHARED_DESCRIPTIONS.as_slice(),
+        INTERLEAVING_WITH_A_LARGE_WRITE.as_slice(),
+        THREE_NAMES_OF_ONE_WRITE_END.as_slice(),
+        AN_EXIT_DROPS_PARKED_CALLS.as_slice(),
     ] {
         refuse_each(&rt, rt.alloc(), rows)?;
     }

@@ -3,7 +3,9 @@ use pl_kernel::Kernel;
 use pl_model::Errno::{EBADF, EINTR, EPIPE};
 use pl_model::Outcome;
 use pl_run::LIMITS;
-use pl_testing::asked::Ask::{self, Interrupt, Pipe, Read, Resume, Start, Write};
+use pl_testing::asked::Ask::{
+    self, Close, Exit, Fork, Interrupt, Pipe, Read, Resume, Start, Write,
+};
 use pl_testing::asked::Data::{Many, Text};
 use pl_testing::asked::Want::{
     self, Bytes, Count, Fault, Fds, NoCall, NoProcess, Parked, Pid, Unit,
@@ -282,6 +284,54 @@ fn reads_take_nothing(rt: HostRuntime) -> Result<(), Fail> {
         (3, &[Parked(1), Parked(2), INTERRUPTED, INTERRUPTED]),
         (4, &[A, NoCall, INTERRUPTED]),
         (5, &[NoCall, NoCall]),
+    ];
+    each_is_passed_over(&rt, rt.alloc(), ROWS, BEHIND)
+}
+
+/// A fork that finds no memory leaves no process and no name behind: the next fork gets its pid, and the last writer is the
+/// last still.
+#[test]
+fn a_fork_leaves_nothing(rt: HostRuntime) -> Result<(), Fail> {
+    const ROWS: &[(Ask, Want)] = &[
+        (Start, Pid(1)),
+        (Pipe(1), Fds(0, 1)),
+        (Fork(1), Pid(2)),
+        (Write(2, 1, Text("a")), Count(1)),
+        (Read(1, 0, 9), A),
+        (Exit(2), Unit),
+        (Fork(1), Pid(2)),
+        (Close(1, 1), Unit),
+        (Exit(2), Unit),
+        (Read(1, 0, 9), NOTHING),
+    ];
+    const BEHIND: &[(usize, &[Want])] = &[
+        (
+            0,
+            &[
+                NoProcess, NoProcess, NoProcess, NoProcess, NoProcess, NoProcess, NoProcess,
+                NoProcess, NoProcess,
+            ],
+        ),
+        (
+            1,
+            &[
+                Pid(2),
+                NOT_OPEN,
+                NOT_OPEN,
+                Unit,
+                Pid(2),
+                NOT_OPEN,
+                Unit,
+                NOT_OPEN,
+            ],
+        ),
+        (
+            2,
+            &[NoProcess, Parked(1), NoProcess, Pid(2), Unit, Unit, NOTHING],
+        ),
+        (3, &[Parked(1), Unit, Pid(2), Unit, Unit, NOTHING]),
+        (4, &[Unit, Pid(2), Unit, Unit, A]),
+        (6, &[Unit, NoProcess, NOTHING]),
     ];
     each_is_passed_over(&rt, rt.alloc(), ROWS, BEHIND)
 }

@@ -1,7 +1,8 @@
 -- What the end of a step makes of each change that a call makes to a settled state.
 use Rattle.std.proofs.Common.{◌≡◌, ◌≢◌, ℕ, ◌+◌, ◌<◌, ◌≤◌, Bool, true, false, cond, List, Option, Some, None, refl, sym, ◌∙◌, ap, inl, inr, nat_eq}
 use Rattle.std.specs.Prelude.{◌||◌, ◌&&◌}
-use Rattle.std.specs.Set.{is_member}
+use Rattle.std.specs.List.{list_any}
+use Rattle.std.proofs.Math.Path.{fun_ext}
 use Rattle.std.proofs.lemmas.Bool.{eq-eqb, ne_eqb}
 use Rattle.std.proofs.lemmas.Bool.Decides.{eqb_tells}
 use Rattle.pl_model.specs.declared.calls.Mode.{Mode}
@@ -11,17 +12,17 @@ use Rattle.pl_model.specs.Numbers.{open_max, most_processes}
 use Rattle.pl_model.specs.Modes.{any_mode, reads, writes}
 use Rattle.pl_model.specs.Map.{set_at}
 use Rattle.pl_model.specs.Keys.{Node, NewKeys, PipeNode, FileNode, same_node}
-use Rattle.pl_model.specs.State.{Core, Description, Pipe, empty_pipe, set_pipe}
-use Rattle.pl_model.specs.Live.{in_rows, in_parked, pids, is_live, is_end, is_held}
+use Rattle.pl_model.specs.State.{Core, Description, Pipe, empty_pipe, set_pipe, set_description}
+use Rattle.pl_model.specs.Live.{in_rows, in_parked, pids, in_use, is_live, is_end, is_held, has_name}
 use Rattle.pl_model.specs.Settle.{settle, settled_pipe, is_kept, is_hung}
-use Rattle.pl_model.specs.Tables.{start, close_row}
+use Rattle.pl_model.specs.Tables.{install, close_row}
 use Rattle.pl_model.specs.Begin.{make_pipe}
 use Rattle.pl_model.specs.Numbered.{numbers}
 use Rattle.pl_model.specs.StandsFor.{AreUnused}
 use Rattle.pl_model.specs.Laws.{IsSettled}
-use Rattle.pl_model.proofs.Members.{both_ways, or_left}
-use Rattle.pl_model.proofs.Settles.{at_other, at_key, same-settled, moved-settled}
-use Rattle.pl_model.proofs.Tidy.{Row, row_live, live_same, live_row, is_on, has_end, end_passes, SameEnds, tidy_pipe, settled_pipe-is, tidy, settled-live, settled-kept, settled-file, kept-same, settled_pipe-same}
+use Rattle.pl_model.proofs.Members.{or_left}
+use Rattle.pl_model.proofs.Settles.{at_other, at_key, moved-settled}
+use Rattle.pl_model.proofs.Tidy.{Row, row_live, live_same, is_on, has_end, end_passes, SameEnds, tidy_pipe, settled_pipe-is, tidy, settled-live, settled-kept, settled-file, kept-same, settled_pipe-same}
 
 -- the bytes of a pipe with an end change
 module _ {A : Type 0} (c : Core A numbers) (settled : IsSettled c) (p : ℕ) (x : Pipe) (is : c.pipes p ≡ Some x) (held : is_held c (PipeNode p) ≡ true) (bytes : List ℕ) where
@@ -35,30 +36,95 @@ module _ {A : Type 0} (c : Core A numbers) (settled : IsSettled c) (p : ℕ) (x 
   pub bytes-settled : settle c changed ≡ changed
   bytes-settled = moved-settled c changed settled (record { descriptions = refl; files = refl; names = refl }) same_live p x is held bytes refl
 
--- a process starts, whose rows are empty
-module _ {A : Type 0} (c : Core A numbers) (settled : IsSettled c) (pid : ℕ) (empty : (fd : ℕ) → c.rows pid fd ≡ None) where
-  abbrev begun : Core A numbers
-  begun = start c pid
+-- a free descriptor comes to name what a row names
+module _ {A : Type 0} (c : Core A numbers) (pid fd d : ℕ) (free : c.rows pid fd ≡ None) (from : Row c d) where
+  abbrev installed : Core A numbers
+  installed = install c pid fd d
 
-  still_process : (q : ℕ) → c.processes q ≡ true → begun.processes q ≡ true
-  still_process q h = by (nat_eq pid q) where
-    by : (b : Bool) → cond b true (c.processes q) ≡ true
-    by true = refl
-    by false = h
-
-  begun_live : (d : ℕ) → is_live begun d ≡ is_live c d
-  begun_live d = live_same c begun refl d
-      (λ r. record { pid = r.pid; fd = r.fd; low = r.low; high = r.high; process = still_process r.pid r.process; within = r.within; names = r.names })
-      (λ r. record { pid = r.pid; fd = r.fd; low = r.low; high = r.high; within = r.within; names = r.names; process = was r.pid r.fd r.process r.names })
+  pub installed_live : (q : ℕ) → is_live installed q ≡ is_live c q
+  installed_live q = live_same c installed refl q
+      (λ r. record { pid = r.pid; fd = r.fd; low = r.low; high = r.high; process = r.process; within = r.within; names = stands r.pid r.fd r.names })
+      (λ r. by r (nat_eq r.pid pid && nat_eq r.fd fd) refl)
     where
-      was : (q fd : ℕ) → begun.processes q ≡ true → c.rows q fd ≡ Some d → c.processes q ≡ true
-      was q fd h e = elim (eqb_tells pid q) as (λ _. c.processes q ≡ true) [
-        | inl t ↦ (let none : None ≡ Some d = sym (empty fd) ∙ ap (λ z. c.rows z fd) t.1 ∙ e in absurd (cc))
-        | inr t ↦ sym (at_other c.processes pid q true t.1) ∙ h
+      stands : (p k : ℕ) → c.rows p k ≡ Some q → installed.rows p k ≡ Some q
+      stands p k e = elim (eqb_tells p pid) as (λ _. installed.rows p k ≡ Some q) [
+        | inl t ↦ elim (eqb_tells k fd) as (λ _. installed.rows p k ≡ Some q) [
+          | inl s ↦ (let none : None ≡ Some q = sym free ∙ (λ i. c.rows (sym t.1 i) (sym s.1 i)) ∙ e in absurd (cc))
+          | inr s ↦ (λ i. cond (t.0 i && s.0 i) (Some d) (c.rows p k)) ∙ e
+        ]
+        | inr t ↦ (λ i. cond (t.0 i && nat_eq k fd) (Some d) (c.rows p k)) ∙ e
       ]
 
-  pub start-settled : settle c begun ≡ begun
-  start-settled = same-settled c begun settled (record { descriptions = refl; files = refl; names = refl }) begun_live refl
+      by : (r : Row installed q) (b : Bool) → (nat_eq r.pid pid && nat_eq r.fd fd) ≡ b → Row c q
+      by r true t = (
+          let is : Some d ≡ Some q = sym (ap (λ b. cond b (Some d) (c.rows r.pid r.fd)) t) ∙ r.names in
+          let same : d ≡ q = cc in
+          record { pid = from.pid; fd = from.fd; low = from.low; high = from.high; process = from.process; within = from.within; names = from.names ∙ ap (λ z. Some z) same })
+      by r false t = record {
+        pid = r.pid;
+        fd = r.fd;
+        low = r.low;
+        high = r.high;
+        process = r.process;
+        within = r.within;
+        names = sym (ap (λ b. cond b (Some d) (c.rows r.pid r.fd)) t) ∙ r.names;
+      }
+
+-- a descriptor names what it named
+pub install-same : {A : Type 0} (c : Core A numbers) (pid fd d : ℕ) → c.rows pid fd ≡ Some d → install c pid fd d ≡ c
+install-same c pid fd d named = λ i. record c { rows = fun_ext (λ q. fun_ext (λ k. at q k)) i }
+  where
+    at : (q k : ℕ) → cond (nat_eq q pid && nat_eq k fd) (Some d) (c.rows q k) ≡ c.rows q k
+    at q k = elim (eqb_tells q pid) as (λ _. cond (nat_eq q pid && nat_eq k fd) (Some d) (c.rows q k) ≡ c.rows q k) [
+      | inl t ↦ elim (eqb_tells k fd) as (λ _. cond (nat_eq q pid && nat_eq k fd) (Some d) (c.rows q k) ≡ c.rows q k) [
+        | inl s ↦ (λ i. cond (t.0 i && s.0 i) (Some d) (c.rows q k)) ∙ sym ((λ i. c.rows (t.1 i) (s.1 i)) ∙ named)
+        | inr s ↦ (λ i. cond (t.0 i && s.0 i) (Some d) (c.rows q k))
+      ]
+      | inr t ↦ (λ i. cond (t.0 i && nat_eq k fd) (Some d) (c.rows q k))
+    ]
+
+-- a description gives its place to one on the same node, of the same mode
+module _ {A : Type 0} (c : Core A numbers) (settled : IsSettled c) (d : ℕ) (x y : Description numbers) (described : c.descriptions d ≡ Some x)
+    (same_place : y.node ≡ x.node) (same_mode : y.mode ≡ x.mode) where
+  abbrev replaced : Core A numbers
+  replaced = set_description c d y
+
+  replaced_live : (q : ℕ) → is_live replaced q ≡ is_live c q
+  unfolding in_rows in_parked pids
+  replaced_live q = refl
+
+  same_end : (test : Mode → Bool) (on : Node numbers) (q : ℕ) → is_end test on (replaced.descriptions q) ≡ is_end test on (c.descriptions q)
+  same_end test on q = elim (eqb_tells d q) as (λ _. is_end test on (replaced.descriptions q) ≡ is_end test on (c.descriptions q)) [
+    | inl t ↦
+        ap (λ b. is_end test on (cond b (Some y) (c.descriptions q))) t.0
+        ∙ (λ i. same_node (same_place i) on && test (same_mode i))
+        ∙ sym (ap (λ z. is_end test on (c.descriptions z)) (sym t.1) ∙ ap (is_end test on) described)
+    | inr t ↦ ap (λ b. is_end test on (cond b (Some y) (c.descriptions q))) t.0
+  ]
+
+  replaced_ends : (test : Mode → Bool) (on : Node numbers) → has_end replaced test on ≡ has_end c test on
+  unfolding in_rows in_parked pids
+  replaced_ends test on = λ i. list_any (fun_ext (same_end test on) i) (in_use c)
+
+  replaced_kept : (on : Node numbers) → is_kept replaced on ≡ is_kept c on
+  replaced_kept on = ap (λ b. b || has_name c on) (replaced_ends any_mode on)
+
+  replaced_pipe : (p : ℕ) (z : Pipe) → settled_pipe c replaced p z ≡ settled_pipe c c p z
+  replaced_pipe p z =
+      settled_pipe-is c replaced p z
+      ∙ (λ i. tidy_pipe (replaced_ends any_mode (PipeNode p) i) (replaced_ends reads (PipeNode p) i) (replaced_ends writes (PipeNode p) i) (is_hung (c.pipes p) || has_end c writes (PipeNode p)) z)
+      ∙ sym (settled_pipe-is c c p z)
+
+  pub replace-settled : settle c replaced ≡ replaced
+  replace-settled = tidy c replaced live
+      (λ p z e. (replaced_kept (PipeNode p) ∙ (settled-kept c settled p z e).0, replaced_pipe p z ∙ (settled-kept c settled p z e).1))
+      (λ f z e. replaced_kept (FileNode f) ∙ settled-file c settled f z e)
+    where
+      live : (q : ℕ) (z : Description numbers) → replaced.descriptions q ≡ Some z → is_live replaced q ≡ true
+      live q z e = replaced_live q ∙ (elim (eqb_tells d q) as (λ _. is_live c q ≡ true) [
+        | inl t ↦ ap (is_live c) (sym t.1) ∙ settled-live c settled d x described
+        | inr t ↦ settled-live c settled q z (sym (at_other c.descriptions d q (Some y) t.1) ∙ e)
+      ])
 
 -- a pipe is made, its ends at two free descriptors of a process
 module _ {A : Type 0} (c : Core A numbers) (settled : IsSettled c) (new : NewKeys numbers) (unused : AreUnused c new) (pid first second : ℕ) (flags : OpenFlags)
@@ -200,12 +266,12 @@ module _ {A : Type 0} (c : Core A numbers) (settled : IsSettled c) (new : NewKey
             (kept-same c made refl (PipeNode p) same ∙ (settled-kept c settled p x was).0, settled_pipe-same c made refl p x same ∙ (settled-kept c settled p x was).1)
       ]
 
--- a descriptor is closed
+-- a descriptor is closed, and rows that name something else stay
 module _ {A : Type 0} (c : Core A numbers) (pid fd gone : ℕ) (named : c.rows pid fd ≡ Some gone) where
   abbrev closed : Core A numbers
   closed = close_row c pid fd
 
-  same_row : (q k d : ℕ) → d ≢ gone → c.rows q k ≡ Some d → closed.rows q k ≡ Some d
+  pub same_row : (q k d : ℕ) → d ≢ gone → c.rows q k ≡ Some d → closed.rows q k ≡ Some d
   same_row q k d n e = elim (eqb_tells q pid) as (λ _. closed.rows q k ≡ Some d) [
     | inl t ↦ elim (eqb_tells k fd) as (λ _. closed.rows q k ≡ Some d) [
       | inl s ↦ absurd (n (let other : Some d ≡ Some gone = sym e ∙ (λ i. c.rows (t.1 i) (s.1 i)) ∙ named in cc))
@@ -213,30 +279,3 @@ module _ {A : Type 0} (c : Core A numbers) (pid fd gone : ℕ) (named : c.rows p
     ]
     | inr t ↦ (λ i. cond (t.0 i && nat_eq k fd) None (c.rows q k)) ∙ e
   ]
-
-  row_was_there : (q k d : ℕ) → closed.rows q k ≡ Some d → c.rows q k ≡ Some d
-  row_was_there q k d e = by (nat_eq q pid && nat_eq k fd) e where
-    by : (b : Bool) → cond b None (c.rows q k) ≡ Some d → c.rows q k ≡ Some d
-    by true e = absurd (cc)
-    by false e = e
-
-  -- who isn't named by it is live as before
-  pub closed_live : (d : ℕ) → d ≢ gone → is_live closed d ≡ is_live c d
-  closed_live d n = live_same c closed refl d
-      (λ r. record { pid = r.pid; fd = r.fd; low = r.low; high = r.high; process = r.process; within = r.within; names = same_row r.pid r.fd d n r.names })
-      (λ r. record { pid = r.pid; fd = r.fd; low = r.low; high = r.high; process = r.process; within = r.within; names = row_was_there r.pid r.fd d r.names })
-
-  -- the one that it alone named, and that no parked call keeps, isn't live any more
-  pub closed_dead : ((q k : ℕ) → c.rows q k ≡ Some gone → (q ≡ pid) × (k ≡ fd)) → is_member nat_eq (in_parked c) gone ≡ false → is_live closed gone ≡ false
-  unfolding in_parked
-  closed_dead alone unkept = both_ways (is_live closed gone) false (λ h. absurd (no_row alone (live_row closed gone (still unkept) h))) (λ h. absurd (cc))
-    where
-      still : is_member nat_eq (in_parked c) gone ≡ false → is_member nat_eq (in_parked closed) gone ≡ false
-      still e = e
-
-      no_row : ((q k : ℕ) → c.rows q k ≡ Some gone → (q ≡ pid) × (k ≡ fd)) → Row closed gone → ⊥
-      no_row alone r =
-          let a = alone r.pid r.fd (row_was_there r.pid r.fd gone r.names) in
-          let empty : closed.rows r.pid r.fd ≡ None = (λ i. cond (eq-eqb r.pid pid a.0 i && eq-eqb r.fd fd a.1 i) None (c.rows r.pid r.fd)) in
-          let none : None ≡ Some gone = sym empty ∙ r.names in
-          cc

@@ -7,14 +7,14 @@ use Rattle.pl_model.specs.Settle.{settle}
 use Rattle.pl_model.specs.Trial.{flowed}
 use Rattle.pl_model.specs.Transfer.{read_pipe, write_pipe}
 use Rattle.pl_model.specs.Tables.{lowest, lowest_pid}
-use Rattle.pl_model.specs.Begin.{begin_pipe, begin_read, begin_write, begin_close}
+use Rattle.pl_model.specs.Begin.{begin_pipe, begin_read, begin_write, begin_dup, begin_dup2, begin_dup_fd, begin_close, begin_get_fl, begin_set_fl, begin_fork}
 use Rattle.pl_model.specs.Step.{try, begin, happen, core_step}
 use Rattle.pl_model.specs.Numbered.{step}
-use Rattle.pl_model.specs.Words.{words, without_return, number, signed, hex_bytes, repeated, digits_or_repeated, bytes_of}
-use Rattle.pl_model.specs.Lines.{pipe_of, read_of, write_of, close_of, call_of, start_of, resume_of, interrupt_of, begin_of, words_line, line_of_words, line}
-use Rattle.pl_model.specs.Shown.{hex_text, bytes_text, reply_text, outcome_text}
+use Rattle.pl_model.specs.Words.{words, without_return, number, signed, hex_bytes, repeated, digits_or_repeated, bytes_of, flag_of, with_flags, flags_of, flags_or_none}
+use Rattle.pl_model.specs.Lines.{pipe_of, read_of, write_of, dup_of, dup2_of, close_of, get_fl_of, set_fl_of, call_of, start_of, resume_of, interrupt_of, begin_of, words_line, line_of_words, line}
+use Rattle.pl_model.specs.Shown.{hex_text, bytes_text, flags_text, reply_text, outcome_text}
 use Rattle.pl_model.specs.Script.{lines, asked, answers}
-use Rattle.pl_model.specs.Worked.{BytesBeforeEndOfFile, PartialAndWholeNotWaiting, ReadOfNothing, WriteOfNothing, LastWriterCloses, SmallWriteAtItsBoundary, InterruptedLargeWrite, ParkedCallKeepsItsEnd, LastReaderLeaves, CallNumbersSpent, TableOfWrites, ScriptOfBytesBeforeEndOfFile, EmptyScript, ScriptWithoutLineFeed, ScriptOfNoProcess}
+use Rattle.pl_model.specs.Worked.{BytesBeforeEndOfFile, PartialAndWholeNotWaiting, ReadOfNothing, WriteOfNothing, LastWriterCloses, SmallWriteAtItsBoundary, InterruptedLargeWrite, ParkedCallKeepsItsEnd, LastReaderLeaves, CallNumbersSpent, InterleavingWithALargeWrite, ThreeNamesOfOneWriteEnd, FlagsOfSharedDescriptions, FullTable, DescriptorsThatAreNotOpen, ExitDropsParkedCalls, TableOfWrites, ScriptOfBytesBeforeEndOfFile, ScriptOfFlags, EmptyScript, ScriptWithoutLineFeed, ScriptOfNoProcess}
 
 module _ (A : Type 0) where
   pub bytes_before_end_of_file : BytesBeforeEndOfFile A
@@ -56,6 +56,34 @@ module _ (A : Type 0) where
   pub call_numbers_spent : CallNumbersSpent A
   unfolding first_from numbers_from pids in_rows in_parked readers writers settle flowed read_pipe write_pipe lowest lowest_pid begin_pipe begin_read begin_write begin_close try begin happen core_step step
   call_numbers_spent file_max = refl
+
+  pub interleaving_with_a_large_write : InterleavingWithALargeWrite A
+  unfolding first_from numbers_from pids in_rows in_parked readers writers settle flowed read_pipe write_pipe lowest lowest_pid begin_pipe begin_read begin_write begin_dup begin_dup2 begin_dup_fd begin_close begin_get_fl begin_set_fl begin_fork try begin happen core_step step
+  interleaving_with_a_large_write file_max = refl
+
+  pub three_names_of_one_write_end : ThreeNamesOfOneWriteEnd A
+  unfolding first_from numbers_from pids in_rows in_parked readers writers settle flowed read_pipe write_pipe lowest lowest_pid begin_pipe begin_read begin_write begin_dup begin_dup2 begin_dup_fd begin_close begin_get_fl begin_set_fl begin_fork try begin happen core_step step
+  three_names_of_one_write_end file_max = refl
+
+  pub flags_of_shared_descriptions : FlagsOfSharedDescriptions A
+  unfolding first_from numbers_from pids in_rows in_parked readers writers settle flowed read_pipe write_pipe lowest lowest_pid begin_pipe begin_read begin_write begin_dup begin_dup2 begin_dup_fd begin_close begin_get_fl begin_set_fl begin_fork try begin happen core_step step
+  flags_of_shared_descriptions limits = refl
+
+  pub full_table : FullTable A
+  unfolding first_from numbers_from pids in_rows in_parked readers writers settle flowed read_pipe write_pipe lowest lowest_pid begin_pipe begin_read begin_write begin_dup begin_dup2 begin_dup_fd begin_close begin_get_fl begin_set_fl begin_fork try begin happen core_step step
+  full_table limits = refl
+
+  pub descriptors_that_are_not_open : DescriptorsThatAreNotOpen A
+  unfolding first_from numbers_from pids in_rows in_parked readers writers settle flowed read_pipe write_pipe lowest lowest_pid begin_pipe begin_read begin_write begin_dup begin_dup2 begin_dup_fd begin_close begin_get_fl begin_set_fl begin_fork try begin happen core_step step
+  descriptors_that_are_not_open limits = refl
+
+  pub exit_drops_parked_calls : ExitDropsParkedCalls A
+  unfolding first_from numbers_from pids in_rows in_parked readers writers settle flowed read_pipe write_pipe lowest lowest_pid begin_pipe begin_read begin_write begin_dup begin_dup2 begin_dup_fd begin_close begin_get_fl begin_set_fl begin_fork try begin happen core_step step
+  exit_drops_parked_calls file_max = refl
+
+  pub script_of_flags : ScriptOfFlags A
+  unfolding first_from numbers_from pids in_rows in_parked readers writers settle flowed read_pipe write_pipe lowest lowest_pid begin_pipe begin_read begin_write begin_dup begin_dup2 begin_dup_fd begin_close begin_get_fl begin_set_fl begin_fork try begin happen core_step step words without_return number signed flag_of with_flags flags_of flags_or_none pipe_of read_of dup_of dup2_of get_fl_of set_fl_of call_of start_of begin_of words_line line_of_words line flags_text reply_text outcome_text lines asked answers digits
+  script_of_flags limits = refl
 
   pub script_of_bytes_before_end_of_file : ScriptOfBytesBeforeEndOfFile A
   unfolding first_from numbers_from pids in_rows in_parked readers writers settle flowed read_pipe write_pipe lowest lowest_pid begin_pipe begin_read begin_write begin_close try begin happen core_step step words without_return number signed hex_bytes repeated digits_or_repeated bytes_of pipe_of read_of write_of close_of call_of start_of resume_of interrupt_of begin_of words_line line_of_words line hex_text bytes_text reply_text outcome_text lines asked answers digits

@@ -17,8 +17,8 @@ use Rattle.pl_model.specs.State.{Core, Pipe, Description, Waiting, set_file, set
 use Rattle.pl_model.specs.Settle.{settle}
 use Rattle.pl_model.specs.Trial.{Trial, flowed, pipe_at, Flow, Done, Wait, Begun, Begins, Refused, Answered, Tried}
 use Rattle.pl_model.specs.Transfer.{read_row, write_row, read_case, write_case, read_pipe, write_pipe, read_file, write_file, read_node, write_node}
-use Rattle.pl_model.specs.Tables.{lowest_pid, install, close_row, describe, start}
-use Rattle.pl_model.specs.Begin.{begin_pipe, begin_read, begin_write, begin_close}
+use Rattle.pl_model.specs.Tables.{lowest_pid, install, close_row, describe, start, fork, exit}
+use Rattle.pl_model.specs.Begin.{begin_pipe, begin_read, begin_write, begin_dup, begin_dup2, begin_dup_fd, begin_close, begin_get_fl, begin_set_fl, begin_fork}
 use Rattle.pl_model.specs.Step.{Stepped, try, begin, happen, core_step, ended, begun, first_tried, resumed, tried_again, interrupted, started, waiting, stepped, parked, parked_again, without_call}
 use Rattle.pl_model.proofs.Ways.{BegunAll, LeadsTo, TrialAll, ways}
 
@@ -31,6 +31,8 @@ module _ {A : Type 0} {K : Keys} where
     pub set_description : (s : Core A K) (d : K.Description) (x : Description K) → P s → P (set_description s d x)
     pub new_pipe : (s : Core A K) → P s → P (set_pipe s new.pipe empty_pipe)
     pub set_file : (s : Core A K) (f : K.File) (bytes : List ℕ) → P s → P (set_file s f bytes)
+    pub fork : (s : Core A K) (pid child : ℕ) → P s → P (fork s pid child)
+    pub exit : (s : Core A K) (pid : ℕ) → P s → P (exit s pid)
 
   -- and so does each that a step makes beside it
   pub record Keeps (new : NewKeys K) (P : Core A K → Type 0) : Type 0 where
@@ -55,16 +57,51 @@ module _ {A : Type 0} {K : Keys} {new : NewKeys K} {P : Core A K → Type 0} (la
   unfolding begin_write
   write-keeps s pid fd bytes h = search ways depth 14
 
+  dup-keeps : (s : Core A K) (pid : ℕ) (fd : ℤ) → P s → LeadsTo new (BegunAll P) (begin_dup s pid fd)
+  unfolding begin_dup
+  dup-keeps s pid fd h = search (ways, law.install) depth 14
+
+  dup2-keeps : (s : Core A K) (pid : ℕ) (fd target : ℤ) → P s → LeadsTo new (BegunAll P) (begin_dup2 s pid fd target)
+  unfolding begin_dup2
+  dup2-keeps s pid fd target h = search (ways, law.install) depth 14
+
+  dup_fd-keeps : (s : Core A K) (pid : ℕ) (fd least : ℤ) → P s → LeadsTo new (BegunAll P) (begin_dup_fd s pid fd least)
+  unfolding begin_dup_fd
+  dup_fd-keeps s pid fd least h = search (ways, law.install) depth 14
+
   close-keeps : (s : Core A K) (pid : ℕ) (fd : ℤ) → P s → LeadsTo new (BegunAll P) (begin_close s pid fd)
   unfolding begin_close
   close-keeps s pid fd h = search (ways, law.close_row) depth 14
+
+  get_fl-keeps : (s : Core A K) (pid : ℕ) (fd : ℤ) → P s → LeadsTo new (BegunAll P) (begin_get_fl s pid fd)
+  unfolding begin_get_fl
+  get_fl-keeps s pid fd h = search ways depth 14
+
+  set_fl-keeps : (s : Core A K) (pid : ℕ) (fd : ℤ) (flags : OpenFlags) → P s → LeadsTo new (BegunAll P) (begin_set_fl s pid fd flags)
+  unfolding begin_set_fl
+  set_fl-keeps s pid fd flags h = search (ways, law.set_description) depth 14
+
+  fork-keeps : (s : Core A K) (pid : ℕ) → P s → LeadsTo new (BegunAll P) (begin_fork s pid)
+  unfolding begin_fork
+  fork-keeps s pid h = search (ways, law.fork) depth 14
+
+  exit-keeps : (s : Core A K) (pid : ℕ) → P s → LeadsTo new (BegunAll P) (begin s pid Call.Exit)
+  unfolding begin
+  exit-keeps s pid h = search (ways, law.exit) depth 14
 
   pub begin-keeps : (s : Core A K) (pid : ℕ) (call : Call A) → P s → LeadsTo new (BegunAll P) (begin s pid call)
   unfolding begin
   begin-keeps s pid (Call.Pipe nonblock) h = pipe-keeps s pid nonblock h
   begin-keeps s pid (Call.Read fd k) h = read-keeps s pid fd k h
   begin-keeps s pid (Call.Write fd bytes) h = write-keeps s pid fd bytes h
+  begin-keeps s pid (Call.Dup fd) h = dup-keeps s pid fd h
+  begin-keeps s pid (Call.Dup2 fd target) h = dup2-keeps s pid fd target h
+  begin-keeps s pid (Call.DupFd fd least) h = dup_fd-keeps s pid fd least h
   begin-keeps s pid (Call.Close fd) h = close-keeps s pid fd h
+  begin-keeps s pid (Call.GetFl fd) h = get_fl-keeps s pid fd h
+  begin-keeps s pid (Call.SetFl fd flags) h = set_fl-keeps s pid fd flags h
+  begin-keeps s pid Call.Fork h = fork-keeps s pid h
+  begin-keeps s pid Call.Exit h = exit-keeps s pid h
 
   read_row-keeps : (s : Core A K) (p : K.Pipe) (pipe : Pipe) (row : ReadCase) → P s → TrialAll P (read_row s p pipe row)
   read_row-keeps s p pipe (ReadCase.Gives n) h = h
@@ -92,7 +129,14 @@ module _ {A : Type 0} {K : Keys} {new : NewKeys K} {P : Core A K → Type 0} (la
   try-keeps s w (Call.Read fd k) may_wait h = search (ways, read_node-keeps)
   try-keeps s w (Call.Write fd bytes) may_wait h = search (ways, write_node-keeps)
   try-keeps s w (Call.Pipe nonblock) may_wait h = h
+  try-keeps s w (Call.Dup fd) may_wait h = h
+  try-keeps s w (Call.Dup2 fd target) may_wait h = h
+  try-keeps s w (Call.DupFd fd least) may_wait h = h
   try-keeps s w (Call.Close fd) may_wait h = h
+  try-keeps s w (Call.GetFl fd) may_wait h = h
+  try-keeps s w (Call.SetFl fd flags) may_wait h = h
+  try-keeps s w Call.Fork may_wait h = h
+  try-keeps s w Call.Exit may_wait h = h
 
 module _ {A : Type 0} {K : Keys} {new : NewKeys K} {P : Core A K → Type 0} (law : Keeps new P) where
   first_tried-keeps : (before : Core A K) (w : Waiting A K) (may_wait : Bool) (t : Trial A K) → P before → TrialAll P t → P (first_tried before w may_wait t).state

@@ -14,3 +14,4 @@ pub mod Settles
 pub mod Changes
 pub mod Parking
 pub mod InTurn
+pub mod Leaving

@@ -1,27 +1,23 @@
--- What the end of a step makes of a call that is parked, tried again in vain, or ended.
+-- What the end of a step makes of a call that is parked, or tried again in vain.
 use Rattle.std.proofs.Common.{◌≡◌, ℕ, Bool, true, false, cond, [], ◌∷◌, Some, refl, sym, ◌∙◌, ap, nat_eq}
-use Rattle.std.specs.Prelude.{◌||◌, ◌&&◌, not}
+use Rattle.std.specs.Prelude.{◌||◌}
 use Rattle.std.specs.List.{list_any}
 use Rattle.std.specs.Set.{is_member}
 use Rattle.std.proofs.lemmas.List.Folds.{list_any-append}
-use Rattle.pl_model.specs.Map.{Map, get, put, without}
+use Rattle.pl_model.specs.Map.{Map, get, put}
 use Rattle.pl_model.specs.State.{Core, Waiting}
 use Rattle.pl_model.specs.Live.{in_rows, in_parked, pids, is_live}
 use Rattle.pl_model.specs.Settle.{settle}
-use Rattle.pl_model.specs.Step.{parked, parked_again, without_call}
+use Rattle.pl_model.specs.Step.{parked, parked_again}
 use Rattle.pl_model.specs.Numbered.{numbers}
 use Rattle.pl_model.specs.Laws.{IsSettled}
-use Rattle.pl_model.proofs.Members.{both_ways, or_left, or_right, or_elim, and_right, member_flat}
+use Rattle.pl_model.proofs.Members.{both_ways, or_left, or_right, or_elim, member_flat}
 use Rattle.pl_model.proofs.Settles.{same-settled}
 
 module _ {A : Type 0} where
   -- a parked call keeps the description
   abbrev pub keeps : Map ℕ (Waiting A numbers) → ℕ → Bool
   keeps calls d = list_any (λ e. is_member nat_eq e.1.kept d) calls
-
-  -- a call of this number keeps it
-  abbrev pub keeps_as : ℕ → Map ℕ (Waiting A numbers) → ℕ → Bool
-  keeps_as n calls d = list_any (λ e. nat_eq n e.0 && is_member nat_eq e.1.kept d) calls
 
   -- a description is live by a row, or by a parked call
   pub live-is : (c : Core A numbers) (d : ℕ) → is_live c d ≡ (is_member nat_eq (in_rows c) d || keeps c.parked d)
@@ -39,27 +35,6 @@ module _ {A : Type 0} where
           keeps (cond b ((n, now) ∷ es) (e ∷ put nat_eq es n now)) d ≡ keeps (e ∷ es) d
       by true h rest = (let is : e.1 ≡ w = cc in λ i. is_member nat_eq ((same ∙ ap (λ z. z.kept) (sym is)) i) d || keeps es d)
       by false h rest = ap (λ b. is_member nat_eq e.1.kept d || b) (rest h same)
-
-  -- without the calls of a number, a description that none of them keeps is kept as before
-  keeps_without : (calls : Map ℕ (Waiting A numbers)) (n d : ℕ) → keeps_as n calls d ≡ false → keeps (without nat_eq calls n) d ≡ keeps calls d
-  keeps_without [] n d h = refl
-  keeps_without (e ∷ es) n d h = by (nat_eq n e.0) h (keeps_without es n d)
-    where
-      dropped : (x y k m : Bool) → (m || k) ≡ false → (k ≡ false → x ≡ y) → x ≡ (m || y)
-      dropped x y k true h rest = absurd (cc)
-      dropped x y k false h rest = rest h
-
-      by : (b : Bool) → ((b && is_member nat_eq e.1.kept d) || keeps_as n es d) ≡ false → (keeps_as n es d ≡ false → keeps (without nat_eq es n) d ≡ keeps es d) →
-          keeps (cond (not b) (e ∷ without nat_eq es n) (without nat_eq es n)) d ≡ (is_member nat_eq e.1.kept d || keeps es d)
-      by true h rest = dropped (keeps (without nat_eq es n) d) (keeps es d) (keeps_as n es d) (is_member nat_eq e.1.kept d) h rest
-      by false h rest = ap (λ b. is_member nat_eq e.1.kept d || b) (rest h)
-
-  keeps_as_keeps : (calls : Map ℕ (Waiting A numbers)) (n d : ℕ) → keeps_as n calls d ≡ true → keeps calls d ≡ true
-  keeps_as_keeps [] n d h = absurd (cc)
-  keeps_as_keeps (e ∷ es) n d h =
-      or_elim (nat_eq n e.0 && is_member nat_eq e.1.kept d) (keeps_as n es d)
-      (λ k. or_left (is_member nat_eq e.1.kept d) _ (and_right (nat_eq n e.0) _ k))
-      (λ k. or_right (is_member nat_eq e.1.kept d) _ (keeps_as_keeps es n d k)) h
 
 module _ {A : Type 0} (c : Core A numbers) (settled : IsSettled c) where
   -- a call is parked whose descriptions are live
@@ -83,11 +58,3 @@ module _ {A : Type 0} (c : Core A numbers) (settled : IsSettled c) where
     pub again_live : (d : ℕ) → is_live (parked_again c n now) d ≡ is_live c d
     unfolding in_rows pids
     again_live d = live-is (parked_again c n now) d ∙ ap (λ b. is_member nat_eq (in_rows c) d || b) (keeps_put c.parked n w now d here same) ∙ sym (live-is c d)
-
-    pub again-settled : settle c (parked_again c n now) ≡ parked_again c n now
-    again-settled = same-settled c (parked_again c n now) settled (record { descriptions = refl; files = refl; names = refl }) again_live refl
-
-  -- a parked call ends: who isn't kept by it is live as before
-  pub ended_live : (n d : ℕ) → keeps_as n c.parked d ≡ false → is_live (without_call c n) d ≡ is_live c d
-  unfolding in_rows pids
-  ended_live n d h = live-is (without_call c n) d ∙ ap (λ b. is_member nat_eq (in_rows c) d || b) (keeps_without c.parked n d h) ∙ sym (live-is c d)

@@ -20,7 +20,7 @@ use Rattle.pl_model.specs.Settle.{settle}
 use Rattle.pl_model.specs.Trial.{Trial, Done, Wait, Flow, still, flowed, pipe_at, Begun, Begins, Refused, Answered, Tried}
 use Rattle.pl_model.specs.Transfer.{count, read_row, write_row, read_case, write_case, read_pipe, write_pipe, read_file, write_file, read_node, write_node}
 use Rattle.pl_model.specs.Tables.{lowest_pid}
-use Rattle.pl_model.specs.Begin.{begin_pipe, begin_read, begin_write, begin_close}
+use Rattle.pl_model.specs.Begin.{begin_pipe, begin_read, begin_write, begin_dup, begin_dup2, begin_dup_fd, begin_close, begin_get_fl, begin_set_fl, begin_fork}
 use Rattle.pl_model.specs.Step.{Stepped, with_kept, try, begin, begun, happen, core_step, ended, first_tried, interrupted, parked, resumed, started, stepped, tried_again, waiting, without_call}
 use Rattle.pl_model.specs.Numbered.{numbers, State, next_numbers, step_of, step}
 use Rattle.pl_model.specs.Laws.{IsSettled, is_refused, Ends}
@@ -29,9 +29,11 @@ use Rattle.pl_model.proofs.Ways.{LeadsTo, Refusable, ways, trial_if}
 module _ {A : Type 0} where
   begin-refused : (pid : ℕ) (call : Call A) (reply : Reply A) → is_refused (Begin pid call) reply ≡ is_refusal reply
   begin-refused pid call (Reply.Pid n) = refl
+  begin-refused pid call (Reply.Fd a) = refl
   begin-refused pid call (Reply.Fds a b) = refl
   begin-refused pid call (Reply.Count n sigpipe) = refl
   begin-refused pid call (Reply.Bytes bytes) = refl
+  begin-refused pid call (Reply.Flags mode flags) = refl
   begin-refused pid call Reply.Unit = refl
   begin-refused pid call (Fault errno) = refl
   begin-refused pid call (Parked c) = refl
@@ -94,14 +96,28 @@ module _ {A : Type 0} {K : Keys} where
   try-fair s w (Call.Read fd n) may_wait = fair_kept s _ _ (λ o. read_node-fair s o.key o.description o.description.node n)
   try-fair s w (Call.Write fd bytes) may_wait = fair_kept s _ _ (λ o. write_node-fair s o.key o.description o.description.node bytes w.taken may_wait)
   try-fair s w (Call.Pipe nonblock) may_wait = tt
+  try-fair s w (Call.Dup fd) may_wait = tt
+  try-fair s w (Call.Dup2 fd target) may_wait = tt
+  try-fair s w (Call.DupFd fd least) may_wait = tt
   try-fair s w (Call.Close fd) may_wait = tt
+  try-fair s w (Call.GetFl fd) may_wait = tt
+  try-fair s w (Call.SetFl fd flags) may_wait = tt
+  try-fair s w Call.Fork may_wait = tt
+  try-fair s w Call.Exit may_wait = tt
 
   begin-plain : (new : NewKeys K) (s : Core A K) (pid : ℕ) (call : Call A) → LeadsTo new (IsPlainBegun s) (begin s pid call)
-  unfolding begin begin_pipe begin_read begin_write begin_close
+  unfolding begin begin_pipe begin_read begin_write begin_dup begin_dup2 begin_dup_fd begin_close begin_get_fl begin_set_fl begin_fork
   begin-plain new s pid (Call.Pipe nonblock) = search (ways, refusable) depth 14
   begin-plain new s pid (Call.Read fd n) = search (ways, refusable) depth 14
   begin-plain new s pid (Call.Write fd bytes) = search (ways, refusable) depth 14
+  begin-plain new s pid (Call.Dup fd) = search (ways, refusable) depth 14
+  begin-plain new s pid (Call.Dup2 fd target) = search (ways, refusable) depth 14
+  begin-plain new s pid (Call.DupFd fd least) = search (ways, refusable) depth 14
   begin-plain new s pid (Call.Close fd) = search (ways, refusable) depth 14
+  begin-plain new s pid (Call.GetFl fd) = search (ways, refusable) depth 14
+  begin-plain new s pid (Call.SetFl fd flags) = search (ways, refusable) depth 14
+  begin-plain new s pid Call.Fork = search (ways, refusable) depth 14
+  begin-plain new s pid Call.Exit = search ways
 
   -- where the step is refused, this is the state of before, and no byte moved
   abbrev NoChange : Core A K → Step A → Stepped A K → Type 0
@@ -113,9 +129,11 @@ module _ {A : Type 0} {K : Keys} where
 
   done-unchanged : (s u : Core A K) (flow : Flow K) (reply : Reply A) → Fair s u flow reply → is_refusal reply ≡ true → (flowed u flow ≡ s) × (flow ≡ still)
   done-unchanged s u flow (Reply.Pid n) fair r = absurd (cc)
+  done-unchanged s u flow (Reply.Fd a) fair r = absurd (cc)
   done-unchanged s u flow (Reply.Fds a b) fair r = absurd (cc)
   done-unchanged s u flow (Reply.Count n sigpipe) fair r = absurd (cc)
   done-unchanged s u flow (Reply.Bytes bytes) fair r = absurd (cc)
+  done-unchanged s u flow (Reply.Flags mode flags) fair r = absurd (cc)
   done-unchanged s u flow Reply.Unit fair r = absurd (cc)
   done-unchanged s u flow (Fault errno) fair r = ((λ i. flowed (fair.0 i) (fair.1 i)) ∙ flowed-still s, fair.1)
   done-unchanged s u flow (Parked c) fair r = absurd (cc)
@@ -143,9 +161,11 @@ module _ {A : Type 0} {K : Keys} where
   resumed-unchanged s c (Some w) r = again (try s w w.call true) (try-fair s w w.call true) r where
     replied : (u : Core A K) (flow : Flow K) (reply : Reply A) → Fair s u flow reply → is_refused {A = A} (Resume c) reply ≡ true → ⊥
     replied u flow (Reply.Pid n) fair r = cc
+    replied u flow (Reply.Fd a) fair r = cc
     replied u flow (Reply.Fds a b) fair r = cc
     replied u flow (Reply.Count n sigpipe) fair r = cc
     replied u flow (Reply.Bytes bytes) fair r = cc
+    replied u flow (Reply.Flags mode flags) fair r = cc
     replied u flow Reply.Unit fair r = cc
     replied u flow (Fault errno) fair r = cc
     replied u flow (Parked n) fair r = cc

@@ -92,6 +92,8 @@ module _ {A : Type 0} (new : NewKeys numbers) (p : ℕ) (bytes₀ : List ℕ) wh
         set_description = λ s d x h. same_pipes s _ refl h;
         new_pipe = λ s h. same_bytes s new.pipe empty_pipe (sym h.fresh) h;
         set_file = λ s f bytes h. same_pipes s _ refl h;
+        fork = λ s pid child h. same_pipes s _ refl h;
+        exit = λ s pid h. same_pipes s _ refl h;
       }
 
   -- the law of what happens: what the pipe held before and what came in are what went out and what it holds after

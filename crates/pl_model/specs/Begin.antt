@@ -3,22 +3,27 @@ use Rattle.std.specs.Prelude.{ℕ, ℤ, pos, negsuc, ◌+◌, ◌-◌, Bool, fal
 use Rattle.std.specs.declared.option.Option.TheVariants.{None, Some}
 use Rattle.pl_model.specs.declared.calls.Mode.{Mode}
 use Rattle.pl_model.specs.declared.flags.OpenFlags.{OpenFlags}
-use Rattle.pl_model.specs.declared.replies.Reply.TheVariants.{Fds, Bytes, Unit}
-use Rattle.pl_model.specs.declared.replies.Errno.TheVariants.{EBADF, EMFILE, ENFILE}
-use Rattle.pl_model.specs.Numbers.{most_descriptions}
+use Rattle.pl_model.specs.declared.replies.Reply.TheVariants.{Pid, Fd, Fds, Bytes, Flags, Unit}
+use Rattle.pl_model.specs.declared.replies.Errno.TheVariants.{EAGAIN, EBADF, EINVAL, EMFILE, ENFILE}
+use Rattle.pl_model.specs.Numbers.{open_max, most_descriptions}
 use Rattle.pl_model.specs.Modes.{reads, writes, for_reading, for_writing}
-use Rattle.pl_model.specs.Flags.{has, nonblock, nonblock_if}
+use Rattle.pl_model.specs.Flags.{has, nonblock, nonblock_if, status_flags}
 use Rattle.pl_model.specs.Keys.{Keys, NewKeys, Draws, PipeNode}
-use Rattle.pl_model.specs.State.{Core, Description, Open, described, row, set_pipe, empty_pipe}
+use Rattle.pl_model.specs.State.{Core, Description, Open, described, row, set_pipe, set_description, empty_pipe}
 use Rattle.pl_model.specs.Live.{live_count}
 use Rattle.pl_model.specs.Trial.{Begins, Answered, answered, tried, refuse_if, found}
 use Rattle.pl_model.specs.Transfer.{count}
-use Rattle.pl_model.specs.Tables.{lowest, install, close_row, describe}
+use Rattle.pl_model.specs.Tables.{lowest, lowest_pid, install, close_row, describe, fork}
 
 -- the place of an open descriptor in its table
 abbrev pub natural : ℤ → ℕ
 natural (pos n) = n
 natural (negsuc n) = 0
+
+-- POSIX.1-2017, File Descriptor: whether a table has a place for it.
+abbrev pub is_descriptor : ℤ → Bool
+is_descriptor (pos n) = nat_lt n open_max
+is_descriptor (negsuc n) = false
 
 module _ {K : Keys} where
   -- POSIX.1-2017, read and write, O_NONBLOCK: whether a call on the description may wait.
@@ -68,8 +73,49 @@ module _ {A : Type 0} {K : Keys} where
       if length bytes == 0 then answered s (count 0)
       else tried s (o.key ∷ []) false (may_block o.description))
 
+  -- POSIX.1-2017, dup: EBADF, EMFILE.
+  unfoldable pub begin_dup : Core A K → ℕ → ℤ → Begins A K
+  begin_dup s pid fd =
+      found (open_fd s pid fd) EBADF (λ o.
+      found (lowest s pid 0) EMFILE (λ least.
+      answered (install s pid least o.key) (Fd (pos least))))
+
+  -- POSIX.1-2017, dup2: EBADF. The target names the description in place of what it named; where that is the same one,
+  -- nothing changes.
+  unfoldable pub begin_dup2 : Core A K → ℕ → ℤ → ℤ → Begins A K
+  begin_dup2 s pid fd target =
+      found (open_fd s pid fd) EBADF (λ o.
+      refuse_if (not (is_descriptor target)) EBADF
+      (answered (install s pid (natural target) o.key) (Fd target)))
+
+  -- POSIX.1-2017, fcntl, F_DUPFD: EBADF, EINVAL, EMFILE.
+  unfoldable pub begin_dup_fd : Core A K → ℕ → ℤ → ℤ → Begins A K
+  begin_dup_fd s pid fd least =
+      found (open_fd s pid fd) EBADF (λ o.
+      refuse_if (not (is_descriptor least)) EINVAL
+      (found (lowest s pid (natural least)) EMFILE (λ free.
+      answered (install s pid free o.key) (Fd (pos free)))))
+
   -- POSIX.1-2017, close: EBADF.
   unfoldable pub begin_close : Core A K → ℕ → ℤ → Begins A K
   begin_close s pid fd =
       found (open_fd s pid fd) EBADF (λ o.
       answered (close_row s pid (natural fd)) Unit)
+
+  -- POSIX.1-2017, fcntl, F_GETFL: EBADF.
+  unfoldable pub begin_get_fl : Core A K → ℕ → ℤ → Begins A K
+  begin_get_fl s pid fd =
+      found (open_fd s pid fd) EBADF (λ o.
+      answered s (Flags o.description.mode o.description.flags))
+
+  -- POSIX.1-2017, fcntl, F_SETFL: EBADF.
+  unfoldable pub begin_set_fl : Core A K → ℕ → ℤ → OpenFlags → Begins A K
+  begin_set_fl s pid fd flags =
+      found (open_fd s pid fd) EBADF (λ o.
+      answered (set_description s o.key (record o.description { flags = status_flags flags })) Unit)
+
+  -- POSIX.1-2017, fork: EAGAIN.
+  unfoldable pub begin_fork : Core A K → ℕ → Begins A K
+  begin_fork s pid =
+      found (lowest_pid s) EAGAIN (λ child.
+      answered (fork s pid child) (Pid child))

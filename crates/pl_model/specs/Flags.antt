@@ -1,10 +1,22 @@
 -- The bits of flags.
-use Rattle.std.specs.Prelude.{ℕ, Bool, ◌==◌, bit_and, if◌then◌else◌}
+use Rattle.std.specs.Prelude.{ℕ, ◌+◌, Bool, ◌==◌, bit_and, if◌then◌else◌}
 use Rattle.pl_model.specs.declared.flags.OpenFlags.{OpenFlags}
 
 -- whether the set has the flag of this bit
 abbrev pub has : ℕ → ℕ → Bool
 has set flag = bit_and set flag == flag
+
+-- POSIX.1-2017, open, O_CREAT: a file that isn't there is made.
+abbrev pub creat : ℕ
+creat = 1
+
+-- POSIX.1-2017, open, O_EXCL: with O_CREAT, a file that is there is refused.
+abbrev pub excl : ℕ
+excl = 2
+
+-- POSIX.1-2017, open, O_TRUNC: a file that is opened for writing loses its bytes.
+abbrev pub trunc : ℕ
+trunc = 4
 
 -- POSIX.1-2017, open, O_APPEND: each write starts at the end of the file.
 abbrev pub append : ℕ
@@ -13,6 +25,13 @@ append = 8
 -- POSIX.1-2017, open, O_NONBLOCK: no call waits.
 abbrev pub nonblock : ℕ
 nonblock = 16
+
+-- POSIX.1-2017, fcntl, F_SETFL: the file status flags that a description keeps, among any flags.
+abbrev pub status_flags : OpenFlags → OpenFlags
+status_flags flags = record { 0 = bit_and flags.0 (append + nonblock) }
+
+abbrev pub no_flags : OpenFlags
+no_flags = record { 0 = 0 }
 
 abbrev pub nonblock_if : Bool → OpenFlags
 nonblock_if b = record { 0 = if b then nonblock else 0 }

@@ -2,11 +2,11 @@
 use Rattle.std.specs.Prelude.{ℕ, ◌^◌, List, [], ◌∷◌, Bool, true, false, ◌==◌, if◌then◌else◌, Option, Some, None, codes}
 use Rattle.std.specs.Str.{bytes_eq}
 use Rattle.pl_model.specs.declared.calls.Call.{Call}
-use Rattle.pl_model.specs.declared.calls.Call.TheVariants.{Pipe, Read, Write, Close}
+use Rattle.pl_model.specs.declared.calls.Call.TheVariants.{Pipe, Read, Write, Dup, Dup2, DupFd, Close, GetFl, SetFl, Fork, Exit}
 use Rattle.pl_model.specs.declared.calls.Step.TheVariants.{Start, Begin, Resume, Interrupt}
 use Rattle.pl_model.specs.declared.script.Line.{Line}
 use Rattle.pl_model.specs.declared.script.Line.TheVariants.{Do}
-use Rattle.pl_model.specs.Words.{◌>>=◌, words, without_return, number, signed, bytes_of}
+use Rattle.pl_model.specs.Words.{◌>>=◌, words, without_return, number, signed, bytes_of, flags_or_none}
 
 abbrev pub is_comment : List ℕ → Bool
 is_comment [] = false
@@ -35,10 +35,54 @@ module _ {A : Type 0} where
     Some (Write f b)
   write_of _ = None
 
+  -- `P dup FD`
+  unfoldable pub dup_of : List (List ℕ) → Option (Call A)
+  dup_of (fd ∷ []) = signed fd >>= λ f. Some (Dup f)
+  dup_of _ = None
+
+  -- `P dup2 FD FD`
+  unfoldable pub dup2_of : List (List ℕ) → Option (Call A)
+  dup2_of (fd ∷ target ∷ []) = do
+    f ← signed fd
+    t ← signed target
+    Some (Dup2 f t)
+  dup2_of _ = None
+
+  -- `P dupfd FD N`
+  unfoldable pub dup_fd_of : List (List ℕ) → Option (Call A)
+  dup_fd_of (fd ∷ least ∷ []) = do
+    f ← signed fd
+    n ← signed least
+    Some (DupFd f n)
+  dup_fd_of _ = None
+
   -- `P close FD`
   unfoldable pub close_of : List (List ℕ) → Option (Call A)
   close_of (fd ∷ []) = signed fd >>= λ f. Some (Close f)
   close_of _ = None
+
+  -- `P getfl FD`
+  unfoldable pub get_fl_of : List (List ℕ) → Option (Call A)
+  get_fl_of (fd ∷ []) = signed fd >>= λ f. Some (GetFl f)
+  get_fl_of _ = None
+
+  -- `P setfl FD FLAGS`
+  unfoldable pub set_fl_of : List (List ℕ) → Option (Call A)
+  set_fl_of (fd ∷ flags ∷ []) = do
+    f ← signed fd
+    fs ← flags_or_none flags
+    Some (SetFl f fs)
+  set_fl_of _ = None
+
+  -- `P fork`
+  unfoldable pub fork_of : List (List ℕ) → Option (Call A)
+  fork_of [] = Some Fork
+  fork_of _ = None
+
+  -- `P exit`
+  unfoldable pub exit_of : List (List ℕ) → Option (Call A)
+  exit_of [] = Some Exit
+  exit_of _ = None
 
   -- the name of a call, and the words after it
   unfoldable pub call_of : List ℕ → List (List ℕ) → Option (Call A)
@@ -46,7 +90,14 @@ module _ {A : Type 0} where
       if bytes_eq name (codes "pipe") then pipe_of rest
       else if bytes_eq name (codes "read") then read_of rest
       else if bytes_eq name (codes "write") then write_of rest
+      else if bytes_eq name (codes "dup") then dup_of rest
+      else if bytes_eq name (codes "dup2") then dup2_of rest
+      else if bytes_eq name (codes "dupfd") then dup_fd_of rest
       else if bytes_eq name (codes "close") then close_of rest
+      else if bytes_eq name (codes "getfl") then get_fl_of rest
+      else if bytes_eq name (codes "setfl") then set_fl_of rest
+      else if bytes_eq name (codes "fork") then fork_of rest
+      else if bytes_eq name (codes "exit") then exit_of rest
       else None
 
   -- `start`

@@ -18,7 +18,13 @@ module _ {A : Type 0} where
 
   -- a call that takes no memory, whatever it answers
   abbrev pub is_frugal_call : Call A → Bool
+  is_frugal_call (Call.Dup fd) = true
+  is_frugal_call (Call.Dup2 fd target) = true
+  is_frugal_call (Call.DupFd fd least) = true
   is_frugal_call (Call.Close fd) = true
+  is_frugal_call (Call.GetFl fd) = true
+  is_frugal_call (Call.SetFl fd flags) = true
+  is_frugal_call Call.Exit = true
   is_frugal_call call = false
 
   abbrev pub is_frugal : Step A → Bool

@@ -1,12 +1,15 @@
 -- The text of a reply (our own).
-use Rattle.std.specs.Prelude.{ℕ, ◌/◌, ◌%◌, List, [], ◌∷◌, ◌++◌, true, false, codes, slice_index}
+use Rattle.std.specs.Prelude.{ℕ, ◌/◌, ◌%◌, List, [], ◌∷◌, ◌++◌, Bool, true, false, codes, slice_index}
 use Rattle.std.specs.Fmt.{decimal, signed_decimal}
+use Rattle.pl_model.specs.declared.calls.Mode.{Mode}
+use Rattle.pl_model.specs.declared.flags.OpenFlags.{OpenFlags}
 use Rattle.pl_model.specs.declared.replies.Errno.{Errno}
 use Rattle.pl_model.specs.declared.replies.Errno.TheVariants.{EAGAIN, EBADF, EBUSY, EEXIST, EFBIG, EINTR, EINVAL, EMFILE, ENAMETOOLONG, ENFILE, ENOENT, ENXIO, EOVERFLOW, EPERM, EPIPE, ESPIPE}
 use Rattle.pl_model.specs.declared.replies.Reply.{Reply}
-use Rattle.pl_model.specs.declared.replies.Reply.TheVariants.{Pid, Fds, Count, Bytes, Unit, Fault, Parked, NoProcess, NoCall, CallsSpent}
+use Rattle.pl_model.specs.declared.replies.Reply.TheVariants.{Pid, Fd, Fds, Count, Bytes, Flags, Unit, Fault, Parked, NoProcess, NoCall, CallsSpent}
 use Rattle.pl_model.specs.declared.replies.Outcome.{Outcome}
 use Rattle.pl_model.specs.declared.replies.Outcome.TheVariants.{Replied, NoMemory}
+use Rattle.pl_model.specs.Flags.{has, append, nonblock}
 
 abbrev pub lower_digits : List ℕ
 lower_digits = codes "0123456789abcdef"
@@ -40,14 +43,32 @@ errno_text EPERM = codes "EPERM"
 errno_text EPIPE = codes "EPIPE sigpipe"
 errno_text ESPIPE = codes "ESPIPE"
 
+-- the mode as `open` takes it
+abbrev pub mode_text : Mode → List ℕ
+mode_text Mode.Read = codes "r"
+mode_text Mode.Write = codes "w"
+mode_text Mode.Both = codes "rw"
+
+abbrev pub append_and_nonblock : Bool → Bool → List ℕ
+append_and_nonblock true true = codes "append,nonblock"
+append_and_nonblock true false = codes "append"
+append_and_nonblock false true = codes "nonblock"
+append_and_nonblock false false = codes "-"
+
+-- the names of the status flags that are set, or `-` for none
+unfoldable pub flags_text : OpenFlags → List ℕ
+flags_text flags = append_and_nonblock (has flags.0 append) (has flags.0 nonblock)
+
 module _ {A : Type 0} where
   -- the line of a reply, without its line feed
   unfoldable pub reply_text : Reply A → List ℕ
   reply_text (Pid n) = codes "pid " ++ decimal n
+  reply_text (Fd a) = codes "fd " ++ signed_decimal a
   reply_text (Fds a b) = codes "fds " ++ (signed_decimal a ++ (codes " " ++ signed_decimal b))
   reply_text (Count n false) = codes "count " ++ decimal n
   reply_text (Count n true) = codes "count " ++ (decimal n ++ codes " sigpipe")
   reply_text (Bytes bytes) = codes "data " ++ bytes_text bytes
+  reply_text (Flags mode flags) = codes "flags " ++ (mode_text mode ++ (codes " " ++ flags_text flags))
   reply_text Unit = codes "ok"
   reply_text (Fault errno) = errno_text errno
   reply_text (Parked c) = codes "parked " ++ decimal c

@@ -5,17 +5,17 @@ use Rattle.pl_model.specs.declared.calls.Call.{Call}
 use Rattle.pl_model.specs.declared.calls.Step.{Step}
 use Rattle.pl_model.specs.declared.calls.Step.TheVariants.{Start, Begin, Resume, Interrupt}
 use Rattle.pl_model.specs.declared.replies.Reply.{Reply}
-use Rattle.pl_model.specs.declared.replies.Reply.TheVariants.{Pid, Fault, Parked, NoProcess, NoCall, CallsSpent}
+use Rattle.pl_model.specs.declared.replies.Reply.TheVariants.{Pid, Unit, Fault, Parked, NoProcess, NoCall, CallsSpent}
 use Rattle.pl_model.specs.declared.replies.Errno.TheVariants.{EAGAIN, EBADF, EINTR}
 use Rattle.pl_model.specs.Numbers.{last_call}
 use Rattle.pl_model.specs.Map.{get, put, without}
 use Rattle.pl_model.specs.Keys.{Keys, Drawing, Plain, drawing_map}
 use Rattle.pl_model.specs.State.{Core, Open, described, Waiting}
 use Rattle.pl_model.specs.Settle.{settle}
-use Rattle.pl_model.specs.Tables.{lowest_pid, start}
-use Rattle.pl_model.specs.Trial.{Trial, Flow, Done, Wait, still, flowed, Begun, Refused, Answered, Tried, Begins}
+use Rattle.pl_model.specs.Tables.{lowest_pid, start, exit}
+use Rattle.pl_model.specs.Trial.{Trial, Flow, Done, Wait, still, flowed, Begun, Refused, Answered, Tried, Begins, answered}
 use Rattle.pl_model.specs.Transfer.{read_node, write_node, count}
-use Rattle.pl_model.specs.Begin.{begin_pipe, begin_read, begin_write, begin_close}
+use Rattle.pl_model.specs.Begin.{begin_pipe, begin_read, begin_write, begin_dup, begin_dup2, begin_dup_fd, begin_close, begin_get_fl, begin_set_fl, begin_fork}
 
 -- the state that a step leaves, its reply, and the bytes that it moved
 pub record Stepped (A : Type 0) (K : Keys) : Type 0 where
@@ -44,7 +44,14 @@ module _ {A : Type 0} {K : Keys} where
   begin s pid (Call.Pipe nonblock) = begin_pipe s pid nonblock
   begin s pid (Call.Read fd n) = begin_read s pid fd n
   begin s pid (Call.Write fd bytes) = begin_write s pid fd bytes
+  begin s pid (Call.Dup fd) = begin_dup s pid fd
+  begin s pid (Call.Dup2 fd target) = begin_dup2 s pid fd target
+  begin s pid (Call.DupFd fd least) = begin_dup_fd s pid fd least
   begin s pid (Call.Close fd) = begin_close s pid fd
+  begin s pid (Call.GetFl fd) = begin_get_fl s pid fd
+  begin s pid (Call.SetFl fd flags) = begin_set_fl s pid fd flags
+  begin s pid Call.Fork = begin_fork s pid
+  begin s pid Call.Exit = answered (exit s pid) Unit
 
   abbrev pub stepped : Core A K → Reply A → Stepped A K
   stepped s reply = record { state = s; reply = reply; flow = still }

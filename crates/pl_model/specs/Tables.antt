@@ -1,6 +1,7 @@
 -- The tables of descriptors, and the processes.
-use Rattle.std.specs.Prelude.{ℕ, ◌-◌, true, not, nat_eq, Option, is_none}
+use Rattle.std.specs.Prelude.{ℕ, ◌-◌, true, false, not, nat_eq, Option, is_none}
 use Rattle.std.specs.declared.option.Option.TheVariants.{None, Some}
+use Rattle.std.specs.List.{filter}
 use Rattle.pl_model.specs.declared.calls.Mode.{Mode}
 use Rattle.pl_model.specs.declared.flags.OpenFlags.{OpenFlags}
 use Rattle.pl_model.specs.Numbers.{open_max, most_processes, first_from}
@@ -32,3 +33,16 @@ module _ {A : Type 0} {K : Keys} where
   -- Our own: a process that starts has no open descriptor.
   abbrev pub start : Core A K → ℕ → Core A K
   start s pid = record s { processes = set_at nat_eq s.processes pid true }
+
+  -- POSIX.1-2017, fork: the child's descriptors name the descriptions that its parent's name.
+  abbrev pub fork : Core A K → ℕ → ℕ → Core A K
+  fork s pid child = record s { processes = set_at nat_eq s.processes child true; rows = set_at nat_eq s.rows child (s.rows pid) }
+
+  -- there is no such process any more
+  abbrev pub end : Core A K → ℕ → Core A K
+  end s pid = record s { processes = set_at nat_eq s.processes pid false }
+
+  -- POSIX.1-2017, _exit, Consequences of Process Termination: the descriptors of the process name nothing, its parked calls
+  -- are gone, and it ends.
+  abbrev pub exit : Core A K → ℕ → Core A K
+  exit s pid = end (record s { rows = set_at nat_eq s.rows pid (λ fd. None); parked = filter (λ c. not (nat_eq c.1.pid pid)) s.parked }) pid

@@ -1,9 +1,11 @@
 -- The words of a line, and what each kind of word says.
-use Rattle.std.specs.Prelude.{ℕ, ◌+◌, ◌-◌, ◌*◌, ◌^◌, List, [], ◌∷◌, length, slice_index, take, replicate, Bool, true, false, nat_lt, nat_le, ◌==◌, ◌||◌, ◌&&◌, if◌then◌else◌, ℤ, pos, neg_ℤ, Option, Some, None, option_and_then, codes, filter}
+use Rattle.std.specs.Prelude.{ℕ, ◌+◌, ◌-◌, ◌*◌, ◌^◌, List, [], ◌∷◌, length, slice_index, take, replicate, Bool, true, false, nat_lt, nat_le, ◌==◌, ◌||◌, ◌&&◌, if◌then◌else◌, ℤ, pos, neg_ℤ, Option, Some, None, option_and_then, codes, filter, bit_or}
 use Rattle.std.specs.List.{slice_split, list_all, before_first, after_first, position_or_len}
 use Rattle.std.specs.Str.{bytes_eq}
 use Rattle.std.specs.Str.Parse.{digits_value}
+use Rattle.pl_model.specs.declared.flags.OpenFlags.{OpenFlags}
 use Rattle.pl_model.specs.Numbers.{most_bytes}
+use Rattle.pl_model.specs.Flags.{creat, excl, trunc, append, nonblock, no_flags}
 
 -- what the second says of what the first gives, if it gives anything
 infixl 10 ◌>>=◌
@@ -93,3 +95,29 @@ unfoldable pub bytes_of : List ℕ → Option (List ℕ)
 bytes_of word =
     if bytes_eq word (codes "-") then Some []
     else (digits_or_repeated word >>= λ bytes. if nat_le (length bytes) most_bytes then Some bytes else None)
+
+-- the flag of this name
+unfoldable pub flag_of : List ℕ → Option OpenFlags
+flag_of name =
+    if bytes_eq name (codes "creat") then Some (record { 0 = creat })
+    else if bytes_eq name (codes "excl") then Some (record { 0 = excl })
+    else if bytes_eq name (codes "trunc") then Some (record { 0 = trunc })
+    else if bytes_eq name (codes "append") then Some (record { 0 = append })
+    else if bytes_eq name (codes "nonblock") then Some (record { 0 = nonblock })
+    else None
+
+-- the flags of these names, beside some that are there
+unfoldable pub with_flags : OpenFlags → List (List ℕ) → Option OpenFlags
+with_flags flags [] = Some flags
+with_flags flags (name ∷ names) = flag_of name >>= λ flag. with_flags (record { 0 = bit_or flags.0 flag.0 }) names
+
+abbrev pub is_comma : ℕ → Bool
+is_comma c = c == 44
+
+-- FLAGS: names joined by commas
+unfoldable pub flags_of : List ℕ → Option OpenFlags
+flags_of word = with_flags no_flags (slice_split is_comma word)
+
+-- FLAGS, or `-` for none
+unfoldable pub flags_or_none : List ℕ → Option OpenFlags
+flags_or_none word = if bytes_eq word (codes "-") then Some no_flags else flags_of word

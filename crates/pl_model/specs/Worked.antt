@@ -1,14 +1,17 @@
 -- What the definitions answer in small examples, for any limits.
-use Rattle.std.specs.Prelude.{◌≡◌, ℕ, pos, List, [], ◌∷◌, ◌++◌, true, false, replicate, codes}
+use Rattle.std.specs.Prelude.{◌≡◌, ℕ, ◌+◌, pos, negsuc, List, [], ◌∷◌, ◌++◌, true, false, replicate, codes, map}
 use Rattle.std.specs.List.{flat_map}
 use Rattle.pl_model.specs.declared.calls.Call.{Call}
 use Rattle.pl_model.specs.declared.calls.Limits.{Limits}
+use Rattle.pl_model.specs.declared.calls.Mode.{Mode}
 use Rattle.pl_model.specs.declared.calls.Step.{Step}
 use Rattle.pl_model.specs.declared.calls.Step.TheVariants.{Start, Begin, Resume, Interrupt}
 use Rattle.pl_model.specs.declared.cases.WriteCase.{WriteCase}
 use Rattle.pl_model.specs.declared.replies.Reply.{Reply}
-use Rattle.pl_model.specs.declared.replies.Reply.TheVariants.{Pid, Fds, Count, Bytes, Unit, Fault, Parked, NoCall, CallsSpent}
-use Rattle.pl_model.specs.declared.replies.Errno.TheVariants.{EAGAIN, EINTR, EPIPE}
+use Rattle.pl_model.specs.declared.replies.Reply.TheVariants.{Pid, Fd, Fds, Count, Bytes, Flags, Unit, Fault, Parked, NoProcess, NoCall, CallsSpent}
+use Rattle.pl_model.specs.declared.replies.Errno.TheVariants.{EAGAIN, EBADF, EINTR, EINVAL, EMFILE, EPIPE}
+use Rattle.pl_model.specs.Numbers.{numbers_from}
+use Rattle.pl_model.specs.Flags.{append, nonblock, trunc, no_flags}
 use Rattle.pl_model.specs.Transfer.{write_case}
 use Rattle.pl_model.specs.Numbered.{opening}
 use Rattle.pl_model.specs.Run.{replies}
@@ -30,6 +33,27 @@ module _ {A : Type 0} where
 
   abbrev pub close : ℕ → Step A
   close fd = Begin 1 (Call.Close (pos fd))
+
+  abbrev pub dup : ℕ → Step A
+  dup fd = Begin 1 (Call.Dup (pos fd))
+
+  abbrev pub dup2 : ℕ → ℕ → Step A
+  dup2 fd target = Begin 1 (Call.Dup2 (pos fd) (pos target))
+
+  abbrev pub dup_fd : ℕ → ℕ → Step A
+  dup_fd fd least = Begin 1 (Call.DupFd (pos fd) (pos least))
+
+  abbrev pub get_fl : ℕ → Step A
+  get_fl fd = Begin 1 (Call.GetFl (pos fd))
+
+  abbrev pub set_fl : ℕ → ℕ → Step A
+  set_fl fd flags = Begin 1 (Call.SetFl (pos fd) (record { 0 = flags }))
+
+  abbrev pub fork : Step A
+  fork = Begin 1 Call.Fork
+
+  abbrev pub exit : ℕ → Step A
+  exit pid = Begin pid Call.Exit
 
   -- end of file, or a read of 0 bytes
   abbrev pub no_bytes : Reply A
@@ -105,6 +129,52 @@ LastReaderLeaves A =
     (pipe ∷ write 1 (replicate 70000 97) ∷ close 0 ∷ Resume 1 ∷ write 1 (98 ∷ []) ∷ write 1 [] ∷ [])
     (Fds (pos 0) (pos 1) ∷ Parked 1 ∷ Unit ∷ Count 65536 true ∷ Fault EPIPE ∷ Count 0 false ∷ [])
 
+-- The writes of two processes by one description: the small one goes in whole, between the turns of the large one.
+abbrev pub InterleavingWithALargeWrite : Type 0 → Type 0
+InterleavingWithALargeWrite A =
+    AnswersFrom A 1
+    (pipe ∷ fork ∷ write 1 (replicate 70000 97) ∷ read 0 1000 ∷ Begin 2 (Call.Write (pos 1) (replicate 1000 98)) ∷ Resume 1 ∷ read 0 65536
+    ∷ Resume 1 ∷ read 0 65536 ∷ [])
+    (Fds (pos 0) (pos 1) ∷ Pid 2 ∷ Parked 1 ∷ Bytes (replicate 1000 97) ∷ Count 1000 false ∷ Parked 1 ∷ Bytes (replicate 64536 97 ++ replicate 1000 98)
+    ∷ Count 70000 false ∷ Bytes (replicate 4464 97) ∷ [])
+
+-- the file ends once the last of the names is closed, not at the first
+abbrev pub ThreeNamesOfOneWriteEnd : Type 0 → Type 0
+ThreeNamesOfOneWriteEnd A =
+    AnswersFrom A 1
+    (pipe ∷ fork ∷ dup 1 ∷ close 1 ∷ close 2 ∷ read 0 1 ∷ exit 2 ∷ Resume 1 ∷ [])
+    (Fds (pos 0) (pos 1) ∷ Pid 2 ∷ Fd (pos 2) ∷ Unit ∷ Unit ∷ Parked 1 ∷ Unit ∷ no_bytes ∷ [])
+
+-- duplicates share their flags, and a descriptor that is duplicated onto another takes its place
+abbrev pub FlagsOfSharedDescriptions : Type 0 → Type 0
+FlagsOfSharedDescriptions A =
+    Answers A
+    (pipe ∷ dup 0 ∷ set_fl 2 (append + nonblock) ∷ get_fl 0 ∷ get_fl 1 ∷ read 0 1 ∷ dup2 1 0 ∷ get_fl 0 ∷ read 2 1 ∷ set_fl 2 trunc ∷ get_fl 2 ∷ [])
+    (Fds (pos 0) (pos 1) ∷ Fd (pos 2) ∷ Unit ∷ Flags Mode.Read (record { 0 = append + nonblock }) ∷ Flags Mode.Write no_flags ∷ Fault EAGAIN ∷ Fd (pos 0)
+    ∷ Flags Mode.Write no_flags ∷ Fault EAGAIN ∷ Unit ∷ Flags Mode.Read no_flags ∷ [])
+
+-- 254 descriptors more are all that there are
+abbrev pub FullTable : Type 0 → Type 0
+FullTable A =
+    Answers A
+    (pipe ∷ (replicate 253 (dup 0) ++ (pipe ∷ dup 0 ∷ dup 0 ∷ close 7 ∷ dup_fd 0 256 ∷ dup2 0 256 ∷ dup2 0 0 ∷ dup_fd 0 5 ∷ [])))
+    (Fds (pos 0) (pos 1) ∷ (map (λ fd. Fd (pos fd)) (numbers_from 253 2) ++ (Fault EMFILE ∷ Fd (pos 255) ∷ Fault EMFILE ∷ Unit ∷ Fault EINVAL ∷ Fault EBADF
+    ∷ Fd (pos 0) ∷ Fd (pos 7) ∷ [])))
+
+-- what isn't open is refused before what is wrong with the other argument
+abbrev pub DescriptorsThatAreNotOpen : Type 0 → Type 0
+DescriptorsThatAreNotOpen A =
+    Answers A
+    (dup 0 ∷ dup2 0 256 ∷ dup_fd 0 256 ∷ get_fl 0 ∷ set_fl 0 nonblock ∷ pipe ∷ Begin 1 (Call.Dup2 (pos 0) (negsuc 0)) ∷ Begin 1 (Call.DupFd (pos 0) (negsuc 0)) ∷ [])
+    (Fault EBADF ∷ Fault EBADF ∷ Fault EBADF ∷ Fault EBADF ∷ Fault EBADF ∷ Fds (pos 0) (pos 1) ∷ Fault EBADF ∷ Fault EINVAL ∷ [])
+
+-- a process that exits takes its parked calls with it, and its pid is free
+abbrev pub ExitDropsParkedCalls : Type 0 → Type 0
+ExitDropsParkedCalls A =
+    AnswersFrom A 1
+    (pipe ∷ read 0 1 ∷ exit 1 ∷ Resume 1 ∷ close 0 ∷ Start ∷ [])
+    (Fds (pos 0) (pos 1) ∷ Parked 1 ∷ Unit ∷ NoCall ∷ NoProcess ∷ Pid 1 ∷ [])
+
 -- no number is left, and no byte is taken
 abbrev pub CallNumbersSpent : Type 0 → Type 0
 CallNumbersSpent A =
@@ -143,6 +213,16 @@ ScriptOfBytesBeforeEndOfFile A =
     ∷ codes "1 read 0 10" ∷ []))
     7
     (codes "pid 1" ∷ codes "fds 0 1" ∷ codes "count 5" ∷ codes "data 68656c" ∷ codes "data 6c6f" ∷ codes "ok" ∷ codes "data -" ∷ [])
+
+abbrev pub ScriptOfFlags : Type 0 → Type 0
+ScriptOfFlags A =
+    Prints A
+    (text (
+    codes "start" ∷ codes "1 pipe" ∷ codes "1 dup 0" ∷ codes "1 setfl 2 append,nonblock" ∷ codes "1 getfl 0" ∷ codes "1 getfl 1" ∷ codes "1 read 0 1"
+    ∷ codes "1 dup2 1 0" ∷ codes "1 getfl 0" ∷ codes "1 read 2 1" ∷ []))
+    10
+    (codes "pid 1" ∷ codes "fds 0 1" ∷ codes "fd 2" ∷ codes "ok" ∷ codes "flags r append,nonblock" ∷ codes "flags w -" ∷ codes "EAGAIN"
+    ∷ codes "fd 0" ∷ codes "flags w -" ∷ codes "EAGAIN" ∷ [])
 
 abbrev pub EmptyScript : Type 0 → Type 0
 EmptyScript A = Prints A [] 0 []

@@ -1,5 +1,6 @@
 //! What a step asks for.
 use crate::bytes::Bytes8;
+use crate::flags::OpenFlags;
 use std::alloc::{Allocator, Global};
 
 /// What an open file description may be used for (POSIX.1-2017, open).
@@ -32,8 +33,24 @@ pub enum Call<A: Allocator = Global> {
     Read { fd: i32, n: u32 },
     /// Writes the bytes (POSIX.1-2017, write).
     Write { fd: i32, bytes: Bytes8<A> },
+    /// Names what a descriptor names by the least free descriptor too (POSIX.1-2017, dup).
+    Dup { fd: i32 },
+    /// Names what `fd` names by `target` too, which is closed first. Where `target` is `fd` itself nothing changes
+    /// (POSIX.1-2017, dup, dup2).
+    Dup2 { fd: i32, target: i32 },
+    /// Names what `fd` names by the least free descriptor from `least` on too (POSIX.1-2017, fcntl, `F_DUPFD`).
+    DupFd { fd: i32, least: i32 },
     /// Closes a descriptor (POSIX.1-2017, close).
     Close { fd: i32 },
+    /// Tells the mode and the status flags of what a descriptor names (POSIX.1-2017, fcntl, `F_GETFL`).
+    GetFl { fd: i32 },
+    /// Sets `APPEND` and `NONBLOCK` of what a descriptor names as they are in `flags`, and ignores all other flags
+    /// (POSIX.1-2017, fcntl, `F_SETFL`).
+    SetFl { fd: i32, flags: OpenFlags },
+    /// Starts a process whose descriptors name what those of this one do (POSIX.1-2017, fork).
+    Fork,
+    /// Ends the process: its descriptors are closed and its parked calls dropped (POSIX.1-2017, _exit).
+    Exit,
 }
 
 /// One event. What the processes do, in which order, is a list of steps.

@@ -1,5 +1,7 @@
 //! What a step answers.
 use crate::bytes::Bytes8;
+use crate::calls::Mode;
+use crate::flags::OpenFlags;
 use std::alloc::{Allocator, Global};
 
 /// The errors of calls, by their names in the standard (POSIX.1-2017, errno.h). They have no numbers here.
@@ -28,12 +30,16 @@ pub enum Errno {
 pub enum Reply<A: Allocator = Global> {
     /// The pid of the process that was started, from 1 to 1,024.
     Pid(u32),
+    /// The descriptor that names what was duplicated, from 0 to 255.
+    Fd(i32),
     /// The read end and the write end of a new pipe, from 0 to 255.
     Fds(i32, i32),
     /// So many bytes were written. `sigpipe` says that no reader was left for the rest.
     Count { n: u32, sigpipe: bool },
     /// The bytes that were read; none of them is end of file, or a read of 0 bytes.
     Bytes(Bytes8<A>),
+    /// The mode of an open file description, and those of its flags `APPEND` and `NONBLOCK` that are set.
+    Flags { mode: Mode, flags: OpenFlags },
     /// The call is done, and has nothing to tell.
     Unit,
     /// The call failed. `EPIPE` stands for the error and the signal `SIGPIPE`.

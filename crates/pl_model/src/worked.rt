@@ -1,5 +1,5 @@
 //! What the definitions answer in small examples. Each function does nothing: its contract is the example, computed.
-ghost use Rattle.pl_model.specs.Worked.{BytesBeforeEndOfFile, PartialAndWholeNotWaiting, ReadOfNothing, WriteOfNothing, LastWriterCloses, SmallWriteAtItsBoundary, InterruptedLargeWrite, ParkedCallKeepsItsEnd, LastReaderLeaves, CallNumbersSpent, TableOfWrites, ScriptOfBytesBeforeEndOfFile, EmptyScript, ScriptWithoutLineFeed, ScriptOfNoProcess};
+ghost use Rattle.pl_model.specs.Worked.{BytesBeforeEndOfFile, PartialAndWholeNotWaiting, ReadOfNothing, WriteOfNothing, LastWriterCloses, SmallWriteAtItsBoundary, InterruptedLargeWrite, ParkedCallKeepsItsEnd, LastReaderLeaves, CallNumbersSpent, InterleavingWithALargeWrite, ThreeNamesOfOneWriteEnd, FlagsOfSharedDescriptions, FullTable, DescriptorsThatAreNotOpen, ExitDropsParkedCalls, TableOfWrites, ScriptOfBytesBeforeEndOfFile, ScriptOfFlags, EmptyScript, ScriptWithoutLineFeed, ScriptOfNoProcess};
 
 use std::alloc::Allocator;
 
@@ -21,6 +21,16 @@ pub fn waiting<A: Allocator>()
     ensures call_numbers_spent { CallNumbersSpent A }
 {}
 
+/// Descriptions that several descriptors name, and processes that fork and exit.
+pub fn sharing<A: Allocator>()
+    ensures interleaving_with_a_large_write { InterleavingWithALargeWrite A }
+    ensures three_names_of_one_write_end { ThreeNamesOfOneWriteEnd A }
+    ensures flags_of_shared_descriptions { FlagsOfSharedDescriptions A }
+    ensures full_table { FullTable A }
+    ensures descriptors_that_are_not_open { DescriptorsThatAreNotOpen A }
+    ensures exit_drops_parked_calls { ExitDropsParkedCalls A }
+{}
+
 /// The table of writes at each of its rows.
 pub fn writes()
     ensures { TableOfWrites }
@@ -29,6 +39,7 @@ pub fn writes()
 /// Scripts and what they print.
 pub fn scripts<A: Allocator>()
     ensures bytes_before_end_of_file { ScriptOfBytesBeforeEndOfFile A }
+    ensures flags { ScriptOfFlags A }
     ensures empty { EmptyScript A }
     ensures without_line_feed { ScriptWithoutLineFeed A }
     ensures no_process { ScriptOfNoProcess A }

@@ -1,9 +1,6 @@
 -- Maps whose numbers rise: what they have at a number, and what an edit leaves.
-use Rattle.std.proofs.Common.{◌≡◌, ◌≢◌, ℕ, zero, suc, ◌+◌, ◌<◌, ◌≤◌, Bool, true, false, not, List, [], ◌∷◌, ◌++◌, Option, Some, None, IfSome, IfNone, IsSome, refl, sym, ◌∙◌, ap, subst, inl, inr, nat_eq, cond, length, slice_set, slice_index_or, arith}
-use Rattle.std.proofs.Math.Path.{fun_ext}
-use Rattle.std.specs.List.{find, remove, list_any}
-use Rattle.std.specs.Set.{is_member}
-use Rattle.std.proofs.lemmas.Bool.{eq-eqb, ne_eqb}
+use Rattle.std.proofs.Common.{◌≡◌, ◌≢◌, ℕ, zero, suc, ◌+◌, ◌<◌, ◌≤◌, Bool, true, false, not, [], ◌∷◌, ◌++◌, Option, Some, None, IfSome, IfNone, IsSome, refl, sym, ◌∙◌, ap, subst, inl, inr, nat_eq, cond, length, slice_set, slice_index_or, arith}
+use Rattle.std.specs.List.{find, remove}
 use Rattle.std.proofs.lemmas.Bool.Decides.{eqb_tells}
 use Rattle.pl_model.specs.Map.{Map, get, put, without}
 use Rattle.pl_parked.specs.Calls.{Rise, number_at}
@@ -28,15 +25,6 @@ not_same a b h e = elim (eqb_tells a b) as (λ _. ⊥) [
   | inl t ↦ let no : true ≡ false = sym t.0 ∙ h in cc
   | inr t ↦ t.1 e
 ]
-
-pub nat_eq_flip : (d : ℕ) (xs : List ℕ) → is_member nat_eq xs d ≡ list_any (λ y. nat_eq y d) xs
-nat_eq_flip d xs = ap (λ t. list_any t xs) (fun_ext (λ y. both d y))
-  where
-    both : (a b : ℕ) → nat_eq a b ≡ nat_eq b a
-    both a b = elim (eqb_tells a b) as (λ _. nat_eq a b ≡ nat_eq b a) [
-      | inl t ↦ t.0 ∙ sym (eq-eqb b a (sym t.1))
-      | inr t ↦ t.0 ∙ sym (ne_eqb b a (λ e. t.1 (sym e)))
-    ]
 
 module _ {X : Type 0} where
   pub Rise-bounds : (low next : ℕ) (es : Map ℕ X) → Rise low next es → low ≤ next

@@ -1,7 +1,5 @@
 -- The calls that wait.
 use Rattle.std.specs.Prelude.{◌≤◌, ℕ, ◌+◌, Bool, [], ◌∷◌, Option, nat_eq, slice_get, option_map}
-use Rattle.std.specs.List.{list_any}
-use Rattle.std.specs.Set.{is_member}
 use Rattle.pl_model.specs.Map.{Map}
 use Rattle.pl_parked.specs.declared.call.ParkedCall.{ParkedCall}
 
@@ -18,10 +16,6 @@ Rise low next (e ∷ es) = (low ≤ e.0) × Rise (e.0 + 1) next es
 -- the number of the entry at a place
 abbrev pub number_at : {X : Type 0} → Map ℕ X → ℕ → Option ℕ
 number_at es place = option_map (λ e. e.0) (slice_get es place)
-
--- a call keeps the description of the key
-abbrev pub keeps : {A : Type 0} → Map ℕ (ParkedCall A) → ℕ → Bool
-keeps calls key = list_any (λ e. is_member nat_eq e.1.kept key) calls
 
 -- the call is one of the process
 abbrev pub is_of : {A : Type 0} → ℕ → ℕ × ParkedCall A → Bool

@@ -4,7 +4,7 @@ ghost use Rattle.std.specs.Option.{option_copied};
 ghost use Rattle.std.specs.List.{find};
 ghost use Rattle.pl_model.specs.Numbers.{last_call};
 ghost use Rattle.pl_model.specs.Map.{get, put, without};
-ghost use Rattle.pl_parked.specs.Calls.{Rise, number_at, is_of, keeps};
+ghost use Rattle.pl_parked.specs.Calls.{Rise, number_at, is_of};
 
 use crate::call::ParkedCall;
 use crate::fault::ParkFault;
@@ -101,18 +101,6 @@ impl<A: Allocator> Parked<A> {
     {
         let place = self.place(number)?;
         Some(&self.entries[place].1)
-    }
-
-    /// Whether a call keeps the description of the key.
-    pub fn keeps(&self, key: usize) -> bool
-        ensures { result ≡ keeps self.now.calls key }
-    {
-        for (_, call) in self.entries.iter() {
-            if call.kept.as_slice().contains(&key) {
-                return true;
-            }
-        }
-        false
     }
 
     /// Takes the call of a number out. The number isn't given again. It takes no memory.

@@ -7,3 +7,4 @@ pub mod WriteLemmas
 pub mod LineLemmas
 pub mod RunSteps
 pub mod Unread
+pub mod FlagLemmas

@@ -1,10 +1,11 @@
 //! The calls in lines.
 ghost use Rattle.pl_model.specs.Words.{words};
-ghost use Rattle.pl_model.specs.Lines.{pipe_of, read_of, write_of, close_of, call_of};
+ghost use Rattle.pl_model.specs.Lines.{pipe_of, read_of, write_of, dup_of, dup2_of, dup_fd_of, close_of, get_fl_of, set_fl_of, fork_of, exit_of, call_of};
 ghost use Rattle.pl_script.specs.Parsed.{Gives};
 
 use crate::bytes::parse_bytes;
 use crate::faults::LineFault;
+use crate::flags::parse_flags_or_none;
 use crate::numbers::{parse_i32, parse_u32};
 use crate::words::{end, next_word, word};
 use pl_model::Call;
@@ -53,6 +54,41 @@ fn write_call<A: Allocator + Copy>(alloc: A, rest: &[u8]) -> Result<Call<A>, Lin
     })
 }
 
+#[tactic(auto, unfolding(pl_model::specs::Lines::dup_of))]
+fn dup_call<A: Allocator + Copy>(rest: &[u8]) -> Result<Call<A>, LineFault>
+    ensures { Gives result (dup_of (words rest.now)) }
+{
+    let (fd, rest) = word(rest)?;
+    end(rest)?;
+    Ok(Call::Dup { fd: parse_i32(fd)? })
+}
+
+#[tactic(auto, unfolding(pl_model::specs::Lines::dup2_of))]
+fn dup2_call<A: Allocator + Copy>(rest: &[u8]) -> Result<Call<A>, LineFault>
+    ensures { Gives result (dup2_of (words rest.now)) }
+{
+    let (fd, rest) = word(rest)?;
+    let (target, rest) = word(rest)?;
+    end(rest)?;
+    Ok(Call::Dup2 {
+        fd: parse_i32(fd)?,
+        target: parse_i32(target)?,
+    })
+}
+
+#[tactic(auto, unfolding(pl_model::specs::Lines::dup_fd_of))]
+fn dup_fd_call<A: Allocator + Copy>(rest: &[u8]) -> Result<Call<A>, LineFault>
+    ensures { Gives result (dup_fd_of (words rest.now)) }
+{
+    let (fd, rest) = word(rest)?;
+    let (least, rest) = word(rest)?;
+    end(rest)?;
+    Ok(Call::DupFd {
+        fd: parse_i32(fd)?,
+        least: parse_i32(least)?,
+    })
+}
+
 #[tactic(auto, unfolding(pl_model::specs::Lines::close_of))]
 fn close_call<A: Allocator + Copy>(rest: &[u8]) -> Result<Call<A>, LineFault>
     ensures { Gives result (close_of (words rest.now)) }
@@ -60,6 +96,44 @@ fn close_call<A: Allocator + Copy>(rest: &[u8]) -> Result<Call<A>, LineFault>
     let (fd, rest) = word(rest)?;
     end(rest)?;
     Ok(Call::Close { fd: parse_i32(fd)? })
+}
+
+#[tactic(auto, unfolding(pl_model::specs::Lines::get_fl_of))]
+fn get_fl_call<A: Allocator + Copy>(rest: &[u8]) -> Result<Call<A>, LineFault>
+    ensures { Gives result (get_fl_of (words rest.now)) }
+{
+    let (fd, rest) = word(rest)?;
+    end(rest)?;
+    Ok(Call::GetFl { fd: parse_i32(fd)? })
+}
+
+#[tactic(auto, unfolding(pl_model::specs::Lines::set_fl_of))]
+fn set_fl_call<A: Allocator + Copy>(rest: &[u8]) -> Result<Call<A>, LineFault>
+    ensures { Gives result (set_fl_of (words rest.now)) }
+{
+    let (fd, rest) = word(rest)?;
+    let (flags, rest) = word(rest)?;
+    end(rest)?;
+    Ok(Call::SetFl {
+        fd: parse_i32(fd)?,
+        flags: parse_flags_or_none(flags)?,
+    })
+}
+
+#[tactic(auto, unfolding(pl_model::specs::Lines::fork_of))]
+fn fork_call<A: Allocator + Copy>(rest: &[u8]) -> Result<Call<A>, LineFault>
+    ensures { Gives result (fork_of (words rest.now)) }
+{
+    end(rest)?;
+    Ok(Call::Fork)
+}
+
+#[tactic(auto, unfolding(pl_model::specs::Lines::exit_of))]
+fn exit_call<A: Allocator + Copy>(rest: &[u8]) -> Result<Call<A>, LineFault>
+    ensures { Gives result (exit_of (words rest.now)) }
+{
+    end(rest)?;
+    Ok(Call::Exit)
 }
 
 /// The call of this name, with the words behind it.
@@ -77,8 +151,22 @@ pub(crate) fn parse_call<A: Allocator + Copy>(
         read_call(rest)
     } else if name == b"write".as_slice() {
         write_call(alloc, rest)
+    } else if name == b"dup".as_slice() {
+        dup_call(rest)
+    } else if name == b"dup2".as_slice() {
+        dup2_call(rest)
+    } else if name == b"dupfd".as_slice() {
+        dup_fd_call(rest)
     } else if name == b"close".as_slice() {
         close_call(rest)
+    } else if name == b"getfl".as_slice() {
+        get_fl_call(rest)
+    } else if name == b"setfl".as_slice() {
+        set_fl_call(rest)
+    } else if name == b"fork".as_slice() {
+        fork_call(rest)
+    } else if name == b"exit".as_slice() {
+        exit_call(rest)
     } else {
         Err(LineFault::Bad)
     }

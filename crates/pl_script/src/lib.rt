@@ -4,13 +4,15 @@
 //! a writer. What a line asks and what a script prints is defined in `pl_model`, in `specs/Lines.antt` and
 //! `specs/Script.antt`.
 //!
-//! The lines are `start`, `resume C`, `interrupt C`, `P pipe`, `P pipe nonblock`, `P read FD N`, `P write FD BYTES` and
-//! `P close FD`, and those that ask nothing: blank ones and comments, which begin with `#`.
+//! The lines are `start`, `resume C`, `interrupt C`, `P pipe`, `P pipe nonblock`, `P read FD N`, `P write FD BYTES`,
+//! `P dup FD`, `P dup2 FD FD`, `P dupfd FD N`, `P close FD`, `P getfl FD`, `P setfl FD FLAGS`, `P fork` and `P exit`, and those
+//! that ask nothing: blank ones and comments, which begin with `#`.
 #![tactic(auto)]
 
 mod bytes;
 mod calls;
 mod faults;
+mod flags;
 mod lines;
 mod numbers;
 mod parse;

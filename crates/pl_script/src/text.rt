@@ -1,8 +1,9 @@
 //! The text of replies.
 ghost use Rattle.std.specs.Prelude.{◌≡◌, [], ◌∷◌, ◌++◌, OnOk, IfOk, string_bytes};
-ghost use Rattle.pl_model.specs.Shown.{bytes_text, errno_text, reply_text, outcome_text};
+ghost use Rattle.pl_model.specs.Shown.{bytes_text, errno_text, mode_text, flags_text, reply_text, outcome_text};
 
-use pl_model::{Errno, Outcome, Reply};
+use bitflags::Flags;
+use pl_model::{Errno, Mode, OpenFlags, Outcome, Reply};
 use std::alloc::{AllocError, Allocator};
 
 /// Adds the bytes as hexadecimal digits in lower case, or `-` for none.
@@ -44,6 +45,32 @@ fn errno_text(errno: Errno) -> &'static str
     }
 }
 
+fn mode_text(mode: Mode) -> &'static str
+    ensures { result.now ≡ mode_text mode }
+{
+    match mode {
+        Mode::Read => "r",
+        Mode::Write => "w",
+        Mode::Both => "rw",
+    }
+}
+
+/// The status flags that are set, or `-` for none.
+#[tactic(auto, unfolding(pl_model::specs::Shown::flags_text))]
+fn flags_text(flags: OpenFlags) -> &'static str
+    ensures { result.now ≡ flags_text flags }
+{
+    match (
+        flags.contains(OpenFlags::APPEND),
+        flags.contains(OpenFlags::NONBLOCK),
+    ) {
+        (true, true) => "append,nonblock",
+        (true, false) => "append",
+        (false, true) => "nonblock",
+        (false, false) => "-",
+    }
+}
+
 #[tactic(auto, unfolding(pl_model::specs::Shown::reply_text))]
 fn push_reply<A: Allocator + Copy>(
     alloc: A,
@@ -54,12 +81,17 @@ fn push_reply<A: Allocator + Copy>(
 {
     match reply {
         Reply::Pid(pid) => write!(text, "pid {pid}"),
+        Reply::Fd(fd) => write!(text, "fd {fd}"),
         Reply::Fds(reader, writer) => write!(text, "fds {reader} {writer}"),
         Reply::Count { n, sigpipe: false } => write!(text, "count {n}"),
         Reply::Count { n, sigpipe: true } => write!(text, "count {n} sigpipe"),
         Reply::Bytes(bytes) => {
             text.push_str("data ")?;
             push_bytes(alloc, text, bytes.as_slice())
+        }
+        Reply::Flags { mode, flags } => {
+            let (mode, flags) = (mode_text(*mode), flags_text(*flags));
+            write!(text, "flags {mode} {flags}")
         }
         Reply::Unit => text.push_str("ok"),
         Reply::Fault(errno) => text.push_str(errno_text(*errno)),

@@ -14,6 +14,10 @@ mod runs;
 #[cfg(test)]
 mod sessions;
 #[cfg(test)]
+mod shared_lines;
+#[cfg(test)]
+mod shared_replies;
+#[cfg(test)]
 mod streams;
 #[cfg(test)]
 mod trickling;

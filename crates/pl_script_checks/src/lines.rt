@@ -104,7 +104,6 @@ fn bad_lines(rt: HostRuntime) {
         "-",
         "\r\r",
         "file x",
-        "1 dup 0",
         "1 pip",
         "1 pipes",
         "star",

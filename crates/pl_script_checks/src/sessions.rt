@@ -1,4 +1,4 @@
-//! Sessions: scripts of calls that wait, line by line with what each prints.
+//! Sessions: scripts of calls that wait and of descriptors that share, line by line with what each prints.
 use super::trickling::run_from;
 use pl_model::Totals;
 use pl_testing::asked::NEVER_GIVEN;
@@ -104,6 +104,71 @@ resume 18446744073709551614 => no call
 1 read 0 9 => data -
 ";
 
+const FLAGS_OF_SHARED_DESCRIPTIONS: &str = "\
+start => pid 1
+1 pipe => fds 0 1
+1 dup 0 => fd 2
+1 setfl 2 append,nonblock => ok
+1 getfl 0 => flags r append,nonblock
+1 getfl 1 => flags w -
+1 read 0 1 => EAGAIN
+1 dup2 1 0 => fd 0
+1 getfl 0 => flags w -
+1 read 2 1 => EAGAIN
+";
+
+const INTERLEAVING_WITH_A_LARGE_WRITE: &str = "\
+start => pid 1
+1 pipe => fds 0 1
+1 fork => pid 2
+1 write 1 70000*61 => parked 1
+1 read 0 1000 => data 1000*61
+2 write 1 1000*62 => count 1000
+resume 1 => parked 1
+1 read 0 64536 => data 64536*61
+1 read 0 1000 => data 1000*62
+resume 1 => count 70000
+1 read 0 65536 => data 4464*61
+";
+
+const THREE_NAMES_OF_ONE_WRITE_END: &str = "\
+start => pid 1
+1 pipe => fds 0 1
+1 fork => pid 2
+1 dup 1 => fd 2
+1 close 1 => ok
+1 close 2 => ok
+1 read 0 1 => parked 1
+2 exit => ok
+resume 1 => data -
+";
+
+const AN_EXIT_DROPS_PARKED_CALLS: &str = "\
+start => pid 1
+1 pipe => fds 0 1
+1 read 0 1 => parked 1
+1 exit => ok
+resume 1 => no call
+1 close 0 => no process
+start => pid 1
+";
+
+const OUTSIDE_THE_TABLE: &str = "\
+start => pid 1
+1 pipe => fds 0 1
+1 dup -1 => EBADF
+1 dup2 0 256 => EBADF
+1 dup2 0 -1 => EBADF
+1 dupfd 0 256 => EINVAL
+1 dupfd 0 -1 => EINVAL
+1 dupfd 0 255 => fd 255
+1 dupfd 0 255 => EMFILE
+1 getfl 2147483647 => EBADF
+1 setfl -2147483648 - => EBADF
+1 dup2 1 1 => fd 1
+1 dup -0 => fd 2
+";
+
 /// The script of a session, and what it prints. The session writes `N*hh` for N times the byte hh, whose digits are all
 /// printed.
 fn script_and_output(alloc: Global, session: &str) -> Result<(String, String), Fail> {
@@ -170,4 +235,18 @@ fn numbers_are_spent(rt: HostRuntime) -> Result<(), Fail> {
         18_446_744_073_709_551_613,
         THE_LAST_NUMBERS,
     )
+}
+
+#[test]
+fn descriptors_share(rt: HostRuntime) -> Result<(), Fail> {
+    for session in [
+        FLAGS_OF_SHARED_DESCRIPTIONS,
+        INTERLEAVING_WITH_A_LARGE_WRITE,
+        THREE_NAMES_OF_ONE_WRITE_END,
+        AN_EXIT_DROPS_PARKED_CALLS,
+        OUTSIDE_THE_TABLE,
+    ] {
+        is_printed(&rt, rt.alloc(), 1, session)?;
+    }
+    Ok(())
 }

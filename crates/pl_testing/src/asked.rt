@@ -1,6 +1,7 @@
 //! Tables of what is asked of a kernel, and what it is to answer.
+use bitflags::Flags;
 use pl_kernel::{Kernel, NoMemory};
-use pl_model::{Bytes8, Call, Errno, Outcome, Reply, Step};
+use pl_model::{Bytes8, Call, Errno, Mode, OpenFlags, Outcome, Reply, Step};
 use std::alloc::{Allocator, Global};
 use std::test::Fail;
 
@@ -13,12 +14,15 @@ pub enum Data {
     Text(&'static str),
     /// The byte, so many times.
     Many(u8, usize),
+    /// The first byte, so many times, and then the second, so many times.
+    TwoRuns(u8, usize, u8, usize),
     /// From a place on, so many bytes of a text without end, whose byte at each place is the place's remainder by 251.
     Part(usize, usize),
 }
 
 /// A step whose bytes are still to be made. A call names its process, then its descriptor, and a read the most bytes that it
-/// takes; `Resume` and `Interrupt` name a parked call by its number.
+/// takes; `Dup2` names its target last, `DupFd` the least descriptor, and `SetFl` the flags. `Resume` and `Interrupt` name a
+/// parked call by its number.
 #[derive(Clone, Copy, Debug)]
 pub enum Ask {
     Start,
@@ -28,18 +32,27 @@ pub enum Ask {
     PipeNonblock(u32),
     Read(u32, i32, u32),
     Write(u32, i32, Data),
+    Dup(u32, i32),
+    Dup2(u32, i32, i32),
+    DupFd(u32, i32, i32),
     Close(u32, i32),
+    GetFl(u32, i32),
+    SetFl(u32, i32, &'static [OpenFlags]),
+    Fork(u32),
+    Exit(u32),
 }
 
 /// A reply whose bytes are still to be made.
 #[derive(Clone, Copy, Debug)]
 pub enum Want {
     Pid(u32),
+    Fd(i32),
     Fds(i32, i32),
     Count(u32),
     /// The count of a write whose rest nobody can read.
     CountSigpipe(u32),
     Bytes(Data),
+    Flags(Mode, &'static [OpenFlags]),
     Unit,
     Fault(Errno),
     Parked(u64),
@@ -53,6 +66,13 @@ impl Data {
         let bytes = match self {
             Data::Text(text) => Vec::from_slice(alloc, text.as_bytes())?,
             Data::Many(byte, times) => Vec::from_elem(alloc, byte, times)?,
+            Data::TwoRuns(first, times, second, more) => {
+                let mut bytes = Vec::from_elem(alloc, first, times)?;
+                for _ in 0..more {
+                    bytes.push(second)?;
+                }
+                bytes
+            }
             Data::Part(from, count) => {
                 let mut bytes = Vec::with_capacity(alloc, count)?;
                 for i in 0..count {
@@ -63,6 +83,15 @@ impl Data {
         };
         Ok(Bytes8::from_vec(bytes).ok_or("more bytes than a call moves")?)
     }
+}
+
+/// All flags of the list.
+fn all_of(flags: &[OpenFlags]) -> OpenFlags {
+    let mut all = OpenFlags::empty();
+    for flag in flags {
+        all = all | *flag;
+    }
+    all
 }
 
 impl Ask {
@@ -79,7 +108,17 @@ impl Ask {
                 let bytes = data.bytes(alloc)?;
                 Step::Begin(pid, Call::Write { fd, bytes })
             }
+            Ask::Dup(pid, fd) => Step::Begin(pid, Call::Dup { fd }),
+            Ask::Dup2(pid, fd, target) => Step::Begin(pid, Call::Dup2 { fd, target }),
+            Ask::DupFd(pid, fd, least) => Step::Begin(pid, Call::DupFd { fd, least }),
             Ask::Close(pid, fd) => Step::Begin(pid, Call::Close { fd }),
+            Ask::GetFl(pid, fd) => Step::Begin(pid, Call::GetFl { fd }),
+            Ask::SetFl(pid, fd, flags) => {
+                let flags = all_of(flags);
+                Step::Begin(pid, Call::SetFl { fd, flags })
+            }
+            Ask::Fork(pid) => Step::Begin(pid, Call::Fork),
+            Ask::Exit(pid) => Step::Begin(pid, Call::Exit),
         })
     }
 }
@@ -89,10 +128,15 @@ impl Want {
     pub fn outcome(self, alloc: Global) -> Result<Outcome, Fail> {
         Ok(Outcome::Replied(match self {
             Want::Pid(pid) => Reply::Pid(pid),
+            Want::Fd(fd) => Reply::Fd(fd),
             Want::Fds(first, second) => Reply::Fds(first, second),
             Want::Count(n) => Reply::Count { n, sigpipe: false },
             Want::CountSigpipe(n) => Reply::Count { n, sigpipe: true },
             Want::Bytes(data) => Reply::Bytes(data.bytes(alloc)?),
+            Want::Flags(mode, flags) => {
+                let flags = all_of(flags);
+                Reply::Flags { mode, flags }
+            }
             Want::Unit => Reply::Unit,
             Want::Fault(errno) => Reply::Fault(errno),
             Want::Parked(call) => Reply::Parked(call),

@@ -1,8 +1,13 @@
 //! The worked examples that several crates of tests make: tables of steps with the replies that are wanted.
-use crate::asked::Ask::{self, Close, Interrupt, Pipe, PipeNonblock, Read, Resume, Start, Write};
-use crate::asked::Data::{Many, Text};
-use crate::asked::Want::{self, Bytes, Count, CountSigpipe, Fault, Fds, NoCall, Parked, Pid, Unit};
-use pl_model::Errno;
+use crate::asked::Ask::{
+    self, Close, Dup, Dup2, Exit, Fork, GetFl, Interrupt, Pipe, PipeNonblock, Read, Resume, SetFl,
+    Start, Write,
+};
+use crate::asked::Data::{Many, Text, TwoRuns};
+use crate::asked::Want::{
+    self, Bytes, Count, CountSigpipe, Fault, Fd, Fds, Flags, NoCall, NoProcess, Parked, Pid, Unit,
+};
+use pl_model::{Errno, Mode, OpenFlags};
 
 /// What was written is read, and then the file ends.
 pub const BYTES_BEFORE_END_OF_FILE: [(Ask, Want); 7] = [
@@ -86,4 +91,62 @@ pub const A_WAITING_WRITER_IS_A_WRITER: [(Ask, Want); 9] = [
     (Resume(1), Count(70_000)),
     (Resume(2), Bytes(Text("a"))),
     (Read(1, 0, 70_000), Bytes(Many(b'a', 4_463))),
+];
+
+/// Both flags that `SetFl` sets.
+pub const APPEND_AND_NONBLOCK: &[OpenFlags] = &[OpenFlags::APPEND, OpenFlags::NONBLOCK];
+
+/// The flags of a description are those of each descriptor that names it, and of no other.
+pub const FLAGS_OF_SHARED_DESCRIPTIONS: [(Ask, Want); 10] = [
+    (Start, Pid(1)),
+    (Pipe(1), Fds(0, 1)),
+    (Dup(1, 0), Fd(2)),
+    (SetFl(1, 2, APPEND_AND_NONBLOCK), Unit),
+    (GetFl(1, 0), Flags(Mode::Read, APPEND_AND_NONBLOCK)),
+    (GetFl(1, 1), Flags(Mode::Write, &[])),
+    (Read(1, 0, 1), Fault(Errno::EAGAIN)),
+    (Dup2(1, 1, 0), Fd(0)),
+    (GetFl(1, 0), Flags(Mode::Write, &[])),
+    (Read(1, 2, 1), Fault(Errno::EAGAIN)),
+];
+
+/// What another process writes goes in between the turns of a large write.
+pub const INTERLEAVING_WITH_A_LARGE_WRITE: [(Ask, Want); 10] = [
+    (Start, Pid(1)),
+    (Pipe(1), Fds(0, 1)),
+    (Fork(1), Pid(2)),
+    (Write(1, 1, Many(b'a', 70_000)), Parked(1)),
+    (Read(1, 0, 1_000), Bytes(Many(b'a', 1_000))),
+    (Write(2, 1, Many(b'b', 1_000)), Count(1_000)),
+    (Resume(1), Parked(1)),
+    (
+        Read(1, 0, 65_536),
+        Bytes(TwoRuns(b'a', 64_536, b'b', 1_000)),
+    ),
+    (Resume(1), Count(70_000)),
+    (Read(1, 0, 65_536), Bytes(Many(b'a', 4_464))),
+];
+
+/// A write end is a writer as long as a descriptor of any process names it.
+pub const THREE_NAMES_OF_ONE_WRITE_END: [(Ask, Want); 9] = [
+    (Start, Pid(1)),
+    (Pipe(1), Fds(0, 1)),
+    (Fork(1), Pid(2)),
+    (Dup(1, 1), Fd(2)),
+    (Close(1, 1), Unit),
+    (Close(1, 2), Unit),
+    (Read(1, 0, 1), Parked(1)),
+    (Exit(2), Unit),
+    (Resume(1), Bytes(Text(""))),
+];
+
+/// The calls of a process end with it, and its pid is free.
+pub const AN_EXIT_DROPS_PARKED_CALLS: [(Ask, Want); 7] = [
+    (Start, Pid(1)),
+    (Pipe(1), Fds(0, 1)),
+    (Read(1, 0, 1), Parked(1)),
+    (Exit(1), Unit),
+    (Resume(1), NoCall),
+    (Close(1, 0), NoProcess),
+    (Start, Pid(1)),
 ];

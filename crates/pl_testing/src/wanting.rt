@@ -1,5 +1,5 @@
 //! What tests of want of memory share.
-use crate::asked::Ask::{self, Close, Interrupt};
+use crate::asked::Ask::{self, Close, Dup, Dup2, DupFd, Exit, GetFl, Interrupt, SetFl};
 use crate::asked::Want::{self, CallsSpent, Fault, NoCall, NoProcess};
 use crate::refusing::Refusing;
 use pl_model::{Bytes8, Outcome, Reply, Step};
@@ -9,10 +9,21 @@ use std::test::Fail;
 /// More requests for memory than any example or script of the tests makes.
 pub const MOST_REQUESTS: u64 = 1_000;
 
-/// Whether the step is to take no memory: a step that is refused, a close and an interrupt.
+/// Whether the step is to take no memory: a step that is refused, an interrupt, and each call on descriptors that neither makes
+/// something new nor moves bytes.
 pub fn takes_no_memory(ask: Ask, want: Want) -> bool {
     matches!(want, Fault(_) | NoProcess | NoCall | CallsSpent)
-        || matches!(ask, Close(..) | Interrupt(_))
+        || matches!(
+            ask,
+            Interrupt(_)
+                | Close(..)
+                | Dup(..)
+                | Dup2(..)
+                | DupFd(..)
+                | GetFl(..)
+                | SetFl(..)
+                | Exit(_)
+        )
 }
 
 /// What a step came to, with its bytes in memory of `alloc`. It fails where that has none.
@@ -22,12 +33,14 @@ pub fn moved<A: Allocator>(alloc: Global, outcome: Outcome<A>) -> Result<Outcome
     };
     Ok(Outcome::Replied(match reply {
         Reply::Pid(pid) => Reply::Pid(pid),
+        Reply::Fd(fd) => Reply::Fd(fd),
         Reply::Fds(first, second) => Reply::Fds(first, second),
         Reply::Count { n, sigpipe } => Reply::Count { n, sigpipe },
         Reply::Bytes(bytes) => {
             let copy = Vec::from_slice(alloc, bytes.as_slice())?;
             Reply::Bytes(Bytes8::from_vec(copy).ok_or("more bytes than a call moves")?)
         }
+        Reply::Flags { mode, flags } => Reply::Flags { mode, flags },
         Reply::Unit => Reply::Unit,
         Reply::Fault(errno) => Reply::Fault(errno),
         Reply::Parked(call) => Reply::Parked(call),

@@ -1,8 +1,11 @@
-use Rattle.pl_model.proofs.Examples.{script_of_bytes_before_end_of_file, empty_script, script_without_line_feed, script_of_no_process}
+use Rattle.pl_model.proofs.Examples.{script_of_bytes_before_end_of_file, script_of_flags, empty_script, script_without_line_feed, script_of_no_process}
 use Rattle.pl_model.proofs.worked.scripts.Goals as goal
 
 pub returns-clause-bytes_before_end_of_file : goal.returns-clause-bytes_before_end_of_file
 returns-clause-bytes_before_end_of_file g c = script_of_bytes_before_end_of_file _
+
+pub returns-clause-flags : goal.returns-clause-flags
+returns-clause-flags g c = script_of_flags _
 
 pub returns-clause-empty : goal.returns-clause-empty
 returns-clause-empty g c = empty_script _

@@ -1,0 +1,13 @@
+//! What the kernel answers where descriptors share descriptions: duplicates, flags, forks and exits.
+#![tactic(auto)]
+
+#[cfg(test)]
+mod duplicates;
+#[cfg(test)]
+mod examples;
+#[cfg(test)]
+mod flags;
+#[cfg(test)]
+mod limits;
+#[cfg(test)]
+mod processes;
