@@ -1,0 +1,100 @@
+-- A description stays on its node, while its number isn't given anew.
+use Rattle.std.proofs.Common.{◌≡◌, ◌≢◌, ℕ, ◌+◌, Bool, true, false, cond, Option, List, [], ◌∷◌, refl, sym, ◌∙◌, ap, subst, nat_eq, arith}
+use Rattle.std.specs.Prelude.{All, IfSome, option_map}
+use Rattle.std.specs.declared.option.Option.TheVariants.{None, Some}
+use Rattle.std.proofs.lemmas.Bool.{eqb-true}
+use Rattle.pl_model.specs.declared.calls.Step.{Step}
+use Rattle.pl_model.specs.Keys.{Node, NewKeys, Drawing, Plain, Draws, PipeNode, drawn}
+use Rattle.pl_model.specs.Map.{kept_if}
+use Rattle.pl_model.specs.State.{Core, Description, Open}
+use Rattle.pl_model.specs.Live.{is_live}
+use Rattle.pl_model.specs.Settle.{settle}
+use Rattle.pl_model.specs.Trial.{Flow, lost, gained, flowed}
+use Rattle.pl_model.specs.Step.{Stepped, core_step}
+use Rattle.pl_model.specs.Numbered.{numbers, State, next_numbers, step_of, step}
+use Rattle.pl_model.specs.Calls.{Keeps}
+use Rattle.pl_model.proofs.Keeps as all_keep
+use Rattle.pl_model.proofs.Keeps.{Changes, node_of, step-keeps}
+use Rattle.pl_model.proofs.Maps.{differ}
+
+-- the description is on the node, if it is there
+abbrev pub IsOn : {A : Type 0} → ℕ → Node numbers → Core A numbers → Type 0
+IsOn d node s = IfSome (s.descriptions d) (λ x. x.node ≡ node)
+
+on_kept : (node : Node numbers) (b : Bool) (o : Option (Description numbers)) → IfSome o (λ x. x.node ≡ node) → IfSome (kept_if b o) (λ x. x.node ≡ node)
+on_kept node true o h = h
+on_kept node false o h = tt
+
+there_or : (d : ℕ) (p : ℕ) (o : Option (Description numbers)) → IfSome (option_map (λ x. record { key = d; description = x }) o) (λ (y : Open numbers). y.description.node ≡ PipeNode p) → IfSome o (λ x. x.node ≡ PipeNode p)
+there_or d p None h = h
+there_or d p (Some x) h = h
+
+back_or : (d : ℕ) (p : ℕ) (o : Option (Description numbers)) → IfSome o (λ x. x.node ≡ PipeNode p) → IfSome (option_map (λ x. record { key = d; description = x }) o) (λ (y : Open numbers). y.description.node ≡ PipeNode p)
+back_or d p None h = h
+back_or d p (Some x) h = h
+
+module _ {A : Type 0} (d : ℕ) (node : Node numbers) where
+  on_other : (s : Core A numbers) (k : ℕ) (x : Description numbers) → k ≢ d → IsOn d node s → IfSome (cond (nat_eq k d) (Some x) (s.descriptions d)) (λ x. x.node ≡ node)
+  on_other s k x n h = subst (λ b. IfSome (cond b (Some x) (s.descriptions d)) (λ x. x.node ≡ node)) (sym (differ k d n)) h
+
+  on_set : (s : Core A numbers) (k : ℕ) (x : Description numbers) → node_of s k ≡ Some x.node → IsOn d node s → IfSome (cond (nat_eq k d) (Some x) (s.descriptions d)) (λ x. x.node ≡ node)
+  on_set s k x on h = at (nat_eq k d) refl
+    where
+      there : (o : Option (Description numbers)) → option_map (λ (x : Description numbers). x.node) o ≡ Some x.node → IfSome o (λ x. x.node ≡ node) → x.node ≡ node
+      there None e h = absurd (cc)
+      there (Some y) e h = (let same : y.node ≡ x.node = cc in sym same ∙ h)
+
+      at : (b : Bool) → nat_eq k d ≡ b → IfSome (cond b (Some x) (s.descriptions d)) (λ x. x.node ≡ node)
+      at true e = there (s.descriptions d) (ap (node_of s) (sym (eqb-true k d e)) ∙ on) h
+      at false e = h
+
+  on_flowed : (s : Core A numbers) (flow : Flow numbers) → IsOn d node s → IsOn d node (flowed s flow)
+  unfolding flowed
+  on_flowed s flow h = into (lost s flow.out) flow.into (out flow.out)
+    where
+      into : (u : Core A numbers) (i : Option (ℕ × List ℕ)) → IsOn d node u → IsOn d node (gained u i)
+      into u None h = h
+      into u (Some i) h = h
+
+      out : (o : Option (ℕ × ℕ)) → IsOn d node (lost s o)
+      out None = h
+      out (Some o) = h
+
+  on_keeps : (new : NewKeys numbers) → new.description ≢ d → new.other_description ≢ d → all_keep.Keeps {A = A} new (IsOn d node)
+  unfolding settle
+  on_keeps new apart other =
+      let changes : Changes new (IsOn d node) = record {
+        install = λ s pid fd k h. h;
+        close_row = λ s pid fd h. h;
+        describe_other = λ s n mode flags h. on_other s new.other_description _ other h;
+        describe = λ s n mode flags h. on_other s new.description _ apart h;
+        set_description = λ s k x on h. on_set s k x on h;
+        new_pipe = λ s h. h;
+        set_file = λ s f bytes h. h;
+        fork = λ s pid child h. h;
+        exit = λ s pid h. h;
+      } in
+      record {
+        changes = changes;
+        start = λ s pid h. h;
+        flowed = λ s flow h. on_flowed s flow h;
+        parked = λ s w h. h;
+        parked_again = λ s c w h. h;
+        without_call = λ s c h. h;
+        settle = λ before s h. on_kept node (is_live s d) (s.descriptions d) h;
+      }
+
+  pub on_step : (s : State A) (x : Step A) → d ≢ s.next_description → d ≢ s.next_description + 1 → IsOn d node s.core → IsOn d node (step s x).state.core
+  unfolding step
+  on_step s x apart other h = at (core_step s.core x) (step-keeps (on_keeps (next_numbers s) (λ e. apart (sym e)) (λ e. other (sym e))) s.core x h)
+    where
+      at : (y : Drawing numbers (Stepped A numbers)) → IsOn d node (drawn (next_numbers s) y).state → IsOn d node (step_of s y).state.core
+      at (Plain y) h = h
+      at (Draws f) h = h
+
+module _ {A : Type 0} where
+  -- the description that a parked call keeps stays on its pipe
+  pub keeps_step : (s : State A) (x : Step A) (kept : List ℕ) (p : ℕ) → All (λ k. k ≢ s.next_description) kept → All (λ k. k ≢ s.next_description + 1) kept → Keeps s.core kept p → Keeps (step s x).state.core kept p
+  keeps_step s x [] p first second h = h
+  keeps_step s x (d ∷ ds) p first second h =
+      back_or d p ((step s x).state.core.descriptions d) (on_step d (PipeNode p) s x (first 0 d (omega arith)) (second 0 d (omega arith)) (there_or d p (s.core.descriptions d) h))

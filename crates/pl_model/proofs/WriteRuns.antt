@@ -1,0 +1,143 @@
+-- Writes and reads over a run.
+use Rattle.std.proofs.Common.{◌≡◌, ℕ, ℤ, ◌+◌, ◌-◌, ◌≤◌, Bool, true, false, cond, Option, List, [], ◌++◌, length, refl, sym, ◌∙◌, ap, subst, nat_eq, take, drop, arith}
+use Rattle.std.specs.Prelude.{nat_lt, slice_range, IfSome}
+use Rattle.std.specs.declared.option.Option.TheVariants.{None, Some}
+use Rattle.std.specs.List.{concat}
+use Rattle.std.proofs.lemmas.List.{drop-drop}
+use Rattle.std.proofs.lemmas.List.Folds.{concat-append}
+use Rattle.std.proofs.Math.Seq.{take-add}
+use Rattle.pl_model.specs.declared.calls.Call.{Call}
+use Rattle.pl_model.specs.declared.calls.Step.{Step}
+use Rattle.pl_model.specs.declared.cases.ReadCase.{ReadCase}
+use Rattle.pl_model.specs.declared.replies.Reply.TheVariants.{Fault}
+use Rattle.pl_model.specs.declared.replies.Errno.TheVariants.{EINTR}
+use Rattle.pl_model.specs.Numbers.{pipe_buf}
+use Rattle.pl_model.specs.Map.{get}
+use Rattle.pl_model.specs.Keys.{Node, PipeNode, FileNode}
+use Rattle.pl_model.specs.State.{Core, Description, Open, Waiting}
+use Rattle.pl_model.specs.Live.{writers}
+use Rattle.pl_model.specs.Trial.{Trial, Done, Wait, pipe_at}
+use Rattle.pl_model.specs.Transfer.{count, read_case, read_row, read_pipe, read_node}
+use Rattle.pl_model.specs.Step.{try, with_kept, kept_at}
+use Rattle.pl_model.specs.Numbered.{numbers, State}
+use Rattle.pl_model.specs.StandsFor.{IsBelowCounters}
+use Rattle.pl_model.specs.Stream.{held, into_pipe, out_of_pipe}
+use Rattle.pl_model.specs.Chunks.{OfCall, unless_empty, of, chunks_from, outs_from}
+use Rattle.pl_model.specs.Fates.{Fate, Answered, Interrupted, Dropped, Waits, fate, bytes_answered, taken_with}
+use Rattle.pl_model.specs.Calls.{AreInOrder, HasTaken, Keeps, Adds}
+use Rattle.pl_model.proofs.Writes.{WriteTry, write_try, adds_no, join_unless_empty, no_slice, same_number}
+use Rattle.pl_model.proofs.Nodes.{keeps_step}
+use Rattle.pl_model.proofs.CallRuns.{Course, TrySays, course_run, interrupt_reply}
+
+pub join_slices : (bytes : List ℕ) (a b c : ℕ) → a ≤ b → b ≤ c → slice_range bytes a b ++ slice_range bytes b c ≡ slice_range bytes a c
+join_slices bytes a b c h k =
+    ap (λ xs. take (b - a) (drop a bytes) ++ take (c - b) xs) (sym (drop-drop (b - a) a bytes ∙ ap (λ n. drop n bytes) up))
+    ∙ (sym (take-add (b - a) (c - b) (drop a bytes))
+    ∙ ap (λ n. take n (drop a bytes)) sum)
+  where
+    up : a + (b - a) ≡ b
+    up = omega (arith, h)
+
+    sum : (b - a) + (c - b) ≡ c - a
+    sum = omega (arith, h, k)
+
+module _ {A : Type 0} where
+  -- a slice first, and then what the rest adds
+  pub adds_more : (may_wait : Bool) (bytes : List ℕ) (t to : ℕ) (into : List ℕ) (ins : List (List ℕ)) (end : Fate A) → (length bytes ≤ pipe_buf → t ≡ 0) →
+      (into ≡ slice_range bytes t to) × (t ≤ to) × (to ≤ length bytes) × (length bytes ≤ pipe_buf → to ≡ 0) →
+      Adds true bytes to ins end → Adds may_wait bytes t (unless_empty into ++ ins) end
+  adds_more may_wait bytes t to into ins end small says rest =
+      record {
+        stream =
+            concat-append (unless_empty into) ins
+            ∙ (ap (λ b. b ++ concat ins) (join_unless_empty into ∙ says.0)
+            ∙ (ap (λ b. slice_range bytes t to ++ b) rest.stream
+            ∙ join_slices bytes t to end.taken says.1 rest.from));
+        from = omega (arith, says.1, rest.from);
+        within = rest.within;
+        whole = λ h s. ap (λ b. unless_empty b ++ ins) (says.0 ∙ (ap (λ n. slice_range bytes n to) (small s) ∙ (ap (λ n. slice_range bytes 0 n) (says.3 s) ∙ no_slice bytes 0))) ∙ rest.whole h s;
+        all = λ n may e. rest.all n refl e;
+      }
+
+module _ {A : Type 0} (p q : ℕ) (fd : ℤ) (bytes : List ℕ) where
+  -- a parked write of these bytes, on the pipe q
+  abbrev pub IsWrite : Core A numbers → Waiting A numbers → Type 0
+  IsWrite s w = (w.call ≡ Call.Write fd bytes) × HasTaken {A = A} (Call.Write fd bytes) w.taken × Keeps s w.kept q
+
+  abbrev pub WriteSays : Waiting A numbers → List (List ℕ) → List (List ℕ) → Fate A → Type 0
+  WriteSays w ins outs end = Adds true bytes w.taken ins end
+
+  tried_write : (s : Core A numbers) (w : Waiting A numbers) (t : Trial A numbers) → IsWrite s w → WriteTry true bytes w.taken q t → TrySays p q IsWrite WriteSays s w t
+  tried_write s w (Done u flow reply) is says = says
+  tried_write s w (Wait u flow to) is says =
+      ((is.0, (says.2, says.3), is.2), (λ ins outs end rest. adds_more true bytes w.taken to (into_pipe numbers flow.into q) ins end is.1.1 says rest))
+
+  reply_taken : (w : Waiting A numbers) (b : Bool) → taken_with {A = A} w.taken (cond b (count w.taken) (Fault EINTR)) ≡ w.taken
+  reply_taken w true = refl
+  reply_taken w false = refl
+
+  pub write_course : Course p q IsWrite WriteSays
+  write_course =
+      record {
+        stays = λ s x w first second is. (is.0, is.1, keeps_step s x w.kept q first second is.2);
+        waits = λ s w is. adds_no true bytes w.taken w.taken Waits is.1.0 refl refl (λ n e. cc);
+        drops = λ s w is. adds_no true bytes w.taken w.taken Dropped is.1.0 refl refl (λ n e. cc);
+        interrupted = λ s w is. adds_no true bytes w.taken _ (Interrupted (interrupt_reply w)) is.1.0 (reply_taken w (nat_lt 0 w.taken)) refl (λ n e. cc);
+        tries = λ s w is.
+            tried_write s w (try s w w.call true) is
+            (subst (λ z. WriteTry true bytes w.taken q (try s w z true)) (sym is.0) (write_try s w fd bytes true q is.1 (λ e. absurd (cc)) is.2));
+      }
+
+  pub write_run : (place : ℕ) (s : State A) (xs : List (Step A × Bool)) (c : ℕ) (w : Waiting A numbers) → IsBelowCounters s → AreInOrder s.core → get nat_eq s.core.parked c ≡ Some w → IsWrite s.core w →
+      Adds true bytes w.taken (of (OfCall c) (chunks_from place s xs q)) (fate s xs c)
+  write_run place s xs c w below order here is = course_run p q IsWrite WriteSays write_course place s xs c w below order here is
+
+module _ {A : Type 0} (p q : ℕ) (fd : ℤ) (k : ℕ) where
+  -- a parked read of at most k bytes, on the pipe p
+  abbrev pub IsRead : Core A numbers → Waiting A numbers → Type 0
+  IsRead s w = (w.call ≡ Call.Read fd k) × Keeps s w.kept p
+
+  abbrev pub ReadSays : Waiting A numbers → List (List ℕ) → List (List ℕ) → Fate A → Type 0
+  ReadSays w ins outs end = outs ≡ bytes_answered end.ending
+
+  -- what one try of a read takes from the pipe
+  abbrev pub ReadTry : List ℕ → Trial A numbers → Type 0
+  ReadTry before (Done u flow reply) = unless_empty (out_of_pipe numbers before flow.out p) ≡ bytes_answered (Answered reply)
+  ReadTry before (Wait u flow t) = out_of_pipe numbers before flow.out p ≡ []
+
+  read_row_says : (s : Core A numbers) (row : ReadCase) → ReadTry (held s p) (read_row s p (pipe_at s p) row)
+  read_row_says s (ReadCase.Gives n) = ap (λ b. unless_empty (cond b (take n (held s p)) [])) (same_number p)
+  read_row_says s ReadCase.EndOfFile = refl
+  read_row_says s ReadCase.Waits = refl
+
+  pub read_try : (s : Core A numbers) (w : Waiting A numbers) (may_wait : Bool) → Keeps s w.kept p → ReadTry (held s p) (try s w (Call.Read fd k) may_wait)
+  unfolding try read_pipe
+  read_try s w may_wait on = at (kept_at s w.kept 0) on
+    where
+      node : (d : ℕ) (x : Description numbers) (n : Node numbers) → n ≡ PipeNode p → ReadTry (held s p) (read_node s d x n k)
+      node d x (PipeNode z) e =
+          let same : z ≡ p = cc in
+          subst (λ y. ReadTry (held s p) (read_node s d x (PipeNode y) k)) (sym same) (read_row_says s (read_case k (length (pipe_at s p).bytes) (nat_lt 0 (writers s p))))
+      node d x (FileNode f) e = absurd (cc)
+
+      at : (o : Option (Open numbers)) → IfSome o (λ o. o.description.node ≡ PipeNode p) → ReadTry (held s p) (with_kept s o (λ o. read_node s o.key o.description o.description.node k))
+      at None on = refl
+      at (Some o) on = node o.key o.description o.description.node on
+
+  tried_read : (s : Core A numbers) (w : Waiting A numbers) (t : Trial A numbers) → IsRead s w → ReadTry (held s p) t → TrySays p q IsRead ReadSays s w t
+  tried_read s w (Done u flow reply) is says = says
+  tried_read s w (Wait u flow to) is says = (is, (λ ins outs end rest. ap (λ b. unless_empty b ++ outs) says ∙ rest))
+
+  pub read_course : Course p q IsRead ReadSays
+  read_course =
+      record {
+        stays = λ s x w first second is. (is.0, keeps_step s x w.kept p first second is.1);
+        waits = λ s w is. refl;
+        drops = λ s w is. refl;
+        interrupted = λ s w is. refl;
+        tries = λ s w is. tried_read s w (try s w w.call true) is (subst (λ z. ReadTry (held s p) (try s w z true)) (sym is.0) (read_try s w true is.1));
+      }
+
+  pub read_run : (place : ℕ) (s : State A) (xs : List (Step A × Bool)) (c : ℕ) (w : Waiting A numbers) → IsBelowCounters s → AreInOrder s.core → get nat_eq s.core.parked c ≡ Some w → IsRead s.core w →
+      of (OfCall c) (outs_from place s xs p) ≡ bytes_answered (fate s xs c).ending
+  read_run place s xs c w below order here is = course_run p q IsRead ReadSays read_course place s xs c w below order here is
