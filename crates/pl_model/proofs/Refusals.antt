@@ -17,13 +17,14 @@ use Rattle.pl_model.specs.Memory.{is_refusal}
 use Rattle.pl_model.specs.Keys.{Keys, Node, NewKeys, Drawing, PipeNode, FileNode, Plain, Draws, drawn, drawing_map}
 use Rattle.pl_model.specs.State.{Core, Pipe, Description, Open, Waiting}
 use Rattle.pl_model.specs.Settle.{settle}
-use Rattle.pl_model.specs.Trial.{Trial, Done, Wait, Flow, still, flowed, pipe_at, Begun, Begins, Refused, Answered, Tried}
+use Rattle.pl_model.specs.Trial.{Trial, Done, Wait, Flow, still, flowed, pipe_at, Begun, Begins, Refused, Answered, Tried, found, refuse_if}
 use Rattle.pl_model.specs.Transfer.{count, read_row, write_row, read_case, write_case, read_pipe, write_pipe, read_file, write_file, read_node, write_node}
 use Rattle.pl_model.specs.Tables.{lowest_pid}
 use Rattle.pl_model.specs.Begin.{begin_pipe, begin_read, begin_write, begin_dup, begin_dup2, begin_dup_fd, begin_close, begin_get_fl, begin_set_fl, begin_fork}
 use Rattle.pl_model.specs.Step.{Stepped, with_kept, try, begin, begun, happen, core_step, ended, first_tried, interrupted, parked, resumed, started, stepped, tried_again, waiting, without_call}
-use Rattle.pl_model.specs.Numbered.{numbers, State, next_numbers, step_of, step}
-use Rattle.pl_model.specs.Laws.{IsSettled, is_refused, Ends}
+use Rattle.pl_model.specs.Numbered.{numbers, State, After, next_numbers, step_of, step}
+use Rattle.pl_model.specs.Refused.{is_refused, with_call_ended}
+use Rattle.pl_model.specs.Laws.{IsSettled}
 use Rattle.pl_model.proofs.Ways.{LeadsTo, Refusable, ways, trial_if}
 
 module _ {A : Type 0} where
@@ -202,45 +203,114 @@ module _ {A : Type 0} {K : Keys} where
   happen-unchanged new s (Resume c) r = resumed-unchanged s c (get nat_eq s.parked c) r
   happen-unchanged new s (Interrupt c) r = interrupted-unchanged s c (get nat_eq s.parked c) r
 
+-- Nothing is refused once new keys are taken, so a refused step takes none.
+module _ {A : Type 0} {K : Keys} where
+  abbrev IsMade : Begun A K → Type 0
+  IsMade (Refused errno) = ⊥
+  IsMade (Answered s reply) = is_refusal reply ≡ false
+  IsMade (Tried s kept met may_wait) = ⊥
+
+  unfoldable RefusesFirst : Begins A K → Type 0
+  RefusesFirst (Plain b) = Unit {0}
+  RefusesFirst (Draws f) = (new : NewKeys K) → IsMade (f new)
+
+  first_found : {X : Type 0} (o : Option X) (errno : Errno) (next : X → Begins A K) → ((x : X) → RefusesFirst (next x)) → RefusesFirst (found o errno next)
+  unfolding RefusesFirst
+  first_found None errno next h = tt
+  first_found (Some x) errno next h = h x
+
+  first_if : (b : Bool) (x y : Begins A K) → RefusesFirst x → RefusesFirst y → RefusesFirst (cond b x y)
+  first_if true x y f g = f
+  first_if false x y f g = g
+
+  first_past : (b : Bool) (errno : Errno) (next : Begins A K) → RefusesFirst next → RefusesFirst (refuse_if b errno next)
+  unfolding RefusesFirst
+  first_past true errno next h = tt
+  first_past false errno next h = h
+
+  first_plain : (b : Begun A K) → RefusesFirst (Plain b)
+  unfolding RefusesFirst
+  first_plain b = tt
+
+  first_draws : (f : NewKeys K → Begun A K) → ((new : NewKeys K) → IsMade (f new)) → RefusesFirst (Draws f)
+  unfolding RefusesFirst
+  first_draws f h = h
+
+  ruleset firsts = (first_found, first_if, first_past, first_plain, first_draws)
+
+  begin-first : (s : Core A K) (pid : ℕ) (call : Call A) → RefusesFirst (begin s pid call)
+  unfolding begin begin_pipe begin_read begin_write begin_dup begin_dup2 begin_dup_fd begin_close begin_get_fl begin_set_fl begin_fork
+  begin-first s pid (Call.Pipe nonblock) = search firsts depth 14
+  begin-first s pid (Call.Read fd n) = search firsts depth 14
+  begin-first s pid (Call.Write fd bytes) = search firsts depth 14
+  begin-first s pid (Call.Dup fd) = search firsts depth 14
+  begin-first s pid (Call.Dup2 fd target) = search firsts depth 14
+  begin-first s pid (Call.DupFd fd least) = search firsts depth 14
+  begin-first s pid (Call.Close fd) = search firsts depth 14
+  begin-first s pid (Call.GetFl fd) = search firsts depth 14
+  begin-first s pid (Call.SetFl fd flags) = search firsts depth 14
+  begin-first s pid Call.Fork = search firsts depth 14
+  begin-first s pid Call.Exit = search firsts
+
+  abbrev MadeIfDrawn : Step A → Drawing K (Stepped A K) → Type 0
+  MadeIfDrawn x (Plain h) = Unit {0}
+  MadeIfDrawn x (Draws f) = (new : NewKeys K) → is_refused x (f new).reply ≡ false
+
+  made-begun : (s : Core A K) (pid : ℕ) (call : Call A) (b : Begun A K) → IsMade b → is_refused (Begin pid call) (begun s pid call b).reply ≡ false
+  made-begun s pid call (Refused errno) made = absurd made
+  made-begun s pid call (Answered u reply) made = begin-refused pid call reply ∙ made
+  made-begun s pid call (Tried u kept met may_wait) made = absurd made
+
+  happen-first : (s : Core A K) (x : Step A) → MadeIfDrawn x (happen s x)
+  unfolding happen RefusesFirst
+  happen-first s Start = tt
+  happen-first s (Begin pid call) = there (s.processes pid) where
+    drawn-first : (b : Begins A K) → RefusesFirst b → MadeIfDrawn (Begin pid call) (drawing_map (begun s pid call) b)
+    drawn-first (Plain b) first = tt
+    drawn-first (Draws f) first = λ new. made-begun s pid call (f new) (first new)
+
+    there : (b : Bool) → MadeIfDrawn (Begin pid call) (cond b (drawing_map (begun s pid call) (begin s pid call)) (Plain (stepped s NoProcess)))
+    there true = drawn-first (begin s pid call) (begin-first s pid call)
+    there false = tt
+  happen-first s (Resume c) = tt
+  happen-first s (Interrupt c) = tt
+
 module _ {A : Type 0} (s : State A) (x : Step A) (settled : IsSettled s.core) where
-  ended-unchanged : (d : Drawing numbers (Stepped A numbers)) → NoChange s.core x (drawn (next_numbers s) d) → NoChange s.core x (drawn (next_numbers s) (drawing_map (ended s.core) d))
-  ended-unchanged (Plain h) n r = (ap (settle s.core) (n r).0 ∙ settled, (n r).1)
-  ended-unchanged (Draws f) n r = (ap (settle s.core) (n r).0 ∙ settled, (n r).1)
+  of_step-unchanged : (d : Drawing numbers (Stepped A numbers)) → NoChange s.core x (drawn (next_numbers s) d) → MadeIfDrawn x d → is_refused x (step_of s (drawing_map (ended s.core) d)).reply ≡ true →
+      ((step_of s (drawing_map (ended s.core) d)).state ≡ s) × ((step_of s (drawing_map (ended s.core) d)).flow ≡ still)
+  of_step-unchanged (Plain h) n made r = (ap (λ c. record s { core = c }) (ap (settle s.core) (n r).0 ∙ settled), (n r).1)
+  of_step-unchanged (Draws f) n made r = (let e : true ≡ false = sym r ∙ made (next_numbers s) in absurd (cc))
 
-  of_step-unchanged : (d : Drawing numbers (Stepped A numbers)) → NoChange s.core x (drawn (next_numbers s) d) → is_refused x (step_of s d).reply ≡ true → ((step_of s d).state.core ≡ s.core) × ((step_of s d).flow ≡ still)
-  of_step-unchanged (Plain h) n = n
-  of_step-unchanged (Draws f) n = n
-
-  pub refused-unchanged : is_refused x (step s x).reply ≡ true → ((step s x).state.core ≡ s.core) × ((step s x).flow ≡ still)
+  pub refused-unchanged : is_refused x (step s x).reply ≡ true → ((step s x).state ≡ s) × ((step s x).flow ≡ still)
   unfolding step core_step
-  refused-unchanged = of_step-unchanged (core_step s.core x) (ended-unchanged (happen s.core x) (happen-unchanged (next_numbers s) s.core x))
+  refused-unchanged = of_step-unchanged (happen s.core x) (happen-unchanged (next_numbers s) s.core x) (happen-first s.core x)
 
 -- A fault of a parked call ends it, and changes nothing else.
 module _ {A : Type 0} (s : State A) (c : ℕ) (errno : Errno) where
   abbrev core : Core A numbers
   core = s.core
 
-  abbrev EndsAlone : Stepped A numbers → Type 0
-  EndsAlone h = (settle core h.state ≡ settle core (without_call core c)) × (h.flow ≡ still)
+  abbrev EndsAlone : After A → Type 0
+  EndsAlone after = (after.state ≡ with_call_ended s c) × (after.flow ≡ still)
 
-  resumed-alone : (w : Option (Waiting A numbers)) → (resumed core c w).reply ≡ Fault errno → EndsAlone (resumed core c w)
+  resumed-alone : (w : Option (Waiting A numbers)) → (resumed core c w).reply ≡ Fault errno → EndsAlone (step_of s (Plain (ended core (resumed core c w))))
   resumed-alone None r = absurd (cc)
   resumed-alone (Some w) r = again (try core w w.call true) (try-fair core w w.call true) r
     where
-      again : (t : Trial A numbers) → IsFair core t → (tried_again c w t).reply ≡ Fault errno → EndsAlone (tried_again c w t)
+      again : (t : Trial A numbers) → IsFair core t → (tried_again c w t).reply ≡ Fault errno → EndsAlone (step_of s (Plain (ended core (tried_again c w t))))
       again (Wait u flow taken) fair r = absurd (cc)
       again (Done u flow reply) fair r =
           let same : (u ≡ core) × (flow ≡ still) = subst (λ z. Fair core u flow z) r fair in
-          (ap (λ z. settle core (without_call z c)) ((λ i. flowed (same.0 i) (same.1 i)) ∙ flowed-still core), same.1)
+          (ap (λ z. record s { core = settle core (without_call z c) }) ((λ i. flowed (same.0 i) (same.1 i)) ∙ flowed-still core), same.1)
 
-  interrupted-alone : (w : Option (Waiting A numbers)) → (interrupted core c w).reply ≡ Fault errno → EndsAlone (interrupted core c w)
+  interrupted-alone : (w : Option (Waiting A numbers)) → (interrupted core c w).reply ≡ Fault errno → EndsAlone (step_of s (Plain (ended core (interrupted core c w))))
   interrupted-alone None r = absurd (cc)
   interrupted-alone (Some w) r = (refl, refl)
 
-  pub resumed_ends : (step s (Resume c)).reply ≡ Fault errno → Ends s c (step s (Resume c))
+  pub resumed_ends : (step s (Resume c)).reply ≡ Fault errno → EndsAlone (step s (Resume c))
   unfolding step core_step happen
   resumed_ends r = resumed-alone (get nat_eq core.parked c) r
 
-  pub interrupted_ends : (step s (Interrupt c)).reply ≡ Fault errno → Ends s c (step s (Interrupt c))
+  pub interrupted_ends : (step s (Interrupt c)).reply ≡ Fault errno → EndsAlone (step s (Interrupt c))
   unfolding step core_step happen
   interrupted_ends r = interrupted-alone (get nat_eq core.parked c) r

@@ -8,6 +8,7 @@ use Rattle.std.proofs.lemmas.Bool.Decides.{eqb_tells}
 use Rattle.pl_model.specs.declared.calls.Step.{Step}
 use Rattle.pl_model.specs.Keys.{Node, NewKeys, Drawing, PipeNode, FileNode, Plain, Draws}
 use Rattle.pl_model.specs.State.{Core, Description, Pipe, Waiting}
+use Rattle.pl_model.specs.Settle.{settle}
 use Rattle.pl_model.specs.Trial.{Flow}
 use Rattle.pl_model.specs.Step.{Stepped, core_step}
 use Rattle.pl_model.specs.Numbered.{numbers}
@@ -134,3 +135,9 @@ module _ (r : Renamings) where
   core_step-rename {A} c x =
       sym (from_path_p (λ i. Drawing (names_line i) (Stepped A (names_line i))) (λ i. core_step {K = names_line i} (core_line c i) x))
       ∙ from_path_p (λ i. Drawing (names_line i) (Stepped A (names_line i))) (drawing_line (core_step c x))
+
+  -- what settles under other names is what settles, under other names
+  pub settle-rename : {A : Type 0} (before c : Core A numbers) → settle (rename r before) (rename r c) ≡ rename r (settle before c)
+  settle-rename {A} before c =
+      sym (from_path_p (λ i. Core A (names_line i)) (λ i. settle {K = names_line i} (core_line before i) (core_line c i)))
+      ∙ from_path_p (λ i. Core A (names_line i)) (core_line (settle before c))

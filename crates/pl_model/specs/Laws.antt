@@ -2,17 +2,19 @@
 use Rattle.std.specs.Prelude.{◌≡◌, ℕ, ◌++◌, Bool, true, false, List, nat_lt}
 use Rattle.pl_model.specs.declared.calls.Limits.{Limits}
 use Rattle.pl_model.specs.declared.calls.Step.{Step}
-use Rattle.pl_model.specs.declared.calls.Step.TheVariants.{Start, Begin, Resume, Interrupt}
+use Rattle.pl_model.specs.declared.calls.Step.TheVariants.{Resume, Interrupt}
 use Rattle.pl_model.specs.declared.replies.Errno.{Errno}
 use Rattle.pl_model.specs.declared.replies.Reply.{Reply}
-use Rattle.pl_model.specs.declared.replies.Reply.TheVariants.{Fault, NoProcess, NoCall, CallsSpent}
+use Rattle.pl_model.specs.declared.replies.Reply.TheVariants.{Fault}
+use Rattle.pl_model.specs.declared.replies.Outcome.{Outcome}
 use Rattle.pl_model.specs.State.{Core}
 use Rattle.pl_model.specs.Live.{is_live, writers}
 use Rattle.pl_model.specs.Settle.{settle, had_writer}
 use Rattle.pl_model.specs.Trial.{still}
-use Rattle.pl_model.specs.Step.{core_step, without_call}
-use Rattle.pl_model.specs.Numbered.{numbers, State, After, opening, step}
-use Rattle.pl_model.specs.Run.{after}
+use Rattle.pl_model.specs.Step.{core_step}
+use Rattle.pl_model.specs.Numbered.{numbers, State, opening, step}
+use Rattle.pl_model.specs.Run.{after, marked, outcomes}
+use Rattle.pl_model.specs.Refused.{is_refused, with_call_ended, after_outcomes}
 use Rattle.pl_model.specs.Stream.{held}
 use Rattle.pl_model.specs.Streams.{added, left, added_by, left_by}
 use Rattle.pl_model.specs.Renaming.{Renamings, rename, rename_drawing}
@@ -22,6 +24,10 @@ use Rattle.pl_model.specs.StandsFor.{StandsFor, Comes, IsBelowCounters}
 abbrev pub CommutesWithRenaming : Type 0 → Type 0
 CommutesWithRenaming A =
     (r : Renamings) (c : Core A numbers) (x : Step A) → core_step (rename r c) x ≡ rename_drawing r (core_step c x)
+
+-- What settles under other keys is what settles, under other keys.
+abbrev pub SettlesUnderRenaming : Type 0 → Type 0
+SettlesUnderRenaming A = (r : Renamings) (before c : Core A numbers) → settle (rename r before) (rename r c) ≡ rename r (settle before c)
 
 -- Whichever unused keys a step took, it was answered as the flat machine answers, and what it left stands for the state
 -- that the flat machine leaves.
@@ -76,31 +82,26 @@ SettlesInTurn A =
     (before u v : Core A numbers) → HasFewer u v → ((p : ℕ) → nat_lt 0 (writers u p) ≡ true → had_writer before p ≡ true) →
     settle (settle before u) (with_held_of (settle before u) v) ≡ settle before v
 
--- The step was refused: by a fault where a call begins or a process starts, or because there is no such process or
--- parked call, or no number for one more. (A fault at Resume or Interrupt ends a parked call.)
-abbrev pub is_refused : {A : Type 0} → Step A → Reply A → Bool
-is_refused x NoProcess = true
-is_refused x NoCall = true
-is_refused x CallsSpent = true
-is_refused Start (Fault errno) = true
-is_refused (Begin pid call) (Fault errno) = true
-is_refused x reply = false
-
--- A refused step leaves the state as it was, and moves no byte.
+-- A refused step leaves the state as it was, counters included, and moves no byte.
 abbrev pub RefusesWithoutChange : Type 0 → Type 0
 RefusesWithoutChange A =
     (s : State A) (x : Step A) → IsSettled s.core → is_refused x (step s x).reply ≡ true →
-    ((step s x).state.core ≡ s.core) × ((step s x).flow ≡ still)
-
--- the state without the call is what is settled, and no byte moved
-abbrev pub Ends : {A : Type 0} → State A → ℕ → After A → Type 0
-Ends s c after = (after.state.core ≡ settle s.core (without_call s.core c)) × (after.flow ≡ still)
+    ((step s x).state ≡ s) × ((step s x).flow ≡ still)
 
 -- A fault at Resume or Interrupt ends that parked call and moves no byte. What else changes is what the end of the step
 -- settles.
 pub record EndsTheCallAlone (A : Type 0) : Type 0 where
-  pub resumed : (s : State A) (c : ℕ) (errno : Errno) → (step s (Resume c)).reply ≡ Fault errno → Ends s c (step s (Resume c))
-  pub interrupted : (s : State A) (c : ℕ) (errno : Errno) → (step s (Interrupt c)).reply ≡ Fault errno → Ends s c (step s (Interrupt c))
+  pub resumed : (s : State A) (c : ℕ) (errno : Errno) → (step s (Resume c)).reply ≡ Fault errno →
+      ((step s (Resume c)).state ≡ with_call_ended s c) × ((step s (Resume c)).flow ≡ still)
+  pub interrupted : (s : State A) (c : ℕ) (errno : Errno) → (step s (Interrupt c)).reply ≡ Fault errno →
+      ((step s (Interrupt c)).state ≡ with_call_ended s c) × ((step s (Interrupt c)).flow ≡ still)
+
+-- So where a run's outcomes are those of the machine, they say which of its steps left the state as it was, and which
+-- only ended a call.
+abbrev pub OutcomesTell : Type 0 → Type 0
+OutcomesTell A =
+    (s : State A) (xs : List (Step A)) (os : List (Outcome A)) → IsSettled s.core → os ≡ outcomes s (marked xs os) →
+    after_outcomes s xs os ≡ after s (marked xs os)
 
 -- The stream law, for each pipe: what it held and what a step added is what the step took out and what it holds.
 abbrev pub KeepsTheStream : Type 0 → Type 0

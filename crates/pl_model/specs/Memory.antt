@@ -1,5 +1,5 @@
 -- Which steps never want for memory (our own).
-use Rattle.std.specs.Prelude.{Bool, true, false, ◌||◌}
+use Rattle.std.specs.Prelude.{◌≡◌, ⊤, Bool, true, false, ◌||◌, List, [], ◌∷◌}
 use Rattle.pl_model.specs.declared.calls.Call.{Call}
 use Rattle.pl_model.specs.declared.calls.Step.{Step}
 use Rattle.pl_model.specs.declared.calls.Step.TheVariants.{Begin, Interrupt}
@@ -35,3 +35,9 @@ module _ {A : Type 0} where
   -- Want of memory is tested last: a step that is refused wants none.
   abbrev pub never_wants_memory : State A → Step A → Bool
   never_wants_memory s x = is_frugal x || is_refusal (step s x).reply
+
+  -- in a run from the state, a step is passed over only where memory may be wanted for it
+  abbrev pub PassesOverInWant : State A → List (Step A × Bool) → Type 0
+  PassesOverInWant s [] = ⊤
+  PassesOverInWant s ((x, true) ∷ xs) = (never_wants_memory s x ≡ false) × PassesOverInWant s xs
+  PassesOverInWant s ((x, false) ∷ xs) = PassesOverInWant (step s x).state xs

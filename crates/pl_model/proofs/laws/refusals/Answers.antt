@@ -1,5 +1,9 @@
+use Rattle.pl_model.proofs.AfterReplies.{outcomes_tell}
 use Rattle.pl_model.proofs.Refusals.{refused-unchanged}
 use Rattle.pl_model.proofs.laws.refusals.Goals as goal
 
-pub returns : goal.returns
-returns g c = refused-unchanged
+pub returns-clause-step : goal.returns-clause-step
+returns-clause-step g c = refused-unchanged
+
+pub returns-clause-run : goal.returns-clause-run
+returns-clause-run g c = outcomes_tell
