@@ -1,15 +1,13 @@
 -- A call that begins in a run.
-use Rattle.std.proofs.Common.{◌≡◌, ◌≢◌, ◌⊎◌, inl, inr, ℕ, ℤ, ◌+◌, ◌<◌, ◌≤◌, Bool, true, false, cond, Option, List, [], ◌∷◌, ◌++◌, length, refl, sym, ◌∙◌, ap, subst, nat_eq, append-nil, append_assoc, arith}
-use Rattle.std.specs.Prelude.{◌==◌, map, IfSome, All, option_map}
+use Rattle.std.proofs.Common.{◌≡◌, ◌≢◌, ◌⊎◌, inl, inr, ℕ, ℤ, ◌+◌, ◌<◌, ◌≤◌, Bool, true, false, cond, Option, List, [], ◌∷◌, ◌++◌, length, refl, sym, ◌∙◌, ap, subst, nat_eq, append-nil, arith}
+use Rattle.std.specs.Prelude.{◌==◌, IfSome, All, option_map}
 use Rattle.std.specs.declared.option.Option.TheVariants.{None, Some}
-use Rattle.std.specs.List.{filter}
 use Rattle.std.proofs.lemmas.Bool.{eqb-true}
-use Rattle.std.proofs.lemmas.List.{map-append}
-use Rattle.std.proofs.lemmas.List.Elements.{filter-append, All-cons}
+use Rattle.std.proofs.lemmas.List.Elements.{All-cons}
 use Rattle.pl_model.specs.declared.calls.Call.{Call}
 use Rattle.pl_model.specs.declared.calls.Mode.{Mode}
 use Rattle.pl_model.specs.declared.calls.Step.{Step}
-use Rattle.pl_model.specs.declared.calls.Step.TheVariants.{Begin, Resume}
+use Rattle.pl_model.specs.declared.calls.Step.TheVariants.{Begin}
 use Rattle.pl_model.specs.declared.replies.Reply.{Reply}
 use Rattle.pl_model.specs.declared.replies.Reply.TheVariants.{Bytes, Fault, Parked, NoProcess, CallsSpent}
 use Rattle.pl_model.specs.declared.replies.Errno.TheVariants.{EAGAIN, EBADF}
@@ -26,24 +24,20 @@ use Rattle.pl_model.specs.Numbered.{numbers, State, next_numbers, step}
 use Rattle.pl_model.specs.Run.{after}
 use Rattle.pl_model.specs.StandsFor.{IsBelowCounters}
 use Rattle.pl_model.specs.Stream.{held, into_pipe, out_of_pipe}
-use Rattle.pl_model.specs.Streams.{added, taken_out, forgot}
-use Rattle.pl_model.specs.Chunks.{Piece, Tag, OfCall, AtPlace, ForgottenAt, same_tag, tag_answered, tag_of, piece, unless_empty, of, chunks_from, outs_from}
+use Rattle.pl_model.specs.Chunks.{Piece, Tag, OfCall, AtPlace, ForgottenAt, same_tag, tag_answered, tag_of, unless_empty, of, piece_added, pieces_left, pieces_from, chunks, outs}
 use Rattle.pl_model.specs.Fates.{Fate, Answered, answers_count, fate, fate_answered, fate_begun, bytes_answered, taken_with}
-use Rattle.pl_model.specs.Calls.{AreInOrder, Keeps, Adds, may_wait}
+use Rattle.pl_model.specs.InOrder.{AreInOrder}
+use Rattle.pl_model.specs.StreamLaw.{Keeps, Adds, may_wait}
 use Rattle.pl_model.proofs.Simulates.{below_step}
 use Rattle.pl_model.proofs.Ways.{TrialAll}
 use Rattle.pl_model.proofs.Keeps.{try-keeps, node_of, open_node}
-use Rattle.pl_model.proofs.Maps.{differ, append_new}
+use Rattle.pl_model.proofs.Maps.{append_new}
 use Rattle.pl_model.proofs.Writes.{no_slice, WriteTry, write_try, adds_no, says_parked, same_number}
 use Rattle.pl_model.proofs.Does.{Among, TrialFine, try_fine, at_its_place, among_same, among_changes, among_flowed}
-use Rattle.pl_model.proofs.Courses.{StepTo, step_to, step_order, run_rises, absent, nothing_there, of_same, of_other}
-use Rattle.pl_model.proofs.CallRuns.{Course, course_run, added_is, out_is}
+use Rattle.pl_model.proofs.Courses.{StepTo, step_to, step_order, run_rises, absent, nothing_there}
+use Rattle.pl_model.proofs.Pieces.{of_append, pieces_append, other_places, added_apart, left_apart}
+use Rattle.pl_model.proofs.CallRuns.{Course, course_run, own_added, own_left, own_first}
 use Rattle.pl_model.proofs.WriteRuns.{adds_more, IsWrite, WriteSays, write_course, IsRead, ReadSays, ReadTry, read_try, read_course}
-
-of_append : (t : Tag) (a b : List Piece) → of t (a ++ b) ≡ of t a ++ of t b
-of_append t a b =
-    ap (map (λ (x : Piece). x.bytes)) (filter-append (λ (x : Piece). same_tag x.tag t) a b)
-    ∙ map-append (λ (x : Piece). x.bytes) (filter (λ (x : Piece). same_tag x.tag t) a) (filter (λ (x : Piece). same_tag x.tag t) b)
 
 -- what was found open is there
 opened : (test : Mode → Bool) (o : Option (Open numbers)) (f : Open numbers) → allowed test o ≡ Some f → o ≡ Some f
@@ -54,66 +48,6 @@ opened test (Some o) f h = at (test o.description.mode) h where
   at false h = absurd (cc)
 
 module _ {A : Type 0} where
-  answered_apart : (m n : ℕ) (reply : Reply A) → m ≢ n → same_tag (tag_answered m reply) (AtPlace n) ≡ false
-  answered_apart m n (Parked c) ne = refl
-  answered_apart m n reply ne = differ m n ne
-
-  place_apart : (m n : ℕ) (x : Step A) (reply : Reply A) → m ≢ n → same_tag (tag_of m x reply) (AtPlace n) ≡ false
-  place_apart m n (Resume c) reply ne = refl
-  place_apart m n x reply ne = answered_apart m n reply ne
-
-  -- the pieces of a place are those of its step
-  other_places : (n m p q : ℕ) (s : State A) (xs : List (Step A × Bool)) → (n < m) ⊎ (m + length xs ≤ n) → (of (AtPlace n) (chunks_from m s xs q) ≡ []) × (of (AtPlace n) (outs_from m s xs p) ≡ [])
-  other_places n m p q s [] h = (refl, refl)
-  other_places n m p q s ((x, true) ∷ xs) h = other_places n (m + 1) p q s xs (later h) where
-    later : (n < m) ⊎ (m + length ((x, true) ∷ xs) ≤ n) → (n < m + 1) ⊎ ((m + 1) + length xs ≤ n)
-    later (inl l) = inl (omega (arith, l))
-    later (inr l) = inr (omega (arith, l))
-  other_places n m p q s ((x, false) ∷ xs) h =
-      let r = other_places n (m + 1) p q (step s x).state xs (later h) in
-      let t = place_apart m n x (step s x).reply (λ e. apart h e) in (
-        of_other (AtPlace n) (tag_of m x (step s x).reply) (added s x q) (chunks_from (m + 1) (step s x).state xs q) t ∙ r.0,
-        of_other (AtPlace n) (tag_of m x (step s x).reply) (taken_out s x p) (piece (ForgottenAt m) (forgot s x p) ++ outs_from (m + 1) (step s x).state xs p) t
-            ∙ (of_other (AtPlace n) (ForgottenAt m) (forgot s x p) (outs_from (m + 1) (step s x).state xs p) refl ∙ r.1),
-      )
-    where
-      later : (n < m) ⊎ (m + length ((x, false) ∷ xs) ≤ n) → (n < m + 1) ⊎ ((m + 1) + length xs ≤ n)
-      later (inl l) = inl (omega (arith, l))
-      later (inr l) = inr (omega (arith, l))
-
-      apart : (n < m) ⊎ (m + length ((x, false) ∷ xs) ≤ n) → m ≡ n → ⊥
-      apart (inl l) e = omega (arith, l, e)
-      apart (inr l) e = omega (arith, l, e)
-
-  chunks_append : (place : ℕ) (s : State A) (xs ys : List (Step A × Bool)) (q : ℕ) → chunks_from place s (xs ++ ys) q ≡ chunks_from place s xs q ++ chunks_from (place + length xs) (after s xs) ys q
-  chunks_append place s [] ys q = ap (λ n. chunks_from n s ys q) same where
-    same : place ≡ place + length {A = Step A × Bool} []
-    same = omega arith
-  chunks_append place s ((x, true) ∷ xs) ys q = chunks_append (place + 1) s xs ys q ∙ ap (λ n. chunks_from (place + 1) s xs q ++ chunks_from n (after s xs) ys q) same where
-    same : (place + 1) + length xs ≡ place + length ((x, true) ∷ xs)
-    same = omega arith
-  chunks_append place s ((x, false) ∷ xs) ys q =
-      ap (λ c. piece (tag_of place x (step s x).reply) (added s x q) ++ c) (chunks_append (place + 1) (step s x).state xs ys q ∙ ap (λ n. chunks_from (place + 1) (step s x).state xs q ++ chunks_from n (after (step s x).state xs) ys q) same)
-      ∙ sym (append_assoc (piece (tag_of place x (step s x).reply) (added s x q)) (chunks_from (place + 1) (step s x).state xs q) (chunks_from (place + length ((x, false) ∷ xs)) (after (step s x).state xs) ys q))
-    where
-      same : (place + 1) + length xs ≡ place + length ((x, false) ∷ xs)
-      same = omega arith
-
-  outs_append : (place : ℕ) (s : State A) (xs ys : List (Step A × Bool)) (p : ℕ) → outs_from place s (xs ++ ys) p ≡ outs_from place s xs p ++ outs_from (place + length xs) (after s xs) ys p
-  outs_append place s [] ys p = ap (λ n. outs_from n s ys p) same where
-    same : place ≡ place + length {A = Step A × Bool} []
-    same = omega arith
-  outs_append place s ((x, true) ∷ xs) ys p = outs_append (place + 1) s xs ys p ∙ ap (λ n. outs_from (place + 1) s xs p ++ outs_from n (after s xs) ys p) same where
-    same : (place + 1) + length xs ≡ place + length ((x, true) ∷ xs)
-    same = omega arith
-  outs_append place s ((x, false) ∷ xs) ys p =
-      ap (λ c. piece (tag_of place x (step s x).reply) (taken_out s x p) ++ (piece (ForgottenAt place) (forgot s x p) ++ c)) (outs_append (place + 1) (step s x).state xs ys p ∙ ap (λ n. outs_from (place + 1) (step s x).state xs p ++ outs_from n (after (step s x).state xs) ys p) same)
-      ∙ (ap (λ c. piece (tag_of place x (step s x).reply) (taken_out s x p) ++ c) (sym (append_assoc (piece (ForgottenAt place) (forgot s x p)) (outs_from (place + 1) (step s x).state xs p) (outs_from (place + length ((x, false) ∷ xs)) (after (step s x).state xs) ys p)))
-      ∙ sym (append_assoc (piece (tag_of place x (step s x).reply) (taken_out s x p)) (piece (ForgottenAt place) (forgot s x p) ++ outs_from (place + 1) (step s x).state xs p) (outs_from (place + length ((x, false) ∷ xs)) (after (step s x).state xs) ys p)))
-    where
-      same : (place + 1) + length xs ≡ place + length ((x, false) ∷ xs)
-      same = omega arith
-
   pub run_below : (s : State A) (xs : List (Step A × Bool)) → IsBelowCounters s → IsBelowCounters (after s xs)
   run_below s [] h = h
   run_below s ((x, true) ∷ xs) h = run_below s xs h
@@ -146,50 +80,44 @@ module _ {A : Type 0} (p q place : ℕ) (s : State A) (xs : List (Step A × Bool
   abbrev pub BegunWhole : Type 0
   BegunWhole =
       ((tag ≡ AtPlace place) ⊎ (tag ≡ OfCall s.core.next_call))
-      × SaysFirst (of tag (chunks_from place s ((x, false) ∷ xs) q)) (of tag (outs_from place s ((x, false) ∷ xs) p)) (fate_begun s x xs)
+      × SaysFirst (of tag (pieces_from (piece_added q) place s ((x, false) ∷ xs))) (of tag (pieces_from (pieces_left p) place s ((x, false) ∷ xs))) (fate_begun s x xs)
 
   first_as : (ins ins' outs outs' : List (List ℕ)) (end end' : Fate A) → ins ≡ ins' → outs ≡ outs' → end ≡ end' → SaysFirst ins' outs' end' → SaysFirst ins outs end
   first_as ins ins' outs outs' end end' a b c h = subst (λ z. SaysFirst z outs end) (sym a) (subst (λ z. SaysFirst ins' z end) (sym b) (subst (λ z. SaysFirst ins' outs' z) (sym c) h))
 
   -- the chunks and outs of the tag, where it is t
   own_chunks : (t : Tag) (h : Stepped A numbers) → tag ≡ t → same_tag t t ≡ true → StepTo s x h →
-      of tag (chunks_from place s ((x, false) ∷ xs) q) ≡ unless_empty (into_pipe numbers h.flow.into q) ++ of t (chunks_from (place + 1) (step s x).state xs q)
-  own_chunks t h e same to =
-      ap (λ z. of z (piece z (added s x q) ++ chunks_from (place + 1) (step s x).state xs q)) e
-      ∙ (of_same t (added s x q) (chunks_from (place + 1) (step s x).state xs q) same
-      ∙ ap (λ b. unless_empty b ++ of t (chunks_from (place + 1) (step s x).state xs q)) (added_is s x h q to))
+      of tag (pieces_from (piece_added q) place s ((x, false) ∷ xs)) ≡ unless_empty (into_pipe numbers h.flow.into q) ++ of t (pieces_from (piece_added q) (place + 1) (step s x).state xs)
+  own_chunks t h e same to = ap (λ z. of z (pieces_from (piece_added q) place s ((x, false) ∷ xs))) e ∙ own_first t (piece_added q) place s x xs _ (own_added t q place s x h e same to)
 
   own_outs : (t : Tag) (h : Stepped A numbers) → tag ≡ t → same_tag t t ≡ true → same_tag (ForgottenAt place) t ≡ false → StepTo s x h →
-      of tag (outs_from place s ((x, false) ∷ xs) p) ≡ unless_empty (out_of_pipe numbers (held s.core p) h.flow.out p) ++ of t (outs_from (place + 1) (step s x).state xs p)
-  own_outs t h e same other to =
-      ap (λ z. of z (piece z (taken_out s x p) ++ (piece (ForgottenAt place) (forgot s x p) ++ outs_from (place + 1) (step s x).state xs p))) e
-      ∙ (of_same t (taken_out s x p) (piece (ForgottenAt place) (forgot s x p) ++ outs_from (place + 1) (step s x).state xs p) same
-      ∙ (ap (λ b. unless_empty b ++ of t (piece (ForgottenAt place) (forgot s x p) ++ outs_from (place + 1) (step s x).state xs p)) (out_is s x h p to)
-      ∙ ap (λ z. unless_empty (out_of_pipe numbers (held s.core p) h.flow.out p) ++ z) (of_other t (ForgottenAt place) (forgot s x p) (outs_from (place + 1) (step s x).state xs p) other)))
+      of tag (pieces_from (pieces_left p) place s ((x, false) ∷ xs)) ≡ unless_empty (out_of_pipe numbers (held s.core p) h.flow.out p) ++ of t (pieces_from (pieces_left p) (place + 1) (step s x).state xs)
+  own_outs t h e same other to = ap (λ z. of z (pieces_from (pieces_left p) place s ((x, false) ∷ xs))) e ∙ own_first t (pieces_left p) place s x xs _ (own_left t p place s x h e same other to)
 
   -- it is answered at once
   answered_says : (h : Stepped A numbers) → StepTo s x h → says_parked h.reply ≡ false →
       SaysFirst (unless_empty (into_pipe numbers h.flow.into q)) (unless_empty (out_of_pipe numbers (held s.core p) h.flow.out p)) (record { ending = Answered h.reply; taken = taken_with 0 h.reply }) → BegunWhole
   answered_says h to not says =
       let is : tag ≡ AtPlace place = ap (tag_answered place) to.reply ∙ at_its_place place h.reply not in
-      let none = other_places place (place + 1) p q (step s x).state xs (inl (omega arith)) in (
+      let no_chunks = other_places (piece_added q) place (added_apart q place) (place + 1) (step s x).state xs (inl (omega arith)) in
+      let no_outs = other_places (pieces_left p) place (left_apart p place) (place + 1) (step s x).state xs (inl (omega arith)) in (
         inl is,
         first_as _ (unless_empty (into_pipe numbers h.flow.into q)) _ (unless_empty (out_of_pipe numbers (held s.core p) h.flow.out p)) _ (record { ending = Answered h.reply; taken = taken_with 0 h.reply })
-            (own_chunks (AtPlace place) h is (same_number place) to ∙ (ap (λ z. unless_empty (into_pipe numbers h.flow.into q) ++ z) none.0 ∙ append-nil (unless_empty (into_pipe numbers h.flow.into q))))
-            (own_outs (AtPlace place) h is (same_number place) refl to ∙ (ap (λ z. unless_empty (out_of_pipe numbers (held s.core p) h.flow.out p) ++ z) none.1 ∙ append-nil (unless_empty (out_of_pipe numbers (held s.core p) h.flow.out p))))
+            (own_chunks (AtPlace place) h is (same_number place) to ∙ (ap (λ z. unless_empty (into_pipe numbers h.flow.into q) ++ z) no_chunks ∙ append-nil (unless_empty (into_pipe numbers h.flow.into q))))
+            (own_outs (AtPlace place) h is (same_number place) refl to ∙ (ap (λ z. unless_empty (out_of_pipe numbers (held s.core p) h.flow.out p) ++ z) no_outs ∙ append-nil (unless_empty (out_of_pipe numbers (held s.core p) h.flow.out p))))
             (ap (fate_answered (step s x).state xs) to.reply ∙ fate_at_once (step s x).state xs h.reply not)
             says,
       )
 
   -- it is parked
   parked_says : (h : Stepped A numbers) → StepTo s x h → h.reply ≡ Parked s.core.next_call →
-      SaysFirst (unless_empty (into_pipe numbers h.flow.into q) ++ of (OfCall s.core.next_call) (chunks_from (place + 1) (step s x).state xs q))
-      (unless_empty (out_of_pipe numbers (held s.core p) h.flow.out p) ++ of (OfCall s.core.next_call) (outs_from (place + 1) (step s x).state xs p)) (fate (step s x).state xs s.core.next_call) → BegunWhole
+      SaysFirst (unless_empty (into_pipe numbers h.flow.into q) ++ of (OfCall s.core.next_call) (pieces_from (piece_added q) (place + 1) (step s x).state xs))
+      (unless_empty (out_of_pipe numbers (held s.core p) h.flow.out p) ++ of (OfCall s.core.next_call) (pieces_from (pieces_left p) (place + 1) (step s x).state xs)) (fate (step s x).state xs s.core.next_call) → BegunWhole
   parked_says h to e says =
       let is : tag ≡ OfCall s.core.next_call = ap (tag_answered place) (to.reply ∙ e) in (
         inr is,
-        first_as _ (unless_empty (into_pipe numbers h.flow.into q) ++ of (OfCall s.core.next_call) (chunks_from (place + 1) (step s x).state xs q)) _
-            (unless_empty (out_of_pipe numbers (held s.core p) h.flow.out p) ++ of (OfCall s.core.next_call) (outs_from (place + 1) (step s x).state xs p)) _ (fate (step s x).state xs s.core.next_call)
+        first_as _ (unless_empty (into_pipe numbers h.flow.into q) ++ of (OfCall s.core.next_call) (pieces_from (piece_added q) (place + 1) (step s x).state xs)) _
+            (unless_empty (out_of_pipe numbers (held s.core p) h.flow.out p) ++ of (OfCall s.core.next_call) (pieces_from (pieces_left p) (place + 1) (step s x).state xs)) _ (fate (step s x).state xs s.core.next_call)
             (own_chunks (OfCall s.core.next_call) h is (same_number s.core.next_call) to) (own_outs (OfCall s.core.next_call) h is (same_number s.core.next_call) refl to)
             (ap (fate_answered (step s x).state xs) (to.reply ∙ e)) says,
       )
@@ -233,27 +161,31 @@ module _ {A : Type 0} (p q place : ℕ) (s : State A) (xs : List (Step A × Bool
             (course.stays s x (record w { taken = t }) f g says.0)))
 
 -- the parts of a run: what a call that begins in it says, it says in the whole run
-module _ {A : Type 0} (p q : ℕ) (s : State A) (before rest : List (Step A × Bool)) (pid : ℕ) (call : Call A) (SaysFirst : List (List ℕ) → List (List ℕ) → Fate A → Type 0) where
+module _ {A : Type 0} (p q : ℕ) (s : State A) (xs before rest : List (Step A × Bool)) (pid : ℕ) (call : Call A) (SaysFirst : List (List ℕ) → List (List ℕ) → Fate A → Type 0) where
   abbrev now : State A
   now = after s before
 
   abbrev its_tag : Tag
   its_tag = tag_of (length before) (Begin pid call) (step now (Begin pid call)).reply
 
-  pub in_whole : AreInOrder s.core → BegunWhole p q (length before) now rest pid call SaysFirst →
-      SaysFirst (of its_tag (chunks_from 0 s (before ++ (Begin pid call, false) ∷ rest) q)) (of its_tag (outs_from 0 s (before ++ (Begin pid call, false) ∷ rest) p)) (fate_begun now (Begin pid call) rest)
-  in_whole order says =
+  -- the pieces of the call are those from its step on
+  from_its_step : (of_step : ℕ → State A → Step A → List Piece) → xs ≡ before ++ (Begin pid call, false) ∷ rest → of its_tag (pieces_from of_step 0 s before) ≡ [] →
+      of its_tag (pieces_from of_step 0 s xs) ≡ of its_tag (pieces_from of_step (length before) now ((Begin pid call, false) ∷ rest))
+  from_its_step of_step e none =
+      ap (λ z. of its_tag (pieces_from of_step 0 s z)) e
+      ∙ (ap (of its_tag) (pieces_append of_step 0 s before ((Begin pid call, false) ∷ rest) ∙ ap (λ n. pieces_from of_step 0 s before ++ pieces_from of_step n now ((Begin pid call, false) ∷ rest)) zero)
+      ∙ (of_append its_tag (pieces_from of_step 0 s before) (pieces_from of_step (length before) now ((Begin pid call, false) ∷ rest))
+      ∙ ap (λ z. z ++ of its_tag (pieces_from of_step (length before) now ((Begin pid call, false) ∷ rest))) none))
+    where
+      zero : 0 + length before ≡ length before
+      zero = omega arith
+
+  pub in_whole : xs ≡ before ++ (Begin pid call, false) ∷ rest → AreInOrder s.core → BegunWhole p q (length before) now rest pid call SaysFirst →
+      SaysFirst (of its_tag (chunks s xs q)) (of its_tag (outs s xs p)) (fate_begun now (Begin pid call) rest)
+  in_whole e order says =
       let none = earlier says.0 in
-      let zero : 0 + length before ≡ length before = omega arith in
-      subst (λ z. SaysFirst z (of its_tag (outs_from 0 s (before ++ (Begin pid call, false) ∷ rest) p)) (fate_begun now (Begin pid call) rest))
-      (sym (ap (of its_tag) (chunks_append 0 s before ((Begin pid call, false) ∷ rest) q ∙ ap (λ n. chunks_from 0 s before q ++ chunks_from n now ((Begin pid call, false) ∷ rest) q) zero)
-      ∙ (of_append its_tag (chunks_from 0 s before q) (chunks_from (length before) now ((Begin pid call, false) ∷ rest) q)
-      ∙ ap (λ z. z ++ of its_tag (chunks_from (length before) now ((Begin pid call, false) ∷ rest) q)) none.0)))
-      (subst (λ z. SaysFirst (of its_tag (chunks_from (length before) now ((Begin pid call, false) ∷ rest) q)) z (fate_begun now (Begin pid call) rest))
-      (sym (ap (of its_tag) (outs_append 0 s before ((Begin pid call, false) ∷ rest) p ∙ ap (λ n. outs_from 0 s before p ++ outs_from n now ((Begin pid call, false) ∷ rest) p) zero)
-      ∙ (of_append its_tag (outs_from 0 s before p) (outs_from (length before) now ((Begin pid call, false) ∷ rest) p)
-      ∙ ap (λ z. z ++ of its_tag (outs_from (length before) now ((Begin pid call, false) ∷ rest) p)) none.1)))
-      says.1)
+      subst (λ z. SaysFirst z (of its_tag (outs s xs p)) (fate_begun now (Begin pid call) rest)) (sym (from_its_step (piece_added q) e none.0))
+      (subst (λ z. SaysFirst (of its_tag (pieces_from (piece_added q) (length before) now ((Begin pid call, false) ∷ rest))) z (fate_begun now (Begin pid call) rest)) (sym (from_its_step (pieces_left p) e none.1)) says.1)
     where
       late : get nat_eq s.core.parked now.core.next_call ≡ None
       late = nothing_there _ (λ v e. no (order.below now.core.next_call v e))
@@ -261,9 +193,9 @@ module _ {A : Type 0} (p q : ℕ) (s : State A) (before rest : List (Step A × B
           no : now.core.next_call < s.core.next_call → ⊥
           no l = omega (arith, l, run_rises s before order)
 
-      earlier : ((its_tag ≡ AtPlace (length before)) ⊎ (its_tag ≡ OfCall now.core.next_call)) → (of its_tag (chunks_from 0 s before q) ≡ []) × (of its_tag (outs_from 0 s before p) ≡ [])
-      earlier (inl e) = subst (λ t. (of t (chunks_from 0 s before q) ≡ []) × (of t (outs_from 0 s before p) ≡ [])) (sym e) (other_places (length before) 0 p q s before (inr (omega arith)))
-      earlier (inr e) = subst (λ t. (of t (chunks_from 0 s before q) ≡ []) × (of t (outs_from 0 s before p) ≡ [])) (sym e) (absent 0 p q s before now.core.next_call order late (inr (omega arith)))
+      earlier : ((its_tag ≡ AtPlace (length before)) ⊎ (its_tag ≡ OfCall now.core.next_call)) → (of its_tag (pieces_from (piece_added q) 0 s before) ≡ []) × (of its_tag (pieces_from (pieces_left p) 0 s before) ≡ [])
+      earlier (inl e) = subst (λ t. (of t (pieces_from (piece_added q) 0 s before) ≡ []) × (of t (pieces_from (pieces_left p) 0 s before) ≡ [])) (sym e) (other_places (piece_added q) (length before) (added_apart q (length before)) 0 s before (inr (omega arith)), other_places (pieces_left p) (length before) (left_apart p (length before)) 0 s before (inr (omega arith)))
+      earlier (inr e) = subst (λ t. (of t (pieces_from (piece_added q) 0 s before) ≡ []) × (of t (pieces_from (pieces_left p) 0 s before) ≡ [])) (sym e) (absent 0 p q s before now.core.next_call order late (inr (omega arith)))
 
 module _ {A : Type 0} (p q : ℕ) (place : ℕ) (s : State A) (xs : List (Step A × Bool)) (pid : ℕ) (below : IsBelowCounters s) (order : AreInOrder s.core) where
   begin_to : (call : Call A) → StepTo s (Begin pid call) (drawn (next_numbers s) (cond (s.core.processes pid) (drawing_map (begun s.core pid call) (begin s.core pid call)) (Plain (stepped s.core NoProcess))))

@@ -17,13 +17,14 @@ use Rattle.pl_model.specs.Step.{Stepped, try, happen, interrupted, resumed, trie
 use Rattle.pl_model.specs.Numbered.{numbers, State, step}
 use Rattle.pl_model.specs.StandsFor.{IsBelowCounters}
 use Rattle.pl_model.specs.Stream.{held, into_pipe, out_of_pipe}
-use Rattle.pl_model.specs.Streams.{added, taken_out, forgot}
-use Rattle.pl_model.specs.Chunks.{OfCall, ForgottenAt, piece, unless_empty, of, chunks_from, outs_from}
+use Rattle.pl_model.specs.Streams.{added, taken_out}
+use Rattle.pl_model.specs.Chunks.{Piece, Tag, OfCall, ForgottenAt, same_tag, tag_of, piece, unless_empty, of, piece_added, pieces_left, pieces_from}
 use Rattle.pl_model.specs.Fates.{Fate, Answered, Interrupted, Dropped, Waits, fate, ended_by, taken_by, taken_with}
-use Rattle.pl_model.specs.Calls.{AreInOrder}
+use Rattle.pl_model.specs.InOrder.{AreInOrder}
 use Rattle.pl_model.proofs.Simulates.{below_step}
 use Rattle.pl_model.proofs.Maps.{put_same, without_same}
-use Rattle.pl_model.proofs.Courses.{StepTo, step_to, step_order, step_rises, StepApart, step_apart, absent, of_same, of_other}
+use Rattle.pl_model.proofs.Courses.{StepTo, step_to, step_order, step_rises, StepApart, step_apart, absent}
+use Rattle.pl_model.proofs.Pieces.{of_append, of_none, of_same, of_left}
 use Rattle.pl_model.proofs.Writes.{same_number}
 
 module _ {A : Type 0} where
@@ -31,13 +32,28 @@ module _ {A : Type 0} where
   abbrev pub interrupt_reply : Waiting A numbers → Reply A
   interrupt_reply w = cond (nat_lt 0 w.taken) (count w.taken) (Fault EINTR)
 
-  pub added_is : (s : State A) (x : Step A) (h : Stepped A numbers) (q : ℕ) → StepTo s x h → added s x q ≡ into_pipe numbers h.flow.into q
+  -- the pieces of a step that went so, under its tag
+  pub own_added : (t : Tag) (q place : ℕ) (s : State A) (x : Step A) (h : Stepped A numbers) → tag_of place x (step s x).reply ≡ t → same_tag t t ≡ true → StepTo s x h →
+      of t (piece_added q place s x) ≡ unless_empty (into_pipe numbers h.flow.into q)
   unfolding added
-  added_is s x h q to = ap (λ (f : Flow numbers). into_pipe numbers f.into q) to.flow
+  own_added t q place s x h e same to =
+      ap (λ z. of t (piece z (added s x q))) e
+      ∙ (of_same t (added s x q) same
+      ∙ ap (λ (f : Flow numbers). unless_empty (into_pipe numbers f.into q)) to.flow)
 
-  pub out_is : (s : State A) (x : Step A) (h : Stepped A numbers) (p : ℕ) → StepTo s x h → taken_out s x p ≡ out_of_pipe numbers (held s.core p) h.flow.out p
+  pub own_left : (t : Tag) (p place : ℕ) (s : State A) (x : Step A) (h : Stepped A numbers) → tag_of place x (step s x).reply ≡ t → same_tag t t ≡ true → same_tag (ForgottenAt place) t ≡ false → StepTo s x h →
+      of t (pieces_left p place s x) ≡ unless_empty (out_of_pipe numbers (held s.core p) h.flow.out p)
   unfolding taken_out
-  out_is s x h p to = ap (λ (f : Flow numbers). out_of_pipe numbers (held s.core p) f.out p) to.flow
+  own_left t p place s x h e same other to =
+      of_left t p place s x other
+      ∙ (ap (λ z. of t (piece z (taken_out s x p))) e
+      ∙ (of_same t (taken_out s x p) same
+      ∙ ap (λ (f : Flow numbers). unless_empty (out_of_pipe numbers (held s.core p) f.out p)) to.flow))
+
+  pub own_first : (t : Tag) (of_step : ℕ → State A → Step A → List Piece) (place : ℕ) (s : State A) (x : Step A) (xs : List (Step A × Bool)) (first : List (List ℕ)) → of t (of_step place s x) ≡ first →
+      of t (pieces_from of_step place s ((x, false) ∷ xs)) ≡ first ++ of t (pieces_from of_step (place + 1) (step s x).state xs)
+  own_first t of_step place s x xs first e =
+      of_append t (of_step place s x) (pieces_from of_step (place + 1) (step s x).state xs) ∙ ap (λ z. z ++ of t (pieces_from of_step (place + 1) (step s x).state xs)) e
 
   resume_to : (s : State A) (c : ℕ) (w : Waiting A numbers) (t : Trial A numbers) → get nat_eq s.core.parked c ≡ Some w → try s.core w w.call true ≡ t → StepTo s (Resume c) (tried_again c w t)
   unfolding happen
@@ -87,7 +103,7 @@ module _ {A : Type 0} (p q : ℕ) (Inv : Core A numbers → Waiting A numbers �
     says_as w ins ins' outs outs' end end' a b c h = subst (λ z. Says w z outs end) (sym a) (subst (λ z. Says w ins' z end) (sym b) (subst (λ z. Says w ins' outs' z) (sym c) h))
 
     abbrev Whole : ℕ → State A → List (Step A × Bool) → ℕ → Waiting A numbers → Type 0
-    Whole place s xs c w = Says w (of (OfCall c) (chunks_from place s xs q)) (of (OfCall c) (outs_from place s xs p)) (fate s xs c)
+    Whole place s xs c w = Says w (of (OfCall c) (pieces_from (piece_added q) place s xs)) (of (OfCall c) (pieces_from (pieces_left p) place s xs)) (fate s xs c)
 
     module _ (place : ℕ) (s : State A) (xs : List (Step A × Bool)) (c : ℕ) (w : Waiting A numbers) (below : IsBelowCounters s) (order : AreInOrder s.core) (here : get nat_eq s.core.parked c ≡ Some w) (inv : Inv s.core w) where
       taken_here : taken_by s.core c ≡ w.taken
@@ -107,7 +123,7 @@ module _ {A : Type 0} (p q : ℕ) (Inv : Core A numbers → Waiting A numbers �
           i
 
       gone : (x : Step A) → get nat_eq (step s x).state.core.parked c ≡ None →
-          (of (OfCall c) (chunks_from (place + 1) (step s x).state xs q) ≡ []) × (of (OfCall c) (outs_from (place + 1) (step s x).state xs p) ≡ [])
+          (of (OfCall c) (pieces_from (piece_added q) (place + 1) (step s x).state xs) ≡ []) × (of (OfCall c) (pieces_from (pieces_left p) (place + 1) (step s x).state xs) ≡ [])
       gone x g = absent (place + 1) p q (step s x).state xs c (step_order s x order) g (inl (omega (arith, order.below c w here, step_rises s x order)))
 
       abbrev Rest : Step A → Type 0
@@ -120,29 +136,24 @@ module _ {A : Type 0} (p q : ℕ) (Inv : Core A numbers → Waiting A numbers �
           at : (o : Option (Waiting A numbers)) → get nat_eq (step s x).state.core.parked c ≡ o → Whole place s ((x, false) ∷ xs) c w
           at (Some v) g =
               let same : v ≡ w = some_same (sym (a.from v g) ∙ here) in
-              says_as w _ _ _ _ _ _ (a.chunks place q (chunks_from (place + 1) (step s x).state xs q)) (a.outs place p (outs_from (place + 1) (step s x).state xs p)) (fate_goes x v g)
+              says_as w _ _ _ _ _ _ (of_none (OfCall c) (piece_added q place s x) _ (a.chunks place q)) (of_none (OfCall c) (pieces_left p place s x) _ (a.outs place p)) (fate_goes x v g)
               (rest w (g ∙ ap (λ z. Some z) same) (stays_so x w refl inv))
             where
               some_same : Some v ≡ Some w → v ≡ w
               some_same z = cc
           at None g =
               let n = gone x g in
-              says_as w _ [] _ [] _ (record { ending = Dropped; taken = w.taken }) (a.chunks place q (chunks_from (place + 1) (step s x).state xs q) ∙ n.0) (a.outs place p (outs_from (place + 1) (step s x).state xs p) ∙ n.1)
+              says_as w _ [] _ [] _ (record { ending = Dropped; taken = w.taken }) (of_none (OfCall c) (piece_added q place s x) _ (a.chunks place q) ∙ n.0) (of_none (OfCall c) (pieces_left p place s x) _ (a.outs place p) ∙ n.1)
               (fate_ends x g ∙ drop (step s x).reply) (course.drops s.core w inv)
 
       -- the call itself
       own_chunks : (h : Stepped A numbers) → StepTo s (Resume c) h →
-          of (OfCall c) (chunks_from place s ((Resume c, false) ∷ xs) q) ≡ unless_empty (into_pipe numbers h.flow.into q) ++ of (OfCall c) (chunks_from (place + 1) (step s (Resume c)).state xs q)
-      own_chunks h to =
-          of_same (OfCall c) (added s (Resume c) q) (chunks_from (place + 1) (step s (Resume c)).state xs q) (same_number c)
-          ∙ ap (λ b. unless_empty b ++ of (OfCall c) (chunks_from (place + 1) (step s (Resume c)).state xs q)) (added_is s (Resume c) h q to)
+          of (OfCall c) (pieces_from (piece_added q) place s ((Resume c, false) ∷ xs)) ≡ unless_empty (into_pipe numbers h.flow.into q) ++ of (OfCall c) (pieces_from (piece_added q) (place + 1) (step s (Resume c)).state xs)
+      own_chunks h to = own_first (OfCall c) (piece_added q) place s (Resume c) xs _ (own_added (OfCall c) q place s (Resume c) h refl (same_number c) to)
 
       own_outs : (h : Stepped A numbers) → StepTo s (Resume c) h →
-          of (OfCall c) (outs_from place s ((Resume c, false) ∷ xs) p) ≡ unless_empty (out_of_pipe numbers (held s.core p) h.flow.out p) ++ of (OfCall c) (outs_from (place + 1) (step s (Resume c)).state xs p)
-      own_outs h to =
-          of_same (OfCall c) (taken_out s (Resume c) p) (piece (ForgottenAt place) (forgot s (Resume c) p) ++ outs_from (place + 1) (step s (Resume c)).state xs p) (same_number c)
-          ∙ (ap (λ b. unless_empty b ++ of (OfCall c) (piece (ForgottenAt place) (forgot s (Resume c) p) ++ outs_from (place + 1) (step s (Resume c)).state xs p)) (out_is s (Resume c) h p to)
-          ∙ ap (λ z. unless_empty (out_of_pipe numbers (held s.core p) h.flow.out p) ++ z) (of_other (OfCall c) (ForgottenAt place) (forgot s (Resume c) p) (outs_from (place + 1) (step s (Resume c)).state xs p) refl))
+          of (OfCall c) (pieces_from (pieces_left p) place s ((Resume c, false) ∷ xs)) ≡ unless_empty (out_of_pipe numbers (held s.core p) h.flow.out p) ++ of (OfCall c) (pieces_from (pieces_left p) (place + 1) (step s (Resume c)).state xs)
+      own_outs h to = own_first (OfCall c) (pieces_left p) place s (Resume c) xs _ (own_left (OfCall c) p place s (Resume c) h refl (same_number c) refl to)
 
       own : (t : Trial A numbers) → try s.core w w.call true ≡ t → TrySays s.core w t → Rest (Resume c) → Whole place s ((Resume c, false) ∷ xs) c w
       own (Done u flow reply) e says rest =
@@ -158,7 +169,7 @@ module _ {A : Type 0} (p q : ℕ) (Inv : Core A numbers → Waiting A numbers �
       own (Wait u flow t) e says rest =
           let to = resume_to s c w (Wait u flow t) here e in
           let there : get nat_eq (step s (Resume c)).state.core.parked c ≡ Some (record w { taken = t }) = ap (λ m. get nat_eq m c) to.parked ∙ put_same (flowed u flow).parked c (record w { taken = t }) in
-          says_as w _ (unless_empty (into_pipe numbers flow.into q) ++ of (OfCall c) (chunks_from (place + 1) (step s (Resume c)).state xs q)) _ (unless_empty (out_of_pipe numbers (held s.core p) flow.out p) ++ of (OfCall c) (outs_from (place + 1) (step s (Resume c)).state xs p)) _ (fate (step s (Resume c)).state xs c)
+          says_as w _ (unless_empty (into_pipe numbers flow.into q) ++ of (OfCall c) (pieces_from (piece_added q) (place + 1) (step s (Resume c)).state xs)) _ (unless_empty (out_of_pipe numbers (held s.core p) flow.out p) ++ of (OfCall c) (pieces_from (pieces_left p) (place + 1) (step s (Resume c)).state xs)) _ (fate (step s (Resume c)).state xs c)
           (own_chunks _ to) (own_outs _ to) (fate_goes (Resume c) (record w { taken = t }) there)
           (says.1 _ _ _ (rest (record w { taken = t }) there (stays_so (Resume c) (record w { taken = t }) refl says.0)))
 
@@ -169,7 +180,7 @@ module _ {A : Type 0} (p q : ℕ) (Inv : Core A numbers → Waiting A numbers �
           let n = gone (Interrupt c) none in
           let a = step_apart s (Interrupt c) c order (λ v e g. absurd (cc)) (λ e j. late (order.below c w here) j) in
           says_as w _ [] _ [] _ (record { ending = Interrupted (interrupt_reply w); taken = taken_with w.taken (interrupt_reply w) })
-          (a.chunks place q (chunks_from (place + 1) (step s (Interrupt c)).state xs q) ∙ n.0) (a.outs place p (outs_from (place + 1) (step s (Interrupt c)).state xs p) ∙ n.1)
+          (of_none (OfCall c) (piece_added q place s (Interrupt c)) _ (a.chunks place q) ∙ n.0) (of_none (OfCall c) (pieces_left p place s (Interrupt c)) _ (a.outs place p) ∙ n.1)
           (fate_ends (Interrupt c) none ∙ (ap (λ b. cond b (record { ending = Interrupted (step s (Interrupt c)).reply; taken = taken_with w.taken (step s (Interrupt c)).reply }) (record { ending = Dropped; taken = w.taken })) (same_number c)
           ∙ ap (λ r. record { ending = Interrupted r; taken = taken_with w.taken r }) to.reply))
           (course.interrupted s.core w inv)

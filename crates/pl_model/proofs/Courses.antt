@@ -1,8 +1,6 @@
 -- What holds of a parked call at its end holds over each run: from one step to the whole.
 use Rattle.std.proofs.Common.{◌≡◌, ◌≢◌, ◌⊎◌, inl, inr, ℕ, ◌+◌, ◌<◌, ◌≤◌, Bool, true, false, cond, Option, List, [], ◌∷◌, ◌++◌, refl, sym, ◌∙◌, ap, subst, nat_eq, arith}
-use Rattle.std.specs.Prelude.{map}
 use Rattle.std.specs.declared.option.Option.TheVariants.{None, Some}
-use Rattle.std.specs.List.{filter}
 use Rattle.std.proofs.lemmas.Bool.Decides.{eqb_tells}
 use Rattle.pl_model.specs.declared.calls.Step.{Step}
 use Rattle.pl_model.specs.declared.calls.Step.TheVariants.{Resume}
@@ -14,28 +12,17 @@ use Rattle.pl_model.specs.Trial.{Flow, still}
 use Rattle.pl_model.specs.Step.{Stepped, happen, core_step, ended}
 use Rattle.pl_model.specs.Numbered.{numbers, State, next_numbers, step_of, step}
 use Rattle.pl_model.specs.Stream.{held, into_pipe, out_of_pipe}
-use Rattle.pl_model.specs.Streams.{added, taken_out, forgot}
+use Rattle.pl_model.specs.Streams.{added, taken_out}
 use Rattle.pl_model.specs.Run.{after}
-use Rattle.pl_model.specs.Chunks.{Piece, Tag, OfCall, ForgottenAt, same_tag, tag_of, piece, unless_empty, of, chunks_from, outs_from}
-use Rattle.pl_model.specs.Calls.{HasTaken, AreInOrder}
+use Rattle.pl_model.specs.Chunks.{OfCall, same_tag, tag_of, piece, of, piece_added, pieces_left, pieces_from}
+use Rattle.pl_model.specs.InOrder.{HasTaken, AreInOrder}
 use Rattle.pl_model.proofs.Maps.{differ, put_same, put_other, append_new, append_other, put_once, append_once}
+use Rattle.pl_model.proofs.Pieces.{of_none, of_left, of_other, of_empty}
 use Rattle.pl_model.proofs.Does.{Does, Quiet, Answers, Parks, Ends, Again, does}
 
 pub nothing_there : {X : Type 0} (o : Option X) → ((x : X) → o ≡ Some x → ⊥) → o ≡ None
 nothing_there None h = refl
 nothing_there (Some x) h = absurd (h x refl)
-
--- the pieces of a tag, behind one piece
-pub of_same : (t : Tag) (bytes : List ℕ) (rest : List Piece) → same_tag t t ≡ true → of t (piece t bytes ++ rest) ≡ unless_empty bytes ++ of t rest
-of_same t [] rest e = refl
-of_same t (b ∷ bs) rest e = ap (λ z. map (λ (x : Piece). x.bytes) (cond z (record { tag = t; bytes = b ∷ bs } ∷ filter (λ (x : Piece). same_tag x.tag t) rest) (filter (λ (x : Piece). same_tag x.tag t) rest))) e
-
-pub of_other : (t u : Tag) (bytes : List ℕ) (rest : List Piece) → same_tag u t ≡ false → of t (piece u bytes ++ rest) ≡ of t rest
-of_other t u [] rest e = refl
-of_other t u (b ∷ bs) rest e = ap (λ z. map (λ (x : Piece). x.bytes) (cond z (record { tag = u; bytes = b ∷ bs } ∷ filter (λ (x : Piece). same_tag x.tag t) rest) (filter (λ (x : Piece). same_tag x.tag t) rest))) e
-
-pub of_none : (t u : Tag) (bytes : List ℕ) (rest : List Piece) → bytes ≡ [] → of t (piece u bytes ++ rest) ≡ of t rest
-of_none t u bytes rest e = ap (λ bs. of t (piece u bs ++ rest)) e
 
 module _ {A : Type 0} where
   -- the state, reply and flow of a step are these, but for what is settled
@@ -168,37 +155,44 @@ module _ {A : Type 0} where
   -- the same of a whole step
   pub record StepApart (s : State A) (x : Step A) (c : ℕ) : Type 0 where
     pub from : (w : Waiting A numbers) → get nat_eq (step s x).state.core.parked c ≡ Some w → get nat_eq s.core.parked c ≡ Some w
-    pub chunks : (place q : ℕ) (rest : List Piece) → of (OfCall c) (piece (tag_of place x (step s x).reply) (added s x q) ++ rest) ≡ of (OfCall c) rest
-    pub outs : (place p : ℕ) (rest : List Piece) → of (OfCall c) (piece (tag_of place x (step s x).reply) (taken_out s x p) ++ (piece (ForgottenAt place) (forgot s x p) ++ rest)) ≡ of (OfCall c) rest
+    pub chunks : (place q : ℕ) → of (OfCall c) (piece_added q place s x) ≡ []
+    pub outs : (place p : ℕ) → of (OfCall c) (pieces_left p place s x) ≡ []
 
   pub step_apart : (s : State A) (x : Step A) (c : ℕ) → AreInOrder s.core → ((w : Waiting A numbers) → x ≡ Resume c → get nat_eq s.core.parked c ≡ Some w → ⊥) →
       ((step s x).state.core.next_call ≡ s.core.next_call + 1 → s.core.next_call ≢ c) → StepApart s x c
   unfolding added taken_out
   step_apart s x c o not_it new =
-      let to = step_to s x in
-      let h = drawn (next_numbers s) (happen s.core x) in
-      let a = apart s.core x h c (does (next_numbers s) s.core o x) not_it (λ e. new (to.next ∙ e)) in
       record {
         from = λ w g. a.from w (ap (λ m. get nat_eq m c) (sym to.parked) ∙ g);
-        chunks = λ place q rest. elim (a.quiet place) as (λ _. of (OfCall c) (piece (tag_of place x (step s x).reply) (into_pipe numbers (step s x).flow.into q) ++ rest) ≡ of (OfCall c) rest) [
-          | inl e ↦ of_other (OfCall c) (tag_of place x (step s x).reply) (into_pipe numbers (step s x).flow.into q) rest (ap (λ r. same_tag (tag_of place x r) (OfCall c)) to.reply ∙ e)
-          | inr e ↦ of_none (OfCall c) (tag_of place x (step s x).reply) (into_pipe numbers (step s x).flow.into q) rest (ap (λ (f : Flow numbers). into_pipe numbers f.into q) (to.flow ∙ e))
-        ];
-        outs = λ place p rest. elim (a.quiet place) as (λ _. of (OfCall c) (piece (tag_of place x (step s x).reply) (out_of_pipe numbers (held s.core p) (step s x).flow.out p) ++ (piece (ForgottenAt place) (forgot s x p) ++ rest)) ≡ of (OfCall c) rest) [
-          | inl e ↦ of_other (OfCall c) (tag_of place x (step s x).reply) (out_of_pipe numbers (held s.core p) (step s x).flow.out p) (piece (ForgottenAt place) (forgot s x p) ++ rest) (ap (λ r. same_tag (tag_of place x r) (OfCall c)) to.reply ∙ e) ∙ of_other (OfCall c) (ForgottenAt place) (forgot s x p) rest refl
-          | inr e ↦ of_none (OfCall c) (tag_of place x (step s x).reply) (out_of_pipe numbers (held s.core p) (step s x).flow.out p) (piece (ForgottenAt place) (forgot s x p) ++ rest) (ap (λ (f : Flow numbers). out_of_pipe numbers (held s.core p) f.out p) (to.flow ∙ e)) ∙ of_other (OfCall c) (ForgottenAt place) (forgot s x p) rest refl
-        ];
+        chunks = λ place q. none place (into_pipe numbers (step s x).flow.into q) (λ e. ap (λ (f : Flow numbers). into_pipe numbers f.into q) (to.flow ∙ e));
+        outs = λ place p.
+            of_left (OfCall c) p place s x refl
+            ∙ none place (out_of_pipe numbers (held s.core p) (step s x).flow.out p) (λ e. ap (λ (f : Flow numbers). out_of_pipe numbers (held s.core p) f.out p) (to.flow ∙ e));
       }
+    where
+      to : StepTo s x (drawn (next_numbers s) (happen s.core x))
+      to = step_to s x
+
+      a : Apart s.core x (drawn (next_numbers s) (happen s.core x)) c
+      a = apart s.core x (drawn (next_numbers s) (happen s.core x)) c (does (next_numbers s) s.core o x) not_it (λ e. new (to.next ∙ e))
+
+      none : (place : ℕ) (bytes : List ℕ) → ((drawn (next_numbers s) (happen s.core x)).flow ≡ still → bytes ≡ []) → of (OfCall c) (piece (tag_of place x (step s x).reply) bytes) ≡ []
+      none place bytes h = elim (a.quiet place) as (λ _. of (OfCall c) (piece (tag_of place x (step s x).reply) bytes) ≡ []) [
+        | inl e ↦ of_other (OfCall c) (tag_of place x (step s x).reply) bytes (ap (λ r. same_tag (tag_of place x r) (OfCall c)) to.reply ∙ e)
+        | inr e ↦ of_empty (OfCall c) (tag_of place x (step s x).reply) bytes (h e)
+      ]
 
   -- A number that is neither parked nor given in the run has no bytes in it.
   pub absent : (place p q : ℕ) (s : State A) (xs : List (Step A × Bool)) (c : ℕ) → AreInOrder s.core → get nat_eq s.core.parked c ≡ None → (c < s.core.next_call) ⊎ ((after s xs).core.next_call ≤ c) →
-      (of (OfCall c) (chunks_from place s xs q) ≡ []) × (of (OfCall c) (outs_from place s xs p) ≡ [])
+      (of (OfCall c) (pieces_from (piece_added q) place s xs) ≡ []) × (of (OfCall c) (pieces_from (pieces_left p) place s xs) ≡ [])
   absent place p q s [] c o none given = (refl, refl)
   absent place p q s ((x, true) ∷ xs) c o none given = absent (place + 1) p q s xs c o none given
   absent place p q s ((x, false) ∷ xs) c o none given =
       let a = step_apart s x c o (λ w e g. here w g) (λ e j. not_new given e j) in
-      let r = absent (place + 1) p q (step s x).state xs c (step_order s x o) (nothing_there _ (λ w g. here w (a.from w g))) (later given) in
-      (a.chunks place q (chunks_from (place + 1) (step s x).state xs q) ∙ r.0, a.outs place p (outs_from (place + 1) (step s x).state xs p) ∙ r.1)
+      let r = absent (place + 1) p q (step s x).state xs c (step_order s x o) (nothing_there _ (λ w g. here w (a.from w g))) (later given) in (
+        of_none (OfCall c) (piece_added q place s x) (pieces_from (piece_added q) (place + 1) (step s x).state xs) (a.chunks place q) ∙ r.0,
+        of_none (OfCall c) (pieces_left p place s x) (pieces_from (pieces_left p) (place + 1) (step s x).state xs) (a.outs place p) ∙ r.1,
+      )
     where
       here : (w : Waiting A numbers) → get nat_eq s.core.parked c ≡ Some w → ⊥
       here w g = cc

@@ -21,7 +21,7 @@ use Rattle.pl_model.specs.Tables.{lowest_pid}
 use Rattle.pl_model.specs.Step.{Stepped, try, with_kept, kept_at, begin, begun, happen, first_tried, interrupted, parked, resumed, started, stepped, tried_again, waiting}
 use Rattle.pl_model.specs.Numbered.{numbers}
 use Rattle.pl_model.specs.Chunks.{OfCall, AtPlace, tag_answered, tag_of}
-use Rattle.pl_model.specs.Calls.{HasTaken, AreInOrder}
+use Rattle.pl_model.specs.InOrder.{HasTaken, AreInOrder}
 use Rattle.pl_model.proofs.Ways.{BegunAll, LeadsTo, TrialAll}
 use Rattle.pl_model.proofs.Keeps.{Changes, begin-keeps, try-keeps}
 use Rattle.pl_model.proofs.Maps.{filter_from, filter_once}

@@ -12,7 +12,7 @@ use Rattle.pl_model.specs.Settle.{settle}
 use Rattle.pl_model.specs.Trial.{Flow, lost, gained, flowed}
 use Rattle.pl_model.specs.Step.{Stepped, core_step}
 use Rattle.pl_model.specs.Numbered.{numbers, State, next_numbers, step_of, step}
-use Rattle.pl_model.specs.Calls.{Keeps}
+use Rattle.pl_model.specs.StreamLaw.{Keeps}
 use Rattle.pl_model.proofs.Keeps as all_keep
 use Rattle.pl_model.proofs.Keeps.{Changes, node_of, step-keeps}
 use Rattle.pl_model.proofs.Maps.{differ}

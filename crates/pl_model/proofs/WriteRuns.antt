@@ -22,9 +22,10 @@ use Rattle.pl_model.specs.Step.{try, with_kept, kept_at}
 use Rattle.pl_model.specs.Numbered.{numbers, State}
 use Rattle.pl_model.specs.StandsFor.{IsBelowCounters}
 use Rattle.pl_model.specs.Stream.{held, into_pipe, out_of_pipe}
-use Rattle.pl_model.specs.Chunks.{OfCall, unless_empty, of, chunks_from, outs_from}
+use Rattle.pl_model.specs.Chunks.{OfCall, unless_empty, of, piece_added, pieces_left, pieces_from}
 use Rattle.pl_model.specs.Fates.{Fate, Answered, Interrupted, Dropped, Waits, fate, bytes_answered, taken_with}
-use Rattle.pl_model.specs.Calls.{AreInOrder, HasTaken, Keeps, Adds}
+use Rattle.pl_model.specs.InOrder.{AreInOrder, HasTaken}
+use Rattle.pl_model.specs.StreamLaw.{Keeps, Adds}
 use Rattle.pl_model.proofs.Writes.{WriteTry, write_try, adds_no, join_unless_empty, no_slice, same_number}
 use Rattle.pl_model.proofs.Nodes.{keeps_step}
 use Rattle.pl_model.proofs.CallRuns.{Course, TrySays, course_run, interrupt_reply}
@@ -89,7 +90,7 @@ module _ {A : Type 0} (p q : ℕ) (fd : ℤ) (bytes : List ℕ) where
       }
 
   pub write_run : (place : ℕ) (s : State A) (xs : List (Step A × Bool)) (c : ℕ) (w : Waiting A numbers) → IsBelowCounters s → AreInOrder s.core → get nat_eq s.core.parked c ≡ Some w → IsWrite s.core w →
-      Adds true bytes w.taken (of (OfCall c) (chunks_from place s xs q)) (fate s xs c)
+      Adds true bytes w.taken (of (OfCall c) (pieces_from (piece_added q) place s xs)) (fate s xs c)
   write_run place s xs c w below order here is = course_run p q IsWrite WriteSays write_course place s xs c w below order here is
 
 module _ {A : Type 0} (p q : ℕ) (fd : ℤ) (k : ℕ) where
@@ -139,5 +140,5 @@ module _ {A : Type 0} (p q : ℕ) (fd : ℤ) (k : ℕ) where
       }
 
   pub read_run : (place : ℕ) (s : State A) (xs : List (Step A × Bool)) (c : ℕ) (w : Waiting A numbers) → IsBelowCounters s → AreInOrder s.core → get nat_eq s.core.parked c ≡ Some w → IsRead s.core w →
-      of (OfCall c) (outs_from place s xs p) ≡ bytes_answered (fate s xs c).ending
+      of (OfCall c) (pieces_from (pieces_left p) place s xs) ≡ bytes_answered (fate s xs c).ending
   read_run place s xs c w below order here is = course_run p q IsRead ReadSays read_course place s xs c w below order here is

@@ -21,7 +21,8 @@ use Rattle.pl_model.specs.Stream.{into_pipe}
 use Rattle.pl_model.specs.Numbered.{numbers}
 use Rattle.pl_model.specs.Chunks.{unless_empty}
 use Rattle.pl_model.specs.Fates.{Ending, Answered, answers_count, taken_with}
-use Rattle.pl_model.specs.Calls.{Adds, HasTaken}
+use Rattle.pl_model.specs.InOrder.{HasTaken}
+use Rattle.pl_model.specs.StreamLaw.{Adds}
 
 pub same_number : (n : ℕ) → nat_eq n n ≡ true
 same_number n = eq-eqb n n refl

@@ -52,22 +52,25 @@ module _ {A : Type 0} where
   tag_of place (Resume c) reply = OfCall c
   tag_of place x reply = tag_answered place reply
 
-  -- What goes into the pipe in a run whose first step has this place. A step that found no memory has its place too.
-  abbrev pub chunks_from : ℕ → State A → List (Step A × Bool) → ℕ → List Piece
-  chunks_from place s [] p = []
-  chunks_from place s ((x, true) ∷ xs) p = chunks_from (place + 1) s xs p
-  chunks_from place s ((x, false) ∷ xs) p = piece (tag_of place x (step s x).reply) (added s x p) ++ chunks_from (place + 1) (step s x).state xs p
+  -- what a step at this place adds to the pipe
+  abbrev pub piece_added : ℕ → ℕ → State A → Step A → List Piece
+  piece_added p place s x = piece (tag_of place x (step s x).reply) (added s x p)
 
+  -- what it takes out of the pipe, and what the pipe then forgets
+  abbrev pub pieces_left : ℕ → ℕ → State A → Step A → List Piece
+  pieces_left p place s x = piece (tag_of place x (step s x).reply) (taken_out s x p) ++ piece (ForgottenAt place) (forgot s x p)
+
+  -- The pieces of a run whose first step has this place: each step's, one after another. A step that found no memory has
+  -- its place too.
+  abbrev pub pieces_from : (ℕ → State A → Step A → List Piece) → ℕ → State A → List (Step A × Bool) → List Piece
+  pieces_from of_step place s [] = []
+  pieces_from of_step place s ((x, true) ∷ xs) = pieces_from of_step (place + 1) s xs
+  pieces_from of_step place s ((x, false) ∷ xs) = of_step place s x ++ pieces_from of_step (place + 1) (step s x).state xs
+
+  -- what goes into the pipe in a run
   abbrev pub chunks : State A → List (Step A × Bool) → ℕ → List Piece
-  chunks s xs p = chunks_from 0 s xs p
+  chunks s xs p = pieces_from (piece_added p) 0 s xs
 
   -- what comes out of it, and what it forgets
-  abbrev pub outs_from : ℕ → State A → List (Step A × Bool) → ℕ → List Piece
-  outs_from place s [] p = []
-  outs_from place s ((x, true) ∷ xs) p = outs_from (place + 1) s xs p
-  outs_from place s ((x, false) ∷ xs) p =
-      piece (tag_of place x (step s x).reply) (taken_out s x p)
-      ++ (piece (ForgottenAt place) (forgot s x p) ++ outs_from (place + 1) (step s x).state xs p)
-
   abbrev pub outs : State A → List (Step A × Bool) → ℕ → List Piece
-  outs s xs p = outs_from 0 s xs p
+  outs s xs p = pieces_from (pieces_left p) 0 s xs

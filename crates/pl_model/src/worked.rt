@@ -1,5 +1,6 @@
 //! What the definitions answer in small examples. Each function does nothing: its contract is the example, computed.
 ghost use Rattle.pl_model.specs.Worked.{BytesBeforeEndOfFile, PartialAndWholeNotWaiting, ReadOfNothing, WriteOfNothing, LastWriterCloses, SmallWriteAtItsBoundary, InterruptedLargeWrite, ParkedCallKeepsItsEnd, LastReaderLeaves, CallNumbersSpent, InterleavingWithALargeWrite, ThreeNamesOfOneWriteEnd, FlagsOfSharedDescriptions, FullTable, DescriptorsThatAreNotOpen, ExitDropsParkedCalls, TableOfWrites, ScriptOfBytesBeforeEndOfFile, ScriptOfFlags, EmptyScript, ScriptWithoutLineFeed, ScriptOfNoProcess};
+ghost use Rattle.pl_model.specs.WorkedStream.{RunsInPieces};
 
 use std::alloc::Allocator;
 
@@ -29,6 +30,11 @@ pub fn sharing<A: Allocator>()
     ensures full_table { FullTable A }
     ensures descriptors_that_are_not_open { DescriptorsThatAreNotOpen A }
     ensures exit_drops_parked_calls { ExitDropsParkedCalls A }
+{}
+
+/// The pieces in which the bytes of small runs go through a pipe, and what becomes of a write.
+pub fn pieces<A: Allocator>()
+    ensures { RunsInPieces A }
 {}
 
 /// The table of writes at each of its rows.

@@ -1,4 +1,5 @@
 use Rattle.pl_model.proofs.StreamRuns.{stream-step, stream-run}
+use Rattle.pl_model.proofs.WholeStream.{stream_law}
 use Rattle.pl_model.proofs.laws.stream.Goals as goal
 
 pub returns-clause-step : goal.returns-clause-step
@@ -6,3 +7,6 @@ returns-clause-step g c = stream-step
 
 pub returns-clause-run : goal.returns-clause-run
 returns-clause-run g c = stream-run
+
+pub returns-clause-whole : goal.returns-clause-whole
+returns-clause-whole g c = stream_law

@@ -1,23 +1,22 @@
--- What is proved of the bytes of one call, over a whole run.
-use Rattle.std.specs.Prelude.{◌≡◌, ℕ, ℤ, ◌<◌, ◌≤◌, Bool, true, false, nat_eq, List, [], ◌∷◌, ◌++◌, length, slice_range, Option, IfSome, ⊤, if◌then◌else◌}
+-- The stream law of whole runs: what is proved of the bytes that go through a pipe, and of those of each call.
+use Rattle.std.specs.Prelude.{◌≡◌, ℕ, ℤ, ◌<◌, ◌≤◌, Bool, true, false, nat_eq, List, [], ◌∷◌, ◌++◌, length, slice_range, Option, IfSome, if◌then◌else◌}
 use Rattle.std.specs.declared.option.Option.TheVariants.{None, Some}
 use Rattle.std.specs.List.{concat}
 use Rattle.pl_model.specs.declared.calls.Call.{Call}
-use Rattle.pl_model.specs.declared.calls.Limits.{Limits}
 use Rattle.pl_model.specs.declared.calls.Step.{Step}
 use Rattle.pl_model.specs.declared.calls.Step.TheVariants.{Begin}
 use Rattle.pl_model.specs.Numbers.{pipe_buf}
 use Rattle.pl_model.specs.Modes.{reads, writes}
-use Rattle.pl_model.specs.Map.{get, EachOnce}
+use Rattle.pl_model.specs.Map.{get}
 use Rattle.pl_model.specs.Keys.{PipeNode}
 use Rattle.pl_model.specs.State.{Core, Open, Waiting}
 use Rattle.pl_model.specs.Begin.{open_for, may_block}
 use Rattle.pl_model.specs.Step.{kept_at}
-use Rattle.pl_model.specs.Numbered.{numbers, State, opening, step}
+use Rattle.pl_model.specs.Numbered.{numbers, State, step}
 use Rattle.pl_model.specs.Run.{after}
+use Rattle.pl_model.specs.InOrder.{AreInOrder}
 use Rattle.pl_model.specs.StandsFor.{IsBelowCounters}
 use Rattle.pl_model.specs.Stream.{held}
-use Rattle.pl_model.specs.Streams.{added_by, left_by}
 use Rattle.pl_model.specs.Chunks.{chunks, outs, joined, of, OfCall, tag_of}
 use Rattle.pl_model.specs.Fates.{Fate, Answered, fate, fate_begun, answers_count, bytes_answered}
 use Rattle.pl_model.specs.Transfer.{count}
@@ -28,18 +27,6 @@ may_wait None = false
 may_wait (Some o) = may_block o.description
 
 module _ {A : Type 0} where
-  -- A parked write has taken some of its bytes, and none of them where it is to go in whole.
-  abbrev pub HasTaken : Call A → ℕ → Type 0
-  HasTaken (Call.Write fd bytes) t = (t ≤ length bytes) × (length bytes ≤ pipe_buf → t ≡ 0)
-  HasTaken call t = ⊤
-
-  -- What holds of the parked calls of each state that a run comes to.
-  pub record AreInOrder (s : Core A numbers) : Type 0 where
-    pub once : EachOnce nat_eq s.parked
-    -- a new number is new
-    pub below : (c : ℕ) (w : Waiting A numbers) → get nat_eq s.parked c ≡ Some w → c < s.next_call
-    pub taken : (c : ℕ) (w : Waiting A numbers) → get nat_eq s.parked c ≡ Some w → HasTaken w.call w.taken
-
   -- the description that the call keeps is on the pipe, if it is there
   abbrev pub Keeps : Core A numbers → List ℕ → ℕ → Type 0
   Keeps s kept p = IfSome (kept_at s kept 0) (λ o. o.description.node ≡ PipeNode p)
@@ -54,54 +41,6 @@ module _ {A : Type 0} where
     pub whole : 0 < length bytes → length bytes ≤ pipe_buf → chunks ≡ (if answers_count end.ending (length bytes) then bytes ∷ [] else [])
     -- a write that may wait answers the count of all its bytes, where it isn't interrupted and a reader is left
     pub all : (n : ℕ) → may_wait ≡ true → end.ending ≡ Answered (count n) → n ≡ length bytes
-
--- the chunks joined are what was added, and the outs joined are what left
-pub record JoinsThePieces (A : Type 0) : Type 0 where
-  pub chunks : (s : State A) (xs : List (Step A × Bool)) (p : ℕ) → joined (chunks s xs p) ≡ added_by s xs p
-  pub outs : (s : State A) (xs : List (Step A × Bool)) (p : ℕ) → joined (outs s xs p) ≡ left_by s xs p
-
--- A write that is parked as the run begins.
-abbrev pub WaitingWriteAdds : Type 0 → Type 0
-WaitingWriteAdds A =
-    (s : State A) (xs : List (Step A × Bool)) (p c : ℕ) (w : Waiting A numbers) (fd : ℤ) (bytes : List ℕ) →
-    IsBelowCounters s → AreInOrder s.core → get nat_eq s.core.parked c ≡ Some w → w.call ≡ Call.Write fd bytes → Keeps s.core w.kept p →
-    Adds true bytes w.taken (of (OfCall c) (chunks s xs p)) (fate s xs c)
-
--- A write that begins in the run, after the steps `before`.
-abbrev pub BegunWriteAdds : Type 0 → Type 0
-BegunWriteAdds A =
-    (s : State A) (before rest : List (Step A × Bool)) (p pid : ℕ) (fd : ℤ) (bytes : List ℕ) →
-    IsBelowCounters s → AreInOrder s.core →
-    let now = after s before in
-    let write = Begin pid (Call.Write fd bytes) in
-    let o = open_for writes now.core pid fd in
-    IfSome o (λ o. o.description.node ≡ PipeNode p) →
-    Adds (may_wait o) bytes 0 (of (tag_of (length before) write (step now write).reply) (chunks s (before ++ (write, false) ∷ rest) p)) (fate_begun now write rest)
-
--- What a read was answered is its out: one piece, or none where it was answered no bytes, or isn't answered.
-abbrev pub WaitingReadTakes : Type 0 → Type 0
-WaitingReadTakes A =
-    (s : State A) (xs : List (Step A × Bool)) (p c : ℕ) (w : Waiting A numbers) (fd : ℤ) (n : ℕ) →
-    IsBelowCounters s → AreInOrder s.core → get nat_eq s.core.parked c ≡ Some w → w.call ≡ Call.Read fd n → Keeps s.core w.kept p →
-    of (OfCall c) (outs s xs p) ≡ bytes_answered (fate s xs c).ending
-
-abbrev pub BegunReadTakes : Type 0 → Type 0
-BegunReadTakes A =
-    (s : State A) (before rest : List (Step A × Bool)) (p pid : ℕ) (fd : ℤ) (n : ℕ) →
-    IsBelowCounters s → AreInOrder s.core →
-    let now = after s before in
-    let read = Begin pid (Call.Read fd n) in
-    IfSome (open_for reads now.core pid fd) (λ o. o.description.node ≡ PipeNode p) →
-    of (tag_of (length before) read (step now read).reply) (outs s (before ++ (read, false) ∷ rest) p) ≡ bytes_answered (fate_begun now read rest).ending
-
-abbrev pub OpensInOrder : Type 0 → Type 0
-OpensInOrder A = (limits : Limits) → AreInOrder (opening {A = A} limits).core
-
-abbrev pub StaysInOrder : Type 0 → Type 0
-StaysInOrder A = (s : State A) (x : Step A) → AreInOrder s.core → AreInOrder (step s x).state.core
-
-abbrev pub RunsInOrder : Type 0 → Type 0
-RunsInOrder A = (s : State A) (xs : List (Step A × Bool)) → AreInOrder s.core → AreInOrder (after s xs).core
 
 -- The stream law of one run, for each pipe.
 pub record StreamLaw {A : Type 0} (s : State A) (xs : List (Step A × Bool)) : Type 0 where
