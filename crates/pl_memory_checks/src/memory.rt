@@ -54,8 +54,29 @@ fn make_steps(
     Ok(())
 }
 
+/// What the steps of the table come to where the one at the place finds no memory, and the others find all that they want:
+/// they are made one by one, without it.
+fn outcomes_without(
+    alloc: Global,
+    rows: &[(Ask, Want)],
+    place: usize,
+) -> Result<Vec<Outcome>, Fail> {
+    let mut kernel = Kernel::new(alloc, LIMITS);
+    let mut outcomes = Vec::new(alloc);
+    for (i, (ask, _)) in rows.iter().enumerate() {
+        let outcome = if i == place {
+            Outcome::NoMemory
+        } else {
+            outcome_of(kernel.step(ask.step(alloc)?))
+        };
+        outcomes.push(outcome)?;
+    }
+    Ok(outcomes)
+}
+
 /// Runs the steps of the table, and refuses the `n`th request for memory. A run that is refused is made again, and then
-/// answers all steps; in any other run the steps have their replies up to one that wants for memory.
+/// answers all steps. In any other run the steps have their replies up to one that wants for memory, and the rest of the run
+/// is the run without that step.
 fn make_run(
     rt: &impl Abort,
     alloc: Global,
@@ -75,19 +96,26 @@ fn make_run(
         }
     };
     assert_eq!(rt; outcomes.len(), rows.len(), "where request {n} is refused");
-    for (outcome, (ask, want)) in outcomes.into_iter().zip(rows) {
-        let outcome = moved(alloc, outcome)?;
-        if outcome == Outcome::NoMemory {
-            assert!(rt;
-                !is_whole,
-                "{ask:?} wants for memory, where request {n} is refused"
-            );
-            return Ok(());
-        }
+    let passed = outcomes
+        .iter()
+        .position(|outcome| matches!(outcome, Outcome::NoMemory));
+    assert!(rt;
+        is_whole == passed.is_none(),
+        "step {passed:?} wants for memory, where request {n} is refused"
+    );
+    let place = passed.unwrap_or(rows.len());
+    let rest = outcomes_without(alloc, rows, place)?;
+    for (i, (outcome, rest)) in outcomes.into_iter().zip(rest).enumerate() {
+        let (ask, want) = rows[i];
+        let wanted = if i < place {
+            want.outcome(alloc)?
+        } else {
+            rest
+        };
         assert_eq!(rt;
-            outcome,
-            want.outcome(alloc)?,
-            "{ask:?}, where request {n} is refused"
+            moved(alloc, outcome)?,
+            wanted,
+            "{ask:?}, where step {passed:?} wants for memory, and request {n} is refused"
         );
     }
     Ok(())
