@@ -14,7 +14,7 @@ use Rattle.pl_model.specs.Map.{set_at}
 use Rattle.pl_model.specs.Keys.{Node, NewKeys, PipeNode, FileNode, same_node}
 use Rattle.pl_model.specs.State.{Core, Description, Pipe, empty_pipe, set_pipe, set_description}
 use Rattle.pl_model.specs.Live.{in_rows, in_parked, pids, in_use, is_live, is_end, is_held, has_name}
-use Rattle.pl_model.specs.Settle.{settle, settled_pipe, is_kept, is_hung}
+use Rattle.pl_model.specs.Settle.{settle, settled_pipe, is_kept, is_hung, with_ends}
 use Rattle.pl_model.specs.Tables.{install, close_row}
 use Rattle.pl_model.specs.Begin.{make_pipe}
 use Rattle.pl_model.specs.Numbered.{numbers}
@@ -22,7 +22,7 @@ use Rattle.pl_model.specs.StandsFor.{AreUnused}
 use Rattle.pl_model.specs.Laws.{IsSettled}
 use Rattle.pl_model.proofs.Members.{or_left}
 use Rattle.pl_model.proofs.Settles.{at_other, at_key, moved-settled}
-use Rattle.pl_model.proofs.Tidy.{Row, row_live, live_same, is_on, has_end, end_passes, SameEnds, tidy_pipe, settled_pipe-is, tidy, settled-live, settled-kept, settled-file, kept-same, settled_pipe-same}
+use Rattle.pl_model.proofs.Tidy.{Row, row_live, live_same, is_on, has_end, end_passes, SameEnds, settled_pipe-is, tidy, settled-live, settled-kept, settled-file, kept-same, settled_pipe-same}
 
 -- the bytes of a pipe with an end change
 module _ {A : Type 0} (c : Core A numbers) (settled : IsSettled c) (p : ℕ) (x : Pipe) (is : c.pipes p ≡ Some x) (held : is_held c (PipeNode p) ≡ true) (bytes : List ℕ) where
@@ -112,7 +112,7 @@ module _ {A : Type 0} (c : Core A numbers) (settled : IsSettled c) (d : ℕ) (x 
   replaced_pipe : (p : ℕ) (z : Pipe) → settled_pipe c replaced p z ≡ settled_pipe c c p z
   replaced_pipe p z =
       settled_pipe-is c replaced p z
-      ∙ (λ i. tidy_pipe (replaced_ends any_mode (PipeNode p) i) (replaced_ends reads (PipeNode p) i) (replaced_ends writes (PipeNode p) i) (is_hung (c.pipes p) || has_end c writes (PipeNode p)) z)
+      ∙ (λ i. with_ends (replaced_ends any_mode (PipeNode p) i) (replaced_ends reads (PipeNode p) i) (replaced_ends writes (PipeNode p) i) (is_hung (c.pipes p) || has_end c writes (PipeNode p)) z)
       ∙ sym (settled_pipe-is c c p z)
 
   pub replace-settled : settle c replaced ≡ replaced
@@ -253,7 +253,7 @@ module _ {A : Type 0} (c : Core A numbers) (settled : IsSettled c) (new : NewKey
       here : settled_pipe c made new.pipe empty_pipe ≡ empty_pipe
       here =
           settled_pipe-is c made new.pipe empty_pipe
-          ∙ (λ i. tidy_pipe (has_any i) (has_reader i) (has_writer i) (is_hung (c.pipes new.pipe) || has_end c writes node) empty_pipe)
+          ∙ (λ i. with_ends (has_any i) (has_reader i) (has_writer i) (is_hung (c.pipes new.pipe) || has_end c writes node) empty_pipe)
 
       kept : (p : ℕ) (x : Pipe) → made.pipes p ≡ Some x → (is_kept made (PipeNode p) ≡ true) × (settled_pipe c made p x ≡ x)
       kept p x e = elim (eqb_tells new.pipe p) as (λ _. (is_kept made (PipeNode p) ≡ true) × (settled_pipe c made p x ≡ x)) [

@@ -9,18 +9,18 @@ use Rattle.pl_model.specs.Keys.{Node, PipeNode, FileNode, same_node}
 use Rattle.pl_model.specs.State.{Core, Pipe}
 use Rattle.pl_model.specs.Live.{in_rows, in_parked, pids, is_live, is_end}
 use Rattle.pl_model.specs.Live.{writers as count_writers}
-use Rattle.pl_model.specs.Settle.{settle, settled_pipe, is_kept, is_hung, had_writer}
+use Rattle.pl_model.specs.Settle.{settle, settled_pipe, is_kept, is_hung, had_writer, with_ends, hangs}
 use Rattle.pl_model.specs.Numbered.{numbers}
 use Rattle.pl_model.specs.Laws.{HasFewer, with_held_of}
 use Rattle.pl_model.proofs.Members.{or_left, or_right, or_elim}
-use Rattle.pl_model.proofs.Tidy.{has_end, end_found, end_passes, SameEnds, has_end-same, writers-is, tidy_pipe, settled_pipe-is, settles_to, kept-same}
+use Rattle.pl_model.proofs.Tidy.{has_end, end_found, end_passes, SameEnds, has_end-same, writers-is, settled_pipe-is, settles_to, kept-same}
 
 -- a pipe that settles twice, with fewer ends each time
 tidy_twice : (hv hu rv ru wv wu hb : Bool) → (hv ≡ true → hu ≡ true) → (rv ≡ true → ru ≡ true) → (wu ≡ true → hb ≡ true) → (x : Pipe)
-    → tidy_pipe hv rv wv ((tidy_pipe hu ru wu hb x).hung || wu) (tidy_pipe hu ru wu hb x) ≡ tidy_pipe hv rv wv hb x
+    → with_ends hv rv wv ((with_ends hu ru wu hb x).hung || wu) (with_ends hu ru wu hb x) ≡ with_ends hv rv wv hb x
 tidy_twice false hu rv ru wv wu hb h r w x = refl
 tidy_twice true hu rv ru wv wu hb h r w x =
-    ap (λ b. tidy_pipe true rv wv ((tidy_pipe b ru wu hb x).hung || wu) (tidy_pipe b ru wu hb x)) (h refl)
+    ap (λ b. with_ends true rv wv ((with_ends b ru wu hb x).hung || wu) (with_ends b ru wu hb x)) (h refl)
     ∙ ap (λ z. record x { hung = z }) (flags rv ru wv wu hb r w)
   where
     had : (wu hb : Bool) → (wu ≡ true → hb ≡ true) → ((not wu && hb) || wu) ≡ hb
@@ -28,9 +28,9 @@ tidy_twice true hu rv ru wv wu hb h r w x =
     had false true w = refl
     had false false w = refl
 
-    flags : (rv ru wv wu hb : Bool) → (rv ≡ true → ru ≡ true) → (wu ≡ true → hb ≡ true) → (rv && (not wv && ((ru && (not wu && hb)) || wu))) ≡ (rv && (not wv && hb))
+    flags : (rv ru wv wu hb : Bool) → (rv ≡ true → ru ≡ true) → (wu ≡ true → hb ≡ true) → hangs rv wv (hangs ru wu hb || wu) ≡ hangs rv wv hb
     flags false ru wv wu hb r w = refl
-    flags true ru wv wu hb r w = ap (λ b. not wv && ((b && (not wu && hb)) || wu)) (r refl) ∙ ap (λ b. not wv && b) (had wu hb w)
+    flags true ru wv wu hb r w = ap (λ b. hangs true wv (hangs b wu hb || wu)) (r refl) ∙ ap (hangs true wv) (had wu hb w)
 
 kept_less : {X : Type 0} (a b : Bool) (o : Option X) → (a ≡ true → b ≡ true) → kept_if a (kept_if b o) ≡ kept_if a o
 kept_less false b o h = refl
@@ -91,10 +91,10 @@ module _ {A : Type 0} (b u v : Core A numbers) (fewer : HasFewer u v) (had : (p 
     twice : (x : Pipe) → s.pipes p ≡ Some (settled_pipe b u p x) → settled_pipe s w p (settled_pipe b u p x) ≡ settled_pipe b v p x
     twice x is =
         let y = settled_pipe b u p x in
-        let t = tidy_pipe (has_end u any_mode node) (has_end u reads node) (has_end u writes node) hb x in
+        let t = with_ends (has_end u any_mode node) (has_end u reads node) (has_end u writes node) hb x in
         settled_pipe-is s w p y
-        ∙ (λ i. tidy_pipe (has_end-same v w node (ends node) any_mode i) (has_end-same v w node (ends node) reads i) (has_end-same v w node (ends node) writes i) (is_hung (is i) || has_end-same u s node (settled_ends node) writes i) y)
-        ∙ ap (λ z. tidy_pipe (has_end v any_mode node) (has_end v reads node) (has_end v writes node) (z.hung || has_end u writes node) z) (settled_pipe-is b u p x)
+        ∙ (λ i. with_ends (has_end-same v w node (ends node) any_mode i) (has_end-same v w node (ends node) reads i) (has_end-same v w node (ends node) writes i) (is_hung (is i) || has_end-same u s node (settled_ends node) writes i) y)
+        ∙ ap (λ z. with_ends (has_end v any_mode node) (has_end v reads node) (has_end v writes node) (z.hung || has_end u writes node) z) (settled_pipe-is b u p x)
         ∙ tidy_twice (has_end v any_mode node) (has_end u any_mode node) (has_end v reads node) (has_end u reads node) (has_end v writes node) (has_end u writes node) hb
         (no_more any_mode node) (no_more reads node) had_it x
         ∙ sym (settled_pipe-is b v p x)

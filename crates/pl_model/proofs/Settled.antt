@@ -1,6 +1,6 @@
 -- The end of a step leaves nothing more to settle.
-use Rattle.std.proofs.Common.{ap, ℕ, Bool, true, false, cond, Option, List, [], ◌∷◌, ◌≡◌, refl, ◌∙◌, nat_eq, nat_lt, arith}
-use Rattle.std.specs.Prelude.{◌==◌, ◌&&◌, ◌||◌, option_map}
+use Rattle.std.proofs.Common.{ap, ℕ, Bool, true, false, cond, Option, List, [], ◌∷◌, ◌≡◌, refl, ◌∙◌, nat_eq, nat_lt}
+use Rattle.std.specs.Prelude.{◌||◌, option_map}
 use Rattle.std.specs.declared.option.Option.TheVariants.{None, Some}
 use Rattle.std.specs.List.{list_any, filter}
 use Rattle.std.specs.Set.{is_member, distinct_count}
@@ -10,9 +10,9 @@ use Rattle.pl_model.specs.declared.calls.Mode.{Mode}
 use Rattle.pl_model.specs.Modes.{any_mode, reads, writes}
 use Rattle.pl_model.specs.Map.{kept_if}
 use Rattle.pl_model.specs.Keys.{Node, PipeNode, FileNode}
-use Rattle.pl_model.specs.State.{Core, Pipe, empty_pipe}
+use Rattle.pl_model.specs.State.{Core, Pipe}
 use Rattle.pl_model.specs.Live.{in_use, in_rows, in_parked, pids, is_live, is_end, is_held, readers, writers, live_with, has_name}
-use Rattle.pl_model.specs.Settle.{settle, settled_pipe, is_kept, is_hung, had_writer}
+use Rattle.pl_model.specs.Settle.{settle, settled_pipe, with_ends, hangs, is_kept, is_hung, had_writer}
 use Rattle.pl_model.specs.Numbered.{numbers}
 
 kept_twice : {X : Type 0} (b : Bool) (o : Option X) → kept_if b (kept_if b o) ≡ kept_if b o
@@ -36,22 +36,15 @@ any_agree t u (x ∷ xs) h =
     (λ i. h x (ap (λ b. b || is_member nat_eq xs x) (eq-eqb x x refl)) i || list_any t xs)
     ∙ ap (λ b. u x || b) (any_agree t u xs (λ d m. h d (ap (λ b. nat_eq d x || b) m ∙ or_true (nat_eq d x))))
 
-hung_again : (r h : Bool) (w : ℕ) → (r && (w == 0 && ((r && (w == 0 && h)) || nat_lt 0 w))) ≡ (r && (w == 0 && h))
-hung_again r h w = at r h (w == 0) (nat_lt 0 w) refl refl where
-  at : (r h z n : Bool) → (w == 0) ≡ z → nat_lt 0 w ≡ n → (r && (z && ((r && (z && h)) || n))) ≡ (r && (z && h))
-  at false h z n e f = refl
-  at true h false n e f = refl
-  at true true true n e f = refl
-  at true false true false e f = refl
-  at true false true true e f = absurd (grind arith)
+hung_again : (r w h : Bool) → hangs r w (hangs r w h || w) ≡ hangs r w h
+hung_again false w h = refl
+hung_again true true h = refl
+hung_again true false true = refl
+hung_again true false false = refl
 
--- a pipe with such ends, as settling leaves it
-abbrev left_pipe : (held : Bool) (r w : ℕ) (had : Bool) → Pipe → Pipe
-left_pipe held r w had x = cond held (record x { hung = nat_lt 0 r && (w == 0 && had) }) empty_pipe
-
-left_twice : (held : Bool) (r w : ℕ) (had : Bool) (x : Pipe) → left_pipe held r w ((left_pipe held r w had x).hung || nat_lt 0 w) (left_pipe held r w had x) ≡ left_pipe held r w had x
-left_twice true r w had x = λ i. record { bytes = x.bytes; capacity = x.capacity; hung = hung_again (nat_lt 0 r) had w i }
-left_twice false r w had x = refl
+settled_twice : (held r w had : Bool) (x : Pipe) → with_ends held r w ((with_ends held r w had x).hung || w) (with_ends held r w had x) ≡ with_ends held r w had x
+settled_twice true r w had x = λ i. record x { hung = hung_again r w had i }
+settled_twice false r w had x = refl
 
 module _ {A : Type 0} (before u : Core A numbers) where
   abbrev s : Core A numbers
@@ -92,8 +85,8 @@ module _ {A : Type 0} (before u : Core A numbers) where
   settled_again p x e =
       let node : Node numbers = PipeNode p in
       let y : Pipe = settled_pipe before u p x in
-      (λ i. left_pipe (same_held node i) (same_readers p i) (same_writers p i) (is_hung (e i) || nat_lt 0 (same_writers p i)) y)
-      ∙ left_twice (is_held u node) (readers u p) (writers u p) (had_writer before p) x
+      (λ i. with_ends (same_held node i) (nat_lt 0 (same_readers p i)) (nat_lt 0 (same_writers p i)) (is_hung (e i) || nat_lt 0 (same_writers p i)) y)
+      ∙ settled_twice (is_held u node) (nat_lt 0 (readers u p)) (nat_lt 0 (writers u p)) (had_writer before p) x
 
   pipe_again : (p : ℕ) (b : Bool) (o : Option Pipe) → s.pipes p ≡ option_map (settled_pipe before u p) (kept_if b o) → option_map (settled_pipe s s p) (kept_if b (option_map (settled_pipe before u p) (kept_if b o))) ≡ option_map (settled_pipe before u p) (kept_if b o)
   pipe_again p false o e = refl

@@ -2,7 +2,7 @@
 -- have gone. Calls differ only in whom they leave live.
 use Rattle.std.proofs.Common.{◌≡◌, ◌≢◌, ℕ, Bool, true, false, cond, List, [], Option, Some, None, refl, sym, ◌∙◌, ap, inl, inr, nat_eq}
 use Rattle.std.proofs.Math.Path.{fun_ext}
-use Rattle.std.specs.Prelude.{◌==◌, ◌||◌, ◌&&◌, not, nat_lt, option_map}
+use Rattle.std.specs.Prelude.{◌||◌, ◌&&◌, not, nat_lt, option_map}
 use Rattle.std.specs.List.{list_any}
 use Rattle.std.proofs.lemmas.Bool.{eq-eqb, ne_eqb}
 use Rattle.std.proofs.lemmas.Bool.Decides.{eqb_tells}
@@ -12,10 +12,10 @@ use Rattle.pl_model.specs.Map.{kept_if, set_at}
 use Rattle.pl_model.specs.Keys.{Node, PipeNode, FileNode, same_node}
 use Rattle.pl_model.specs.State.{Core, Description, Pipe, empty_pipe, set_pipe}
 use Rattle.pl_model.specs.Live.{in_rows, in_parked, pids, is_live, is_held, readers, writers}
-use Rattle.pl_model.specs.Settle.{settle, settled_pipe, is_kept, is_hung, had_writer}
+use Rattle.pl_model.specs.Settle.{settle, settled_pipe, is_kept, is_hung, had_writer, with_ends, hangs}
 use Rattle.pl_model.specs.Numbered.{numbers}
 use Rattle.pl_model.specs.Laws.{IsSettled}
-use Rattle.pl_model.proofs.Tidy.{is_on, has_end, SameEnds, has_end-same, tidy_pipe, settled_pipe-is, settles_to, tidy, settled-live, settled-kept, settled-file, kept-same, settled_pipe-same}
+use Rattle.pl_model.proofs.Tidy.{is_on, has_end, SameEnds, has_end-same, settled_pipe-is, settles_to, tidy, settled-live, settled-kept, settled-file, kept-same, settled_pipe-same}
 
 -- what a map has at another key, and at the key
 pub at_other : {X : Type 0} (m : ℕ → X) (k q : ℕ) (x : X) → k ≢ q → set_at nat_eq m k x q ≡ m q
@@ -35,7 +35,7 @@ pub settle-before : {A : Type 0} (b c u : Core A numbers) → ((p : ℕ) → had
 unfolding settle
 settle-before b c u same = λ i. record u {
   descriptions = λ d. kept_if (is_live u d) (u.descriptions d);
-  pipes = λ p. option_map (λ x. cond (is_held u (PipeNode p)) (record x { hung = nat_lt 0 (readers u p) && (writers u p == 0 && same p i) }) empty_pipe) (kept_if (is_kept u (PipeNode p)) (u.pipes p));
+  pipes = λ p. option_map (with_ends (is_held u (PipeNode p)) (nat_lt 0 (readers u p)) (nat_lt 0 (writers u p)) (same p i)) (kept_if (is_kept u (PipeNode p)) (u.pipes p));
   files = λ f. kept_if (is_kept u (FileNode f)) (u.files f);
 }
 
@@ -111,7 +111,7 @@ module _ {A : Type 0} (c u : Core A numbers) (gone : ℕ) where
   abbrev pub left_pipe : ℕ → Pipe → Option Pipe
   left_pipe p y =
       kept_if (has_end left any_mode (PipeNode p))
-      (Some (record y { hung = has_end left reads (PipeNode p) && (not (has_end left writes (PipeNode p)) && (is_hung (c.pipes p) || has_end c writes (PipeNode p))) }))
+      (Some (record y { hung = hangs (has_end left reads (PipeNode p)) (has_end left writes (PipeNode p)) (is_hung (c.pipes p) || has_end c writes (PipeNode p)) }))
 
 -- A description of a pipe's end isn't live any more, and all others are as they were. The bytes of that pipe may have
 -- changed.
@@ -192,7 +192,7 @@ module _ {A : Type 0} (c u : Core A numbers) (settled : IsSettled c) (alike : Al
           at true = refl
           at false = refl
 
-      tidied : (h r w had : Bool) → option_map (tidy_pipe h r w had) (kept_if h (Some y)) ≡ kept_if h (Some (record y { hung = r && (not w && had) }))
+      tidied : (h r w had : Bool) → option_map (with_ends h r w had) (kept_if h (Some y)) ≡ kept_if h (Some (record y { hung = hangs r w had }))
       tidied true r w had = refl
       tidied false r w had = refl
 
@@ -202,10 +202,10 @@ module _ {A : Type 0} (c u : Core A numbers) (settled : IsSettled c) (alike : Al
           ∙ seen (has_end rest any_mode (PipeNode p))
           ∙ tidied (has_end rest any_mode (PipeNode p)) (has_end rest reads (PipeNode p)) (has_end rest writes (PipeNode p)) (is_hung (c.pipes p) || has_end c writes (PipeNode p))
         where
-          seen : (b : Bool) → option_map (settled_pipe c u p) (kept_if b (Some y)) ≡ option_map (tidy_pipe (has_end rest any_mode (PipeNode p)) (has_end rest reads (PipeNode p)) (has_end rest writes (PipeNode p)) (is_hung (c.pipes p) || has_end c writes (PipeNode p))) (kept_if b (Some y))
+          seen : (b : Bool) → option_map (settled_pipe c u p) (kept_if b (Some y)) ≡ option_map (with_ends (has_end rest any_mode (PipeNode p)) (has_end rest reads (PipeNode p)) (has_end rest writes (PipeNode p)) (is_hung (c.pipes p) || has_end c writes (PipeNode p))) (kept_if b (Some y))
           seen true =
               ap (λ z. Some z) (settled_pipe-is c u p y
-              ∙ (λ i. tidy_pipe (ends any_mode i) (ends reads i) (ends writes i) (is_hung (c.pipes p) || has_end c writes (PipeNode p)) y))
+              ∙ (λ i. with_ends (ends any_mode i) (ends reads i) (ends writes i) (is_hung (c.pipes p) || has_end c writes (PipeNode p)) y))
           seen false = refl
 
       at_other_pipe : (q : ℕ) (o : Option Pipe) → c.pipes q ≡ o → nat_eq p q ≡ false → option_map (settled_pipe c u q) (kept_if (is_kept u (PipeNode q)) o) ≡ o

@@ -1,7 +1,7 @@
 -- What settling comes to, where it is known who is live.
-use Rattle.std.proofs.Common.{◌≡◌, ℕ, ◌+◌, ◌<◌, ◌≤◌, Bool, true, false, cond, List, Option, Some, None, refl, sym, ◌∙◌, ap, nat_eq, nat_lt, arith}
+use Rattle.std.proofs.Common.{◌≡◌, ℕ, ◌+◌, ◌<◌, ◌≤◌, Bool, true, false, List, Option, Some, None, refl, sym, ◌∙◌, ap, nat_eq, nat_lt, arith}
 use Rattle.std.proofs.Math.Path.{fun_ext}
-use Rattle.std.specs.Prelude.{◌==◌, ◌||◌, ◌&&◌, not, option_map}
+use Rattle.std.specs.Prelude.{◌||◌, ◌&&◌, option_map}
 use Rattle.std.specs.List.{list_any, flat_map, filter_map}
 use Rattle.std.specs.Set.{is_member}
 use Rattle.std.proofs.lemmas.List.Folds.{list_any-append}
@@ -11,9 +11,9 @@ use Rattle.pl_model.specs.Numbers.{numbers_from, open_max, most_processes}
 use Rattle.pl_model.specs.Modes.{any_mode, reads, writes}
 use Rattle.pl_model.specs.Map.{kept_if}
 use Rattle.pl_model.specs.Keys.{Node, PipeNode, FileNode, same_node}
-use Rattle.pl_model.specs.State.{Core, Description, Pipe, Waiting, empty_pipe}
+use Rattle.pl_model.specs.State.{Core, Description, Pipe, Waiting}
 use Rattle.pl_model.specs.Live.{in_use, in_rows, in_parked, pids, is_live, is_end, is_held, readers, writers, live_with}
-use Rattle.pl_model.specs.Settle.{settle, settled_pipe, is_kept, is_hung}
+use Rattle.pl_model.specs.Settle.{settle, settled_pipe, with_ends, is_kept, is_hung}
 use Rattle.pl_model.specs.Numbered.{numbers}
 use Rattle.pl_model.specs.Laws.{IsSettled}
 use Rattle.pl_model.proofs.Members.{both_ways, and_left, and_right, or_left, member_found, member_passes, some_count, is_here, member_filter_map, member_flat, any_filter, any_number, number_passes}
@@ -128,18 +128,9 @@ module _ {A : Type 0} (c u : Core A numbers) (node : Node numbers) (same : SameE
       let s = same.forth e.0 e.1 (on_end test node _ e.2) in
       end_passes u test node e.0 s.0 (ap (is_end test node) s.1 ∙ e.2))
 
--- a pipe that is held or not, with readers, with writers, and that had a writer, as settling leaves it
-abbrev pub tidy_pipe : (held r w had : Bool) → Pipe → Pipe
-tidy_pipe held r w had x = cond held (record x { hung = r && (not w && had) }) empty_pipe
-
-zero_is : (n : ℕ) → (n == 0) ≡ not (nat_lt 0 n)
-zero_is n = grind arith
-
 module _ {A : Type 0} (before u : Core A numbers) (p : ℕ) where
-  pub settled_pipe-is : (x : Pipe) → settled_pipe before u p x ≡ tidy_pipe (has_end u any_mode (PipeNode p)) (has_end u reads (PipeNode p)) (has_end u writes (PipeNode p)) (is_hung (before.pipes p) || has_end before writes (PipeNode p)) x
-  settled_pipe-is x =
-      (λ i. cond (is_held u (PipeNode p)) (record x { hung = readers-is u p i && (zero_is (writers u p) i && (is_hung (before.pipes p) || writers-is before p i)) }) empty_pipe)
-      ∙ (λ i. cond (is_held u (PipeNode p)) (record x { hung = has_end u reads (PipeNode p) && (not (writers-is u p i) && (is_hung (before.pipes p) || has_end before writes (PipeNode p))) }) empty_pipe)
+  pub settled_pipe-is : (x : Pipe) → settled_pipe before u p x ≡ with_ends (has_end u any_mode (PipeNode p)) (has_end u reads (PipeNode p)) (has_end u writes (PipeNode p)) (is_hung (before.pipes p) || has_end before writes (PipeNode p)) x
+  settled_pipe-is x = λ i. with_ends (is_held u (PipeNode p)) (readers-is u p i) (writers-is u p i) (is_hung (before.pipes p) || writers-is before p i) x
 
 module _ {A : Type 0} (before u : Core A numbers) where
   -- settling gives these, where it does so at each key
@@ -211,5 +202,5 @@ module _ {A : Type 0} (c u : Core A numbers) (same_names : u.names ≡ c.names) 
   pub settled_pipe-same : (p : ℕ) (x : Pipe) → SameEnds c u (PipeNode p) → settled_pipe c u p x ≡ settled_pipe c c p x
   settled_pipe-same p x same =
       settled_pipe-is c u p x
-      ∙ (λ i. tidy_pipe (has_end-same c u (PipeNode p) same any_mode i) (has_end-same c u (PipeNode p) same reads i) (has_end-same c u (PipeNode p) same writes i) (is_hung (c.pipes p) || has_end c writes (PipeNode p)) x)
+      ∙ (λ i. with_ends (has_end-same c u (PipeNode p) same any_mode i) (has_end-same c u (PipeNode p) same reads i) (has_end-same c u (PipeNode p) same writes i) (is_hung (c.pipes p) || has_end c writes (PipeNode p)) x)
       ∙ sym (settled_pipe-is c c p x)

@@ -1,5 +1,5 @@
 -- What is tidied at the end of each step.
-use Rattle.std.specs.Prelude.{Bool, false, ◌==◌, ◌&&◌, ◌||◌, nat_lt, if◌then◌else◌, Option, option_map}
+use Rattle.std.specs.Prelude.{Bool, false, not, ◌&&◌, ◌||◌, nat_lt, if◌then◌else◌, Option, option_map}
 use Rattle.std.specs.declared.option.Option.TheVariants.{None, Some}
 use Rattle.pl_model.specs.Map.{kept_if}
 use Rattle.pl_model.specs.Keys.{Keys, Node, PipeNode, FileNode}
@@ -10,6 +10,14 @@ abbrev pub is_hung : Option Pipe → Bool
 is_hung None = false
 is_hung (Some pipe) = pipe.hung
 
+-- POSIX.1-2017, poll, POLLHUP: a pipe with readers alone is hung, once it had a writer.
+abbrev pub hangs : (has_reader has_writer had_writer : Bool) → Bool
+hangs has_reader has_writer had_writer = has_reader && (not has_writer && had_writer)
+
+-- POSIX.1-2017, close: what the end of a step leaves of a pipe with such ends. One without ends loses its bytes.
+abbrev pub with_ends : (held has_reader has_writer had_writer : Bool) → Pipe → Pipe
+with_ends held has_reader has_writer had_writer pipe = if held then record pipe { hung = hangs has_reader has_writer had_writer } else empty_pipe
+
 module _ {A : Type 0} {K : Keys} where
   -- the pipe was hung, or had a writer
   abbrev pub had_writer : Core A K → K.Pipe → Bool
@@ -19,12 +27,8 @@ module _ {A : Type 0} {K : Keys} where
   abbrev pub is_kept : Core A K → Node K → Bool
   is_kept s node = is_held s node || has_name s node
 
-  -- POSIX.1-2017, close: a pipe without ends loses its bytes. One with readers alone is hung, once it had a writer
-  -- (POSIX.1-2017, poll, POLLHUP).
   abbrev pub settled_pipe : Core A K → Core A K → K.Pipe → Pipe → Pipe
-  settled_pipe before s p pipe =
-      if is_held s (PipeNode p) then record pipe { hung = nat_lt 0 (readers s p) && (writers s p == 0 && had_writer before p) }
-      else empty_pipe
+  settled_pipe before s p pipe = with_ends (is_held s (PipeNode p)) (nat_lt 0 (readers s p)) (nat_lt 0 (writers s p)) (had_writer before p) pipe
 
   -- Descriptions that aren't live go, and so do files and pipes that nothing keeps. `before` is the state at the step's
   -- beginning.
