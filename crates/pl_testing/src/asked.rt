@@ -1,4 +1,7 @@
 //! Tables of what is asked of a kernel, and what it is to answer.
+ghost use Rattle.std.specs.Prelude.{◌≡◌, IfOk, OnErr};
+ghost use Rattle.pl_testing.specs.Asked.{data_bytes, all_flags, asked, wanted};
+
 use bitflags::Flags;
 use pl_kernel::{Kernel, NoMemory};
 use pl_model::{Bytes8, Call, Errno, Mode, OpenFlags, Outcome, Reply, Step};
@@ -62,13 +65,15 @@ pub enum Want {
 }
 
 impl Data {
-    fn bytes<A: Allocator>(self, alloc: A) -> Result<Bytes8<A>, Fail> {
+    fn bytes<A: Allocator>(self, alloc: A) -> Result<Bytes8<A>, Fail>
+        ensures { IfOk result (λ bytes. bytes ≡ data_bytes self) }
+    {
         let bytes = match self {
             Data::Text(text) => Vec::from_slice(alloc, text.as_bytes())?,
             Data::Many(byte, times) => Vec::from_elem(alloc, byte, times)?,
             Data::TwoRuns(first, times, second, more) => {
                 let mut bytes = Vec::from_elem(alloc, first, times)?;
-                for _ in 0..more {
+                for _place in 0..more {
                     bytes.push(second)?;
                 }
                 bytes
@@ -86,17 +91,21 @@ impl Data {
 }
 
 /// All flags of the list.
-fn all_of(flags: &[OpenFlags]) -> OpenFlags {
+fn all_of(flags: &[OpenFlags]) -> OpenFlags
+    ensures { result ≡ all_flags flags.now }
+{
     let mut all = OpenFlags::empty();
     for flag in flags {
-        all = all | *flag;
+        all = all.union(*flag);
     }
     all
 }
 
 impl Ask {
     /// The step, with its bytes in memory of `alloc`. It fails where there is no memory, and at more than 16,777,216 bytes.
-    pub fn step<A: Allocator>(self, alloc: A) -> Result<Step<A>, Fail> {
+    pub fn step<A: Allocator>(self, alloc: A) -> Result<Step<A>, Fail>
+        ensures { IfOk result (λ step. step ≡ asked self) }
+    {
         Ok(match self {
             Ask::Start => Step::Start,
             Ask::Resume(call) => Step::Resume(call),
@@ -125,7 +134,9 @@ impl Ask {
 
 impl Want {
     /// What a step comes to that answers this. It fails where there is no memory, and at more than 16,777,216 bytes.
-    pub fn outcome(self, alloc: Global) -> Result<Outcome, Fail> {
+    pub fn outcome(self, alloc: Global) -> Result<Outcome, Fail>
+        ensures { IfOk result (λ outcome. outcome ≡ Outcome.Replied (wanted self)) }
+    {
         Ok(Outcome::Replied(match self {
             Want::Pid(pid) => Reply::Pid(pid),
             Want::Fd(fd) => Reply::Fd(fd),
@@ -148,7 +159,10 @@ impl Want {
 }
 
 /// What a step came to.
-pub fn outcome_of<A: Allocator>(answer: Result<Reply<A>, NoMemory>) -> Outcome<A> {
+pub fn outcome_of<A: Allocator>(answer: Result<Reply<A>, NoMemory>) -> Outcome<A>
+    ensures ok { IfOk answer (λ reply. result ≡ Outcome.Replied reply) }
+    ensures err { OnErr answer (result ≡ Outcome.NoMemory) }
+{
     match answer {
         Ok(reply) => Outcome::Replied(reply),
         Err(NoMemory) => Outcome::NoMemory,

@@ -1,4 +1,7 @@
 //! What tests of want of memory share.
+ghost use Rattle.std.specs.Prelude.{◌≡◌, ◌||◌};
+ghost use Rattle.pl_testing.specs.Frugal.{wants_refusal, asks_none};
+
 use crate::asked::Ask::{self, Close, Dup, Dup2, DupFd, Exit, GetFl, Interrupt, SetFl};
 use crate::asked::Want::{self, CallsSpent, Fault, NoCall, NoProcess};
 use crate::refusing::Refusing;
@@ -11,7 +14,9 @@ pub const MOST_REQUESTS: u64 = 1_000;
 
 /// Whether the step is to take no memory: a step that is refused, an interrupt, and each call on descriptors that neither makes
 /// something new nor moves bytes.
-pub fn takes_no_memory(ask: Ask, want: Want) -> bool {
+pub fn takes_no_memory(ask: Ask, want: Want) -> bool
+    ensures { result ≡ (wants_refusal want || asks_none ask) }
+{
     matches!(want, Fault(_) | NoProcess | NoCall | CallsSpent)
         || matches!(
             ask,
