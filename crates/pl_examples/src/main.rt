@@ -9,11 +9,13 @@ use std::process::ExitCode;
 use std::{fs, io};
 
 /// A script is `NAME.script`, and what it prints `NAME.out`: its output, and the line of its fault.
-const NAMES: [&str; 6] = [
+const NAMES: [&str; 8] = [
     "bytes_before_end_of_file",
     "full_pipe",
     "parking",
     "shared",
+    "full_table",
+    "limits",
     "refusals",
     "bad_line",
 ];
