@@ -26,6 +26,18 @@ most_processes = 1024
 abbrev pub most_bytes : ℕ
 most_bytes = 16777216
 
+-- Our own: the greatest limit on the bytes of a regular file.
+abbrev pub most_file_bytes : ℕ
+most_file_bytes = 16777216
+
+-- Our own: the bytes of a script.
+abbrev pub most_script_bytes : ℕ
+most_script_bytes = 16777216
+
+-- Our own: the reads of a script, each of which but the last gives a byte at least.
+abbrev pub most_reads : ℕ
+most_reads = most_script_bytes + 1
+
 -- Our own: parked calls have numbers below this one, the greatest of 64 bits.
 abbrev pub last_call : ℕ
 last_call = 18446744073709551615

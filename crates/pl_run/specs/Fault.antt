@@ -1,6 +1,7 @@
 -- The lines and statuses of faults (our own).
-use Rattle.std.specs.Prelude.{ℕ, List, [], ◌∷◌, ◌++◌, codes}
+use Rattle.std.specs.Prelude.{ℕ, ◌≤◌, List, [], ◌∷◌, ◌++◌, length, take, codes, Bool, true, false, Option}
 use Rattle.std.specs.Fmt.{decimal}
+use Rattle.std.specs.Io.KnownBytes.{Appends}
 use Rattle.pl_script.specs.declared.faults.ScriptFault.{ScriptFault}
 use Rattle.pl_script.specs.declared.faults.ScriptFault.TheVariants as script
 use Rattle.pl_run.specs.declared.fault.Fault.{Fault}
@@ -29,3 +30,8 @@ line_of CommandLine = codes "piperun: bad command line" ++ 10 ∷ []
 line_of (BadLine n) = codes "piperun: line " ++ (decimal n ++ (codes ": not a command" ++ 10 ∷ []))
 line_of TooLong = codes "piperun: script longer than 16777216 bytes" ++ 10 ∷ []
 line_of NoMemory = codes "piperun: no memory" ++ 10 ∷ []
+
+-- what came of a line: all of it was written, or a front of it
+abbrev pub WritesLine : Bool → Option (List ℕ) → Option (List ℕ) → List ℕ → Type 0
+WritesLine true old new line = Appends old new line
+WritesLine false old new line = (count : ℕ) × (count ≤ length line) × Appends old new (take count line)

@@ -1,11 +1,10 @@
 //! What can go wrong with a run, the line that says so, and the status that the program ends with.
-ghost use Rattle.std.specs.Prelude.{◌≡◌};
-ghost use Rattle.std.specs.Bool.{OnTrue};
-ghost use Rattle.std.specs.Io.KnownBytes.{Appends};
-ghost use Rattle.pl_run.specs.Fault.{status_of, line_of, fault_of};
+ghost use Rattle.std.specs.Prelude.{◌≡◌, true, false, not, OnOk, OnErr};
+ghost use Rattle.pl_script.specs.Streams.{WritesFront};
+ghost use Rattle.pl_run.specs.Fault.{status_of, line_of, fault_of, WritesLine};
 
-use pl_script::ScriptFault;
-use std::io::Write;
+use itoa::Buffer;
+use pl_script::{ScriptFault, Sink, write_whole};
 
 /// What can go wrong with a run.
 #[derive(Clone, Copy, Debug, PartialEq, Eq)]
@@ -50,16 +49,31 @@ pub fn status(fault: &Fault) -> u8
     }
 }
 
-/// Writes the line of the fault, and answers whether the writer took it.
-pub fn write_fault<W: Write>(writer: &mut W, fault: &Fault) -> bool
-    ensures { OnTrue result (Appends (W.contents writer.old) (W.contents writer.new) (line_of fault.now)) }
+/// Writes the line of the fault, as far as the writer takes it.
+fn write_line<T: Sink>(writer: &mut T, fault: &Fault) -> Result<(), ScriptFault>
+    ensures front { WritesFront (T.contents writer.old) (T.contents writer.new) result (line_of fault.now) }
+    ensures kept { OnOk result (T.has_stopped writer.new ≡ T.has_stopped writer.old) }
+    ensures stopped { OnErr result (T.has_stopped writer.new ≡ true) }
 {
     match fault {
-        Fault::CannotRead => writeln!(writer, "piperun: cannot read").is_ok(),
-        Fault::CannotWrite => writeln!(writer, "piperun: cannot write").is_ok(),
-        Fault::CommandLine => writeln!(writer, "piperun: bad command line").is_ok(),
-        Fault::BadLine(number) => writeln!(writer, "piperun: line {number}: not a command").is_ok(),
-        Fault::TooLong => writeln!(writer, "piperun: script longer than 16777216 bytes").is_ok(),
-        Fault::NoMemory => writeln!(writer, "piperun: no memory").is_ok(),
+        Fault::CannotRead => write_whole(writer, b"piperun: cannot read\n"),
+        Fault::CannotWrite => write_whole(writer, b"piperun: cannot write\n"),
+        Fault::CommandLine => write_whole(writer, b"piperun: bad command line\n"),
+        Fault::BadLine(number) => {
+            write_whole(writer, b"piperun: line ")?;
+            write_whole(writer, Buffer::new().format(*number).as_bytes())?;
+            write_whole(writer, b": not a command\n")
+        }
+        Fault::TooLong => write_whole(writer, b"piperun: script longer than 16777216 bytes\n"),
+        Fault::NoMemory => write_whole(writer, b"piperun: no memory\n"),
     }
+}
+
+/// Writes the line of the fault, and answers whether the writer took all of it: `false` exactly where a write failed or took
+/// no byte, if none had before. A front of the line was written then. It takes no memory.
+pub fn write_fault<T: Sink>(writer: &mut T, fault: &Fault) -> bool
+    ensures line { WritesLine result (T.contents writer.old) (T.contents writer.new) (line_of fault.now) }
+    ensures stops { T.has_stopped writer.old ≡ false → (T.has_stopped writer.new ≡ not result) }
+{
+    write_line(writer, fault).is_ok()
 }

@@ -1,6 +1,6 @@
 -- The names of flags, taken from the front of a word.
 use Rattle.std.proofs.Common.{◌≡◌, ℕ, ◌+◌, false, List, [], ◌∷◌, take, drop, Option, Some, None, refl, sym, ap, ◌∙◌, arith}
-use Rattle.std.specs.Prelude.{position, bit_or}
+use Rattle.std.specs.Prelude.{position, bit_or, Err}
 use Rattle.std.specs.List.{slice_split}
 use Rattle.std.proofs.lemmas.List.Splits.{slice_split_none, slice_split_first}
 use Rattle.std.proofs.lemmas.List.Sums.{fails_before_first}
@@ -9,7 +9,7 @@ use Rattle.pl_model.specs.declared.flags.OpenFlags.{OpenFlags}
 use Rattle.pl_model.specs.Words.{◌>>=◌, is_comma, flag_of, with_flags}
 use Rattle.pl_script.specs.declared.faults.LineFault.{LineFault}
 use Rattle.pl_script.specs.declared.faults.LineFault.TheVariants.{Bad, NoMemory}
-use Rattle.pl_script.specs.Parsed.{Fails}
+use Rattle.pl_script.specs.Parsed.{Gives}
 use Rattle.pl_script.proofs.Places.{place_of, nowhere}
 
 -- the flags of these names beside some, in order
@@ -48,9 +48,9 @@ module _ (flags : OpenFlags) (names : List ℕ) (all : Option OpenFlags) (so_far
       ∙ ap (λ o. o >>= λ flag. flags_in (and_flag flags flag) (drop (n + 1) names)) is
       ∙ (λ i. flags_in (record { 0 = sym both i }) (sym behind i))
 
-  pub fails_more : (e : LineFault) (n : ℕ) → position is_comma names ≡ Some n → Fails e (flag_of (take n names)) → Fails e all
+  pub fails_more : (e : LineFault) (n : ℕ) → position is_comma names ≡ Some n → Gives (Err e) (flag_of (take n names)) → Gives (Err e) all
   fails_more Bad n found is = so_far ∙ before_comma flags names n found ∙ ap (λ o. o >>= λ flag. flags_in (and_flag flags flag) (drop (n + 1) names)) is
-  fails_more NoMemory n found is = tt
+  fails_more NoMemory n found is = absurd is
 
   pub flags_last : (flag new : OpenFlags) → position is_comma names ≡ None → flag_of names ≡ Some flag → new.0 ≡ bit_or flags.0 flag.0 → all ≡ Some new
   flags_last flag new none is both =
@@ -58,6 +58,6 @@ module _ (flags : OpenFlags) (names : List ℕ) (all : Option OpenFlags) (so_far
       ∙ ap (λ o. o >>= λ flag. Some (and_flag flags flag)) is
       ∙ (λ i. Some (record { 0 = sym both i }))
 
-  pub fails_last : (e : LineFault) → position is_comma names ≡ None → Fails e (flag_of names) → Fails e all
+  pub fails_last : (e : LineFault) → position is_comma names ≡ None → Gives (Err e) (flag_of names) → Gives (Err e) all
   fails_last Bad none is = so_far ∙ to_end flags names none ∙ ap (λ o. o >>= λ flag. Some (and_flag flags flag)) is
-  fails_last NoMemory none is = tt
+  fails_last NoMemory none is = absurd is

@@ -1,13 +1,21 @@
 -- What `hex` decodes are the bytes of the digits.
-use Rattle.std.proofs.Common.{◌≡◌, ℕ, ◌+◌, ◌*◌, ◌/◌, ◌%◌, ◌≤◌, Bool, true, false, cond, eqb, List, [], ◌∷◌, length, Option, Some, None, Result, Ok, Err, refl, sym, ap, ◌∙◌, arith}
-use Rattle.std.specs.Prelude.{MatchResult, slice_index_or}
+use Rattle.std.proofs.Common.{◌≡◌, ℕ, ◌+◌, ◌*◌, ◌/◌, ◌%◌, ◌≤◌, inl, inr, Bool, true, false, cond, eqb, List, [], ◌∷◌, length, Option, Some, None, Result, Ok, Err, refl, sym, ap, ◌∙◌, arith}
+use Rattle.std.specs.Prelude.{MatchResult, slice_index_or, is_some, nat_le, IsSomeAnd, IsSome, IfSome, ◌<◌, ◌⊎◌, ◌↔◌, replicate}
+use Rattle.std.specs.List.{AllPass, list_all}
+use Rattle.std.specs.Option.{ok_or}
 use Rattle.std.specs.Result.{result_ok}
-use Rattle.std.proofs.lemmas.Bool.{eqb-true, eqb-false}
+use Rattle.std.proofs.lemmas.Bool.{eqb-true, eqb-false, leb-true, le-leb}
 use Rattle.hex.specs.declared.error.FromHexError.{FromHexError}
 use Rattle.hex.specs.declared.error.FromHexError.TheVariants.{OddLength, InvalidStringLength}
 use Rattle.hex.specs.Hex as digits
 use Rattle.hex.specs.Hex.{decode_pairs, decode_of, decode_sized, digit_or_error}
-use Rattle.pl_model.specs.Words.{◌>>=◌, hex_digit, hex_byte, hex_bytes, one_byte}
+use Rattle.hex.proofs.HexLemmas.{decode_of-ok, decode_of-digits}
+use Rattle.std.proofs.lemmas.List.{length-replicate}
+use Rattle.std.proofs.lemmas.List.Sums.{AllPass-from_list_all, list_all-from_AllPass}
+use Rattle.pl_model.specs.Numbers.{most_bytes}
+use Rattle.pl_model.specs.Words.{◌>>=◌, hex_digit, hex_byte, hex_bytes, one_byte, number, repeated}
+use Rattle.pl_script.specs.declared.faults.LineFault.TheVariants.{Bad}
+use Rattle.pl_script.specs.Parsed.{one_write, BytesTake, GivesTaking}
 
 step : (dh dl : Option ℕ) (ch cl i : ℕ) (rest : Result (List ℕ) FromHexError)
     → result_ok (digits.◌>>=◌ (digits.◌>>=◌ (digit_or_error ch i dh) (λ h. digits.◌>>=◌ (digit_or_error cl (i + 1) dl) (λ l. Ok (h * 16 + l)))) (λ byte. digits.◌>>=◌ rest (λ bytes. Ok (byte ∷ bytes))))
@@ -86,3 +94,93 @@ none_by (Err other) result new byte fault e decodes err = e
 
 pub no_byte : (text new : List ℕ) (result : Result (Unit {0}) FromHexError) (fault : FromHexError) → Decodes (decode_sized text 1) result new → result ≡ Err fault → None ≡ one_byte text
 no_byte text new result fault = none_by (decode_sized text 1) result new (one_byte text) fault (one_decoded text)
+
+-- ---- the bytes of one write
+
+abbrev is_digit : ℕ → Bool
+is_digit c = is_some (hex_digit c)
+
+ok_of : (r : Result (List ℕ) FromHexError) (bytes : List ℕ) → result_ok r ≡ Some bytes → r ≡ Ok bytes
+ok_of (Ok xs) bytes h = cc
+ok_of (Err e) bytes h = absurd cc
+
+-- what says bytes is an even number of digits, two for each byte
+pub digits_of : (text bytes : List ℕ) → hex_bytes text ≡ Some bytes → (length text ≡ 2 * length bytes) × AllPass is_digit text
+digits_of text bytes h = let parts = decode_of-ok text bytes (ok_of (decode_of text) bytes (decode_ok text ∙ h)) in (parts.2, parts.1)
+
+one_write_is : (said : Option (List ℕ)) (bytes : List ℕ) → one_write said ≡ Some bytes → (said ≡ Some bytes) × (length bytes ≤ most_bytes)
+one_write_is None bytes h = absurd cc
+one_write_is (Some xs) bytes h = few xs bytes (nat_le (length xs) most_bytes) refl h
+  where
+    few : (xs bytes : List ℕ) (b : Bool) → nat_le (length xs) most_bytes ≡ b → cond b (Some xs) None ≡ Some bytes → (Some xs ≡ Some bytes) × (length bytes ≤ most_bytes)
+    few xs bytes true le e = let same : xs ≡ bytes = cc in (e, rw (← same) (leb-true (length xs) most_bytes le))
+    few xs bytes false le e = absurd cc
+
+nowhere_some : {X : Type 0} (o : Option X) → ((x : X) → o ≡ Some x → ⊥) → false ≡ is_some o
+nowhere_some None never = refl
+nowhere_some (Some x) never = absurd (never x refl)
+
+-- an odd number of digits, and too many of them, aren't those of one write
+pub no_write : (text : List ℕ) → (length text % 2 ≡ 1) ⊎ (most_bytes < length text / 2) → false ≡ is_some (one_write (hex_bytes text))
+no_write text other =
+    nowhere_some (one_write (hex_bytes text)) (λ bytes h.
+    let said = one_write_is (hex_bytes text) bytes h in
+    let twice = (digits_of text bytes said.0).0 in
+    let few = said.1 in
+    elim other [ inl odd ↦ omega arith | inr long ↦ omega arith ])
+
+one_write_few : (bytes : List ℕ) → length bytes ≤ most_bytes → one_write (Some bytes) ≡ Some bytes
+one_write_few bytes few = rw (le-leb (length bytes) most_bytes few) refl
+
+-- an even number of other bytes is one write's where all are digits
+pub write_of_digits : (text : List ℕ) (b : Bool) → (length text % 2 ≡ 1 → ⊥) → length text / 2 ≤ most_bytes → b ≡ list_all is_digit text → b ≡ is_some (one_write (hex_bytes text))
+write_of_digits text true even few all =
+    let said = decode_of-digits text (omega arith) (AllPass-from_list_all is_digit text (sym all)) in
+    let bytes : hex_bytes text ≡ Some said.0 = sym (decode_ok text) ∙ ap result_ok said.1 in
+    let twice = (digits_of text said.0 bytes).0 in
+    rw (bytes, one_write_few said.0 (omega arith)) refl
+write_of_digits text false even few all =
+    nowhere_some (one_write (hex_bytes text)) (λ bytes h.
+    let said = one_write_is (hex_bytes text) bytes h in
+    let true_here : list_all is_digit text ≡ true = list_all-from_AllPass is_digit text (digits_of text bytes said.0).1 in
+    cc)
+
+-- memory is wanting only where the digits of a write are there
+pub takes_some : (text : List ℕ) → 0 < length text → is_some (one_write (hex_bytes text)) ≡ true → IsSomeAnd (one_write (hex_bytes text)) BytesTake
+takes_some text lt h = takes (one_write (hex_bytes text)) refl h
+  where
+    takes : (o : Option (List ℕ)) → one_write (hex_bytes text) ≡ o → is_some o ≡ true → IsSomeAnd o BytesTake
+    takes None e h = absurd cc
+    takes (Some bytes) e h =
+        let twice = (digits_of text bytes (one_write_is (hex_bytes text) bytes e).0).0 in
+        omega arith
+
+-- nothing is said where it isn't one write
+pub says_none : {X : Type 0} (o : Option X) → is_some o ≡ false → o ≡ None
+says_none None h = refl
+says_none (Some x) h = absurd cc
+
+-- what was decoded, given up where it is more than one write takes
+pub decoded : (text bytes : List ℕ) (made : Option (List ℕ)) → decode_of text ≡ Ok bytes → IsSome made ↔ (length bytes ≤ most_bytes) → IfSome made (λ b. b ≡ bytes) → one_write (hex_bytes text) ≡ made
+decoded text bytes (Some b) ok fits list =
+    let said : hex_bytes text ≡ Some bytes = sym (decode_ok text) ∙ ap result_ok ok in
+    rw (said, one_write_few bytes (fits.0 refl), list) refl
+decoded text bytes None ok fits list =
+    let said : hex_bytes text ≡ Some bytes = sym (decode_ok text) ∙ ap result_ok ok in
+    says_none (one_write (hex_bytes text)) (sym (nowhere_some (one_write (hex_bytes text)) (λ x h.
+    let parts = one_write_is (hex_bytes text) x h in
+    let same : bytes ≡ x = cc in
+    let few : length bytes ≤ most_bytes = rw same parts.1 in
+    cc (fits.1 few))))
+
+-- the bytes are one write's, and some
+pub repeats : (times digits : List ℕ) (n b : ℕ) → number (most_bytes + 1) times ≡ Some n → one_byte digits ≡ Some b → n ≤ most_bytes → 0 < n → IsSomeAnd (one_write (repeated times digits)) BytesTake
+unfolding repeated
+repeats times digits n b times-say digits-say few some =
+    let len : length (replicate n b) ≡ n = length-replicate n b in
+    rw (times-say, digits-say, one_write_few (replicate n b) (omega arith)) (omega arith)
+
+-- what is made is given
+pub gives : {X : Type 0} (Takes : X → Type 0) (made : Option X) → GivesTaking Takes (ok_or made Bad) made
+gives Takes None = refl
+gives Takes (Some x) = refl

@@ -14,6 +14,7 @@ use Rattle.pl_model.specs.declared.script.Line.TheVariants.{Do}
 use Rattle.pl_model.specs.declared.script.Totals.{Totals}
 use Rattle.pl_model.specs.Numbered.{State, opening, step}
 use Rattle.pl_model.specs.Lines.{line}
+use Rattle.pl_model.specs.Numbers.{most_script_bytes}
 use Rattle.pl_model.specs.Shown.{outcome_text}
 use Rattle.pl_model.specs.Script.{lines, asked, if_good, first_bad, number_if_bad, answers, answer, are_marks, never_marked, is_step, output, totals}
 use Rattle.pl_script.specs.declared.faults.ScriptFault.TheVariants as faults
@@ -174,7 +175,7 @@ module _ {A : Type 0} where
         (at.bad ∙ first_bad-cons A (counted.lines + 1) l rest None e, (at.marks, lawful, all))
 
     -- the counts fit
-    below : length script ≤ 16777216 → IsAt script limits Stands text counted (l ∷ rest) → counted.lines < 16777216
+    below : length script ≤ most_script_bytes → IsAt script limits Stands text counted (l ∷ rest) → counted.lines < most_script_bytes
     below short at = omega (arith, at.lines_count, length-lines script)
 
   -- ---- the end
@@ -224,7 +225,7 @@ module _ {A : Type 0} {script waiting : List ℕ} {limits : Limits} {Stands : St
   }
 
   -- the writer took a front of what waited
-  pub fails_to_write : (new : Option (List ℕ)) → length script ≤ 16777216 → (count : ℕ) × (count ≤ length waiting) × Appends now new (take count waiting)
+  pub fails_to_write : (new : Option (List ℕ)) → length script ≤ most_script_bytes → (count : ℕ) × (count ≤ length waiting) × Appends now new (take count waiting)
       → IsUnderway script limits Stands waiting counted rest old now → (text : List ℕ) × Appends old new text × IsRun A script limits (Err faults.Write) text
   fails_to_write new short took way =
       let cut : way.flushed ++ waiting ≡ (way.flushed ++ take took.0 waiting) ++ drop took.0 waiting =
@@ -239,7 +240,7 @@ module _ {A : Type 0} {script waiting : List ℕ} {limits : Limits} {Stands : St
   lacks_memory way = (way.flushed, way.written, at_front script (way.flushed ++ waiting) limits Stands counted rest way.flushed waiting refl way.at)
 
   -- no line was left, and the writer took all that waited
-  pub ends : (new : Option (List ℕ)) → length script ≤ 16777216 → rest ≡ [] → Appends now new waiting
+  pub ends : (new : Option (List ℕ)) → length script ≤ most_script_bytes → rest ≡ [] → Appends now new waiting
       → IsUnderway script limits Stands waiting counted rest old now → (text : List ℕ) × Appends old new text × IsRun A script limits (Ok counted) text
   ends new short none took way =
       let whole = at_end script (way.flushed ++ waiting) limits Stands counted (rw none at way.at) in
@@ -253,14 +254,14 @@ module _ {A : Type 0} {script waiting : List ℕ} {limits : Limits} {Stands : St
   goes_on After left next run way = record { flushed = way.flushed; written = way.written; at = run way.flushed way.at }
 
   -- the next line is bad, and the writer took all that waited
-  pub ends_at_bad : (new : Option (List ℕ)) (n : ℕ) → length script ≤ 16777216 → line {A = A} l ≡ None → n ≡ counted.lines + 1 → Appends now new waiting
+  pub ends_at_bad : (new : Option (List ℕ)) (n : ℕ) → length script ≤ most_script_bytes → line {A = A} l ≡ None → n ≡ counted.lines + 1 → Appends now new waiting
       → IsUnderway script limits Stands waiting counted (l ∷ rest) old now → (text : List ℕ) × Appends old new text × IsRun A script limits (Err (faults.BadLine n)) text
   ends_at_bad new n short bad number took way =
       let stop = is_bad script (way.flushed ++ waiting) limits Stands counted l rest bad way.at in
       (way.flushed ++ waiting, Appends-trans old now new way.flushed waiting way.written took, (short, rw number stop.0, stop.1))
 
   -- the number of the next line fits
-  pub number_fits : length script ≤ 16777216 → IsUnderway script limits Stands waiting counted (l ∷ rest) old now → counted.lines < 16777216
+  pub number_fits : length script ≤ most_script_bytes → IsUnderway script limits Stands waiting counted (l ∷ rest) old now → counted.lines < most_script_bytes
   number_fits short way = below script (way.flushed ++ waiting) limits Stands counted l rest short way.at
 
 pub starts : {A : Type 0} (script : List ℕ) (limits : Limits) (Stands : State A → Type 0) (old : Option (List ℕ)) → Stands (opening limits) → IsUnderway script limits Stands [] none_counted (lines script) old old

@@ -1,5 +1,5 @@
 -- A script that is run line by line.
-use Rattle.std.specs.Prelude.{◌≡◌, ⊤, ℕ, ◌+◌, ◌≤◌, List, [], ◌∷◌, ◌++◌, length, Bool, false, ◌&&◌, None, count_by}
+use Rattle.std.specs.Prelude.{◌≡◌, ℕ, ◌+◌, ◌≤◌, List, [], ◌∷◌, ◌++◌, length, Bool, false, ◌&&◌, None, IsSome, IsSomeAnd, count_by}
 use Rattle.pl_model.specs.declared.calls.Limits.{Limits}
 use Rattle.pl_model.specs.declared.script.Line.{Line}
 use Rattle.pl_model.specs.declared.script.Totals.{Totals}
@@ -39,7 +39,7 @@ module _ {A : Type 0} where
     pub steps_below : counted.steps ≤ counted.lines
     pub nomem_below : counted.nomem ≤ counted.lines
 
--- what a line that isn't run leaves: a bad line changes nothing
+-- what a line that isn't run leaves: a bad line changes nothing, and memory is wanting only for one that asks something
 abbrev pub Stops : (A : Type 0) → List ℕ → (old new : Totals) → (before after : List ℕ) → LineFault → Type 0
 Stops A bytes old new before after Bad = (line {A = A} bytes ≡ None) × (new ≡ old) × (after ≡ before)
-Stops A bytes old new before after NoMemory = ⊤
+Stops A bytes old new before after NoMemory = IsSomeAnd (line {A = A} bytes) (λ asked. IsSome asked)

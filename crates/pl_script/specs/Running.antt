@@ -4,9 +4,9 @@ use Rattle.std.specs.Io.KnownBytes.{IsAtEnd}
 use Rattle.pl_model.specs.declared.calls.Limits.{Limits}
 use Rattle.pl_model.specs.declared.script.Totals.{Totals}
 use Rattle.pl_model.specs.Script.{lines, first_bad, output, AreMarks, totals}
+use Rattle.pl_model.specs.Numbers.{most_script_bytes}
 use Rattle.pl_script.specs.declared.faults.ScriptFault.{ScriptFault}
 use Rattle.pl_script.specs.declared.faults.ScriptFault.TheVariants as faults
-use Rattle.pl_script.specs.declared.reading.TheConstants.{MAX_SCRIPT_BYTES}
 
 -- In all of these A is the type of the allocator of the script's calls.
 
@@ -29,7 +29,7 @@ WritesAndCounts A script limits counted written =
 
 -- the script isn't too long to be run
 abbrev pub Fits : List ℕ → Type 0
-Fits script = length script ≤ MAX_SCRIPT_BYTES
+Fits script = length script ≤ most_script_bytes
 
 -- what a run of the script answers, and what it writes
 abbrev pub IsRun : (A : Type 0) → List ℕ → Limits → Result Totals ScriptFault → List ℕ → Type 0
@@ -39,7 +39,7 @@ IsRun A script limits (Err (faults.BadLine n)) written =
     Fits script × (first_bad A 1 (lines script) ≡ Some n) × WritesOutput A script limits written
 IsRun A script limits (Err faults.Write) written = Fits script × WritesFrontOfOutput A script limits written
 IsRun A script limits (Err faults.NoMemory) written = WritesFrontOfOutput A script limits written
-IsRun A script limits (Err faults.TooLong) written = (MAX_SCRIPT_BYTES < length script) × (written ≡ [])
+IsRun A script limits (Err faults.TooLong) written = (most_script_bytes < length script) × (written ≡ [])
 IsRun A script limits (Err faults.Read) written = written ≡ []
 
 -- where a script was run, and where its output couldn't be written, it was read to its end

@@ -1,9 +1,9 @@
 -- What reading and writing came to.
 use Rattle.std.specs.Prelude.{◌≡◌, ◌<◌, ◌≤◌, ℕ, List, length, take, Bool, true, ◌==◌, Result, Ok, Err, Option, IfSome}
 use Rattle.std.specs.Io.KnownBytes.{Appends}
+use Rattle.pl_model.specs.Numbers.{most_script_bytes}
 use Rattle.pl_script.specs.declared.faults.ScriptFault.{ScriptFault}
 use Rattle.pl_script.specs.declared.faults.ScriptFault.TheVariants as faults
-use Rattle.pl_script.specs.declared.reading.TheConstants.{MAX_SCRIPT_BYTES}
 
 -- a write failed, or took no byte
 abbrev pub took_nothing : {E : Type 0} → Result ℕ E → Bool
@@ -15,7 +15,7 @@ took_nothing (Err e) = true
 abbrev pub WasNotRead : Option (List ℕ) → Bool → Bool → ScriptFault → Type 0
 WasNotRead remaining before after faults.Read = after ≡ true
 WasNotRead remaining before after faults.TooLong =
-    (after ≡ before) × IfSome remaining (λ script. MAX_SCRIPT_BYTES < length script)
+    (after ≡ before) × IfSome remaining (λ script. most_script_bytes < length script)
 WasNotRead remaining before after faults.NoMemory = after ≡ before
 WasNotRead remaining before after faults.Write = ⊥
 WasNotRead remaining before after (faults.BadLine n) = ⊥

@@ -1,7 +1,7 @@
 //! The calls in lines.
 ghost use Rattle.pl_model.specs.Words.{words};
 ghost use Rattle.pl_model.specs.Lines.{pipe_of, read_of, write_of, dup_of, dup2_of, dup_fd_of, close_of, get_fl_of, set_fl_of, fork_of, exit_of, call_of};
-ghost use Rattle.pl_script.specs.Parsed.{Gives};
+ghost use Rattle.pl_script.specs.Parsed.{Gives, GivesTaking, CallTakes};
 
 use crate::bytes::parse_bytes;
 use crate::faults::LineFault;
@@ -43,7 +43,7 @@ fn read_call<A: Allocator + Copy>(rest: &[u8]) -> Result<Call<A>, LineFault>
 
 #[tactic(auto, unfolding(pl_model::specs::Lines::write_of))]
 fn write_call<A: Allocator + Copy>(alloc: A, rest: &[u8]) -> Result<Call<A>, LineFault>
-    ensures { Gives result (write_of (words rest.now)) }
+    ensures { GivesTaking CallTakes result (write_of (words rest.now)) }
 {
     let (fd, rest) = word(rest)?;
     let (bytes, rest) = word(rest)?;
@@ -143,7 +143,7 @@ pub(crate) fn parse_call<A: Allocator + Copy>(
     name: &[u8],
     rest: &[u8],
 ) -> Result<Call<A>, LineFault>
-    ensures { Gives result (call_of name.now (words rest.now)) }
+    ensures { GivesTaking CallTakes result (call_of name.now (words rest.now)) }
 {
     if name == b"pipe".as_slice() {
         pipe_call(rest)

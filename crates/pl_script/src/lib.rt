@@ -30,3 +30,4 @@ pub use reading::{MAX_READS, MAX_SCRIPT_BYTES};
 pub use running::run_script;
 pub use streams::{Reads, Sink, Source, Writes};
 pub use text::show;
+pub use writing::write_whole;

@@ -9,7 +9,7 @@ ghost use Rattle.pl_script.specs.Parsed.{Gives};
 use crate::faults::LineFault;
 
 /// The most bytes of one write.
-const MAX_WRITE: u128 = 16_777_216;
+pub(crate) const MAX_WRITE: usize = 16_777_216;
 
 /// The value of decimal digits; `None` where another byte stands among them.
 fn value(word: &[u8]) -> Option<u128>
@@ -71,7 +71,8 @@ pub(crate) fn parse_i32(word: &[u8]) -> Result<i32, LineFault>
 
 /// A count of bytes of one write.
 pub(crate) fn parse_count(word: &[u8]) -> Result<usize, LineFault>
-    ensures { Gives result (number (most_bytes + 1) word.now) }
+    ensures said { Gives result (number (most_bytes + 1) word.now) }
+    ensures few { IfOk result (λ n. n ≤ most_bytes) }
 {
-    Ok(number(MAX_WRITE + 1, word)? as usize)
+    Ok(number(MAX_WRITE as u128 + 1, word)? as usize)
 }

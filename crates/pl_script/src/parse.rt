@@ -2,7 +2,7 @@
 ghost use Rattle.std.specs.Prelude.{◌≡◌};
 ghost use Rattle.pl_model.specs.Words.{words};
 ghost use Rattle.pl_model.specs.Lines.{start_of, resume_of, interrupt_of, begin_of, words_line, is_comment, line};
-ghost use Rattle.pl_script.specs.Parsed.{Gives};
+ghost use Rattle.pl_script.specs.Parsed.{Gives, GivesTaking, LineTakes, LineAskedTakes};
 
 use crate::calls::parse_call;
 use crate::faults::LineFault;
@@ -39,7 +39,7 @@ fn interrupt_line<A: Allocator + Copy>(rest: &[u8]) -> Result<Line<A>, LineFault
 
 #[tactic(auto, unfolding(pl_model::specs::Lines::begin_of))]
 fn begin_line<A: Allocator + Copy>(alloc: A, pid: &[u8], rest: &[u8]) -> Result<Line<A>, LineFault>
-    ensures { Gives result (begin_of pid.now (words rest.now)) }
+    ensures { GivesTaking LineTakes result (begin_of pid.now (words rest.now)) }
 {
     let (name, rest) = word(rest)?;
     let pid = parse_u32(pid)?;
@@ -53,7 +53,7 @@ fn words_line<A: Allocator + Copy>(
     first: &[u8],
     rest: &[u8],
 ) -> Result<Line<A>, LineFault>
-    ensures { Gives result (words_line first.now (words rest.now)) }
+    ensures { GivesTaking LineTakes result (words_line first.now (words rest.now)) }
 {
     if first == b"start".as_slice() {
         start_line(rest)
@@ -76,11 +76,11 @@ fn is_comment(word: &[u8]) -> bool
 ///
 /// # Errors
 ///
-/// `Bad` exactly where the format has no such line. `NoMemory` where there was no memory for the bytes that the line
-/// writes.
+/// `Bad` exactly where the format has no such line, whatever the memory. `NoMemory` only at a line that writes a byte or
+/// more, where there was no memory for its bytes.
 #[tactic(auto, unfolding(pl_model::specs::Lines::line, pl_model::specs::Lines::line_of_words))]
 pub fn parse_line<A: Allocator + Copy>(alloc: A, bytes: &[u8]) -> Result<Option<Line<A>>, LineFault>
-    ensures { Gives result (line bytes.now) }
+    ensures { GivesTaking LineAskedTakes result (line bytes.now) }
 {
     match next_word(without_return(bytes)) {
         None => Ok(None),

@@ -1,6 +1,7 @@
 //! A whole script, read before any of it is run.
 ghost use Rattle.std.specs.Prelude.{◌≡◌, ◌+◌, ◌≤◌, length, vec_len, IfOk, IfErr, IfSome};
 ghost use Rattle.std.specs.Io.KnownBytes.{IsAtEnd};
+ghost use Rattle.pl_model.specs.Numbers.{most_script_bytes, most_reads};
 ghost use Rattle.pl_script.specs.Streams.{WasNotRead};
 
 use crate::faults::ScriptFault;
@@ -28,12 +29,12 @@ pub(crate) fn read_script<A: Allocator + Copy, S: Source>(
     alloc: A,
     reader: &mut S,
 ) -> Result<Vec<u8, A>, ScriptFault>
-    requires { MAX_READS ≤ S.reads_left reader.old }
-    ensures spends { S.reads_left reader.old ≤ S.reads_left reader.new + MAX_READS }
+    requires { most_reads ≤ S.reads_left reader.old }
+    ensures spends { S.reads_left reader.old ≤ S.reads_left reader.new + most_reads }
     ensures whole { IfOk result (λ script.
         IfSome (S.remaining reader.old) (λ bytes. script.items ≡ bytes)) }
     ensures end { IfOk result (λ _. IsAtEnd (S.remaining reader.new)) }
-    ensures short { IfOk result (λ script. length script.items ≤ MAX_SCRIPT_BYTES) }
+    ensures short { IfOk result (λ script. length script.items ≤ most_script_bytes) }
     ensures kept { IfOk result (λ _. S.has_failed reader.new ≡ S.has_failed reader.old) }
     ensures fault { IfErr result
         (WasNotRead (S.remaining reader.old) (S.has_failed reader.old) (S.has_failed reader.new)) }

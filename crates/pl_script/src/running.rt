@@ -2,6 +2,7 @@
 ghost use Rattle.std.specs.Prelude.{◌≡◌, ◌+◌, ◌<◌, ◌≤◌, ◌++◌, ◌∷◌, ◌↔◌, ◌⊎◌, ℕ, List, length, true, false, string_bytes, IfOk, IfSome, IsErrOf, MatchResult};
 ghost use Rattle.std.specs.Io.KnownBytes.{Appends};
 ghost use Rattle.pl_model.specs.declared.calls.Limits.{Limits};
+ghost use Rattle.pl_model.specs.Numbers.{most_file_bytes, most_script_bytes, most_reads};
 ghost use Rattle.pl_kernel.specs.Makes.{Stands};
 ghost use Rattle.pl_script.specs.LineByLine.{IsAnswered, IsAt, Stops};
 ghost use Rattle.pl_script.specs.Running.{IsRun, IsReadToEnd, WritingEnds};
@@ -9,7 +10,7 @@ ghost use Rattle.pl_script.specs.Running.{IsRun, IsReadToEnd, WritingEnds};
 use crate::faults::{LineFault, ScriptFault};
 use crate::lines::next_line;
 use crate::parse::parse_line;
-use crate::reading::{MAX_READS, MAX_SCRIPT_BYTES, read_script};
+use crate::reading::read_script;
 use crate::streams::{Sink, Source};
 use crate::text::push_line;
 use crate::writing::write_whole;
@@ -51,7 +52,7 @@ fn run_line<A: Allocator + Copy>(
     totals: &mut Totals,
     line: &[u8],
 ) -> Result<(), LineFault>
-    requires lines { totals.old.lines < MAX_SCRIPT_BYTES }
+    requires lines { totals.old.lines < most_script_bytes }
     requires steps { totals.old.steps ≤ totals.old.lines }
     requires nomem { totals.old.nomem ≤ totals.old.lines }
     ensures { (script front : List ℕ) (limits : Limits) (rest : List (List ℕ)) →
@@ -77,8 +78,8 @@ fn run_lines<A: Allocator + Copy, T: Sink>(
     writer: &mut T,
     limits: Limits,
 ) -> Result<Totals, ScriptFault>
-    requires short { length script.now ≤ MAX_SCRIPT_BYTES }
-    requires most { limits.file_max ≤ 16777216 }
+    requires short { length script.now ≤ most_script_bytes }
+    requires most { limits.file_max ≤ most_file_bytes }
     ensures run { (written : List ℕ) × Appends (T.contents writer.old) (T.contents writer.new) written
         × IsRun A script.now limits result written }
     ensures ends { WritingEnds (T.has_stopped writer.old) (T.has_stopped writer.new) result }
@@ -130,15 +131,15 @@ pub fn run_script<A: Allocator + Copy, S: Source, T: Sink>(
     writer: &mut T,
     limits: Limits,
 ) -> Result<Totals, ScriptFault>
-    requires reads { MAX_READS ≤ S.reads_left reader.old }
-    requires most { limits.file_max ≤ 16777216 }
+    requires reads { most_reads ≤ S.reads_left reader.old }
+    requires most { limits.file_max ≤ most_file_bytes }
 
     // Where the reader tells its bytes: what was written is the script's output, or as much of it as the fault says.
     ensures run { IfSome (S.remaining reader.old) (λ script.
         (written : List ℕ) × Appends (T.contents writer.old) (T.contents writer.new) written
         × IsRun A script limits result written) }
     ensures end { IsReadToEnd result (S.remaining reader.new) }
-    ensures reads { S.reads_left reader.old ≤ S.reads_left reader.new + MAX_READS }
+    ensures reads { S.reads_left reader.old ≤ S.reads_left reader.new + most_reads }
 
     // Where no read had failed, and the writer hadn't stopped, before.
     ensures read { S.has_failed reader.old ≡ false →

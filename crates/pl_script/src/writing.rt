@@ -6,8 +6,12 @@ ghost use Rattle.pl_script.specs.declared.faults.ScriptFault.TheVariants.{Write}
 use crate::faults::ScriptFault;
 use crate::streams::Sink;
 
-/// Writes all the bytes; `Write` where a write failed or took no byte, with those before it written.
-pub(crate) fn write_whole<T: Sink>(writer: &mut T, bytes: &[u8]) -> Result<(), ScriptFault>
+/// Writes all the bytes.
+///
+/// # Errors
+///
+/// `Write` exactly where a write failed or took no byte; a front of the bytes was written. No other.
+pub fn write_whole<T: Sink>(writer: &mut T, bytes: &[u8]) -> Result<(), ScriptFault>
     ensures front { WritesFront (T.contents writer.old) (T.contents writer.new) result bytes.now }
     ensures kept { OnOk result (T.has_stopped writer.new ≡ T.has_stopped writer.old) }
     ensures stopped { IfErr result (λ e. (e ≡ Write) × (T.has_stopped writer.new ≡ true)) }

@@ -1,8 +1,9 @@
 //! The line and the status of each fault.
 use super::trickling::{Drip, Failure};
-use pl_run::{Fault, status, write_fault};
-use pl_script::ScriptFault;
+use pl_run::{Fault, end, run, status, write_fault};
+use pl_script::{MAX_READS, Reads, ScriptFault, Writes};
 use std::io::ErrorKind;
+use std::test::Fail;
 
 /// Each fault, its line and its status.
 const FAULTS: [(Fault, &str, u8); 8] = [
@@ -28,10 +29,8 @@ const FAULTS: [(Fault, &str, u8); 8] = [
 fn each_fault_has_a_line_and_a_status(rt: HostRuntime) {
     for (fault, line, number) in FAULTS {
         let mut written = Vec::new(rt.alloc());
-        assert!(rt;
-            write_fault(&mut written, &fault),
-            "{fault:?} isn't written"
-        );
+        let told = write_fault(&mut Writes::new(&mut written), &fault);
+        assert!(rt; told, "{fault:?} isn't written");
         assert_eq!(rt; str::from_utf8(written.as_slice()), Ok(line), "{fault:?}");
         assert_eq!(rt; status(&fault), number, "{fault:?}");
     }
@@ -55,13 +54,15 @@ fn each_end_of_a_script_is_a_fault(rt: HostRuntime) {
 fn a_line_that_cannot_be_written(rt: HostRuntime) {
     for (fault, line, _) in FAULTS {
         let mut writer = Drip::new(rt.alloc(), 1);
-        assert!(rt; write_fault(&mut writer, &fault), "{fault:?} isn't written");
+        let told = write_fault(&mut Writes::new(&mut writer), &fault);
+        assert!(rt; told, "{fault:?} isn't written");
         assert_eq!(rt; str::from_utf8(writer.taken()), Ok(line), "{fault:?}");
         for n in 1..=writer.calls() {
             for failure in [Failure::Error(ErrorKind::BrokenPipe), Failure::Nothing] {
                 let mut writer = Drip::failing(rt.alloc(), 1, n, failure);
+                let told = write_fault(&mut Writes::new(&mut writer), &fault);
                 assert!(rt;
-                    !write_fault(&mut writer, &fault),
+                    !told,
                     "{fault:?} is written, where write {n} has {failure:?}"
                 );
                 assert!(rt;
@@ -71,4 +72,54 @@ fn a_line_that_cannot_be_written(rt: HostRuntime) {
             }
         }
     }
+}
+
+/// Scripts, what the program prints of them, its line of a fault, and its status.
+const PROGRAMS: [(&str, &str, &str, u8); 3] = [
+    ("", "", "", 0),
+    ("start\n1 pipe\n", "pid 1\nfds 0 1\n", "", 0),
+    (
+        "start\n1 wrlte 1 61\nstart\n",
+        "pid 1\n",
+        "piperun: line 2: not a command\n",
+        3,
+    ),
+];
+
+#[test]
+fn the_program_without_words(rt: HostRuntime) {
+    for (script, output, line, number) in PROGRAMS {
+        let (mut printed, mut told) = (Vec::new(rt.alloc()), Vec::new(rt.alloc()));
+        let mut reader = Reads::new(script.as_bytes(), MAX_READS);
+        let ended = run(rt.alloc(), &[], &mut reader, &mut Writes::new(&mut printed));
+        let ends_with = end(&mut Writes::new(&mut told), ended);
+        assert_eq!(rt; ends_with, number, "the status of {script:?}");
+        assert_eq!(rt;
+            str::from_utf8(printed.as_slice()),
+            Ok(output),
+            "{script:?}"
+        );
+        assert_eq!(rt; str::from_utf8(told.as_slice()), Ok(line), "{script:?}");
+    }
+}
+
+#[test]
+fn the_program_with_a_word(rt: HostRuntime) -> Result<(), Fail> {
+    let mut words = Vec::new(rt.alloc());
+    words.push(String::new(rt.alloc()))?;
+    let (mut printed, mut told) = (Vec::new(rt.alloc()), Vec::new(rt.alloc()));
+    let mut reader = Reads::new(b"start\n".as_slice(), MAX_READS);
+    let ended = run(
+        rt.alloc(),
+        words.as_slice(),
+        &mut reader,
+        &mut Writes::new(&mut printed),
+    );
+    assert_eq!(rt; end(&mut Writes::new(&mut told), ended), 2);
+    assert!(rt; printed.is_empty());
+    assert_eq!(rt;
+        str::from_utf8(told.as_slice()),
+        Ok("piperun: bad command line\n")
+    );
+    Ok(())
 }
