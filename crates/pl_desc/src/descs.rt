@@ -13,16 +13,11 @@ use crate::fault::{NoMemory, OpenFault, StartFault};
 use crate::released::Released;
 use crate::table::Table;
 use crate::tables::{clear_row, put_row, reserve_place};
+use pl_model::numbers::{MAX_DESCRIPTIONS, MAX_PROCESSES};
 use pl_model::{Mode, Node, OpenFlags};
 use slab::Slab;
 use std::alloc::{Allocator, Global};
 use std::marker::Model;
-
-/// The most processes at one time.
-const MOST_PROCESSES: usize = 1_024;
-
-/// The most descriptions at one time.
-const MOST_DESCRIPTIONS: usize = 4_096;
 
 /// The descriptions that are open, and the processes whose descriptors name them (POSIX.1-2017, Open File Description,
 /// File Descriptor). A row is a descriptor with the description that it names. A description is held by each row that names
@@ -263,7 +258,7 @@ impl<A: Allocator + Copy> Descs<A> {
         ensures tidy { OnOk result (IsTidy self.new) }
         ensures err { OnErr result (self.new ≡ record self.old { room = self.new.room }) }
     {
-        if self.live() == MOST_DESCRIPTIONS {
+        if self.live() == MAX_DESCRIPTIONS {
             return Err(OpenFault::Enfile);
         }
         if self.reserve(node, 1).is_err() {
@@ -453,7 +448,7 @@ impl<A: Allocator + Copy> Descs<A> {
                 return Some(place as u32 + 1);
             }
         }
-        if processes < MOST_PROCESSES {
+        if processes < MAX_PROCESSES {
             Some(processes as u32 + 1)
         } else {
             None

@@ -4,11 +4,9 @@ ghost use Rattle.pl_model.specs.Numbers.{open_max, first_from};
 ghost use Rattle.pl_desc.specs.Rows.{at, no_key};
 
 use crate::fault::NoMemory;
+use pl_model::numbers::OPEN_MAX;
 use std::alloc::Allocator;
 use std::marker::Model;
-
-/// The places of a table (POSIX.1-2017, limits.h, OPEN_MAX).
-pub(crate) const PLACES: usize = 256;
 
 /// The descriptors whose places one mask has.
 const WIDTH: usize = 64;
@@ -41,7 +39,7 @@ impl<A: Allocator> Table<A> {
     pub(crate) fn new(alloc: A) -> Result<Table<A>, NoMemory>
         ensures { IfOk result (λ table. table ≡ replicate open_max None) }
     {
-        let keys = vec![in alloc; FREE; PLACES]?;
+        let keys = vec![in alloc; FREE; OPEN_MAX]?;
         Ok(Table {
             keys,
             free: [u64::MAX; 4],
@@ -94,7 +92,7 @@ impl<A: Allocator> Table<A> {
         ensures { result ≡ first_from (λ fd. is_none (at self.now fd)) (open_max - least) least }
     {
         let mut from = least;
-        while from < PLACES {
+        while from < OPEN_MAX {
             let rest = self.free[from / WIDTH] >> (from % WIDTH);
             if rest != 0 {
                 return Some(from + rest.trailing_zeros() as usize);

@@ -5,7 +5,6 @@
 #![tactic(auto)]
 
 mod access;
-mod decisions;
 mod kernel;
 mod leaving;
 mod opening;

@@ -9,12 +9,10 @@ ghost use Rattle.pl_desc.specs.Rows.{at};
 
 use crate::queue::Queue;
 use pl_desc::NoMemory;
+use pl_model::numbers::FIRST_CAPACITY;
 use slab::Slab;
 use std::alloc::Allocator;
 use std::marker::Model;
-
-/// The capacity of a pipe in bytes (pipe(7), Pipe capacity).
-const CAPACITY: usize = 65_536;
 
 /// One pipe.
 #[derive(Drop)]
@@ -92,7 +90,7 @@ impl<A: Allocator + Copy> Pipes<A> {
         ensures few { result ≤ first_capacity }
     {
         let buffer = &self.buffers[key];
-        CAPACITY - buffer.queue.len()
+        FIRST_CAPACITY - buffer.queue.len()
     }
 
     /// Whether a pipe is hung.

@@ -2,6 +2,7 @@
 ghost use Rattle.std.specs.Prelude.{◌≡◌, ◌≤◌, ◌↔◌, List, ℕ, length, nat_eq, IfSome, IsSome};
 ghost use Rattle.pl_model.specs.Numbers.{most_bytes};
 
+use crate::numbers::MAX_BYTES;
 use std::alloc::{Allocator, Global};
 use std::marker::Model;
 
@@ -25,7 +26,7 @@ impl<A: Allocator> Bytes8<A> {
         ensures fits { IsSome result ↔ (length bytes.items ≤ most_bytes) }
         ensures list { IfSome result (λ made. made ≡ bytes.items) }
     {
-        if bytes.len() <= 16_777_216 {
+        if bytes.len() <= MAX_BYTES {
             Some(Bytes8 { bytes })
         } else {
             None

@@ -12,6 +12,7 @@ pub mod flags;
 pub mod keys;
 pub mod laws;
 pub mod node;
+pub mod numbers;
 pub mod replies;
 pub mod script;
 pub mod worked;

@@ -8,6 +8,7 @@ ghost use Rattle.pl_parked.specs.Calls.{Rise, number_at, is_of};
 
 use crate::call::ParkedCall;
 use crate::fault::ParkFault;
+use pl_model::numbers::LAST_CALL;
 use std::alloc::{Allocator, Global};
 use std::marker::Model;
 
@@ -47,7 +48,7 @@ impl<A: Allocator> Parked<A> {
     pub fn spent(&self) -> bool
         ensures { result ≡ (self.now.next == last_call) }
     {
-        self.next == u64::MAX
+        self.next == LAST_CALL
     }
 
     /// The number that the next call gets, if one is left. It is above those of all calls that wait.

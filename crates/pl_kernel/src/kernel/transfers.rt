@@ -4,7 +4,7 @@ ghost use Rattle.pl_model.specs.Flags.{nonblock_if};
 ghost use Rattle.pl_model.specs.Transfer.{read_case, write_case, room};
 ghost use Rattle.pl_model.specs.Begin.{open_for};
 ghost use Rattle.pl_desc.specs.Rows.{at, is_pid};
-ghost use Rattle.pl_kernel.specs.Decided.{FitsRoom};
+ghost use Rattle.pl_decisions.specs.Decided.{FitsRoom};
 ghost use Rattle.pl_kernel.specs.Held.{core_of, allows};
 ghost use Rattle.pl_kernel.specs.Opens.{OpenOn, Opens};
 ghost use Rattle.pl_kernel.specs.Left.{has_reader, has_writer};
@@ -12,15 +12,12 @@ ghost use Rattle.pl_kernel.specs.Makes.{Does, MayWant};
 
 use super::Kernel;
 use crate::access::{Access, OpenEnd};
-use crate::decisions;
 use crate::opening::open_at;
 use bitflags::Flags;
 use pl_desc::NoMemory;
+use pl_model::numbers::MAX_DESCRIPTIONS;
 use pl_model::{Bytes8, Call, Errno, Mode, Node, OpenFlags, ReadCase, Reply, Step, WriteCase};
 use std::alloc::Allocator;
-
-/// The descriptions that may be live at one time.
-const DESCRIPTIONS: usize = 4096;
 
 /// The read of no bytes, which is end of file.
 pub(super) fn no_bytes<A: Allocator>(alloc: A) -> Reply<A>
@@ -53,7 +50,7 @@ impl<A: Allocator + Copy> Kernel<A> {
         let Some(second) = self.descs.lowest(pid, first + 1) else {
             return Ok(Reply::Fault(Errno::EMFILE));
         };
-        if self.descs.live() > DESCRIPTIONS - 2 {
+        if self.descs.live() > MAX_DESCRIPTIONS - 2 {
             return Ok(Reply::Fault(Errno::ENFILE));
         }
         let flags = flags_of(nonblock);
@@ -99,7 +96,7 @@ impl<A: Allocator + Copy> Kernel<A> {
     {
         let held = self.pipes.held(pipe);
         let has_writer = self.descs.writers(Node::Pipe(pipe)) > 0;
-        decisions::case_of_read(n as usize, held, has_writer)
+        pl_decisions::case_of_read(n as usize, held, has_writer)
     }
 
     // What a write of bytes, not none, of which some were taken before, to a pipe comes to.
@@ -117,7 +114,7 @@ impl<A: Allocator + Copy> Kernel<A> {
     {
         let room = self.pipes.room(pipe);
         let has_reader = self.descs.readers(Node::Pipe(pipe)) > 0;
-        decisions::case_of_write(length, taken, room, has_reader, may_wait)
+        pl_decisions::case_of_write(length, taken, room, has_reader, may_wait)
     }
 
     pub(super) fn read(&mut self, pid: u32, fd: i32, n: u32) -> Result<Reply<A>, NoMemory>

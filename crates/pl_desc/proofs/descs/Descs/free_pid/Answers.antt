@@ -27,12 +27,12 @@ loop-place-preserved g c = λ q l.
       | inr e ↦ (let apart = e.1 in c.loop-place.invariant q (omega (arith, apart)))
     ]
 
-pub returns-then-processes-lt-MOST_PROCESSES-clause-value : goal.returns-then-processes-lt-MOST_PROCESSES-clause-value
-returns-then-processes-lt-MOST_PROCESSES-clause-value g c =
+pub returns-then-processes-lt-MAX_PROCESSES-clause-value : goal.returns-then-processes-lt-MAX_PROCESSES-clause-value
+returns-then-processes-lt-MAX_PROCESSES-clause-value g c =
     let k = c.self.inside in
     let long : length k.tables.items ≤ c.len-processes.result = omega (arith, c.len-processes.ensures, k.tables.ok.0) in
     let free : at c.args.self.now.tables c.len-processes.result ≡ None = ap (λ d. at d.tables c.len-processes.result) (sym c.self.view_is) ∙ get_or_past k.tables.items c.len-processes.result None long in
-    sym (pid-first c.args.self.now.tables c.len-processes.result c.if-processes-lt-MOST_PROCESSES.true free (λ q l. c.loop-place.invariant q (omega (arith, c.loop-place-test.false))))
+    sym (pid-first c.args.self.now.tables c.len-processes.result c.if-processes-lt-MAX_PROCESSES.true free (λ q l. c.loop-place.invariant q (omega (arith, c.loop-place-test.false))))
 
-pub returns-else-processes-lt-MOST_PROCESSES-clause-value : goal.returns-else-processes-lt-MOST_PROCESSES-clause-value
-returns-else-processes-lt-MOST_PROCESSES-clause-value g c = sym (pid-none c.args.self.now.tables (λ q l. c.loop-place.invariant q (omega (arith, c.loop-place-test.false, c.if-processes-lt-MOST_PROCESSES.false))))
+pub returns-else-processes-lt-MAX_PROCESSES-clause-value : goal.returns-else-processes-lt-MAX_PROCESSES-clause-value
+returns-else-processes-lt-MAX_PROCESSES-clause-value g c = sym (pid-none c.args.self.now.tables (λ q l. c.loop-place.invariant q (omega (arith, c.loop-place-test.false, c.if-processes-lt-MAX_PROCESSES.false))))

@@ -32,7 +32,7 @@ invariant_of-self g c =
     let key = c.insert_reserved-key.result in
     let d : Description = record { node = c.args.node; mode = c.args.mode; flags = c.args.flags; offset = 0; holders = 1 } in
     let same : opened_in k.descriptions.slots ≡ c.args.self.now.opened = ap (λ d. d.opened) c.self.view_is ∙ ap (λ d. d.opened) c.reserve.ensures.kept in
-    let few : live_count (opened_in k.descriptions.slots) < 4096 = subst (λ os. live_count os < 4096) (sym same) (omega (arith, c.live.ensures.value, c.live.ensures.tidy.most, c.if-live-eq-MOST_DESCRIPTIONS.false)) in
+    let few : live_count (opened_in k.descriptions.slots) < 4096 = subst (λ os. live_count os < 4096) (sym same) (omega (arith, c.live.ensures.value, c.live.ensures.tidy.most, c.if-live-eq-MAX_DESCRIPTIONS.false)) in
     sound-opened k.tables.items k.descriptions new (ends_at k.counts) (ends_at c.add.new.self) key d c.self.invariant c.insert_reserved-key.ensures.updates c.insert_reserved-key.ensures.was_vacant refl few c.add.ensures.counts
 
 pub returns-clause-vacant : goal.returns-clause-vacant
