@@ -25,7 +25,10 @@ module _ {A : Type 0} where
   is_frugal_call (Call.GetFl fd) = true
   is_frugal_call (Call.SetFl fd flags) = true
   is_frugal_call Call.Exit = true
-  is_frugal_call call = false
+  is_frugal_call (Call.Pipe nonblock) = false
+  is_frugal_call (Call.Read fd n) = false
+  is_frugal_call (Call.Write fd bytes) = false
+  is_frugal_call Call.Fork = false
 
   abbrev pub is_frugal : Step A → Bool
   is_frugal (Begin pid call) = is_frugal_call call
