@@ -2,8 +2,8 @@
 use Rattle.std.specs.Prelude.{ℕ, ◌≤◌, List, [], ◌∷◌, ◌++◌, length, take, codes, Bool, true, false, Option}
 use Rattle.std.specs.Fmt.{decimal}
 use Rattle.std.specs.Io.KnownBytes.{Appends}
-use Rattle.pl_script.specs.declared.faults.ScriptFault.{ScriptFault}
-use Rattle.pl_script.specs.declared.faults.ScriptFault.TheVariants as script
+use Rattle.pl_script.specs.declared.fault.ScriptFault.{ScriptFault}
+use Rattle.pl_script.specs.declared.fault.ScriptFault.TheVariants as script
 use Rattle.pl_run.specs.declared.fault.Fault.{Fault}
 use Rattle.pl_run.specs.declared.fault.Fault.TheVariants.{CannotRead, CannotWrite, CommandLine, BadLine, TooLong, NoMemory}
 

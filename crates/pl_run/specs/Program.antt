@@ -3,7 +3,7 @@ use Rattle.std.specs.Prelude.{◌≡◌, ℕ, List, Result, Ok, Err}
 use Rattle.pl_model.specs.declared.calls.Limits.{Limits}
 use Rattle.pl_model.specs.declared.script.Totals.{Totals}
 use Rattle.pl_model.specs.Numbers.{most_file_bytes}
-use Rattle.pl_script.specs.declared.faults.ScriptFault.{ScriptFault}
+use Rattle.pl_script.specs.declared.fault.ScriptFault.{ScriptFault}
 use Rattle.pl_script.specs.Running.{IsRun}
 use Rattle.pl_run.specs.declared.fault.Fault.{Fault}
 use Rattle.pl_run.specs.Fault.{fault_of, status_of}

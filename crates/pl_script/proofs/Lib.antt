@@ -1,10 +1,3 @@
-pub mod Places
-pub mod WordLemmas
-pub mod NumberLemmas
-pub mod HexBytes
-pub mod HexText
 pub mod WriteLemmas
-pub mod LineLemmas
 pub mod RunSteps
 pub mod Unread
-pub mod FlagLemmas

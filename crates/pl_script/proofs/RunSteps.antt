@@ -17,10 +17,10 @@ use Rattle.pl_model.specs.Lines.{line}
 use Rattle.pl_model.specs.Numbers.{most_script_bytes}
 use Rattle.pl_model.specs.Shown.{outcome_text}
 use Rattle.pl_model.specs.Script.{lines, asked, if_good, first_bad, number_if_bad, answers, answer, are_marks, never_marked, is_step, output, totals}
-use Rattle.pl_script.specs.declared.faults.ScriptFault.TheVariants as faults
+use Rattle.pl_script.specs.declared.fault.ScriptFault.TheVariants as faults
 use Rattle.pl_script.specs.LineByLine.{IsAt, IsAnswered}
 use Rattle.pl_script.specs.Running.{IsRun, WritesOutput, WritesFrontOfOutput, WritesAndCounts}
-use Rattle.pl_script.proofs.LineLemmas.{length-lines}
+use Rattle.pl_lines.proofs.LineLemmas.{length-lines}
 
 -- ---- the definitions, one line at a time
 

@@ -4,8 +4,8 @@ use Rattle.std.specs.Prelude.{IfSome}
 use Rattle.std.specs.Io.KnownBytes.{Appends}
 use Rattle.std.proofs.KnownBytes.{Appends-nil}
 use Rattle.pl_model.specs.declared.calls.Limits.{Limits}
-use Rattle.pl_script.specs.declared.faults.ScriptFault.{ScriptFault}
-use Rattle.pl_script.specs.declared.faults.ScriptFault.TheVariants as faults
+use Rattle.pl_script.specs.declared.fault.ScriptFault.{ScriptFault}
+use Rattle.pl_script.specs.declared.fault.ScriptFault.TheVariants as faults
 use Rattle.pl_script.specs.Streams.{WasNotRead}
 use Rattle.pl_script.specs.Running.{IsRun}
 use Rattle.pl_script.proofs.RunSteps.{nothing_in_front}

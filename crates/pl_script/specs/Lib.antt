@@ -1,4 +1,3 @@
-pub mod Parsed
 pub mod Streams
 pub mod LineByLine
 pub mod Running

@@ -6,8 +6,8 @@ use Rattle.pl_model.specs.declared.script.Totals.{Totals}
 use Rattle.pl_model.specs.Numbered.{State, opening}
 use Rattle.pl_model.specs.Lines.{line}
 use Rattle.pl_model.specs.Script.{lines, asked, first_bad, answer, answers, never_marked, are_marks, is_step}
-use Rattle.pl_script.specs.declared.faults.LineFault.{LineFault}
-use Rattle.pl_script.specs.declared.faults.LineFault.TheVariants.{Bad, NoMemory}
+use Rattle.pl_lines.specs.declared.fault.LineFault.{LineFault}
+use Rattle.pl_lines.specs.declared.fault.LineFault.TheVariants.{Bad, NoMemory}
 
 module _ {A : Type 0} where
   -- The line was answered from the state: the kernel stands for what it leaves, its text and a line feed came after the

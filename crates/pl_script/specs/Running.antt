@@ -5,8 +5,8 @@ use Rattle.pl_model.specs.declared.calls.Limits.{Limits}
 use Rattle.pl_model.specs.declared.script.Totals.{Totals}
 use Rattle.pl_model.specs.Script.{lines, first_bad, output, AreMarks, totals}
 use Rattle.pl_model.specs.Numbers.{most_script_bytes}
-use Rattle.pl_script.specs.declared.faults.ScriptFault.{ScriptFault}
-use Rattle.pl_script.specs.declared.faults.ScriptFault.TheVariants as faults
+use Rattle.pl_script.specs.declared.fault.ScriptFault.{ScriptFault}
+use Rattle.pl_script.specs.declared.fault.ScriptFault.TheVariants as faults
 
 -- In all of these A is the type of the allocator of the script's calls.
 

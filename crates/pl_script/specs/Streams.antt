@@ -2,8 +2,8 @@
 use Rattle.std.specs.Prelude.{◌≡◌, ◌<◌, ◌≤◌, ℕ, List, length, take, Bool, true, ◌==◌, Result, Ok, Err, Option, IfSome}
 use Rattle.std.specs.Io.KnownBytes.{Appends}
 use Rattle.pl_model.specs.Numbers.{most_script_bytes}
-use Rattle.pl_script.specs.declared.faults.ScriptFault.{ScriptFault}
-use Rattle.pl_script.specs.declared.faults.ScriptFault.TheVariants as faults
+use Rattle.pl_script.specs.declared.fault.ScriptFault.{ScriptFault}
+use Rattle.pl_script.specs.declared.fault.ScriptFault.TheVariants as faults
 
 -- a write failed, or took no byte
 abbrev pub took_nothing : {E : Type 0} → Result ℕ E → Bool

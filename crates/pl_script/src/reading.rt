@@ -4,15 +4,10 @@ ghost use Rattle.std.specs.Io.KnownBytes.{IsAtEnd};
 ghost use Rattle.pl_model.specs.Numbers.{most_script_bytes, most_reads};
 ghost use Rattle.pl_script.specs.Streams.{WasNotRead};
 
-use crate::faults::ScriptFault;
+use crate::fault::ScriptFault;
 use crate::streams::Source;
+use pl_model::numbers::{MAX_READS, MAX_SCRIPT_BYTES};
 use std::alloc::{AllocError, Allocator};
-
-/// The most bytes of a script.
-pub const MAX_SCRIPT_BYTES: usize = 16_777_216;
-
-/// The most reads of a script: each but the last gives a byte at least.
-pub const MAX_READS: u32 = 16_777_217;
 
 /// How many bytes one read is asked for.
 const CHUNK: usize = 65_536;

@@ -7,14 +7,12 @@ ghost use Rattle.pl_kernel.specs.Makes.{Stands};
 ghost use Rattle.pl_script.specs.LineByLine.{IsAnswered, IsAt, Stops};
 ghost use Rattle.pl_script.specs.Running.{IsRun, IsReadToEnd, WritingEnds};
 
-use crate::faults::{LineFault, ScriptFault};
-use crate::lines::next_line;
-use crate::parse::parse_line;
+use crate::fault::ScriptFault;
 use crate::reading::read_script;
 use crate::streams::{Sink, Source};
-use crate::text::push_line;
 use crate::writing::write_whole;
 use pl_kernel::{Kernel, NoMemory};
+use pl_lines::{LineFault, next_line, parse_line, push_line};
 use pl_model::{Limits, Line, Outcome, Totals};
 use std::alloc::{AllocError, Allocator};
 

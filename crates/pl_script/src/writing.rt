@@ -1,9 +1,9 @@
 //! Output, written as far as the writer takes it.
 ghost use Rattle.std.specs.Prelude.{◌≡◌, OnOk, IfErr, true};
 ghost use Rattle.pl_script.specs.Streams.{WritesFront};
-ghost use Rattle.pl_script.specs.declared.faults.ScriptFault.TheVariants.{Write};
+ghost use Rattle.pl_script.specs.declared.fault.ScriptFault.TheVariants.{Write};
 
-use crate::faults::ScriptFault;
+use crate::fault::ScriptFault;
 use crate::streams::Sink;
 
 /// Writes all the bytes.

@@ -2,7 +2,7 @@ use Rattle.std.proofs.Common.{◌≡◌, ◌+◌, length, refl, ap, ◌∙◌, a
 use Rattle.std.proofs.lemmas.Result.{err_from_is_err_and}
 use Rattle.pl_model.specs.declared.script.Totals.{Totals}
 use Rattle.pl_model.specs.Script.{lines}
-use Rattle.pl_script.proofs.LineLemmas.{lines-empty}
+use Rattle.pl_lines.proofs.LineLemmas.{lines-empty}
 use Rattle.pl_script.proofs.RunSteps.{starts, goes_on, flushes, ends, ends_at_bad, fails_to_write, lacks_memory, number_fits}
 use Rattle.pl_script.proofs.running.run_lines.Goals as goal
 

@@ -1,0 +1,7 @@
+pub mod Places
+pub mod WordLemmas
+pub mod NumberLemmas
+pub mod HexBytes
+pub mod HexText
+pub mod LineLemmas
+pub mod FlagLemmas

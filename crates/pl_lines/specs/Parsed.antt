@@ -1,0 +1,44 @@
+-- What a parser answered, against what the words say.
+use Rattle.std.specs.Prelude.{◌≡◌, ◌<◌, ℕ, List, length, Option, Some, None, Result, Ok, Err, IsSomeAnd, if◌then◌else◌, nat_le}
+use Rattle.pl_model.specs.declared.calls.Call.{Call}
+use Rattle.pl_model.specs.declared.calls.Call.TheVariants as call
+use Rattle.pl_model.specs.declared.calls.Step.TheVariants as step
+use Rattle.pl_model.specs.declared.script.Line.{Line}
+use Rattle.pl_model.specs.declared.script.Line.TheVariants.{Do}
+use Rattle.pl_model.specs.Numbers.{most_bytes}
+use Rattle.pl_model.specs.Words.{◌>>=◌}
+use Rattle.pl_lines.specs.declared.fault.LineFault.{LineFault}
+use Rattle.pl_lines.specs.declared.fault.LineFault.TheVariants.{Bad, NoMemory}
+
+-- the answer is what the words say, and `Bad` where they say nothing; no memory is taken, so none is wanting
+abbrev pub Gives : {X : Type 0} → Result X LineFault → Option X → Type 0
+Gives (Ok x) said = said ≡ Some x
+Gives (Err Bad) said = said ≡ None
+Gives (Err NoMemory) said = ⊥
+
+-- the same, but that memory may be wanting where what the words say takes some
+abbrev pub GivesTaking : {X : Type 0} → (X → Type 0) → Result X LineFault → Option X → Type 0
+GivesTaking Takes (Ok x) said = said ≡ Some x
+GivesTaking Takes (Err Bad) said = said ≡ None
+GivesTaking Takes (Err NoMemory) said = IsSomeAnd said Takes
+
+-- Bytes take memory where there are some.
+abbrev pub BytesTake : List ℕ → Type 0
+BytesTake bytes = 0 < length bytes
+
+-- of calls, a write of bytes alone
+abbrev pub CallTakes : {A : Type 0} → Call A → Type 0
+CallTakes (call.Write fd bytes) = BytesTake bytes
+CallTakes _ = ⊥
+
+-- of lines, one that begins such a call
+abbrev pub LineTakes : {A : Type 0} → Line A → Type 0
+LineTakes (Do (step.Begin pid begun)) = CallTakes begun
+LineTakes (Do _) = ⊥
+
+abbrev pub LineAskedTakes : {A : Type 0} → Option (Line A) → Type 0
+LineAskedTakes asked = IsSomeAnd asked LineTakes
+
+-- no more bytes than one write takes
+abbrev pub one_write : Option (List ℕ) → Option (List ℕ)
+one_write said = said >>= λ bytes. if nat_le (length bytes) most_bytes then Some bytes else None

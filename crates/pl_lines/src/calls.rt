@@ -1,0 +1,173 @@
+//! The calls in lines.
+ghost use Rattle.pl_model.specs.Words.{words};
+ghost use Rattle.pl_model.specs.Lines.{pipe_of, read_of, write_of, dup_of, dup2_of, dup_fd_of, close_of, get_fl_of, set_fl_of, fork_of, exit_of, call_of};
+ghost use Rattle.pl_lines.specs.Parsed.{Gives, GivesTaking, CallTakes};
+
+use crate::bytes::parse_bytes;
+use crate::fault::LineFault;
+use crate::flags::parse_flags_or_none;
+use crate::numbers::{parse_i32, parse_u32};
+use crate::words::{end, next_word, word};
+use pl_model::Call;
+use std::alloc::Allocator;
+
+#[tactic(auto, unfolding(pl_model::specs::Lines::pipe_of))]
+fn pipe_call<A: Allocator + Copy>(rest: &[u8]) -> Result<Call<A>, LineFault>
+    ensures { Gives result (pipe_of (words rest.now)) }
+{
+    match next_word(rest) {
+        None => Ok(Call::Pipe { nonblock: false }),
+        Some((flag, rest)) => {
+            end(rest)?;
+            if flag == b"nonblock".as_slice() {
+                Ok(Call::Pipe { nonblock: true })
+            } else {
+                Err(LineFault::Bad)
+            }
+        }
+    }
+}
+
+#[tactic(auto, unfolding(pl_model::specs::Lines::read_of))]
+fn read_call<A: Allocator + Copy>(rest: &[u8]) -> Result<Call<A>, LineFault>
+    ensures { Gives result (read_of (words rest.now)) }
+{
+    let (fd, rest) = word(rest)?;
+    let (n, rest) = word(rest)?;
+    end(rest)?;
+    Ok(Call::Read {
+        fd: parse_i32(fd)?,
+        n: parse_u32(n)?,
+    })
+}
+
+#[tactic(auto, unfolding(pl_model::specs::Lines::write_of))]
+fn write_call<A: Allocator + Copy>(alloc: A, rest: &[u8]) -> Result<Call<A>, LineFault>
+    ensures { GivesTaking CallTakes result (write_of (words rest.now)) }
+{
+    let (fd, rest) = word(rest)?;
+    let (bytes, rest) = word(rest)?;
+    end(rest)?;
+    Ok(Call::Write {
+        fd: parse_i32(fd)?,
+        bytes: parse_bytes(alloc, bytes)?,
+    })
+}
+
+#[tactic(auto, unfolding(pl_model::specs::Lines::dup_of))]
+fn dup_call<A: Allocator + Copy>(rest: &[u8]) -> Result<Call<A>, LineFault>
+    ensures { Gives result (dup_of (words rest.now)) }
+{
+    let (fd, rest) = word(rest)?;
+    end(rest)?;
+    Ok(Call::Dup { fd: parse_i32(fd)? })
+}
+
+#[tactic(auto, unfolding(pl_model::specs::Lines::dup2_of))]
+fn dup2_call<A: Allocator + Copy>(rest: &[u8]) -> Result<Call<A>, LineFault>
+    ensures { Gives result (dup2_of (words rest.now)) }
+{
+    let (fd, rest) = word(rest)?;
+    let (target, rest) = word(rest)?;
+    end(rest)?;
+    Ok(Call::Dup2 {
+        fd: parse_i32(fd)?,
+        target: parse_i32(target)?,
+    })
+}
+
+#[tactic(auto, unfolding(pl_model::specs::Lines::dup_fd_of))]
+fn dup_fd_call<A: Allocator + Copy>(rest: &[u8]) -> Result<Call<A>, LineFault>
+    ensures { Gives result (dup_fd_of (words rest.now)) }
+{
+    let (fd, rest) = word(rest)?;
+    let (least, rest) = word(rest)?;
+    end(rest)?;
+    Ok(Call::DupFd {
+        fd: parse_i32(fd)?,
+        least: parse_i32(least)?,
+    })
+}
+
+#[tactic(auto, unfolding(pl_model::specs::Lines::close_of))]
+fn close_call<A: Allocator + Copy>(rest: &[u8]) -> Result<Call<A>, LineFault>
+    ensures { Gives result (close_of (words rest.now)) }
+{
+    let (fd, rest) = word(rest)?;
+    end(rest)?;
+    Ok(Call::Close { fd: parse_i32(fd)? })
+}
+
+#[tactic(auto, unfolding(pl_model::specs::Lines::get_fl_of))]
+fn get_fl_call<A: Allocator + Copy>(rest: &[u8]) -> Result<Call<A>, LineFault>
+    ensures { Gives result (get_fl_of (words rest.now)) }
+{
+    let (fd, rest) = word(rest)?;
+    end(rest)?;
+    Ok(Call::GetFl { fd: parse_i32(fd)? })
+}
+
+#[tactic(auto, unfolding(pl_model::specs::Lines::set_fl_of))]
+fn set_fl_call<A: Allocator + Copy>(rest: &[u8]) -> Result<Call<A>, LineFault>
+    ensures { Gives result (set_fl_of (words rest.now)) }
+{
+    let (fd, rest) = word(rest)?;
+    let (flags, rest) = word(rest)?;
+    end(rest)?;
+    Ok(Call::SetFl {
+        fd: parse_i32(fd)?,
+        flags: parse_flags_or_none(flags)?,
+    })
+}
+
+#[tactic(auto, unfolding(pl_model::specs::Lines::fork_of))]
+fn fork_call<A: Allocator + Copy>(rest: &[u8]) -> Result<Call<A>, LineFault>
+    ensures { Gives result (fork_of (words rest.now)) }
+{
+    end(rest)?;
+    Ok(Call::Fork)
+}
+
+#[tactic(auto, unfolding(pl_model::specs::Lines::exit_of))]
+fn exit_call<A: Allocator + Copy>(rest: &[u8]) -> Result<Call<A>, LineFault>
+    ensures { Gives result (exit_of (words rest.now)) }
+{
+    end(rest)?;
+    Ok(Call::Exit)
+}
+
+/// The call of this name, with the words behind it.
+#[tactic(auto, unfolding(pl_model::specs::Lines::call_of))]
+pub(crate) fn parse_call<A: Allocator + Copy>(
+    alloc: A,
+    name: &[u8],
+    rest: &[u8],
+) -> Result<Call<A>, LineFault>
+    ensures { GivesTaking CallTakes result (call_of name.now (words rest.now)) }
+{
+    if name == b"pipe".as_slice() {
+        pipe_call(rest)
+    } else if name == b"read".as_slice() {
+        read_call(rest)
+    } else if name == b"write".as_slice() {
+        write_call(alloc, rest)
+    } else if name == b"dup".as_slice() {
+        dup_call(rest)
+    } else if name == b"dup2".as_slice() {
+        dup2_call(rest)
+    } else if name == b"dupfd".as_slice() {
+        dup_fd_call(rest)
+    } else if name == b"close".as_slice() {
+        close_call(rest)
+    } else if name == b"getfl".as_slice() {
+        get_fl_call(rest)
+    } else if name == b"setfl".as_slice() {
+        set_fl_call(rest)
+    } else if name == b"fork".as_slice() {
+        fork_call(rest)
+    } else if name == b"exit".as_slice() {
+        exit_call(rest)
+    } else {
+        Err(LineFault::Bad)
+    }
+}

@@ -1,0 +1,56 @@
+//! The flags in words.
+ghost use Rattle.std.specs.List.{slice_split};
+ghost use Rattle.pl_model.specs.Flags.{no_flags};
+ghost use Rattle.pl_model.specs.Words.{is_comma, flag_of, with_flags, flags_of, flags_or_none};
+ghost use Rattle.pl_lines.specs.Parsed.{Gives};
+
+use crate::bytes::place_of;
+use crate::fault::LineFault;
+use bitflags::Flags;
+use pl_model::OpenFlags;
+
+#[tactic(auto, unfolding(pl_model::specs::Words::flag_of))]
+fn parse_flag(name: &[u8]) -> Result<OpenFlags, LineFault>
+    ensures { Gives result (flag_of name.now) }
+{
+    if name == b"creat".as_slice() {
+        Ok(OpenFlags::CREAT)
+    } else if name == b"excl".as_slice() {
+        Ok(OpenFlags::EXCL)
+    } else if name == b"trunc".as_slice() {
+        Ok(OpenFlags::TRUNC)
+    } else if name == b"append".as_slice() {
+        Ok(OpenFlags::APPEND)
+    } else if name == b"nonblock".as_slice() {
+        Ok(OpenFlags::NONBLOCK)
+    } else {
+        Err(LineFault::Bad)
+    }
+}
+
+/// The flags of names that are joined by commas.
+#[tactic(auto, unfolding(pl_model::specs::Words::flags_of))]
+fn parse_flags(names: &[u8]) -> Result<OpenFlags, LineFault>
+    ensures { Gives result (flags_of names.now) }
+{
+    let mut flags = OpenFlags::empty();
+    let mut rest = names;
+    while let Some(comma) = place_of(b',', rest) {
+        flags.insert(parse_flag(rest.split_at(comma).0)?);
+        rest = rest.split_at(comma + 1).1;
+    }
+    flags.insert(parse_flag(rest)?);
+    Ok(flags)
+}
+
+/// The flags of names that are joined by commas, or none of `-`.
+#[tactic(auto, unfolding(pl_model::specs::Words::flags_or_none))]
+pub(crate) fn parse_flags_or_none(word: &[u8]) -> Result<OpenFlags, LineFault>
+    ensures { Gives result (flags_or_none word.now) }
+{
+    if word == b"-".as_slice() {
+        Ok(OpenFlags::empty())
+    } else {
+        parse_flags(word)
+    }
+}

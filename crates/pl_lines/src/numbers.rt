@@ -1,0 +1,76 @@
+//! The numbers in words.
+ghost use Rattle.std.specs.Prelude.{◌≡◌, ◌<◌, ◌≤◌, ◌+◌, ◌^◌, length, Option, Some, None, if◌then◌else◌, IfOk, ℤ};
+ghost use Rattle.std.specs.List.{list_all};
+ghost use Rattle.std.specs.Str.Parse.{digits_value};
+ghost use Rattle.pl_model.specs.Numbers.{most_bytes};
+ghost use Rattle.pl_model.specs.Words.{is_digit, number, signed};
+ghost use Rattle.pl_lines.specs.Parsed.{Gives};
+
+use crate::fault::LineFault;
+use pl_model::numbers::MAX_BYTES;
+
+/// The value of decimal digits; `None` where another byte stands among them.
+fn value(word: &[u8]) -> Option<u128>
+    requires { length word.now ≤ 20 }
+    ensures { result ≡ (if list_all is_digit word.now then Some (digits_value 10 word.now) else None) }
+{
+    let mut value: u128 = 0;
+    for c in word {
+        if !c.is_ascii_digit() {
+            return None;
+        }
+        value = value * 10 + u128::from(*c - b'0');
+    }
+    Some(value)
+}
+
+/// A number of 1 to 20 digits, below the limit.
+#[tactic(auto, unfolding(pl_model::specs::Words::number))]
+fn number(limit: u128, word: &[u8]) -> Result<u128, LineFault>
+    ensures said { Gives result (number limit word.now) }
+    ensures below { IfOk result (λ n. n < limit) }
+{
+    if word.is_empty() || word.len() > 20 {
+        return Err(LineFault::Bad);
+    }
+    match value(word) {
+        Some(n) if n < limit => Ok(n),
+        _ => Err(LineFault::Bad),
+    }
+}
+
+pub(crate) fn parse_u32(word: &[u8]) -> Result<u32, LineFault>
+    ensures { Gives result (number (2 ^ 32) word.now) }
+{
+    Ok(number(1 << 32, word)? as u32)
+}
+
+pub(crate) fn parse_u64(word: &[u8]) -> Result<u64, LineFault>
+    ensures { Gives result (number (2 ^ 64) word.now) }
+{
+    Ok(number(1 << 64, word)? as u64)
+}
+
+/// A number with or without one `-` in front.
+#[tactic(auto, unfolding(pl_model::specs::Words::signed))]
+pub(crate) fn parse_i32(word: &[u8]) -> Result<i32, LineFault>
+    ensures { Gives result (signed word.now) }
+{
+    if word.is_empty() {
+        return Err(LineFault::Bad);
+    }
+    if word[0] == b'-' {
+        let n = number((1 << 31) + 1, word.split_at(1).1)?;
+        Ok(-(n as i64) as i32)
+    } else {
+        Ok(number(1 << 31, word)? as i32)
+    }
+}
+
+/// A count of bytes of one write.
+pub(crate) fn parse_count(word: &[u8]) -> Result<usize, LineFault>
+    ensures said { Gives result (number (most_bytes + 1) word.now) }
+    ensures few { IfOk result (λ n. n ≤ most_bytes) }
+{
+    Ok(number(MAX_BYTES as u128 + 1, word)? as usize)
+}

@@ -1,0 +1,90 @@
+//! What lines ask.
+ghost use Rattle.std.specs.Prelude.{◌≡◌};
+ghost use Rattle.pl_model.specs.Words.{words};
+ghost use Rattle.pl_model.specs.Lines.{start_of, resume_of, interrupt_of, begin_of, words_line, is_comment, line};
+ghost use Rattle.pl_lines.specs.Parsed.{Gives, GivesTaking, LineTakes, LineAskedTakes};
+
+use crate::calls::parse_call;
+use crate::fault::LineFault;
+use crate::numbers::{parse_u32, parse_u64};
+use crate::words::{end, next_word, without_return, word};
+use pl_model::{Line, Step};
+use std::alloc::Allocator;
+
+#[tactic(auto, unfolding(pl_model::specs::Lines::start_of))]
+fn start_line<A: Allocator + Copy>(rest: &[u8]) -> Result<Line<A>, LineFault>
+    ensures { Gives result (start_of (words rest.now)) }
+{
+    end(rest)?;
+    Ok(Line::Do(Step::Start))
+}
+
+#[tactic(auto, unfolding(pl_model::specs::Lines::resume_of))]
+fn resume_line<A: Allocator + Copy>(rest: &[u8]) -> Result<Line<A>, LineFault>
+    ensures { Gives result (resume_of (words rest.now)) }
+{
+    let (number, rest) = word(rest)?;
+    end(rest)?;
+    Ok(Line::Do(Step::Resume(parse_u64(number)?)))
+}
+
+#[tactic(auto, unfolding(pl_model::specs::Lines::interrupt_of))]
+fn interrupt_line<A: Allocator + Copy>(rest: &[u8]) -> Result<Line<A>, LineFault>
+    ensures { Gives result (interrupt_of (words rest.now)) }
+{
+    let (number, rest) = word(rest)?;
+    end(rest)?;
+    Ok(Line::Do(Step::Interrupt(parse_u64(number)?)))
+}
+
+#[tactic(auto, unfolding(pl_model::specs::Lines::begin_of))]
+fn begin_line<A: Allocator + Copy>(alloc: A, pid: &[u8], rest: &[u8]) -> Result<Line<A>, LineFault>
+    ensures { GivesTaking LineTakes result (begin_of pid.now (words rest.now)) }
+{
+    let (name, rest) = word(rest)?;
+    let pid = parse_u32(pid)?;
+    Ok(Line::Do(Step::Begin(pid, parse_call(alloc, name, rest)?)))
+}
+
+/// What the words ask, the first of them and the rest.
+#[tactic(auto, unfolding(pl_model::specs::Lines::words_line))]
+fn words_line<A: Allocator + Copy>(
+    alloc: A,
+    first: &[u8],
+    rest: &[u8],
+) -> Result<Line<A>, LineFault>
+    ensures { GivesTaking LineTakes result (words_line first.now (words rest.now)) }
+{
+    if first == b"start".as_slice() {
+        start_line(rest)
+    } else if first == b"resume".as_slice() {
+        resume_line(rest)
+    } else if first == b"interrupt".as_slice() {
+        interrupt_line(rest)
+    } else {
+        begin_line(alloc, first, rest)
+    }
+}
+
+fn is_comment(word: &[u8]) -> bool
+    ensures { result ≡ is_comment word.now }
+{
+    !word.is_empty() && word[0] == b'#'
+}
+
+/// What a line asks, given without its line feed; `None` where it asks nothing, as a blank line or a comment.
+///
+/// # Errors
+///
+/// `Bad` exactly where the format has no such line, whatever the memory. `NoMemory` only at a line that writes a byte or
+/// more, where there was no memory for its bytes.
+#[tactic(auto, unfolding(pl_model::specs::Lines::line, pl_model::specs::Lines::line_of_words))]
+pub fn parse_line<A: Allocator + Copy>(alloc: A, bytes: &[u8]) -> Result<Option<Line<A>>, LineFault>
+    ensures { GivesTaking LineAskedTakes result (line bytes.now) }
+{
+    match next_word(without_return(bytes)) {
+        None => Ok(None),
+        Some((first, _)) if is_comment(first) => Ok(None),
+        Some((first, rest)) => Ok(Some(words_line(alloc, first, rest)?)),
+    }
+}

@@ -1,0 +1,139 @@
+//! The text of replies.
+ghost use Rattle.std.specs.Prelude.{◌≡◌, [], ◌∷◌, ◌++◌, OnOk, IfOk, string_bytes};
+ghost use Rattle.pl_model.specs.Shown.{bytes_text, errno_text, mode_text, flags_text, reply_text, outcome_text};
+
+use bitflags::Flags;
+use pl_model::{Errno, Mode, OpenFlags, Outcome, Reply};
+use std::alloc::{AllocError, Allocator};
+
+/// Adds the bytes as hexadecimal digits in lower case, or `-` for none.
+#[tactic(auto, unfolding(pl_model::specs::Shown::bytes_text), using(crate::proofs::HexText::hex_text_is))]
+fn push_bytes<A: Allocator + Copy>(
+    alloc: A,
+    text: &mut String<A>,
+    bytes: &[u8],
+) -> Result<(), AllocError>
+    ensures { OnOk result (string_bytes text.new ≡ string_bytes text.old ++ bytes_text bytes.now) }
+{
+    if bytes.is_empty() {
+        return text.push_str("-");
+    }
+    let digits = hex::encode(alloc, bytes)?;
+    text.push_str(digits.as_str())
+}
+
+fn errno_text(errno: Errno) -> &'static str
+    ensures { result.now ≡ errno_text errno }
+{
+    match errno {
+        Errno::EAGAIN => "EAGAIN",
+        Errno::EBADF => "EBADF",
+        Errno::EBUSY => "EBUSY",
+        Errno::EEXIST => "EEXIST",
+        Errno::EFBIG => "EFBIG",
+        Errno::EINTR => "EINTR",
+        Errno::EINVAL => "EINVAL",
+        Errno::EMFILE => "EMFILE",
+        Errno::ENAMETOOLONG => "ENAMETOOLONG",
+        Errno::ENFILE => "ENFILE",
+        Errno::ENOENT => "ENOENT",
+        Errno::ENXIO => "ENXIO",
+        Errno::EOVERFLOW => "EOVERFLOW",
+        Errno::EPERM => "EPERM",
+        Errno::EPIPE => "EPIPE sigpipe",
+        Errno::ESPIPE => "ESPIPE",
+    }
+}
+
+fn mode_text(mode: Mode) -> &'static str
+    ensures { result.now ≡ mode_text mode }
+{
+    match mode {
+        Mode::Read => "r",
+        Mode::Write => "w",
+        Mode::Both => "rw",
+    }
+}
+
+/// The status flags that are set, or `-` for none.
+#[tactic(auto, unfolding(pl_model::specs::Shown::flags_text))]
+fn flags_text(flags: OpenFlags) -> &'static str
+    ensures { result.now ≡ flags_text flags }
+{
+    match (
+        flags.contains(OpenFlags::APPEND),
+        flags.contains(OpenFlags::NONBLOCK),
+    ) {
+        (true, true) => "append,nonblock",
+        (true, false) => "append",
+        (false, true) => "nonblock",
+        (false, false) => "-",
+    }
+}
+
+#[tactic(auto, unfolding(pl_model::specs::Shown::reply_text))]
+fn push_reply<A: Allocator + Copy>(
+    alloc: A,
+    text: &mut String<A>,
+    reply: &Reply<A>,
+) -> Result<(), AllocError>
+    ensures { OnOk result (string_bytes text.new ≡ string_bytes text.old ++ reply_text reply.now) }
+{
+    match reply {
+        Reply::Pid(pid) => write!(text, "pid {pid}"),
+        Reply::Fd(fd) => write!(text, "fd {fd}"),
+        Reply::Fds(reader, writer) => write!(text, "fds {reader} {writer}"),
+        Reply::Count { n, sigpipe: false } => write!(text, "count {n}"),
+        Reply::Count { n, sigpipe: true } => write!(text, "count {n} sigpipe"),
+        Reply::Bytes(bytes) => {
+            text.push_str("data ")?;
+            push_bytes(alloc, text, bytes.as_slice())
+        }
+        Reply::Flags { mode, flags } => {
+            let (mode, flags) = (mode_text(*mode), flags_text(*flags));
+            write!(text, "flags {mode} {flags}")
+        }
+        Reply::Unit => text.push_str("ok"),
+        Reply::Fault(errno) => text.push_str(errno_text(*errno)),
+        Reply::Parked(call) => write!(text, "parked {call}"),
+        Reply::NoProcess => text.push_str("no process"),
+        Reply::NoCall => text.push_str("no call"),
+        Reply::CallsSpent => text.push_str("calls spent"),
+    }
+}
+
+/// Adds the text of an outcome.
+#[tactic(auto, unfolding(pl_model::specs::Shown::outcome_text))]
+fn push_outcome<A: Allocator + Copy>(
+    alloc: A,
+    text: &mut String<A>,
+    outcome: &Outcome<A>,
+) -> Result<(), AllocError>
+    ensures { OnOk result (string_bytes text.new ≡ string_bytes text.old ++ outcome_text outcome.now) }
+{
+    match outcome {
+        Outcome::Replied(reply) => push_reply(alloc, text, reply),
+        Outcome::NoMemory => text.push_str("nomem"),
+    }
+}
+
+/// Adds the line of an outcome: its text and a line feed.
+pub fn push_line<A: Allocator + Copy>(
+    alloc: A,
+    text: &mut String<A>,
+    outcome: &Outcome<A>,
+) -> Result<(), AllocError>
+    ensures { OnOk result (string_bytes text.new ≡ string_bytes text.old ++ (outcome_text outcome.now ++ 10 ∷ [])) }
+{
+    push_outcome(alloc, text, outcome)?;
+    text.push_str("\n")
+}
+
+/// The text of an outcome, without the line feed that ends its line. The only error is want of memory.
+pub fn show<A: Allocator + Copy>(alloc: A, outcome: &Outcome<A>) -> Result<String<A>, AllocError>
+    ensures { IfOk result (λ text. string_bytes text ≡ outcome_text outcome.now) }
+{
+    let mut text = String::new(alloc);
+    push_outcome(alloc, &mut text, outcome)?;
+    Ok(text)
+}

@@ -1,0 +1,70 @@
+//! The words of a line.
+ghost use Rattle.std.specs.Prelude.{◌≡◌, ◌<◌, not, ℕ, List, [], ◌∷◌, length, position, IfSome, MatchOption, MatchResult};
+ghost use Rattle.pl_model.specs.Words.{is_blank, words, without_return};
+ghost use Rattle.pl_lines.specs.declared.fault.LineFault.TheVariants.{Bad};
+
+use crate::fault::LineFault;
+
+fn is_blank(c: u8) -> bool
+    ensures { result ≡ is_blank c }
+{
+    c == b' ' || c == b'\t'
+}
+
+fn first_blank(line: &[u8]) -> Option<usize>
+    ensures place { result ≡ position is_blank line.now }
+    ensures within { IfSome result (λ i. i < length line.now) }
+{
+    line.iter().position(|c| is_blank(*c))
+}
+
+fn first_nonblank(line: &[u8]) -> Option<usize>
+    ensures place { result ≡ position (λ c. not (is_blank c)) line.now }
+    ensures within { IfSome result (λ i. i < length line.now) }
+{
+    line.iter().position(|c| !is_blank(*c))
+}
+
+/// The first word and what stands behind it; `None` exactly where there is no word.
+#[tactic(auto, using(crate::proofs::WordLemmas::no_word, crate::proofs::WordLemmas::word_then_blank, crate::proofs::WordLemmas::last_word))]
+pub(crate) fn next_word(line: &[u8]) -> Option<(&[u8], &[u8])>
+    ensures { MatchOption result (words line.now ≡ []) (λ p. words line.now ≡ p.0.now ∷ words p.1.now) }
+{
+    let start = first_nonblank(line)?;
+    let rest = line.split_at(start).1;
+    match first_blank(rest) {
+        Some(end) => Some(rest.split_at(end)),
+        None => Some((rest, &[])),
+    }
+}
+
+/// The next word, which has to be there, and what stands behind it.
+pub(crate) fn word(rest: &[u8]) -> Result<(&[u8], &[u8]), LineFault>
+    ensures { MatchResult result (λ p. words rest.now ≡ p.0.now ∷ words p.1.now)
+        (λ e. (e ≡ Bad) × (words rest.now ≡ [])) }
+{
+    next_word(rest).ok_or(LineFault::Bad)
+}
+
+/// That no word is left.
+pub(crate) fn end(rest: &[u8]) -> Result<(), LineFault>
+    ensures { MatchResult result (λ _. words rest.now ≡ [])
+        (λ e. (e ≡ Bad) × (w : List ℕ) × (ws : List (List ℕ)) × (words rest.now ≡ w ∷ ws)) }
+{
+    match next_word(rest) {
+        Some(_) => Err(LineFault::Bad),
+        None => Ok(()),
+    }
+}
+
+/// The line without the carriage return that ends it, if one does.
+#[tactic(auto, unfolding(pl_model::specs::Words::without_return))]
+pub(crate) fn without_return(line: &[u8]) -> &[u8]
+    ensures { result.now ≡ without_return line.now }
+{
+    if !line.is_empty() && line[line.len() - 1] == b'\r' {
+        &line[..line.len() - 1]
+    } else {
+        line
+    }
+}
