@@ -3,7 +3,7 @@
 #![tactic(auto)]
 
 use pl_run::{Fault, LIMITS, write_fault};
-use pl_script::{MAX_READS, Reads, Writes, run_script};
+use pl_script::{Reads, Writes, run_script};
 use std::alloc::Global;
 use std::process::ExitCode;
 use std::{fs, io};
@@ -23,7 +23,7 @@ const NAMES: [&str; 8] = [
 /// What a script prints; `None` where there is no memory for it.
 fn printed(alloc: Global, script: &[u8]) -> Option<Vec<u8>> {
     let mut output = Vec::new(alloc);
-    let mut reader = Reads::new(script, MAX_READS);
+    let mut reader = Reads::of_script(script);
     let mut writer = Writes::new(&mut output);
     let ran = run_script(alloc, &mut reader, &mut writer, LIMITS);
     let told = match ran {

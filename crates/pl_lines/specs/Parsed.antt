@@ -36,6 +36,7 @@ abbrev pub LineTakes : {A : Type 0} → Line A → Type 0
 LineTakes (Do (step.Begin pid begun)) = CallTakes begun
 LineTakes (Do _) = ⊥
 
+-- the same of a line that may ask nothing
 abbrev pub LineAskedTakes : {A : Type 0} → Option (Line A) → Type 0
 LineAskedTakes asked = IsSomeAnd asked LineTakes
 

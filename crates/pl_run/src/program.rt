@@ -10,7 +10,7 @@ use crate::LIMITS;
 use crate::fault::{Fault, status, write_fault};
 use crate::words::check_words;
 use pl_model::Totals;
-use pl_script::{MAX_READS, Reads, Sink, Source, Writes, run_script};
+use pl_script::{Reads, Sink, Source, Writes, run_script};
 use std::alloc::Allocator;
 use std::env::{self, Env};
 use std::io::{ErrorKind, Read, Write};
@@ -72,7 +72,7 @@ fn run_input<R: Env + AllocGlobal, I: Read + Drop, O: Write + Drop>(
     let Ok(words) = args.skip(1).collect::<Vec<String>>(rt.alloc()) else {
         return Err(Fault::NoMemory);
     };
-    let mut reader = Reads::new(input, MAX_READS);
+    let mut reader = Reads::of_script(input);
     let mut writer = Writes::new(output);
     run(rt.alloc(), words.as_slice(), &mut reader, &mut writer)
 }

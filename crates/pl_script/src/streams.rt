@@ -1,8 +1,10 @@
 //! What a script is read from, and what its output is written to.
 ghost use Rattle.std.specs.Prelude.{◌≡◌, ◌+◌, ◌<◌, ◌≤◌, ◌||◌, ℕ, List, length, Option, Bool, IfOk, is_err, false};
 ghost use Rattle.std.specs.Io.KnownBytes.{ReadConsumes, WriteAppends};
+ghost use Rattle.pl_model.specs.Numbers.{most_reads};
 ghost use Rattle.pl_script.specs.Streams.{took_nothing};
 
+use crate::reading::MAX_READS;
 use std::io;
 
 /// A reader that may be asked so many times, and that knows whether a read of it failed.
@@ -65,6 +67,15 @@ impl<R: io::Read> Reads<R> {
             left,
             failed: false,
         }
+    }
+
+    /// The reader of a script, to be asked as often as a script may need: at most `MAX_READS` times.
+    pub fn of_script(reader: R) -> Self
+        ensures left { ⟦<Reads<R> as Source>⟧.reads_left result ≡ most_reads }
+        ensures fresh { ⟦<Reads<R> as Source>⟧.has_failed result ≡ false }
+        ensures bytes { ⟦<Reads<R> as Source>⟧.remaining result ≡ R.remaining reader }
+    {
+        Reads::new(reader, MAX_READS)
     }
 }
 
