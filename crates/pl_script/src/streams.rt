@@ -4,7 +4,7 @@ ghost use Rattle.std.specs.Io.KnownBytes.{ReadConsumes, WriteAppends};
 ghost use Rattle.pl_model.specs.Numbers.{most_reads};
 ghost use Rattle.pl_script.specs.Streams.{took_nothing};
 
-use crate::reading::MAX_READS;
+use pl_model::numbers::MAX_READS;
 use std::io;
 
 /// A reader that may be asked so many times, and that knows whether a read of it failed.
