@@ -1,5 +1,5 @@
 -- What is known of a kernel as a call of it begins.
-use Rattle.std.proofs.Common.{◌≡◌, ℕ, true, List, Option, ap, ◌∙◌}
+use Rattle.std.proofs.Common.{◌≡◌, ℕ, true, List, Option, ap, subst, ◌∙◌}
 use Rattle.pl_model.specs.declared.calls.Limits.{Limits}
 use Rattle.pl_model.specs.State.{Pipe}
 use Rattle.pl_parked.specs.Calls.{Calls}
@@ -34,3 +34,7 @@ module _ {A : Type 0} (k : Inside A) (invariant : IsSound A (view_of k) × AreHe
   -- and of a call's process
   abbrev pub caller : (self : Held A) → view_of k ≡ self → (pid : ℕ) → is_pid self.tables pid ≡ true → Caller A
   caller self is pid process = record { kernel = known; pid = pid; process = ap (λ (z : Held A). is_pid z.tables pid) is ∙ process }
+
+  -- the descriptors are as they were
+  pub still_sound : (descs : Descs) → k.descs ≡ descs → (IsSound A (held descs k.pipes.pipes k.parked k.limits)) × (AreHeld A descs k.parked.calls)
+  still_sound descs same = subst (λ (d : Descs). (IsSound A (held d k.pipes.pipes k.parked k.limits)) × (AreHeld A d k.parked.calls)) same invariant
