@@ -1,13 +1,16 @@
 -- What is known of a kernel as a call of it begins.
-use Rattle.std.proofs.Common.{◌≡◌, ℕ, true, List, Option, ap, subst, ◌∙◌}
+use Rattle.std.proofs.Common.{◌≡◌, ℕ, true, List, [], ◌∷◌, Option, Some, nat_eq, ap, subst, ◌∙◌}
 use Rattle.pl_model.specs.declared.calls.Limits.{Limits}
+use Rattle.pl_model.specs.Map.{get}
 use Rattle.pl_model.specs.State.{Pipe}
+use Rattle.pl_parked.specs.declared.call.ParkedCall.{ParkedCall}
 use Rattle.pl_parked.specs.Calls.{Calls}
-use Rattle.pl_desc.specs.Rows.{is_pid}
+use Rattle.pl_desc.specs.Rows.{at, is_pid}
 use Rattle.pl_desc.specs.Descs.{Descs}
 use Rattle.pl_kernel.specs.declared.kernel.Kernel.TheInside.{Inside}
 use Rattle.pl_kernel.specs.Held.{Held, held}
 use Rattle.pl_kernel.specs.KernelView.{view_of}
+use Rattle.pl_kernel.specs.Opens.{OpenOn}
 use Rattle.pl_kernel.specs.Sound.{IsSound, AreHeld}
 
 -- a kernel's parts, and its invariant
@@ -38,3 +41,16 @@ module _ {A : Type 0} (k : Inside A) (invariant : IsSound A (view_of k) × AreHe
   -- the descriptors are as they were
   pub still_sound : (descs : Descs) → k.descs ≡ descs → (IsSound A (held descs k.pipes.pipes k.parked k.limits)) × (AreHeld A descs k.parked.calls)
   still_sound descs same = subst (λ (d : Descs). (IsSound A (held d k.pipes.pipes k.parked k.limits)) × (AreHeld A d k.parked.calls)) same invariant
+
+-- A call is parked, and waits on a description that is open on a pipe.
+pub record CallOnPipe {A : Type 0} (k : Held A) : Type 0 where
+  pub sound : IsSound A k
+  pub number : ℕ
+  pub call : ParkedCall A
+  pub here : get nat_eq k.calls.calls number ≡ Some call
+  pub key : ℕ
+  pub kept : call.kept ≡ key ∷ []
+  pub pipe : ℕ
+  pub on : OpenOn k key pipe
+  pub held : Pipe
+  pub there : at k.pipes pipe ≡ Some held
