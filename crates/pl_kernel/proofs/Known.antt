@@ -1,0 +1,56 @@
+-- What is known of a kernel as a call of it begins.
+use Rattle.std.proofs.Common.{◌≡◌, ℕ, true, List, [], ◌∷◌, Option, Some, nat_eq, ap, subst, ◌∙◌}
+use Rattle.pl_model.specs.declared.calls.Limits.{Limits}
+use Rattle.pl_model.specs.Map.{get}
+use Rattle.pl_model.specs.State.{Pipe}
+use Rattle.pl_parked.specs.declared.call.ParkedCall.{ParkedCall}
+use Rattle.pl_parked.specs.Calls.{Calls}
+use Rattle.pl_desc.specs.Rows.{at, is_pid}
+use Rattle.pl_desc.specs.Descs.{Descs}
+use Rattle.pl_kernel.specs.declared.kernel.Kernel.TheInside.{Inside}
+use Rattle.pl_kernel.specs.Held.{Held, held}
+use Rattle.pl_kernel.specs.KernelView.{view_of}
+use Rattle.pl_kernel.specs.Opens.{OpenOn}
+use Rattle.pl_kernel.specs.Sound.{IsSound, AreHeld}
+
+-- a kernel's parts, and its invariant
+pub record Known (A : Type 0) : Type 0 where
+  pub descs : Descs
+  pub pipes : List (Option Pipe)
+  pub calls : Calls A
+  pub limits : Limits
+  pub sound : IsSound A (held descs pipes calls limits)
+  pub are : AreHeld A descs calls.calls
+
+-- a process of the kernel that is there
+pub record Caller (A : Type 0) : Type 0 where
+  pub kernel : Known A
+  pub open kernel use *
+  pub pid : ℕ
+  pub process : is_pid descs.tables pid ≡ true
+
+module _ {A : Type 0} (k : Inside A) (invariant : IsSound A (view_of k) × AreHeld A k.descs k.parked.calls) where
+  -- what a kernel's fields are
+  abbrev pub known : Known A
+  known = record { descs = k.descs; pipes = k.pipes.pipes; calls = k.parked; limits = k.limits; sound = invariant.0; are = invariant.1 }
+
+  -- and of a call's process
+  abbrev pub caller : (self : Held A) → view_of k ≡ self → (pid : ℕ) → is_pid self.tables pid ≡ true → Caller A
+  caller self is pid process = record { kernel = known; pid = pid; process = ap (λ (z : Held A). is_pid z.tables pid) is ∙ process }
+
+  -- the descriptors are as they were
+  pub still_sound : (descs : Descs) → k.descs ≡ descs → (IsSound A (held descs k.pipes.pipes k.parked k.limits)) × (AreHeld A descs k.parked.calls)
+  still_sound descs same = subst (λ (d : Descs). (IsSound A (held d k.pipes.pipes k.parked k.limits)) × (AreHeld A d k.parked.calls)) same invariant
+
+-- A call is parked, and waits on a description that is open on a pipe.
+pub record CallOnPipe {A : Type 0} (k : Held A) : Type 0 where
+  pub sound : IsSound A k
+  pub number : ℕ
+  pub call : ParkedCall A
+  pub here : get nat_eq k.calls.calls number ≡ Some call
+  pub key : ℕ
+  pub kept : call.kept ≡ key ∷ []
+  pub pipe : ℕ
+  pub on : OpenOn k key pipe
+  pub held : Pipe
+  pub there : at k.pipes pipe ≡ Some held
