@@ -1,4 +1,4 @@
-use Rattle.pl_model.proofs.Refusals.{resumed_ends, interrupted_ends}
+use Rattle.pl_model.proofs.by_call.Refusals.{resumed_ends, interrupted_ends}
 use Rattle.pl_model.proofs.laws.faults.Goals as goal
 
 pub returns : goal.returns

@@ -1,5 +1,5 @@
-use Rattle.pl_model.proofs.AfterReplies.{outcomes_tell}
-use Rattle.pl_model.proofs.Refusals.{refused-unchanged}
+use Rattle.pl_model.proofs.by_call.AfterReplies.{outcomes_tell}
+use Rattle.pl_model.proofs.by_call.Refusals.{refused-unchanged}
 use Rattle.pl_model.proofs.laws.refusals.Goals as goal
 
 pub returns-clause-step : goal.returns-clause-step

@@ -1,4 +1,4 @@
-use Rattle.pl_model.proofs.Renames.{core_step-rename, settle-rename}
+use Rattle.pl_model.proofs.renaming.Renames.{core_step-rename, settle-rename}
 use Rattle.pl_model.proofs.laws.renaming.Goals as goal
 
 pub returns-clause-step : goal.returns-clause-step

@@ -1,5 +1,5 @@
-use Rattle.pl_model.proofs.Sound.{step-settled}
-use Rattle.pl_model.proofs.InTurn.{in_turn}
+use Rattle.pl_model.proofs.settling.Sound.{step-settled}
+use Rattle.pl_model.proofs.settling.InTurn.{in_turn}
 use Rattle.pl_model.proofs.laws.settling.Goals as goal
 
 pub returns : goal.returns

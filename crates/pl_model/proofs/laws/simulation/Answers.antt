@@ -1,6 +1,6 @@
 use Rattle.std.proofs.Common.{refl}
 use Rattle.pl_model.specs.Step.{core_step}
-use Rattle.pl_model.proofs.Simulates.{came}
+use Rattle.pl_model.proofs.renaming.Simulates.{came}
 use Rattle.pl_model.proofs.laws.simulation.Goals as goal
 
 pub returns : goal.returns

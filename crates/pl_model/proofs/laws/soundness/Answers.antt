@@ -1,4 +1,4 @@
-use Rattle.pl_model.proofs.Sound.{opening-sound, step-sound, run-sound}
+use Rattle.pl_model.proofs.settling.Sound.{opening-sound, step-sound, run-sound}
 use Rattle.pl_model.proofs.laws.soundness.Goals as goal
 
 pub returns-clause-opening : goal.returns-clause-opening

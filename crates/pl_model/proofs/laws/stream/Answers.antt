@@ -1,5 +1,5 @@
-use Rattle.pl_model.proofs.StreamRuns.{stream-step, stream-run}
-use Rattle.pl_model.proofs.WholeStream.{stream_law}
+use Rattle.pl_model.proofs.streams.StreamRuns.{stream-step, stream-run}
+use Rattle.pl_model.proofs.streams.WholeStream.{stream_law}
 use Rattle.pl_model.proofs.laws.stream.Goals as goal
 
 pub returns-clause-step : goal.returns-clause-step

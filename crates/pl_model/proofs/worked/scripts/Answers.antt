@@ -1,4 +1,4 @@
-use Rattle.pl_model.proofs.Examples.{script_of_bytes_before_end_of_file, script_of_flags, empty_script, script_without_line_feed, script_of_no_process}
+use Rattle.pl_model.proofs.computed.Examples.{script_of_bytes_before_end_of_file, script_of_flags, empty_script, script_without_line_feed, script_of_no_process}
 use Rattle.pl_model.proofs.worked.scripts.Goals as goal
 
 pub returns-clause-bytes_before_end_of_file : goal.returns-clause-bytes_before_end_of_file

@@ -1,4 +1,4 @@
-use Rattle.pl_model.proofs.Examples.{interleaving_with_a_large_write, three_names_of_one_write_end, flags_of_shared_descriptions, full_table, descriptors_that_are_not_open, exit_drops_parked_calls}
+use Rattle.pl_model.proofs.computed.Examples.{interleaving_with_a_large_write, three_names_of_one_write_end, flags_of_shared_descriptions, full_table, descriptors_that_are_not_open, exit_drops_parked_calls}
 use Rattle.pl_model.proofs.worked.sharing.Goals as goal
 
 pub returns-clause-interleaving_with_a_large_write : goal.returns-clause-interleaving_with_a_large_write

@@ -1,4 +1,4 @@
-use Rattle.pl_model.proofs.Examples.{bytes_before_end_of_file, partial_and_whole_not_waiting, read_of_nothing, write_of_nothing, last_writer_closes}
+use Rattle.pl_model.proofs.computed.Examples.{bytes_before_end_of_file, partial_and_whole_not_waiting, read_of_nothing, write_of_nothing, last_writer_closes}
 use Rattle.pl_model.proofs.worked.steps.Goals as goal
 
 pub returns-clause-bytes_before_end_of_file : goal.returns-clause-bytes_before_end_of_file

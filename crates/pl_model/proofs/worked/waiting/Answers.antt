@@ -1,4 +1,4 @@
-use Rattle.pl_model.proofs.Examples.{small_write_at_its_boundary, interrupted_large_write, parked_call_keeps_its_end, last_reader_leaves, call_numbers_spent}
+use Rattle.pl_model.proofs.computed.Examples.{small_write_at_its_boundary, interrupted_large_write, parked_call_keeps_its_end, last_reader_leaves, call_numbers_spent}
 use Rattle.pl_model.proofs.worked.waiting.Goals as goal
 
 pub returns-clause-small_write_at_its_boundary : goal.returns-clause-small_write_at_its_boundary

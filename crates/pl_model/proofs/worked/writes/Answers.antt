@@ -1,4 +1,4 @@
-use Rattle.pl_model.proofs.Examples.{table_of_writes}
+use Rattle.pl_model.proofs.computed.Examples.{table_of_writes}
 use Rattle.pl_model.proofs.worked.writes.Goals as goal
 
 pub returns : goal.returns

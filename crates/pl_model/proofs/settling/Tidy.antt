@@ -16,7 +16,7 @@ use Rattle.pl_model.specs.Live.{in_use, in_rows, in_parked, pids, is_live, is_en
 use Rattle.pl_model.specs.Settle.{settle, settled_pipe, with_ends, is_kept, is_hung}
 use Rattle.pl_model.specs.Numbered.{numbers}
 use Rattle.pl_model.specs.Laws.{IsSettled}
-use Rattle.pl_model.proofs.Members.{both_ways, and_left, and_right, or_left, member_found, member_passes, some_count, is_here, member_filter_map, member_flat, any_filter, any_number, number_passes}
+use Rattle.pl_model.proofs.settling.Members.{both_ways, and_left, and_right, or_left, member_found, member_passes, some_count, is_here, member_filter_map, member_flat, any_filter, any_number, number_passes}
 
 -- a row of a process names the description
 pub record Row {A : Type 0} (c : Core A numbers) (d : ℕ) : Type 0 where

@@ -20,9 +20,9 @@ use Rattle.pl_model.specs.Begin.{make_pipe}
 use Rattle.pl_model.specs.Numbered.{numbers}
 use Rattle.pl_model.specs.StandsFor.{AreUnused}
 use Rattle.pl_model.specs.Laws.{IsSettled}
-use Rattle.pl_model.proofs.Members.{or_left}
-use Rattle.pl_model.proofs.Settles.{at_other, at_key, moved-settled}
-use Rattle.pl_model.proofs.Tidy.{Row, row_live, live_same, is_on, has_end, end_passes, SameEnds, settled_pipe-is, tidy, settled-live, settled-kept, settled-file, kept-same, settled_pipe-same}
+use Rattle.pl_model.proofs.settling.Members.{or_left}
+use Rattle.pl_model.proofs.settling.Settles.{at_other, at_key, moved-settled}
+use Rattle.pl_model.proofs.settling.Tidy.{Row, row_live, live_same, is_on, has_end, end_passes, SameEnds, settled_pipe-is, tidy, settled-live, settled-kept, settled-file, kept-same, settled_pipe-same}
 
 -- the bytes of a pipe with an end change
 module _ {A : Type 0} (c : Core A numbers) (settled : IsSettled c) (p : ℕ) (x : Pipe) (is : c.pipes p ≡ Some x) (held : is_held c (PipeNode p) ≡ true) (bytes : List ℕ) where

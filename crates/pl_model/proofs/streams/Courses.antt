@@ -16,9 +16,9 @@ use Rattle.pl_model.specs.Streams.{added, taken_out}
 use Rattle.pl_model.specs.Run.{after}
 use Rattle.pl_model.specs.Chunks.{OfCall, same_tag, tag_of, piece, of, piece_added, pieces_left, pieces_from}
 use Rattle.pl_model.specs.InOrder.{HasTaken, AreInOrder}
-use Rattle.pl_model.proofs.Maps.{differ, put_same, put_other, append_new, append_other, put_once, append_once}
-use Rattle.pl_model.proofs.Pieces.{of_none, of_left, of_other, of_empty}
-use Rattle.pl_model.proofs.Does.{Does, Quiet, Answers, Parks, Ends, Again, does}
+use Rattle.pl_model.proofs.streams.Maps.{differ, put_same, put_other, append_new, append_other, put_once, append_once}
+use Rattle.pl_model.proofs.streams.Pieces.{of_none, of_left, of_other, of_empty}
+use Rattle.pl_model.proofs.streams.Does.{Does, Quiet, Answers, Parks, Ends, Again, does}
 
 pub nothing_there : {X : Type 0} (o : Option X) → ((x : X) → o ≡ Some x → ⊥) → o ≡ None
 nothing_there None h = refl

@@ -21,11 +21,11 @@ use Rattle.pl_model.specs.Streams.{added, taken_out}
 use Rattle.pl_model.specs.Chunks.{Piece, Tag, OfCall, ForgottenAt, same_tag, tag_of, piece, unless_empty, of, piece_added, pieces_left, pieces_from}
 use Rattle.pl_model.specs.Fates.{Fate, Answered, Interrupted, Dropped, Waits, fate, ended_by, taken_by, taken_with}
 use Rattle.pl_model.specs.InOrder.{AreInOrder}
-use Rattle.pl_model.proofs.Simulates.{below_step}
-use Rattle.pl_model.proofs.Maps.{put_same, without_same}
-use Rattle.pl_model.proofs.Courses.{StepTo, step_to, step_order, step_rises, StepApart, step_apart, absent}
-use Rattle.pl_model.proofs.Pieces.{of_append, of_none, of_same, of_left}
-use Rattle.pl_model.proofs.Writes.{same_number}
+use Rattle.pl_model.proofs.renaming.Simulates.{below_step}
+use Rattle.pl_model.proofs.streams.Maps.{put_same, without_same}
+use Rattle.pl_model.proofs.streams.Courses.{StepTo, step_to, step_order, step_rises, StepApart, step_apart, absent}
+use Rattle.pl_model.proofs.streams.Pieces.{of_append, of_none, of_same, of_left}
+use Rattle.pl_model.proofs.streams.Writes.{same_number}
 
 module _ {A : Type 0} where
   -- the answer to an interrupt

@@ -18,13 +18,13 @@ use Rattle.pl_model.specs.Tables.{install, close_row, end, exit}
 use Rattle.pl_model.specs.Step.{without_call}
 use Rattle.pl_model.specs.Numbered.{numbers}
 use Rattle.pl_model.specs.Laws.{IsSettled, HasFewer, with_held_of}
-use Rattle.pl_model.proofs.Members.{or_left, or_right, or_elim, and_right, any_filter}
-use Rattle.pl_model.proofs.Tidy.{Row, row_found, row_member, live_same, end_found, end_passes, writers-is}
-use Rattle.pl_model.proofs.Settles.{same-settled, at_other, at_same}
-use Rattle.pl_model.proofs.Settled.{settled}
-use Rattle.pl_model.proofs.InTurn.{in_turn}
-use Rattle.pl_model.proofs.Changes.{same_row, installed_live}
-use Rattle.pl_model.proofs.Parking.{keeps, live-is}
+use Rattle.pl_model.proofs.settling.Members.{or_left, or_right, or_elim, and_right, any_filter}
+use Rattle.pl_model.proofs.settling.Tidy.{Row, row_found, row_member, live_same, end_found, end_passes, writers-is}
+use Rattle.pl_model.proofs.settling.Settles.{same-settled, at_other, at_same}
+use Rattle.pl_model.proofs.settling.Settled.{settled}
+use Rattle.pl_model.proofs.settling.InTurn.{in_turn}
+use Rattle.pl_model.proofs.settling.Changes.{same_row, installed_live}
+use Rattle.pl_model.proofs.settling.Parking.{keeps, live-is}
 
 any_more : {X : Type 0} (p t : X → Bool) (xs : List X) → list_any (λ x. p x && t x) xs ≡ true → list_any t xs ≡ true
 any_more p t [] h = h

@@ -22,7 +22,7 @@ use Rattle.pl_model.specs.Step.{Stepped, happen, core_step, ended}
 use Rattle.pl_model.specs.Numbered.{numbers, State, next_numbers, step_of, step}
 use Rattle.pl_model.specs.Renaming.{Renaming, Renamings, rename, rename_node, rename_description, rename_waiting, rename_flow, rename_stepped, rename_back, rename_drawing}
 use Rattle.pl_model.specs.StandsFor.{IsUnusedDescription, IsUnusedNode, IsUnusedPipe, IsUnusedFile, AreUnused, IsBelowCounters, StandsFor, Comes}
-use Rattle.pl_model.proofs.Renames.{core_step-rename}
+use Rattle.pl_model.proofs.renaming.Renames.{core_step-rename}
 
 unfoldable exchange : ℕ → ℕ → ℕ → ℕ
 exchange a b x = if nat_eq x a then b else (if nat_eq x b then a else x)

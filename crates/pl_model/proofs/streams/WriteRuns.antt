@@ -26,9 +26,9 @@ use Rattle.pl_model.specs.Chunks.{OfCall, unless_empty, of, piece_added, pieces_
 use Rattle.pl_model.specs.Fates.{Fate, Answered, Interrupted, Dropped, Waits, fate, bytes_answered, taken_with}
 use Rattle.pl_model.specs.InOrder.{AreInOrder, HasTaken}
 use Rattle.pl_model.specs.StreamLaw.{Keeps, Adds}
-use Rattle.pl_model.proofs.Writes.{WriteTry, write_try, adds_no, join_unless_empty, no_slice, same_number}
-use Rattle.pl_model.proofs.Nodes.{keeps_step}
-use Rattle.pl_model.proofs.CallRuns.{Course, TrySays, course_run, interrupt_reply}
+use Rattle.pl_model.proofs.streams.Writes.{WriteTry, write_try, adds_no, join_unless_empty, no_slice, same_number}
+use Rattle.pl_model.proofs.streams.Nodes.{keeps_step}
+use Rattle.pl_model.proofs.streams.CallRuns.{Course, TrySays, course_run, interrupt_reply}
 
 pub join_slices : (bytes : List ℕ) (a b c : ℕ) → a ≤ b → b ≤ c → slice_range bytes a b ++ slice_range bytes b c ≡ slice_range bytes a c
 join_slices bytes a b c h k =

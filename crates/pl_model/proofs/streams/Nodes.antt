@@ -13,9 +13,9 @@ use Rattle.pl_model.specs.Trial.{Flow, lost, gained, flowed}
 use Rattle.pl_model.specs.Step.{Stepped, core_step}
 use Rattle.pl_model.specs.Numbered.{numbers, State, next_numbers, step_of, step}
 use Rattle.pl_model.specs.StreamLaw.{Keeps}
-use Rattle.pl_model.proofs.Keeps as all_keep
-use Rattle.pl_model.proofs.Keeps.{Changes, node_of, step-keeps}
-use Rattle.pl_model.proofs.Maps.{differ}
+use Rattle.pl_model.proofs.by_call.Keeps as all_keep
+use Rattle.pl_model.proofs.by_call.Keeps.{Changes, node_of, step-keeps}
+use Rattle.pl_model.proofs.streams.Maps.{differ}
 
 -- the description is on the node, if it is there
 abbrev pub IsOn : {A : Type 0} → ℕ → Node numbers → Core A numbers → Type 0

@@ -13,7 +13,7 @@ use Rattle.pl_model.specs.Numbered.{State, step}
 use Rattle.pl_model.specs.Run.{after}
 use Rattle.pl_model.specs.Streams.{added, taken_out, forgot, added_by, left_by}
 use Rattle.pl_model.specs.Chunks.{Piece, Tag, AtPlace, ForgottenAt, same_tag, tag_answered, tag_of, piece, unless_empty, of, joined, piece_added, pieces_left, pieces_from}
-use Rattle.pl_model.proofs.Maps.{differ}
+use Rattle.pl_model.proofs.streams.Maps.{differ}
 
 pub of_append : (t : Tag) (a b : List Piece) → of t (a ++ b) ≡ of t a ++ of t b
 of_append t a b =

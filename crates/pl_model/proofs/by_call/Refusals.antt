@@ -25,7 +25,7 @@ use Rattle.pl_model.specs.Step.{Stepped, with_kept, try, begin, begun, happen, c
 use Rattle.pl_model.specs.Numbered.{numbers, State, After, next_numbers, step_of, step}
 use Rattle.pl_model.specs.Refused.{is_refused, with_call_ended}
 use Rattle.pl_model.specs.Laws.{IsSettled}
-use Rattle.pl_model.proofs.Ways.{LeadsTo, Refusable, ways, trial_if}
+use Rattle.pl_model.proofs.by_call.Ways.{LeadsTo, Refusable, ways, trial_if}
 
 module _ {A : Type 0} where
   begin-refused : (pid : ℕ) (call : Call A) (reply : Reply A) → is_refused (Begin pid call) reply ≡ is_refusal reply

@@ -11,9 +11,9 @@ use Rattle.pl_model.specs.Step.{Stepped, happen, core_step, ended}
 use Rattle.pl_model.specs.Numbered.{numbers, State, opening, next_numbers, step_of, step}
 use Rattle.pl_model.specs.Run.{after}
 use Rattle.pl_model.specs.Laws.{IsSettled, IsSound}
-use Rattle.pl_model.proofs.Settled.{settled}
-use Rattle.pl_model.proofs.Simulates.{below_step}
-use Rattle.pl_model.proofs.StreamRuns.{opening_below}
+use Rattle.pl_model.proofs.settling.Settled.{settled}
+use Rattle.pl_model.proofs.renaming.Simulates.{below_step}
+use Rattle.pl_model.proofs.streams.StreamRuns.{opening_below}
 
 module _ {A : Type 0} where
   settled_after : (s : State A) (d : Drawing numbers (Stepped A numbers)) → IsSettled (step_of s (drawing_map (ended s.core) d)).state.core

@@ -13,9 +13,9 @@ use Rattle.pl_model.specs.Refused.{is_refused, after_reply, after_outcomes}
 use Rattle.pl_model.specs.Renaming.{rename}
 use Rattle.pl_model.specs.StandsFor.{StandsFor}
 use Rattle.pl_model.specs.Laws.{IsSettled}
-use Rattle.pl_model.proofs.Renames.{settle-rename}
-use Rattle.pl_model.proofs.Refusals.{refused-unchanged, resumed_ends, interrupted_ends}
-use Rattle.pl_model.proofs.Sound.{step-settled}
+use Rattle.pl_model.proofs.renaming.Renames.{settle-rename}
+use Rattle.pl_model.proofs.by_call.Refusals.{refused-unchanged, resumed_ends, interrupted_ends}
+use Rattle.pl_model.proofs.settling.Sound.{step-settled}
 
 -- What is settled under keys stands for what is settled.
 pub stands_settled : {A : Type 0} (c : Core A numbers) (s : State A) → StandsFor c s → IsSettled c → IsSettled s.core

@@ -22,10 +22,10 @@ use Rattle.pl_model.specs.Step.{Stepped, try, with_kept, kept_at, begin, begun, 
 use Rattle.pl_model.specs.Numbered.{numbers}
 use Rattle.pl_model.specs.Chunks.{OfCall, AtPlace, tag_answered, tag_of}
 use Rattle.pl_model.specs.InOrder.{HasTaken, AreInOrder}
-use Rattle.pl_model.proofs.Ways.{BegunAll, LeadsTo, TrialAll}
-use Rattle.pl_model.proofs.Keeps.{Changes, begin-keeps, try-keeps}
-use Rattle.pl_model.proofs.Maps.{filter_from, filter_once}
-use Rattle.pl_model.proofs.Writes.{CaseSays, case_says, says_parked}
+use Rattle.pl_model.proofs.by_call.Ways.{BegunAll, LeadsTo, TrialAll}
+use Rattle.pl_model.proofs.by_call.Keeps.{Changes, begin-keeps, try-keeps}
+use Rattle.pl_model.proofs.streams.Maps.{filter_from, filter_once}
+use Rattle.pl_model.proofs.streams.Writes.{CaseSays, case_says, says_parked}
 
 module _ {A : Type 0} where
   -- the parked calls are among those of before

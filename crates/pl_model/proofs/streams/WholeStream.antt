@@ -11,11 +11,11 @@ use Rattle.pl_model.specs.Stream.{held}
 use Rattle.pl_model.specs.Fates.{bytes_answered}
 use Rattle.pl_model.specs.InOrder.{HasTaken, AreInOrder}
 use Rattle.pl_model.specs.StreamLaw.{StreamLaw, Adds, may_wait}
-use Rattle.pl_model.proofs.StreamRuns.{stream-run}
-use Rattle.pl_model.proofs.Pieces.{joined_chunks, joined_outs}
-use Rattle.pl_model.proofs.Courses.{run_order}
-use Rattle.pl_model.proofs.WriteRuns.{write_run, read_run}
-use Rattle.pl_model.proofs.BegunRuns.{run_below, in_whole, begun_write, begun_read}
+use Rattle.pl_model.proofs.streams.StreamRuns.{stream-run}
+use Rattle.pl_model.proofs.streams.Pieces.{joined_chunks, joined_outs}
+use Rattle.pl_model.proofs.streams.Courses.{run_order}
+use Rattle.pl_model.proofs.streams.WriteRuns.{write_run, read_run}
+use Rattle.pl_model.proofs.streams.BegunRuns.{run_below, in_whole, begun_write, begun_read}
 
 pub stream_law : {A : Type 0} (s : State A) (xs : List (Step A × Bool)) → IsBelowCounters s → AreInOrder s.core → StreamLaw s xs
 stream_law s xs below order =

@@ -28,16 +28,16 @@ use Rattle.pl_model.specs.Chunks.{Piece, Tag, OfCall, AtPlace, ForgottenAt, same
 use Rattle.pl_model.specs.Fates.{Fate, Answered, answers_count, fate, fate_answered, fate_begun, bytes_answered, taken_with}
 use Rattle.pl_model.specs.InOrder.{AreInOrder}
 use Rattle.pl_model.specs.StreamLaw.{Keeps, Adds, may_wait}
-use Rattle.pl_model.proofs.Simulates.{below_step}
-use Rattle.pl_model.proofs.Ways.{TrialAll}
-use Rattle.pl_model.proofs.Keeps.{try-keeps, node_of, open_node}
-use Rattle.pl_model.proofs.Maps.{append_new}
-use Rattle.pl_model.proofs.Writes.{no_slice, WriteTry, write_try, adds_no, says_parked, same_number}
-use Rattle.pl_model.proofs.Does.{Among, TrialFine, try_fine, at_its_place, among_same, among_changes, among_flowed}
-use Rattle.pl_model.proofs.Courses.{StepTo, step_to, step_order, run_rises, absent, nothing_there}
-use Rattle.pl_model.proofs.Pieces.{of_append, pieces_append, other_places, added_apart, left_apart}
-use Rattle.pl_model.proofs.CallRuns.{Course, course_run, own_added, own_left, own_first}
-use Rattle.pl_model.proofs.WriteRuns.{adds_more, IsWrite, WriteSays, write_course, IsRead, ReadSays, ReadTry, read_try, read_course}
+use Rattle.pl_model.proofs.renaming.Simulates.{below_step}
+use Rattle.pl_model.proofs.by_call.Ways.{TrialAll}
+use Rattle.pl_model.proofs.by_call.Keeps.{try-keeps, node_of, open_node}
+use Rattle.pl_model.proofs.streams.Maps.{append_new}
+use Rattle.pl_model.proofs.streams.Writes.{no_slice, WriteTry, write_try, adds_no, says_parked, same_number}
+use Rattle.pl_model.proofs.streams.Does.{Among, TrialFine, try_fine, at_its_place, among_same, among_changes, among_flowed}
+use Rattle.pl_model.proofs.streams.Courses.{StepTo, step_to, step_order, run_rises, absent, nothing_there}
+use Rattle.pl_model.proofs.streams.Pieces.{of_append, pieces_append, other_places, added_apart, left_apart}
+use Rattle.pl_model.proofs.streams.CallRuns.{Course, course_run, own_added, own_left, own_first}
+use Rattle.pl_model.proofs.streams.WriteRuns.{adds_more, IsWrite, WriteSays, write_course, IsRead, ReadSays, ReadTry, read_try, read_course}
 
 -- what was found open is there
 opened : (test : Mode → Bool) (o : Option (Open numbers)) (f : Open numbers) → allowed test o ≡ Some f → o ≡ Some f

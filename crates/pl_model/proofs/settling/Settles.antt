@@ -15,7 +15,7 @@ use Rattle.pl_model.specs.Live.{in_rows, in_parked, pids, is_live, is_held, read
 use Rattle.pl_model.specs.Settle.{settle, settled_pipe, is_kept, is_hung, had_writer, with_ends, hangs}
 use Rattle.pl_model.specs.Numbered.{numbers}
 use Rattle.pl_model.specs.Laws.{IsSettled}
-use Rattle.pl_model.proofs.Tidy.{is_on, has_end, SameEnds, has_end-same, settled_pipe-is, settles_to, tidy, settled-live, settled-kept, settled-file, kept-same, settled_pipe-same}
+use Rattle.pl_model.proofs.settling.Tidy.{is_on, has_end, SameEnds, has_end-same, settled_pipe-is, settles_to, tidy, settled-live, settled-kept, settled-file, kept-same, settled_pipe-same}
 
 -- what a map has at another key, and at the key
 pub at_other : {X : Type 0} (m : ℕ → X) (k q : ℕ) (x : X) → k ≢ q → set_at nat_eq m k x q ≡ m q

@@ -1,0 +1,6 @@
+-- Examples, computed from the definitions.
+
+-- The small examples, each computed from the definitions.
+pub mod Examples
+-- The pieces of small runs, computed from the definitions.
+pub mod PieceExamples
