@@ -1,0 +1,16 @@
+-- Who holds what, and what goes with the last hold.
+
+-- Who holds a description, and that it is live exactly where something does.
+pub mod Holding
+-- The descriptions that are open on pipes, and the ends that the machine counts.
+pub mod Ends
+-- That descriptions are on pipes that are there, through each change.
+pub mod OnPipes
+-- A kernel that holds the same descriptions as before has the same of them live.
+pub mod Staying
+-- What is left of a pipe, from the flags that the kernel read.
+pub mod Hung
+-- What settling makes of the kernel as a description is live no more.
+pub mod Gone
+-- A hold of a description is given up, at the kernel's keys.
+pub mod GivenUp
