@@ -1,4 +1,6 @@
 //! The descriptions that are open, and the processes whose descriptors name them.
+mod described;
+
 ghost use Rattle.std.specs.Prelude.{◌≡◌, ℕ, ◌+◌, ◌-◌, ◌<◌, ◌≤◌, ◌^◌, ◌↔◌, [], length, IsTrue, IsOk, IfOk, OnErr, OnOk, IsSome, IfSome, OnSome, IfNone, Some, None, true, false, nat_eq, option_map, option_and_then, if◌then◌else◌};
 ghost use Rattle.std.specs.Option.{option_copied};
 ghost use Rattle.pl_model.specs.Numbers.{open_max, most_processes, most_descriptions};
@@ -336,68 +338,6 @@ impl<A: Allocator + Copy> Descs<A> {
         ensures { result ≡ ends_on writes self.now.opened node }
     {
         self.counts.at(node).writers
-    }
-
-    /// What a description is open on.
-    pub fn node(&self, key: usize) -> Node
-        requires { IsSome (at self.now.opened key) }
-        ensures { option_map (λ o. o.node) (at self.now.opened key) ≡ Some result }
-    {
-        self.descriptions[key].node
-    }
-
-    /// What a description is open for.
-    pub fn mode(&self, key: usize) -> Mode
-        requires { IsSome (at self.now.opened key) }
-        ensures { option_map (λ o. o.mode) (at self.now.opened key) ≡ Some result }
-    {
-        self.descriptions[key].mode
-    }
-
-    /// The status flags of a description.
-    pub fn flags(&self, key: usize) -> OpenFlags
-        requires { IsSome (at self.now.opened key) }
-        ensures { option_map (λ o. o.flags) (at self.now.opened key) ≡ Some result }
-    {
-        self.descriptions[key].flags
-    }
-
-    /// The offset of a description, in bytes.
-    pub fn offset(&self, key: usize) -> u64
-        requires { IsSome (at self.now.opened key) }
-        ensures { option_map (λ o. o.offset) (at self.now.opened key) ≡ Some result }
-    {
-        self.descriptions[key].offset
-    }
-
-    /// Sets the status flags of a description, which all descriptors that name it share (POSIX.1-2017, fcntl). It takes no
-    /// memory.
-    pub fn set_flags(&mut self, key: usize, flags: OpenFlags)
-        requires { IsSome (at self.old.opened key) }
-        ensures opened { at self.new.opened ≡ change_at key (λ o. record o { flags = flags }) (at self.old.opened) }
-        ensures live { live_count self.new.opened ≡ live_count self.old.opened }
-        ensures readers { ends_on reads self.new.opened ≡ ends_on reads self.old.opened }
-        ensures writers { ends_on writes self.new.opened ≡ ends_on writes self.old.opened }
-        ensures rest { self.new ≡ record self.old { opened = self.new.opened } }
-        ensures tidy { IsTidy self.new }
-    {
-        let description = &mut self.descriptions[key];
-        description.flags = flags;
-    }
-
-    /// Sets the offset of a description, in bytes, which all descriptors that name it share (POSIX.1-2017, lseek). It takes
-    /// no memory.
-    pub fn set_offset(&mut self, key: usize, offset: u64)
-        requires { IsSome (at self.old.opened key) }
-        ensures opened { at self.new.opened ≡ change_at key (λ o. record o { offset = offset }) (at self.old.opened) }
-        ensures live { live_count self.new.opened ≡ live_count self.old.opened }
-        ensures readers { ends_on reads self.new.opened ≡ ends_on reads self.old.opened }
-        ensures writers { ends_on writes self.new.opened ≡ ends_on writes self.old.opened }
-        ensures rest { self.new ≡ record self.old { opened = self.new.opened } }
-        ensures tidy { IsTidy self.new }
-    {
-        let description = &mut self.descriptions[key];
-        description.offset = offset;
     }
 
     // The table of a process.
