@@ -33,7 +33,8 @@ pub const NEW_KERNEL: Session = Session {
 };
 
 /// Makes each session on a kernel of its own, within the limits but for its first call. It fails at the first row that isn't
-/// answered as it says, whose session it names, and at a session without rows.
+/// answered as it says, which it names with its session, at a session without rows, and where there is no memory for the bytes
+/// of a row.
 pub fn each_answers(alloc: Global, limits: Limits, sessions: &[Session]) -> Result<(), Fail>
     requires { limits.file_max ≤ most_file_bytes }
 {
