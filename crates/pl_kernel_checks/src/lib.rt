@@ -8,4 +8,6 @@ mod first_use;
 #[cfg(test)]
 mod refusals;
 #[cfg(test)]
+mod sessions;
+#[cfg(test)]
 mod transfers;

@@ -48,20 +48,23 @@ fn a_key_past_all_memory(rt: HostRuntime) -> Result<(), Fail> {
     Ok(())
 }
 
+/// The requests for memory that a start makes, or an open: each is refused in turn.
+const REQUESTS: &[u64] = &[1, 2];
+
 #[test]
 fn a_want_of_memory_changes_nothing(rt: HostRuntime) -> Result<(), Fail> {
     let heap = Refusing::new(rt.alloc());
     let mut descs = Descs::new(&heap);
-    for request in [1, 2] {
-        heap.refuse(request);
+    for request in REQUESTS {
+        heap.refuse(*request);
         assert_eq!(rt; descs.start(), Err(StartFault::NoMemory));
         assert!(rt; heap.refused());
         assert!(rt; !descs.has(1));
     }
     heap.refuse(0);
     assert_eq!(rt; descs.start(), Ok(1));
-    for request in [1, 2] {
-        heap.refuse(request);
+    for request in REQUESTS {
+        heap.refuse(*request);
         assert_eq!(rt;
             descs.open_desc(Node::Pipe(0), Mode::Read, OpenFlags::NONBLOCK),
             Err(OpenFault::NoMemory)

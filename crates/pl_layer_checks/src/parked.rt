@@ -8,12 +8,17 @@ use std::test::Fail;
 /// The greatest number that a call gets.
 const LAST: u64 = 18_446_744_073_709_551_614;
 
+/// The keys of the description that a read waits on, and of the one that a write waits on.
+const READ_KEPT: &[usize] = &[3];
+
+const WRITE_KEPT: &[usize] = &[4];
+
 /// A read of `n` bytes that waits on one description.
 fn read<A: Allocator>(alloc: A, pid: u32, n: u32) -> Result<ParkedCall<A>, Fail> {
     Ok(ParkedCall {
         pid,
         call: Call::Read { fd: 0, n },
-        kept: KeyList::from_vec(Vec::from_slice(alloc, &[3])?),
+        kept: KeyList::from_vec(Vec::from_slice(alloc, READ_KEPT)?),
         fifo: None,
         taken: 0,
         met: false,
@@ -26,7 +31,7 @@ fn write(alloc: Global, pid: u32, taken: u32) -> Result<ParkedCall, Fail> {
     Ok(ParkedCall {
         pid,
         call: Call::Write { fd: 1, bytes },
-        kept: KeyList::from_vec(Vec::from_slice(alloc, &[4])?),
+        kept: KeyList::from_vec(Vec::from_slice(alloc, WRITE_KEPT)?),
         fifo: None,
         taken,
         met: false,
@@ -67,6 +72,8 @@ fn no_number_at_all(rt: HostRuntime) -> Result<(), Fail> {
     Ok(())
 }
 
+const TAKEN: &[u64] = &[7, 5, 9, 6];
+
 #[test]
 fn calls_are_taken_in_any_order(rt: HostRuntime) -> Result<(), Fail> {
     let alloc = rt.alloc();
@@ -76,7 +83,8 @@ fn calls_are_taken_in_any_order(rt: HostRuntime) -> Result<(), Fail> {
         assert_eq!(rt; parked.next_number(), number);
         assert_eq!(rt; parked.park(call), Ok(number));
     }
-    for number in [7u64, 5, 9, 6] {
+    for number in TAKEN {
+        let number = *number;
         let call = read(alloc, 1, number as u32)?;
         assert_eq!(rt; parked.get(number), Some(&call));
         assert_eq!(rt; parked.take(number), Some(call));
@@ -102,13 +110,15 @@ fn a_call_that_is_taken_back_gives_up_its_number(rt: HostRuntime) -> Result<(), 
     Ok(())
 }
 
+const PIDS: &[u32] = &[2, 1, 2, 1];
+
 #[test]
 fn the_calls_of_a_process_come_in_order(rt: HostRuntime) -> Result<(), Fail> {
     let alloc = rt.alloc();
     let mut parked = Parked::new(alloc, 1);
     assert_eq!(rt; parked.next_of_process(1), None);
-    for pid in [2u32, 1, 2, 1] {
-        assert!(rt; parked.park(read(alloc, pid, 10)?).is_ok());
+    for pid in PIDS {
+        assert!(rt; parked.park(read(alloc, *pid, 10)?).is_ok());
     }
     assert_eq!(rt; parked.next_of_process(1), Some(2));
     assert_eq!(rt; parked.next_of_process(2), Some(1));

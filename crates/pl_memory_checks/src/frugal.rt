@@ -12,138 +12,156 @@ use pl_testing::asked::Want::{
 };
 use pl_testing::asked::{NEVER_GIVEN, outcome_of};
 use pl_testing::refusing::Refusing;
+use pl_testing::sessions::{NEW_KERNEL, Session};
 use pl_testing::wanting::{moved, steps_of, takes_no_memory};
 use std::alloc::Global;
 use std::process::Abort;
 use std::test::Fail;
 
-/// The steps come to this where the calls are numbered from `first_call`, and those that are to take no memory ask for
-/// none.
-fn some_take_no_memory(
-    rt: &impl Abort,
-    alloc: Global,
-    first_call: u64,
-    rows: &[(Ask, Want)],
-) -> Result<(), Fail> {
+const APPEND: &[OpenFlags] = &[OpenFlags::APPEND];
+
+/// Steps of which some are to take no memory.
+const SESSIONS: &[Session] = &[
+    // A refused step, a close and an interrupt answer as ever where no memory can be had, and ask for none.
+    Session {
+        name: "refusals_without_numbers",
+        first_call: NEVER_GIVEN,
+        rows: &[
+            (Pipe(1), NoProcess),
+            (Start, Pid(1)),
+            (Write(2, 1, Text("a")), NoProcess),
+            (Pipe(1), Fds(0, 1)),
+            (PipeNonblock(1), Fds(2, 3)),
+            (Read(1, 1, 1), Fault(Errno::EBADF)),
+            (Write(1, 0, Text("a")), Fault(Errno::EBADF)),
+            (Close(1, 4), Fault(Errno::EBADF)),
+            (Read(1, 0, 1), CallsSpent),
+            (Read(1, 2, 1), Fault(Errno::EAGAIN)),
+            (Write(1, 1, Many(b'a', 65_536)), Count(65_536)),
+            (Write(1, 1, Text("b")), CallsSpent),
+            (Write(1, 1, Many(b'b', 70_000)), CallsSpent),
+            (Resume(1), NoCall),
+            (Interrupt(1), NoCall),
+            (Close(1, 2), Unit),
+            (Write(1, 3, Text("a")), Fault(Errno::EPIPE)),
+            (Close(1, 1), Unit),
+            (Close(1, 0), Unit),
+            (Close(1, 0), Fault(Errno::EBADF)),
+        ],
+        ..NEW_KERNEL
+    },
+    Session {
+        name: "refusals_with_calls",
+        rows: &[
+            (Start, Pid(1)),
+            (Pipe(1), Fds(0, 1)),
+            (Pipe(1), Fds(2, 3)),
+            (Read(1, 0, 1), Parked(1)),
+            (Write(1, 3, Many(b'a', 70_000)), Parked(2)),
+            (Write(1, 3, Text("b")), Parked(3)),
+            (Write(1, 3, Many(b'b', 70_000)), Parked(4)),
+            (Resume(5), NoCall),
+            (Interrupt(5), NoCall),
+            (Close(1, 0), Unit),
+            (Interrupt(1), Fault(Errno::EINTR)),
+            (Resume(1), NoCall),
+            (Write(1, 1, Text("a")), Fault(Errno::EPIPE)),
+            (Close(1, 2), Unit),
+            (Resume(3), Fault(Errno::EPIPE)),
+            (Interrupt(2), Count(65_536)),
+            (Resume(4), Fault(Errno::EPIPE)),
+            (Interrupt(4), NoCall),
+        ],
+        ..NEW_KERNEL
+    },
+    // A call that names, closes or tells of descriptors, and an exit, answer where no memory can be had, and ask for none:
+    // also where a pipe goes with its bytes, or a process with its calls.
+    Session {
+        name: "calls_on_descriptors",
+        rows: &[
+            (Fork(1), NoProcess),
+            (Exit(1), NoProcess),
+            (Start, Pid(1)),
+            (Pipe(1), Fds(0, 1)),
+            (Pipe(1), Fds(2, 3)),
+            (Write(1, 3, Text("ab")), Count(2)),
+            (Dup(1, 0), Fd(4)),
+            (DupFd(1, 1, 255), Fd(255)),
+            (DupFd(1, 1, 255), Fault(Errno::EMFILE)),
+            (DupFd(1, 1, 256), Fault(Errno::EINVAL)),
+            (Dup(1, 5), Fault(Errno::EBADF)),
+            (Dup2(1, 0, 256), Fault(Errno::EBADF)),
+            (SetFl(1, 4, APPEND), Unit),
+            (GetFl(1, 0), Flags(Mode::Read, APPEND)),
+            (GetFl(1, 5), Fault(Errno::EBADF)),
+            (SetFl(1, 5, APPEND), Fault(Errno::EBADF)),
+            (Dup2(1, 0, 0), Fd(0)),
+            (Dup2(1, 0, 4), Fd(4)),
+            (Fork(1), Pid(2)),
+            (Read(1, 0, 1), Parked(1)),
+            (Read(2, 4, 1), Parked(2)),
+            (Write(2, 1, Many(b'a', 70_000)), Parked(3)),
+            // the two ends of the pipe that holds "ab"
+            (Close(2, 2), Unit),
+            (Close(2, 3), Unit),
+            (Dup2(1, 0, 2), Fd(2)),
+            (Dup2(1, 1, 3), Fd(3)),
+            (Exit(2), Unit),
+            (Interrupt(2), NoCall),
+            (Interrupt(3), NoCall),
+            (Exit(1), Unit),
+            (Resume(1), NoCall),
+            (Dup(1, 0), NoProcess),
+        ],
+        ..NEW_KERNEL
+    },
+];
+
+/// The steps of the session come to what its rows say, and those that are to take no memory ask for none.
+fn some_take_no_memory(rt: &impl Abort, alloc: Global, session: &Session) -> Result<(), Fail> {
     let heap = Refusing::new(alloc);
-    let steps = steps_of(&heap, rows)?;
-    let mut kernel = Kernel::new(
-        &heap,
-        Limits {
-            first_call,
-            ..LIMITS
-        },
-    );
-    for (step, (ask, want)) in steps.into_iter().zip(rows) {
+    let steps = steps_of(&heap, session.rows)?;
+    let limits = Limits {
+        first_call: session.first_call,
+        ..LIMITS
+    };
+    let mut kernel = Kernel::new(&heap, limits);
+    for (step, (ask, want)) in steps.into_iter().zip(session.rows) {
         let is_frugal = takes_no_memory(*ask, *want);
         heap.refuse(if is_frugal { 1 } else { 0 });
         assert_eq!(rt;
             moved(alloc, outcome_of(kernel.step(step)))?,
             want.outcome(alloc)?,
-            "{ask:?}"
+            "{ask:?} of {}",
+            session.name
         );
         assert!(rt;
             !is_frugal || heap.requests() == 0,
-            "{ask:?} asks for memory"
+            "{ask:?} of {} asks for memory",
+            session.name
         );
     }
     Ok(())
 }
 
-/// A refused step, a close and an interrupt answer as ever where no memory can be had, and ask for none.
 #[test]
-fn refusals_take_no_memory(rt: HostRuntime) -> Result<(), Fail> {
-    const WITHOUT_NUMBERS: &[(Ask, Want)] = &[
-        (Pipe(1), NoProcess),
-        (Start, Pid(1)),
-        (Write(2, 1, Text("a")), NoProcess),
-        (Pipe(1), Fds(0, 1)),
-        (PipeNonblock(1), Fds(2, 3)),
-        (Read(1, 1, 1), Fault(Errno::EBADF)),
-        (Write(1, 0, Text("a")), Fault(Errno::EBADF)),
-        (Close(1, 4), Fault(Errno::EBADF)),
-        (Read(1, 0, 1), CallsSpent),
-        (Read(1, 2, 1), Fault(Errno::EAGAIN)),
-        (Write(1, 1, Many(b'a', 65_536)), Count(65_536)),
-        (Write(1, 1, Text("b")), CallsSpent),
-        (Write(1, 1, Many(b'b', 70_000)), CallsSpent),
-        (Resume(1), NoCall),
-        (Interrupt(1), NoCall),
-        (Close(1, 2), Unit),
-        (Write(1, 3, Text("a")), Fault(Errno::EPIPE)),
-        (Close(1, 1), Unit),
-        (Close(1, 0), Unit),
-        (Close(1, 0), Fault(Errno::EBADF)),
-    ];
-    const WITH_CALLS: &[(Ask, Want)] = &[
-        (Start, Pid(1)),
-        (Pipe(1), Fds(0, 1)),
-        (Pipe(1), Fds(2, 3)),
-        (Read(1, 0, 1), Parked(1)),
-        (Write(1, 3, Many(b'a', 70_000)), Parked(2)),
-        (Write(1, 3, Text("b")), Parked(3)),
-        (Write(1, 3, Many(b'b', 70_000)), Parked(4)),
-        (Resume(5), NoCall),
-        (Interrupt(5), NoCall),
-        (Close(1, 0), Unit),
-        (Interrupt(1), Fault(Errno::EINTR)),
-        (Resume(1), NoCall),
-        (Write(1, 1, Text("a")), Fault(Errno::EPIPE)),
-        (Close(1, 2), Unit),
-        (Resume(3), Fault(Errno::EPIPE)),
-        (Interrupt(2), Count(65_536)),
-        (Resume(4), Fault(Errno::EPIPE)),
-        (Interrupt(4), NoCall),
-    ];
-    some_take_no_memory(&rt, rt.alloc(), NEVER_GIVEN, WITHOUT_NUMBERS)?;
-    some_take_no_memory(&rt, rt.alloc(), 1, WITH_CALLS)
+fn each_session_takes_no_memory(rt: HostRuntime) -> Result<(), Fail> {
+    for session in SESSIONS {
+        some_take_no_memory(&rt, rt.alloc(), session)?;
+    }
+    Ok(())
 }
 
-/// A call that names, closes or tells of descriptors, and an exit, answer where no memory can be had, and ask for none: also
-/// where a pipe goes with its bytes, or a process with its calls.
-#[test]
-fn calls_on_descriptors_take_no_memory(rt: HostRuntime) -> Result<(), Fail> {
-    const APPEND: &[OpenFlags] = &[OpenFlags::APPEND];
-    const ROWS: &[(Ask, Want)] = &[
-        (Fork(1), NoProcess),
-        (Exit(1), NoProcess),
-        (Start, Pid(1)),
-        (Pipe(1), Fds(0, 1)),
-        (Pipe(1), Fds(2, 3)),
-        (Write(1, 3, Text("ab")), Count(2)),
-        (Dup(1, 0), Fd(4)),
-        (DupFd(1, 1, 255), Fd(255)),
-        (DupFd(1, 1, 255), Fault(Errno::EMFILE)),
-        (DupFd(1, 1, 256), Fault(Errno::EINVAL)),
-        (Dup(1, 5), Fault(Errno::EBADF)),
-        (Dup2(1, 0, 256), Fault(Errno::EBADF)),
-        (SetFl(1, 4, APPEND), Unit),
-        (GetFl(1, 0), Flags(Mode::Read, APPEND)),
-        (GetFl(1, 5), Fault(Errno::EBADF)),
-        (SetFl(1, 5, APPEND), Fault(Errno::EBADF)),
-        (Dup2(1, 0, 0), Fd(0)),
-        (Dup2(1, 0, 4), Fd(4)),
-        (Fork(1), Pid(2)),
-        (Read(1, 0, 1), Parked(1)),
-        (Read(2, 4, 1), Parked(2)),
-        (Write(2, 1, Many(b'a', 70_000)), Parked(3)),
-        // the two ends of the pipe that holds "ab"
-        (Close(2, 2), Unit),
-        (Close(2, 3), Unit),
-        (Dup2(1, 0, 2), Fd(2)),
-        (Dup2(1, 1, 3), Fd(3)),
-        (Exit(2), Unit),
-        (Interrupt(2), NoCall),
-        (Interrupt(3), NoCall),
-        (Exit(1), Unit),
-        (Resume(1), NoCall),
-        (Dup(1, 0), NoProcess),
-    ];
-    some_take_no_memory(&rt, rt.alloc(), 1, ROWS)
-}
+/// The process, the descriptors and the descriptions for which there is no place.
+const NO_PLACE: &[(Ask, Want)] = &[
+    (Start, Fault(Errno::EAGAIN)),
+    (Fork(1), Fault(Errno::EAGAIN)),
+    (Pipe(1), Fault(Errno::EMFILE)),
+    (Dup(1, 0), Fault(Errno::EMFILE)),
+    (Pipe(17), Fault(Errno::ENFILE)),
+];
 
-/// The process, the descriptors and the descriptions for which there is no place are refused as ever where no memory can
-/// be had.
+/// They are refused as ever where no memory can be had.
 #[test]
 fn full_tables_take_no_memory(rt: HostRuntime) -> Result<(), Fail> {
     let alloc = rt.alloc();
@@ -164,19 +182,9 @@ fn full_tables_take_no_memory(rt: HostRuntime) -> Result<(), Fail> {
         }
     }
     heap.refuse(1);
-    for (ask, errno) in [
-        (Start, Errno::EAGAIN),
-        (Fork(1), Errno::EAGAIN),
-        (Pipe(1), Errno::EMFILE),
-        (Dup(1, 0), Errno::EMFILE),
-        (Pipe(17), Errno::ENFILE),
-    ] {
+    for (ask, want) in NO_PLACE {
         let outcome = outcome_of(kernel.step(ask.step(&heap)?));
-        assert_eq!(rt;
-            moved(alloc, outcome)?,
-            Fault(errno).outcome(alloc)?,
-            "{ask:?}"
-        );
+        assert_eq!(rt; moved(alloc, outcome)?, want.outcome(alloc)?, "{ask:?}");
     }
     assert_eq!(rt; heap.requests(), 0);
     Ok(())

@@ -33,6 +33,16 @@ const A: Want = Bytes(Text("a"));
 
 const B: Want = Bytes(Text("b"));
 
+/// Steps that are made where one of them finds no memory.
+#[derive(Clone, Copy, Debug)]
+struct Steps {
+    /// What a failure calls them.
+    name: &'static str,
+    rows: &'static [(Ask, Want)],
+    /// The place of each step that takes memory, with what the steps behind it come to where it finds none.
+    behind: &'static [(usize, &'static [Want])],
+}
+
 /// What the steps come to where the `n`th request for memory is refused.
 fn outcomes_without(
     alloc: Global,
@@ -53,12 +63,8 @@ fn outcomes_without(
 
 /// Refuses each request for memory of the steps in turn. Up to a step that finds none the steps come to what the rows say;
 /// from there on, to what `behind` says beside the step's place. Each of these places is met, and no other.
-fn each_is_passed_over(
-    rt: &impl Abort,
-    alloc: Global,
-    rows: &[(Ask, Want)],
-    behind: &[(usize, &[Want])],
-) -> Result<(), Fail> {
+fn each_is_passed_over(rt: &impl Abort, alloc: Global, steps: &Steps) -> Result<(), Fail> {
+    let (name, rows, behind) = (steps.name, steps.rows, steps.behind);
     let heap = Refusing::new(alloc);
     let mut are_met = Vec::from_elem(alloc, false, behind.len())?;
     for n in 1..MOST_REQUESTS {
@@ -82,13 +88,13 @@ fn each_is_passed_over(
         assert_eq!(rt;
             wanted.len(),
             rows.len(),
-            "what is wanted where step {passed:?} finds no memory, and request {n} is refused"
+            "what is wanted of {name} where step {passed:?} finds no memory, and request {n} is refused"
         );
         for (outcome, (wanted, (ask, _))) in outcomes.iter().zip(wanted.iter().zip(rows)) {
             assert_eq!(rt;
                 outcome,
                 wanted,
-                "{ask:?}, where step {passed:?} finds no memory, and request {n} is refused"
+                "{ask:?} of {name}, where step {passed:?} finds no memory, and request {n} is refused"
             );
         }
         if !heap.refused() {
@@ -97,241 +103,243 @@ fn each_is_passed_over(
     }
     assert!(rt;
         heap.requests() > 0 && !heap.refused(),
-        "the steps make {} requests",
+        "the steps of {name} make {} requests",
         heap.requests()
     );
     for ((place, _), is_met) in behind.iter().zip(are_met.iter()) {
-        assert!(rt; *is_met, "step {place} always finds memory");
+        assert!(rt; *is_met, "step {place} of {name} always finds memory");
     }
     Ok(())
 }
 
-#[test]
-fn a_small_write_at_its_boundary(rt: HostRuntime) -> Result<(), Fail> {
-    const BEHIND: &[(usize, &[Want])] = &[
-        (
-            0,
-            &[
-                NoProcess, NoProcess, NoProcess, NoProcess, NoCall, NoProcess, NoCall, NoProcess,
-                NoProcess, NoCall, NoCall,
-            ],
-        ),
-        (
-            1,
-            &[
-                NOT_OPEN, NOT_OPEN, NOT_OPEN, NoCall, NOT_OPEN, NoCall, NOT_OPEN, NOT_OPEN, NoCall,
-                NoCall,
-            ],
-        ),
-        // Without the 62,536 bytes there is room for all others.
-        (
-            2,
-            &[
-                Count(4_000),
-                Bytes(Many(b'b', 999)),
-                NoCall,
-                B,
-                NoCall,
-                B,
-                Count(2),
-                NoCall,
-                NoCall,
-            ],
-        ),
-        (
-            3,
-            &[
-                Bytes(Many(b'a', 999)),
-                NoCall,
-                A,
-                NoCall,
-                A,
-                Count(2),
-                NoCall,
-                NoCall,
-            ],
-        ),
-        // The room is 3,001 bytes, then 3,002, which holds up no smaller write.
-        (4, &[Parked(1), A, Parked(1), A, Count(2), NoCall, NoCall]),
-        (6, &[Parked(1), A, Count(2), NoCall, NoCall]),
-        (7, &[A, Count(2), NoCall, NoCall]),
-        (8, &[Parked(2), INTERRUPTED, NoCall]),
-        (9, &[NoCall, NoCall]),
-    ];
-    each_is_passed_over(&rt, rt.alloc(), &A_SMALL_WRITE_AT_ITS_BOUNDARY, BEHIND)
-}
+/// Steps, each of which is refused memory in turn.
+const EACH_PASSED_OVER: &[Steps] = &[
+    Steps {
+        name: "a_small_write_at_its_boundary",
+        rows: &A_SMALL_WRITE_AT_ITS_BOUNDARY,
+        behind: &[
+            (
+                0,
+                &[
+                    NoProcess, NoProcess, NoProcess, NoProcess, NoCall, NoProcess, NoCall,
+                    NoProcess, NoProcess, NoCall, NoCall,
+                ],
+            ),
+            (
+                1,
+                &[
+                    NOT_OPEN, NOT_OPEN, NOT_OPEN, NoCall, NOT_OPEN, NoCall, NOT_OPEN, NOT_OPEN,
+                    NoCall, NoCall,
+                ],
+            ),
+            // Without the 62,536 bytes there is room for all others.
+            (
+                2,
+                &[
+                    Count(4_000),
+                    Bytes(Many(b'b', 999)),
+                    NoCall,
+                    B,
+                    NoCall,
+                    B,
+                    Count(2),
+                    NoCall,
+                    NoCall,
+                ],
+            ),
+            (
+                3,
+                &[
+                    Bytes(Many(b'a', 999)),
+                    NoCall,
+                    A,
+                    NoCall,
+                    A,
+                    Count(2),
+                    NoCall,
+                    NoCall,
+                ],
+            ),
+            // The room is 3,001 bytes, then 3,002, which holds up no smaller write.
+            (4, &[Parked(1), A, Parked(1), A, Count(2), NoCall, NoCall]),
+            (6, &[Parked(1), A, Count(2), NoCall, NoCall]),
+            (7, &[A, Count(2), NoCall, NoCall]),
+            (8, &[Parked(2), INTERRUPTED, NoCall]),
+            (9, &[NoCall, NoCall]),
+        ],
+    },
+    Steps {
+        name: "an_interrupted_large_write",
+        rows: &AN_INTERRUPTED_LARGE_WRITE,
+        behind: &[
+            (0, &[NoProcess, NoProcess, NoCall, NoCall]),
+            (1, &[NOT_OPEN, NoCall, NoCall]),
+            (2, &[NoCall, NoCall]),
+        ],
+    },
+    Steps {
+        name: "the_last_reader_leaves",
+        rows: &THE_LAST_READER_LEAVES,
+        behind: &[
+            (
+                0,
+                &[
+                    NoProcess, NoProcess, NoProcess, NoCall, NoProcess, NoProcess,
+                ],
+            ),
+            (1, &[NOT_OPEN, NOT_OPEN, NoCall, NOT_OPEN, NOT_OPEN]),
+            (2, &[Unit, NoCall, BROKEN, Count(0)]),
+        ],
+    },
+    // A call that finds no memory as it is tried again stays parked, and keeps its end.
+    Steps {
+        name: "a_parked_call_keeps_its_end",
+        rows: &A_PARKED_CALL_KEEPS_ITS_END,
+        behind: &[
+            (
+                0,
+                &[
+                    NoProcess, NoProcess, NoProcess, NoProcess, NoCall, NoProcess,
+                ],
+            ),
+            (1, &[NOT_OPEN, NOT_OPEN, NOT_OPEN, NoCall, NOT_OPEN]),
+            (2, &[Unit, BROKEN, NoCall, BROKEN]),
+            (4, &[Parked(1), Count(1)]),
+            (5, &[Count(1)]),
+        ],
+    },
+    Steps {
+        name: "a_waiting_writer_is_a_writer",
+        rows: &A_WAITING_WRITER_IS_A_WRITER,
+        behind: &[
+            (
+                0,
+                &[
+                    NoProcess, NoProcess, NoProcess, NoProcess, NoProcess, NoCall, NoCall,
+                    NoProcess,
+                ],
+            ),
+            (
+                1,
+                &[
+                    NOT_OPEN, NOT_OPEN, NOT_OPEN, NOT_OPEN, NoCall, NoCall, NOT_OPEN,
+                ],
+            ),
+            (2, &[Unit, NOTHING, NOTHING, NoCall, NoCall, NOTHING]),
+            // The next read takes one of the 65,536 bytes, and there is room for one more.
+            (
+                4,
+                &[
+                    Bytes(Text("a")),
+                    Parked(1),
+                    NoCall,
+                    Bytes(Many(b'a', 65_536)),
+                ],
+            ),
+            (5, &[Count(70_000), NoCall, Bytes(Many(b'a', 4_464))]),
+            (7, &[Bytes(Many(b'a', 4_464))]),
+            (8, &[]),
+        ],
+    },
+    // A write that finds no memory isn't parked, also where it is parked first and then wants memory for its bytes: the next
+    // call gets its number. One that finds none as it is tried again stays parked, with what it took before.
+    Steps {
+        name: "a_large_write_is_taken_back",
+        rows: &[
+            (Start, Pid(1)),
+            (Pipe(1), Fds(0, 1)),
+            (Write(1, 1, Many(b'a', 70_000)), Parked(1)),
+            (Read(1, 0, 5), Bytes(Text("aaaaa"))),
+            (Resume(1), Parked(1)),
+            (Interrupt(1), Count(65_541)),
+        ],
+        behind: &[
+            (0, &[NoProcess, NoProcess, NoProcess, NoCall, NoCall]),
+            (1, &[NOT_OPEN, NOT_OPEN, NoCall, NoCall]),
+            (2, &[Parked(1), Parked(1), INTERRUPTED]),
+            (3, &[Parked(1), Count(65_536)]),
+            (4, &[Count(65_536)]),
+        ],
+    },
+    // A read that finds no memory takes no bytes, and stays parked where it was.
+    Steps {
+        name: "reads_take_nothing",
+        rows: &[
+            (Start, Pid(1)),
+            (Pipe(1), Fds(0, 1)),
+            (Read(1, 0, 3), Parked(1)),
+            (Write(1, 1, Text("ab")), Count(2)),
+            (Resume(1), Bytes(Text("ab"))),
+            (Read(1, 0, 1), Parked(2)),
+            (Interrupt(2), INTERRUPTED),
+            (Interrupt(1), NoCall),
+        ],
+        behind: &[
+            (
+                0,
+                &[
+                    NoProcess, NoProcess, NoProcess, NoCall, NoProcess, NoCall, NoCall,
+                ],
+            ),
+            (1, &[NOT_OPEN, NOT_OPEN, NoCall, NOT_OPEN, NoCall, NoCall]),
+            (2, &[Count(2), NoCall, A, NoCall, NoCall]),
+            (3, &[Parked(1), Parked(2), INTERRUPTED, INTERRUPTED]),
+            (4, &[A, NoCall, INTERRUPTED]),
+            (5, &[NoCall, NoCall]),
+        ],
+    },
+    // A fork that finds no memory leaves no process and no name behind: the next fork gets its pid, and the last writer is the
+    // last still.
+    Steps {
+        name: "a_fork_leaves_nothing",
+        rows: &[
+            (Start, Pid(1)),
+            (Pipe(1), Fds(0, 1)),
+            (Fork(1), Pid(2)),
+            (Write(2, 1, Text("a")), Count(1)),
+            (Read(1, 0, 9), A),
+            (Exit(2), Unit),
+            (Fork(1), Pid(2)),
+            (Close(1, 1), Unit),
+            (Exit(2), Unit),
+            (Read(1, 0, 9), NOTHING),
+        ],
+        behind: &[
+            (
+                0,
+                &[
+                    NoProcess, NoProcess, NoProcess, NoProcess, NoProcess, NoProcess, NoProcess,
+                    NoProcess, NoProcess,
+                ],
+            ),
+            (
+                1,
+                &[
+                    Pid(2),
+                    NOT_OPEN,
+                    NOT_OPEN,
+                    Unit,
+                    Pid(2),
+                    NOT_OPEN,
+                    Unit,
+                    NOT_OPEN,
+                ],
+            ),
+            (
+                2,
+                &[NoProcess, Parked(1), NoProcess, Pid(2), Unit, Unit, NOTHING],
+            ),
+            (3, &[Parked(1), Unit, Pid(2), Unit, Unit, NOTHING]),
+            (4, &[Unit, Pid(2), Unit, Unit, A]),
+            (6, &[Unit, NoProcess, NOTHING]),
+        ],
+    },
+];
 
 #[test]
-fn an_interrupted_large_write(rt: HostRuntime) -> Result<(), Fail> {
-    const BEHIND: &[(usize, &[Want])] = &[
-        (0, &[NoProcess, NoProcess, NoCall, NoCall]),
-        (1, &[NOT_OPEN, NoCall, NoCall]),
-        (2, &[NoCall, NoCall]),
-    ];
-    each_is_passed_over(&rt, rt.alloc(), &AN_INTERRUPTED_LARGE_WRITE, BEHIND)
-}
-
-#[test]
-fn the_last_reader_leaves(rt: HostRuntime) -> Result<(), Fail> {
-    const BEHIND: &[(usize, &[Want])] = &[
-        (
-            0,
-            &[
-                NoProcess, NoProcess, NoProcess, NoCall, NoProcess, NoProcess,
-            ],
-        ),
-        (1, &[NOT_OPEN, NOT_OPEN, NoCall, NOT_OPEN, NOT_OPEN]),
-        (2, &[Unit, NoCall, BROKEN, Count(0)]),
-    ];
-    each_is_passed_over(&rt, rt.alloc(), &THE_LAST_READER_LEAVES, BEHIND)
-}
-
-/// A call that finds no memory as it is tried again stays parked, and keeps its end.
-#[test]
-fn a_parked_call_keeps_its_end(rt: HostRuntime) -> Result<(), Fail> {
-    const BEHIND: &[(usize, &[Want])] = &[
-        (
-            0,
-            &[
-                NoProcess, NoProcess, NoProcess, NoProcess, NoCall, NoProcess,
-            ],
-        ),
-        (1, &[NOT_OPEN, NOT_OPEN, NOT_OPEN, NoCall, NOT_OPEN]),
-        (2, &[Unit, BROKEN, NoCall, BROKEN]),
-        (4, &[Parked(1), Count(1)]),
-        (5, &[Count(1)]),
-    ];
-    each_is_passed_over(&rt, rt.alloc(), &A_PARKED_CALL_KEEPS_ITS_END, BEHIND)
-}
-
-#[test]
-fn a_waiting_writer_is_a_writer(rt: HostRuntime) -> Result<(), Fail> {
-    const BEHIND: &[(usize, &[Want])] = &[
-        (
-            0,
-            &[
-                NoProcess, NoProcess, NoProcess, NoProcess, NoProcess, NoCall, NoCall, NoProcess,
-            ],
-        ),
-        (
-            1,
-            &[
-                NOT_OPEN, NOT_OPEN, NOT_OPEN, NOT_OPEN, NoCall, NoCall, NOT_OPEN,
-            ],
-        ),
-        (2, &[Unit, NOTHING, NOTHING, NoCall, NoCall, NOTHING]),
-        // The next read takes one of the 65,536 bytes, and there is room for one more.
-        (
-            4,
-            &[
-                Bytes(Text("a")),
-                Parked(1),
-                NoCall,
-                Bytes(Many(b'a', 65_536)),
-            ],
-        ),
-        (5, &[Count(70_000), NoCall, Bytes(Many(b'a', 4_464))]),
-        (7, &[Bytes(Many(b'a', 4_464))]),
-        (8, &[]),
-    ];
-    each_is_passed_over(&rt, rt.alloc(), &A_WAITING_WRITER_IS_A_WRITER, BEHIND)
-}
-
-/// A write that finds no memory isn't parked, also where it is parked first and then wants memory for its bytes: the next
-/// call gets its number. One that finds none as it is tried again stays parked, with what it took before.
-#[test]
-fn a_large_write_is_taken_back(rt: HostRuntime) -> Result<(), Fail> {
-    const ROWS: &[(Ask, Want)] = &[
-        (Start, Pid(1)),
-        (Pipe(1), Fds(0, 1)),
-        (Write(1, 1, Many(b'a', 70_000)), Parked(1)),
-        (Read(1, 0, 5), Bytes(Text("aaaaa"))),
-        (Resume(1), Parked(1)),
-        (Interrupt(1), Count(65_541)),
-    ];
-    const BEHIND: &[(usize, &[Want])] = &[
-        (0, &[NoProcess, NoProcess, NoProcess, NoCall, NoCall]),
-        (1, &[NOT_OPEN, NOT_OPEN, NoCall, NoCall]),
-        (2, &[Parked(1), Parked(1), INTERRUPTED]),
-        (3, &[Parked(1), Count(65_536)]),
-        (4, &[Count(65_536)]),
-    ];
-    each_is_passed_over(&rt, rt.alloc(), ROWS, BEHIND)
-}
-
-/// A read that finds no memory takes no bytes, and stays parked where it was.
-#[test]
-fn reads_take_nothing(rt: HostRuntime) -> Result<(), Fail> {
-    const ROWS: &[(Ask, Want)] = &[
-        (Start, Pid(1)),
-        (Pipe(1), Fds(0, 1)),
-        (Read(1, 0, 3), Parked(1)),
-        (Write(1, 1, Text("ab")), Count(2)),
-        (Resume(1), Bytes(Text("ab"))),
-        (Read(1, 0, 1), Parked(2)),
-        (Interrupt(2), INTERRUPTED),
-        (Interrupt(1), NoCall),
-    ];
-    const BEHIND: &[(usize, &[Want])] = &[
-        (
-            0,
-            &[
-                NoProcess, NoProcess, NoProcess, NoCall, NoProcess, NoCall, NoCall,
-            ],
-        ),
-        (1, &[NOT_OPEN, NOT_OPEN, NoCall, NOT_OPEN, NoCall, NoCall]),
-        (2, &[Count(2), NoCall, A, NoCall, NoCall]),
-        (3, &[Parked(1), Parked(2), INTERRUPTED, INTERRUPTED]),
-        (4, &[A, NoCall, INTERRUPTED]),
-        (5, &[NoCall, NoCall]),
-    ];
-    each_is_passed_over(&rt, rt.alloc(), ROWS, BEHIND)
-}
-
-/// A fork that finds no memory leaves no process and no name behind: the next fork gets its pid, and the last writer is the
-/// last still.
-#[test]
-fn a_fork_leaves_nothing(rt: HostRuntime) -> Result<(), Fail> {
-    const ROWS: &[(Ask, Want)] = &[
-        (Start, Pid(1)),
-        (Pipe(1), Fds(0, 1)),
-        (Fork(1), Pid(2)),
-        (Write(2, 1, Text("a")), Count(1)),
-        (Read(1, 0, 9), A),
-        (Exit(2), Unit),
-        (Fork(1), Pid(2)),
-        (Close(1, 1), Unit),
-        (Exit(2), Unit),
-        (Read(1, 0, 9), NOTHING),
-    ];
-    const BEHIND: &[(usize, &[Want])] = &[
-        (
-            0,
-            &[
-                NoProcess, NoProcess, NoProcess, NoProcess, NoProcess, NoProcess, NoProcess,
-                NoProcess, NoProcess,
-            ],
-        ),
-        (
-            1,
-            &[
-                Pid(2),
-                NOT_OPEN,
-                NOT_OPEN,
-                Unit,
-                Pid(2),
-                NOT_OPEN,
-                Unit,
-                NOT_OPEN,
-            ],
-        ),
-        (
-            2,
-            &[NoProcess, Parked(1), NoProcess, Pid(2), Unit, Unit, NOTHING],
-        ),
-        (3, &[Parked(1), Unit, Pid(2), Unit, Unit, NOTHING]),
-        (4, &[Unit, Pid(2), Unit, Unit, A]),
-        (6, &[Unit, NoProcess, NOTHING]),
-    ];
-    each_is_passed_over(&rt, rt.alloc(), ROWS, BEHIND)
+fn each_step_is_passed_over(rt: HostRuntime) -> Result<(), Fail> {
+    for steps in EACH_PASSED_OVER {
+        each_is_passed_over(&rt, rt.alloc(), steps)?;
+    }
+    Ok(())
 }

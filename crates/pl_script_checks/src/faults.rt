@@ -6,7 +6,7 @@ use std::io::ErrorKind;
 use std::test::Fail;
 
 /// Each fault, its line and its status.
-const FAULTS: [(Fault, &str, u8); 8] = [
+const FAULTS: &[(Fault, &str, u8)] = &[
     (Fault::CannotRead, "piperun: cannot read\n", 1),
     (Fault::CannotWrite, "piperun: cannot write\n", 1),
     (Fault::CommandLine, "piperun: bad command line\n", 2),
@@ -29,38 +29,43 @@ const FAULTS: [(Fault, &str, u8); 8] = [
 fn each_fault_has_a_line_and_a_status(rt: HostRuntime) {
     for (fault, line, number) in FAULTS {
         let mut written = Vec::new(rt.alloc());
-        let told = write_fault(&mut Writes::new(&mut written), &fault);
+        let told = write_fault(&mut Writes::new(&mut written), fault);
         assert!(rt; told, "{fault:?} isn't written");
-        assert_eq!(rt; str::from_utf8(written.as_slice()), Ok(line), "{fault:?}");
-        assert_eq!(rt; status(&fault), number, "{fault:?}");
+        assert_eq!(rt; str::from_utf8(written.as_slice()), Ok(*line), "{fault:?}");
+        assert_eq!(rt; status(fault), *number, "{fault:?}");
     }
 }
 
+/// The faults of a script, and those of the program.
+const ENDS: &[(ScriptFault, Fault)] = &[
+    (ScriptFault::Read, Fault::CannotRead),
+    (ScriptFault::Write, Fault::CannotWrite),
+    (ScriptFault::TooLong, Fault::TooLong),
+    (ScriptFault::BadLine(2), Fault::BadLine(2)),
+    (ScriptFault::NoMemory, Fault::NoMemory),
+];
+
 #[test]
 fn each_end_of_a_script_is_a_fault(rt: HostRuntime) {
-    for (end, fault) in [
-        (ScriptFault::Read, Fault::CannotRead),
-        (ScriptFault::Write, Fault::CannotWrite),
-        (ScriptFault::TooLong, Fault::TooLong),
-        (ScriptFault::BadLine(2), Fault::BadLine(2)),
-        (ScriptFault::NoMemory, Fault::NoMemory),
-    ] {
-        assert_eq!(rt; Fault::from(end), fault, "{end:?}");
+    for (end, fault) in ENDS {
+        assert_eq!(rt; Fault::from(*end), *fault, "{end:?}");
     }
 }
+
+const FAILURES: &[Failure] = &[Failure::Error(ErrorKind::BrokenPipe), Failure::Nothing];
 
 /// A writer takes the whole line byte by byte, unless one of these writes fails.
 #[test]
 fn a_line_that_cannot_be_written(rt: HostRuntime) {
     for (fault, line, _) in FAULTS {
         let mut writer = Drip::new(rt.alloc(), 1);
-        let told = write_fault(&mut Writes::new(&mut writer), &fault);
+        let told = write_fault(&mut Writes::new(&mut writer), fault);
         assert!(rt; told, "{fault:?} isn't written");
-        assert_eq!(rt; str::from_utf8(writer.taken()), Ok(line), "{fault:?}");
+        assert_eq!(rt; str::from_utf8(writer.taken()), Ok(*line), "{fault:?}");
         for n in 1..=writer.calls() {
-            for failure in [Failure::Error(ErrorKind::BrokenPipe), Failure::Nothing] {
-                let mut writer = Drip::failing(rt.alloc(), 1, n, failure);
-                let told = write_fault(&mut Writes::new(&mut writer), &fault);
+            for failure in FAILURES {
+                let mut writer = Drip::failing(rt.alloc(), 1, n, *failure);
+                let told = write_fault(&mut Writes::new(&mut writer), fault);
                 assert!(rt;
                     !told,
                     "{fault:?} is written, where write {n} has {failure:?}"
@@ -75,7 +80,7 @@ fn a_line_that_cannot_be_written(rt: HostRuntime) {
 }
 
 /// Scripts, what the program prints of them, its line of a fault, and its status.
-const PROGRAMS: [(&str, &str, &str, u8); 3] = [
+const PROGRAMS: &[(&str, &str, &str, u8)] = &[
     ("", "", "", 0),
     ("start\n1 pipe\n", "pid 1\nfds 0 1\n", "", 0),
     (
@@ -93,13 +98,13 @@ fn the_program_without_words(rt: HostRuntime) {
         let mut reader = Reads::new(script.as_bytes(), MAX_READS);
         let ended = run(rt.alloc(), &[], &mut reader, &mut Writes::new(&mut printed));
         let ends_with = end(&mut Writes::new(&mut told), ended);
-        assert_eq!(rt; ends_with, number, "the status of {script:?}");
+        assert_eq!(rt; ends_with, *number, "the status of {script:?}");
         assert_eq!(rt;
             str::from_utf8(printed.as_slice()),
-            Ok(output),
+            Ok(*output),
             "{script:?}"
         );
-        assert_eq!(rt; str::from_utf8(told.as_slice()), Ok(line), "{script:?}");
+        assert_eq!(rt; str::from_utf8(told.as_slice()), Ok(*line), "{script:?}");
     }
 }
 

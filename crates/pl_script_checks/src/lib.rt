@@ -16,8 +16,6 @@ mod sessions;
 #[cfg(test)]
 mod shared_lines;
 #[cfg(test)]
-mod shared_replies;
-#[cfg(test)]
 mod streams;
 #[cfg(test)]
 mod trickling;

@@ -1,4 +1,5 @@
 //! What lines ask.
+use crate::shared_lines;
 use pl_script::{Line, LineFault, parse_line};
 use pl_testing::asked::Ask::{
     self, Close, Interrupt, Pipe, PipeNonblock, Read, Resume, Start, Write,
@@ -6,87 +7,206 @@ use pl_testing::asked::Ask::{
 use pl_testing::asked::Data::{Many, Text};
 use std::test::Fail;
 
+const GOOD: &[(&str, Ask)] = &[
+    ("start", Start),
+    ("resume 0", Resume(0)),
+    ("resume 18446744073709551615", Resume(u64::MAX)),
+    ("resume 00000000000000000007", Resume(7)),
+    ("interrupt 1", Interrupt(1)),
+    ("interrupt 18446744073709551615", Interrupt(u64::MAX)),
+    ("1 pipe", Pipe(1)),
+    ("0 pipe", Pipe(0)),
+    ("4294967295 pipe", Pipe(u32::MAX)),
+    ("00000000000000000001 pipe", Pipe(1)),
+    ("1 pipe nonblock", PipeNonblock(1)),
+    ("1 read 0 3", Read(1, 0, 3)),
+    ("1 read 0 0", Read(1, 0, 0)),
+    ("1 read -1 4294967295", Read(1, -1, u32::MAX)),
+    (
+        "1 read 00000000000000000002 00000000000000000003",
+        Read(1, 2, 3),
+    ),
+    ("1 write 1 -", Write(1, 1, Text(""))),
+    ("1 write 1 616A", Write(1, 1, Text("aj"))),
+    ("1 write 1 4a4B4c4D4e4F", Write(1, 1, Text("JKLMNO"))),
+    ("1 write -1 00", Write(1, -1, Text("\0"))),
+    ("1 write 1 3*61", Write(1, 1, Text("aaa"))),
+    ("1 write 1 0*61", Write(1, 1, Text(""))),
+    ("1 write 1 2*6A", Write(1, 1, Text("jj"))),
+    (
+        "1 write 1 00000000000000000003*61",
+        Write(1, 1, Text("aaa")),
+    ),
+    ("1 write 1 16777216*61", Write(1, 1, Many(b'a', 16_777_216))),
+    ("1 close 0", Close(1, 0)),
+    ("1 close 256", Close(1, 256)),
+    ("1 close 2147483647", Close(1, i32::MAX)),
+    ("1 close -2147483648", Close(1, i32::MIN)),
+    ("1 close -0", Close(1, 0)),
+    ("1 close -00000000000000000001", Close(1, -1)),
+    // blanks
+    (" start", Start),
+    ("\tstart \t", Start),
+    ("  \t 1\tpipe  ", Pipe(1)),
+    ("1 \t pipe\t\tnonblock", PipeNonblock(1)),
+    ("\t1\t\tread  \t0 \t 3\t", Read(1, 0, 3)),
+    // one carriage return at the end
+    ("start\r", Start),
+    ("start \r", Start),
+    ("1 close 1\r", Close(1, 1)),
+    ("1 write 1 -\t\r", Write(1, 1, Text(""))),
+    ("1 pipe nonblock\r", PipeNonblock(1)),
+];
+
+const ASK_NOTHING: &[&str] = &[
+    "",
+    " ",
+    "\t",
+    " \t  ",
+    "\r",
+    " \r",
+    "#",
+    "##",
+    "# x",
+    "#x",
+    " # x",
+    "\t#\r",
+    "# start\r",
+    "#\r\r",
+    "# \u{fc}",
+];
+
+const BAD: &[&str] = &[
+    // no step, and words that are no names
+    "x",
+    "1",
+    "-",
+    "\r\r",
+    "file x",
+    "1 pip",
+    "1 pipes",
+    "star",
+    "starts",
+    "1 start",
+    "1 resume 1",
+    "pipe",
+    "read 0 1",
+    "start#",
+    "start # x",
+    "1 # pipe",
+    // a word missing, and a word too many
+    "start 1",
+    "resume",
+    "resume 1 1",
+    "interrupt",
+    "interrupt 1 1",
+    "1 pipe nonblock nonblock",
+    "1 pipe 1",
+    "1 read",
+    "1 read 0",
+    "1 read 0 1 1",
+    "1 write",
+    "1 write 1",
+    "1 write 1 61 61",
+    "1 write 1 - -",
+    "1 close",
+    "1 close 0 0",
+    // upper case
+    "START",
+    "Start",
+    "RESUME 1",
+    "Interrupt 1",
+    "1 PIPE",
+    "1 Read 0 1",
+    "1 WRITE 1 61",
+    "1 Close 0",
+    "1 pipe NONBLOCK",
+    // numbers of more than 20 digits
+    "000000000000000000001 pipe",
+    "resume 000000000000000000001",
+    "interrupt 000000000000000000001",
+    "1 read 000000000000000000001 1",
+    "1 read -000000000000000000001 1",
+    "1 read 0 000000000000000000001",
+    "1 write 1 000000000000000000003*61",
+    // numbers outside their range
+    "4294967296 pipe",
+    "99999999999999999999 pipe",
+    "1 read 0 4294967296",
+    "1 read 2147483648 1",
+    "1 read -2147483649 1",
+    "1 write 4294967296 61",
+    "1 close 2147483648",
+    "1 close -2147483649",
+    "resume 18446744073709551616",
+    "interrupt 18446744073709551616",
+    "1 write 1 16777217*61",
+    // signs, and what is no digit
+    "-1 pipe",
+    "+1 pipe",
+    "-0 pipe",
+    "resume -1",
+    "resume +1",
+    "interrupt -0",
+    "1 read +0 1",
+    "1 read 0 -1",
+    "1 read 0 +1",
+    "1 read - 1",
+    "1 read --1 1",
+    "1 close -",
+    "1 close 1-",
+    "1x pipe",
+    "0x1 pipe",
+    "1 read 0 1,000",
+    "1 read a 1",
+    "1 close \u{661}",
+    // bytes
+    "1 write 1 6",
+    "1 write 1 616",
+    "1 write 1 6g",
+    "1 write 1 g6",
+    "1 write 1 61*6",
+    "1 write 1 *61",
+    "1 write 1 3*",
+    "1 write 1 *",
+    "1 write 1 3*6",
+    "1 write 1 3*6161",
+    "1 write 1 3*-",
+    "1 write 1 -3*61",
+    "1 write 1 +3*61",
+    "1 write 1 3*61*61",
+    "1 write 1 --",
+    "1 write 1 -61",
+    "1 write 1 0x61",
+    "1 write 1 6 1",
+    // what is no blank
+    "start\r\r",
+    "start\r ",
+    "\rstart",
+    "1\rpipe",
+    "1\u{b}pipe",
+    "1\u{c}pipe",
+    "1\u{a0}pipe",
+    "start\0",
+];
+
 #[test]
 fn good_lines(rt: HostRuntime) -> Result<(), Fail> {
-    const ROWS: &[(&str, Ask)] = &[
-        ("start", Start),
-        ("resume 0", Resume(0)),
-        ("resume 18446744073709551615", Resume(u64::MAX)),
-        ("resume 00000000000000000007", Resume(7)),
-        ("interrupt 1", Interrupt(1)),
-        ("interrupt 18446744073709551615", Interrupt(u64::MAX)),
-        ("1 pipe", Pipe(1)),
-        ("0 pipe", Pipe(0)),
-        ("4294967295 pipe", Pipe(u32::MAX)),
-        ("00000000000000000001 pipe", Pipe(1)),
-        ("1 pipe nonblock", PipeNonblock(1)),
-        ("1 read 0 3", Read(1, 0, 3)),
-        ("1 read 0 0", Read(1, 0, 0)),
-        ("1 read -1 4294967295", Read(1, -1, u32::MAX)),
-        (
-            "1 read 00000000000000000002 00000000000000000003",
-            Read(1, 2, 3),
-        ),
-        ("1 write 1 -", Write(1, 1, Text(""))),
-        ("1 write 1 616A", Write(1, 1, Text("aj"))),
-        ("1 write 1 4a4B4c4D4e4F", Write(1, 1, Text("JKLMNO"))),
-        ("1 write -1 00", Write(1, -1, Text("\0"))),
-        ("1 write 1 3*61", Write(1, 1, Text("aaa"))),
-        ("1 write 1 0*61", Write(1, 1, Text(""))),
-        ("1 write 1 2*6A", Write(1, 1, Text("jj"))),
-        (
-            "1 write 1 00000000000000000003*61",
-            Write(1, 1, Text("aaa")),
-        ),
-        ("1 write 1 16777216*61", Write(1, 1, Many(b'a', 16_777_216))),
-        ("1 close 0", Close(1, 0)),
-        ("1 close 256", Close(1, 256)),
-        ("1 close 2147483647", Close(1, i32::MAX)),
-        ("1 close -2147483648", Close(1, i32::MIN)),
-        ("1 close -0", Close(1, 0)),
-        ("1 close -00000000000000000001", Close(1, -1)),
-        // blanks
-        (" start", Start),
-        ("\tstart \t", Start),
-        ("  \t 1\tpipe  ", Pipe(1)),
-        ("1 \t pipe\t\tnonblock", PipeNonblock(1)),
-        ("\t1\t\tread  \t0 \t 3\t", Read(1, 0, 3)),
-        // one carriage return at the end
-        ("start\r", Start),
-        ("start \r", Start),
-        ("1 close 1\r", Close(1, 1)),
-        ("1 write 1 -\t\r", Write(1, 1, Text(""))),
-        ("1 pipe nonblock\r", PipeNonblock(1)),
-    ];
+    const TABLES: &[&[(&str, Ask)]] = &[GOOD, shared_lines::GOOD, shared_lines::FLAGS];
     let alloc = rt.alloc();
-    for (text, ask) in ROWS {
-        let asked = Line::Do(ask.step(alloc)?);
-        let is_asked = parse_line(alloc, text.as_bytes()) == Ok(Some(asked));
-        assert!(rt; is_asked, "{text:?} asks for {ask:?}");
+    for rows in TABLES {
+        for (text, ask) in *rows {
+            let asked = Line::Do(ask.step(alloc)?);
+            let is_asked = parse_line(alloc, text.as_bytes()) == Ok(Some(asked));
+            assert!(rt; is_asked, "{text:?} asks for {ask:?}");
+        }
     }
     Ok(())
 }
 
 #[test]
 fn lines_that_ask_nothing(rt: HostRuntime) {
-    const TEXTS: &[&str] = &[
-        "",
-        " ",
-        "\t",
-        " \t  ",
-        "\r",
-        " \r",
-        "#",
-        "##",
-        "# x",
-        "#x",
-        " # x",
-        "\t#\r",
-        "# start\r",
-        "#\r\r",
-        "# \u{fc}",
-    ];
-    for text in TEXTS {
+    for text in ASK_NOTHING {
         assert_eq!(rt;
             parse_line(rt.alloc(), text.as_bytes()),
             Ok(None),
@@ -97,124 +217,14 @@ fn lines_that_ask_nothing(rt: HostRuntime) {
 
 #[test]
 fn bad_lines(rt: HostRuntime) {
-    const TEXTS: &[&str] = &[
-        // no step, and words that are no names
-        "x",
-        "1",
-        "-",
-        "\r\r",
-        "file x",
-        "1 pip",
-        "1 pipes",
-        "star",
-        "starts",
-        "1 start",
-        "1 resume 1",
-        "pipe",
-        "read 0 1",
-        "start#",
-        "start # x",
-        "1 # pipe",
-        // a word missing, and a word too many
-        "start 1",
-        "resume",
-        "resume 1 1",
-        "interrupt",
-        "interrupt 1 1",
-        "1 pipe nonblock nonblock",
-        "1 pipe 1",
-        "1 read",
-        "1 read 0",
-        "1 read 0 1 1",
-        "1 write",
-        "1 write 1",
-        "1 write 1 61 61",
-        "1 write 1 - -",
-        "1 close",
-        "1 close 0 0",
-        // upper case
-        "START",
-        "Start",
-        "RESUME 1",
-        "Interrupt 1",
-        "1 PIPE",
-        "1 Read 0 1",
-        "1 WRITE 1 61",
-        "1 Close 0",
-        "1 pipe NONBLOCK",
-        // numbers of more than 20 digits
-        "000000000000000000001 pipe",
-        "resume 000000000000000000001",
-        "interrupt 000000000000000000001",
-        "1 read 000000000000000000001 1",
-        "1 read -000000000000000000001 1",
-        "1 read 0 000000000000000000001",
-        "1 write 1 000000000000000000003*61",
-        // numbers outside their range
-        "4294967296 pipe",
-        "99999999999999999999 pipe",
-        "1 read 0 4294967296",
-        "1 read 2147483648 1",
-        "1 read -2147483649 1",
-        "1 write 4294967296 61",
-        "1 close 2147483648",
-        "1 close -2147483649",
-        "resume 18446744073709551616",
-        "interrupt 18446744073709551616",
-        "1 write 1 16777217*61",
-        // signs, and what is no digit
-        "-1 pipe",
-        "+1 pipe",
-        "-0 pipe",
-        "resume -1",
-        "resume +1",
-        "interrupt -0",
-        "1 read +0 1",
-        "1 read 0 -1",
-        "1 read 0 +1",
-        "1 read - 1",
-        "1 read --1 1",
-        "1 close -",
-        "1 close 1-",
-        "1x pipe",
-        "0x1 pipe",
-        "1 read 0 1,000",
-        "1 read a 1",
-        "1 close \u{661}",
-        // bytes
-        "1 write 1 6",
-        "1 write 1 616",
-        "1 write 1 6g",
-        "1 write 1 g6",
-        "1 write 1 61*6",
-        "1 write 1 *61",
-        "1 write 1 3*",
-        "1 write 1 *",
-        "1 write 1 3*6",
-        "1 write 1 3*6161",
-        "1 write 1 3*-",
-        "1 write 1 -3*61",
-        "1 write 1 +3*61",
-        "1 write 1 3*61*61",
-        "1 write 1 --",
-        "1 write 1 -61",
-        "1 write 1 0x61",
-        "1 write 1 6 1",
-        // what is no blank
-        "start\r\r",
-        "start\r ",
-        "\rstart",
-        "1\rpipe",
-        "1\u{b}pipe",
-        "1\u{c}pipe",
-        "1\u{a0}pipe",
-        "start\0",
-    ];
-    for text in TEXTS {
-        assert_eq!(rt;
-            parse_line(rt.alloc(), text.as_bytes()),
-            Err(LineFault::Bad),
-            "{text:?}"
-        );
+    const TABLES: &[&[&str]] = &[BAD, shared_lines::BAD];
+    for texts in TABLES {
+        for text in *texts {
+            assert_eq!(rt;
+                parse_line(rt.alloc(), text.as_bytes()),
+                Err(LineFault::Bad),
+                "{text:?}"
+            );
+        }
     }
 }

@@ -1,101 +1,77 @@
 //! The text of each reply.
-use pl_model::{Bytes8, Errno, Outcome, Reply};
+use pl_model::{Errno, Mode, OpenFlags, Outcome};
 use pl_script::show;
-use std::alloc::Global;
-use std::process::Abort;
+use pl_testing::asked::Data::{Text, TwoRuns};
+use pl_testing::asked::Want::{
+    self, Bytes, CallsSpent, Count, CountSigpipe, Fault, Fd, Fds, Flags, NoCall, NoProcess, Parked,
+    Pid, Unit,
+};
 use std::test::Fail;
 
-fn bytes(alloc: Global, bytes: &[u8]) -> Result<Outcome, Fail> {
-    let bytes = Vec::from_slice(alloc, bytes)?;
-    let bytes = Bytes8::from_vec(bytes).ok_or("more bytes than a call moves")?;
-    Ok(Outcome::Replied(Reply::Bytes(bytes)))
-}
-
-fn is_shown(rt: &impl Abort, alloc: Global, outcome: &Outcome, text: &str) -> Result<(), Fail> {
-    let shown = show(alloc, outcome)?;
-    assert_eq!(rt; shown.as_str(), text, "{outcome:?}");
-    Ok(())
-}
+const REPLIES: &[(Want, &str)] = &[
+    (Pid(1), "pid 1"),
+    (Pid(1_024), "pid 1024"),
+    (Fd(0), "fd 0"),
+    (Fd(2), "fd 2"),
+    (Fd(255), "fd 255"),
+    (Fds(0, 1), "fds 0 1"),
+    (Fds(7, 200), "fds 7 200"),
+    (Count(0), "count 0"),
+    (Count(16_777_216), "count 16777216"),
+    (CountSigpipe(5), "count 5 sigpipe"),
+    (Unit, "ok"),
+    (Parked(7), "parked 7"),
+    (Parked(u64::MAX), "parked 18446744073709551615"),
+    (NoProcess, "no process"),
+    (NoCall, "no call"),
+    (CallsSpent, "calls spent"),
+    // bytes, as digits
+    (Bytes(Text("")), "data -"),
+    (Bytes(TwoRuns(0x0a, 1, 0xff, 1)), "data 0aff"),
+    (Bytes(Text("hello")), "data 68656c6c6f"),
+    // flags, in order
+    (Flags(Mode::Read, &[OpenFlags::APPEND]), "flags r append"),
+    (
+        Flags(Mode::Write, &[OpenFlags::NONBLOCK]),
+        "flags w nonblock",
+    ),
+    (Flags(Mode::Both, &[OpenFlags::APPEND]), "flags rw append"),
+    (
+        Flags(Mode::Read, &[OpenFlags::APPEND, OpenFlags::NONBLOCK]),
+        "flags r append,nonblock",
+    ),
+    (
+        Flags(Mode::Both, &[OpenFlags::NONBLOCK, OpenFlags::APPEND]),
+        "flags rw append,nonblock",
+    ),
+    (Flags(Mode::Write, &[]), "flags w -"),
+    // errors, by name
+    (Fault(Errno::EAGAIN), "EAGAIN"),
+    (Fault(Errno::EBADF), "EBADF"),
+    (Fault(Errno::EBUSY), "EBUSY"),
+    (Fault(Errno::EEXIST), "EEXIST"),
+    (Fault(Errno::EFBIG), "EFBIG"),
+    (Fault(Errno::EINTR), "EINTR"),
+    (Fault(Errno::EINVAL), "EINVAL"),
+    (Fault(Errno::EMFILE), "EMFILE"),
+    (Fault(Errno::ENAMETOOLONG), "ENAMETOOLONG"),
+    (Fault(Errno::ENFILE), "ENFILE"),
+    (Fault(Errno::ENOENT), "ENOENT"),
+    (Fault(Errno::ENXIO), "ENXIO"),
+    (Fault(Errno::EOVERFLOW), "EOVERFLOW"),
+    (Fault(Errno::EPERM), "EPERM"),
+    (Fault(Errno::EPIPE), "EPIPE sigpipe"),
+    (Fault(Errno::ESPIPE), "ESPIPE"),
+];
 
 #[test]
 fn each_reply_is_shown(rt: HostRuntime) -> Result<(), Fail> {
     let alloc = rt.alloc();
-    let rows = [
-        (Reply::Pid(1), "pid 1"),
-        (Reply::Pid(1_024), "pid 1024"),
-        (Reply::Fds(0, 1), "fds 0 1"),
-        (Reply::Fds(7, 200), "fds 7 200"),
-        (
-            Reply::Count {
-                n: 0,
-                sigpipe: false,
-            },
-            "count 0",
-        ),
-        (
-            Reply::Count {
-                n: 16_777_216,
-                sigpipe: false,
-            },
-            "count 16777216",
-        ),
-        (
-            Reply::Count {
-                n: 5,
-                sigpipe: true,
-            },
-            "count 5 sigpipe",
-        ),
-        (Reply::Unit, "ok"),
-        (Reply::Parked(7), "parked 7"),
-        (Reply::Parked(u64::MAX), "parked 18446744073709551615"),
-        (Reply::NoProcess, "no process"),
-        (Reply::NoCall, "no call"),
-        (Reply::CallsSpent, "calls spent"),
-    ];
-    for (reply, text) in rows {
-        is_shown(&rt, alloc, &Outcome::Replied(reply), text)?;
+    for (want, text) in REPLIES {
+        let shown = show(alloc, &want.outcome(alloc)?)?;
+        assert_eq!(rt; shown.as_str(), *text, "{want:?}");
     }
-    is_shown(&rt, alloc, &Outcome::NoMemory, "nomem")?;
-    Ok(())
-}
-
-#[test]
-fn bytes_are_shown_as_digits(rt: HostRuntime) -> Result<(), Fail> {
-    let alloc = rt.alloc();
-    is_shown(&rt, alloc, &bytes(alloc, b"")?, "data -")?;
-    is_shown(&rt, alloc, &bytes(alloc, b"\x0a\xff")?, "data 0aff")?;
-    is_shown(&rt, alloc, &bytes(alloc, b"hello")?, "data 68656c6c6f")?;
-    Ok(())
-}
-
-#[test]
-fn errors_are_shown_by_name(rt: HostRuntime) -> Result<(), Fail> {
-    let rows = [
-        (Errno::EAGAIN, "EAGAIN"),
-        (Errno::EBADF, "EBADF"),
-        (Errno::EBUSY, "EBUSY"),
-        (Errno::EEXIST, "EEXIST"),
-        (Errno::EFBIG, "EFBIG"),
-        (Errno::EINTR, "EINTR"),
-        (Errno::EINVAL, "EINVAL"),
-        (Errno::EMFILE, "EMFILE"),
-        (Errno::ENAMETOOLONG, "ENAMETOOLONG"),
-        (Errno::ENFILE, "ENFILE"),
-        (Errno::ENOENT, "ENOENT"),
-        (Errno::ENXIO, "ENXIO"),
-        (Errno::EOVERFLOW, "EOVERFLOW"),
-        (Errno::EPERM, "EPERM"),
-        (Errno::EPIPE, "EPIPE sigpipe"),
-        (Errno::ESPIPE, "ESPIPE"),
-    ];
-    for (errno, text) in rows {
-        is_shown(
-            &rt,
-            rt.alloc(),
-            &Outcome::Replied(Reply::Fault(errno)),
-            text,
-        )?;
-    }
+    let shown = show(alloc, &Outcome::NoMemory)?;
+    assert_eq!(rt; shown.as_str(), "nomem");
     Ok(())
 }

@@ -6,7 +6,64 @@ use std::alloc::Global;
 use std::process::Abort;
 use std::test::Fail;
 
-fn counted(lines: u32, steps: u32) -> Result<Totals, ScriptFault> {
+/// How a run ends: with so many lines and so many steps, or with a fault.
+type End = Result<(u32, u32), ScriptFault>;
+
+/// Scripts, what they print, and how their runs end.
+const SMALL_SCRIPTS: &[(&str, &str, End)] = &[
+    ("", "", Ok((0, 0))),
+    ("start", "pid 1\n", Ok((1, 1))),
+    ("start\n", "pid 1\n", Ok((1, 1))),
+    ("start\n\n", "pid 1\n", Ok((2, 1))),
+    ("start\n7 pipe\n", "pid 1\nno process\n", Ok((2, 2))),
+    // the calls of a pipe, and two processes
+    (
+        "start\n1 pipe\n1 write 1 68656c6C6F\n1 read 0 3\n1 read 0 10\n1 close 1\n1 read 0 10\n",
+        "pid 1\nfds 0 1\ncount 5\ndata 68656c\ndata 6c6f\nok\ndata -\n",
+        Ok((7, 7)),
+    ),
+    (
+        "start\nstart\n2 pipe\n2 close 0\n2 write 1 61\n1 close 0\n1 read 0 1\nresume 1\ninterrupt 1\n",
+        "pid 1\npid 2\nfds 0 1\nok\nEPIPE sigpipe\nEBADF\nEBADF\nno call\nno call\n",
+        Ok((9, 9)),
+    ),
+    // Comments and blank lines are lines, and no steps.
+    ("\n", "", Ok((1, 0))),
+    ("\n\n \t\n\r\n# start\n  # start\r\n#", "", Ok((7, 0))),
+    (
+        "# a comment\r\n\nstart\r\n \n1 pipe\r",
+        "pid 1\nfds 0 1\n",
+        Ok((5, 2)),
+    ),
+    // Nothing behind a bad line is run.
+    ("1", "", Err(ScriptFault::BadLine(1))),
+    (
+        "start\n1 wrlte 1 61\nstart\n",
+        "pid 1\n",
+        Err(ScriptFault::BadLine(2)),
+    ),
+    (
+        "start\n1 pipe\n1 write 1 616",
+        "pid 1\nfds 0 1\n",
+        Err(ScriptFault::BadLine(3)),
+    ),
+    (
+        "# a comment\n\nstart\n\r\nstart now\n1 pipe\nstart now\n",
+        "pid 1\n",
+        Err(ScriptFault::BadLine(5)),
+    ),
+];
+
+/// How scripts begin that are filled up with bytes `#`, their lengths, what they print, and how their runs end.
+const LONG_SCRIPTS: &[(&str, usize, &str, End)] = &[
+    ("", 16_777_216, "", Ok((1, 0))),
+    ("start\n", 16_777_216, "pid 1\n", Ok((2, 1))),
+    ("", 16_777_217, "", Err(ScriptFault::TooLong)),
+    ("start\n", 16_777_217, "", Err(ScriptFault::TooLong)),
+];
+
+fn totals_of(end: End) -> Result<Totals, ScriptFault> {
+    let (lines, steps) = end?;
     Ok(Totals {
         lines,
         steps,
@@ -15,17 +72,10 @@ fn counted(lines: u32, steps: u32) -> Result<Totals, ScriptFault> {
 }
 
 /// The script prints this, and its run ends so.
-fn prints(
-    rt: &impl Abort,
-    alloc: Global,
-    name: &str,
-    script: &[u8],
-    output: &str,
-    end: Result<Totals, ScriptFault>,
-) {
+fn prints(rt: &impl Abort, alloc: Global, name: &str, script: &[u8], output: &str, end: End) {
     let mut written = Vec::new(alloc);
     let result = run_between(alloc, script, &mut written);
-    assert_eq!(rt; result, end, "the end of {name:?}");
+    assert_eq!(rt; result, totals_of(end), "the end of {name:?}");
     assert_eq!(rt;
         str::from_utf8(written.as_slice()),
         Ok(output),
@@ -34,91 +84,17 @@ fn prints(
 }
 
 #[test]
-fn partial_and_whole_not_waiting(rt: HostRuntime) -> Result<(), Fail> {
-    let script = "start\n1 pipe nonblock\n1 read 0 1\n1 write 1 70000*61\n1 read 0 5000\n\
-        1 write 1 70000*62\n1 write 1 63\n";
-    let bytes = "61".repeat(rt.alloc(), 5_000)?;
-    let output = format!(in rt.alloc();
-        "pid 1\nfds 0 1\nEAGAIN\ncount 65536\ndata {bytes}\ncount 5000\nEAGAIN\n"
-    )?;
-    prints(
-        &rt,
-        rt.alloc(),
-        "the script",
-        script.as_bytes(),
-        output.as_str(),
-        counted(7, 7),
-    );
-    Ok(())
-}
-
-#[test]
 fn small_scripts(rt: HostRuntime) {
-    let rows = [
-        ("", "", counted(0, 0)),
-        ("start", "pid 1\n", counted(1, 1)),
-        ("start\n", "pid 1\n", counted(1, 1)),
-        ("start\n\n", "pid 1\n", counted(2, 1)),
-        ("start\n7 pipe\n", "pid 1\nno process\n", counted(2, 2)),
-        // the calls of a pipe, and two processes
-        (
-            "start\n1 pipe\n1 write 1 68656c6C6F\n1 read 0 3\n1 read 0 10\n1 close 1\n1 read 0 10\n",
-            "pid 1\nfds 0 1\ncount 5\ndata 68656c\ndata 6c6f\nok\ndata -\n",
-            counted(7, 7),
-        ),
-        (
-            "start\nstart\n2 pipe\n2 close 0\n2 write 1 61\n1 close 0\n1 read 0 1\nresume 1\ninterrupt 1\n",
-            "pid 1\npid 2\nfds 0 1\nok\nEPIPE sigpipe\nEBADF\nEBADF\nno call\nno call\n",
-            counted(9, 9),
-        ),
-        // Comments and blank lines are lines, and no steps.
-        ("\n", "", counted(1, 0)),
-        ("\n\n \t\n\r\n# start\n  # start\r\n#", "", counted(7, 0)),
-        (
-            "# a comment\r\n\nstart\r\n \n1 pipe\r",
-            "pid 1\nfds 0 1\n",
-            counted(5, 2),
-        ),
-        // Nothing behind a bad line is run.
-        ("1", "", Err(ScriptFault::BadLine(1))),
-        (
-            "start\n1 wrlte 1 61\nstart\n",
-            "pid 1\n",
-            Err(ScriptFault::BadLine(2)),
-        ),
-        (
-            "start\n1 pipe\n1 write 1 616",
-            "pid 1\nfds 0 1\n",
-            Err(ScriptFault::BadLine(3)),
-        ),
-        (
-            "# a comment\n\nstart\n\r\nstart now\n1 pipe\nstart now\n",
-            "pid 1\n",
-            Err(ScriptFault::BadLine(5)),
-        ),
-    ];
-    for (script, output, end) in rows {
-        prints(&rt, rt.alloc(), script, script.as_bytes(), output, end);
+    for (script, output, end) in SMALL_SCRIPTS {
+        prints(&rt, rt.alloc(), script, script.as_bytes(), output, *end);
     }
-}
-
-/// The script begins with this text, and then has bytes `#` up to the length.
-fn padded(alloc: Global, front: &str, len: usize) -> Result<Vec<u8>, Fail> {
-    let mut script = Vec::from_slice(alloc, front.as_bytes())?;
-    script.resize(len, b'#')?;
-    Ok(script)
 }
 
 #[test]
 fn the_longest_scripts(rt: HostRuntime) -> Result<(), Fail> {
-    let rows = [
-        ("", 16_777_216, "", counted(1, 0)),
-        ("start\n", 16_777_216, "pid 1\n", counted(2, 1)),
-        ("", 16_777_217, "", Err(ScriptFault::TooLong)),
-        ("start\n", 16_777_217, "", Err(ScriptFault::TooLong)),
-    ];
-    for (front, len, output, end) in rows {
-        let script = padded(rt.alloc(), front, len)?;
+    for (front, len, output, end) in LONG_SCRIPTS {
+        let mut script = Vec::from_slice(rt.alloc(), front.as_bytes())?;
+        script.resize(*len, b'#')?;
         let name = format!(in rt.alloc(); "{len} bytes that begin with {front:?}")?;
         prints(
             &rt,
@@ -126,7 +102,7 @@ fn the_longest_scripts(rt: HostRuntime) -> Result<(), Fail> {
             name.as_str(),
             script.as_slice(),
             output,
-            end,
+            *end,
         );
     }
     Ok(())

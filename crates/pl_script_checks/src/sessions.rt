@@ -3,8 +3,17 @@ use super::trickling::run_from;
 use pl_model::Totals;
 use pl_testing::asked::NEVER_GIVEN;
 use std::alloc::Global;
-use std::process::Abort;
 use std::test::Fail;
+
+const PARTIAL_AND_WHOLE_NOT_WAITING: &str = "\
+start => pid 1
+1 pipe nonblock => fds 0 1
+1 read 0 1 => EAGAIN
+1 write 1 70000*61 => count 65536
+1 read 0 5000 => data 5000*61
+1 write 1 70000*62 => count 5000
+1 write 1 63 => EAGAIN
+";
 
 const A_SMALL_WRITE_AT_ITS_BOUNDARY: &str = "\
 start => pid 1
@@ -169,6 +178,51 @@ start => pid 1
 1 dup -0 => fd 2
 ";
 
+/// The name of each session, the number of its first call, and its lines.
+const SESSIONS: &[(&str, u64, &str)] = &[
+    (
+        "partial_and_whole_not_waiting",
+        1,
+        PARTIAL_AND_WHOLE_NOT_WAITING,
+    ),
+    (
+        "a_small_write_at_its_boundary",
+        1,
+        A_SMALL_WRITE_AT_ITS_BOUNDARY,
+    ),
+    ("the_last_reader_leaves", 1, THE_LAST_READER_LEAVES),
+    ("interrupted_large_writes", 1, INTERRUPTED_LARGE_WRITES),
+    (
+        "a_parked_call_keeps_its_end",
+        1,
+        A_PARKED_CALL_KEEPS_ITS_END,
+    ),
+    ("two_processes", 1, TWO_PROCESSES),
+    ("no_number_is_left", NEVER_GIVEN, NO_NUMBER_IS_LEFT),
+    (
+        "the_last_numbers",
+        18_446_744_073_709_551_613,
+        THE_LAST_NUMBERS,
+    ),
+    (
+        "flags_of_shared_descriptions",
+        1,
+        FLAGS_OF_SHARED_DESCRIPTIONS,
+    ),
+    (
+        "interleaving_with_a_large_write",
+        1,
+        INTERLEAVING_WITH_A_LARGE_WRITE,
+    ),
+    (
+        "three_names_of_one_write_end",
+        1,
+        THREE_NAMES_OF_ONE_WRITE_END,
+    ),
+    ("an_exit_drops_parked_calls", 1, AN_EXIT_DROPS_PARKED_CALLS),
+    ("outside_the_table", 1, OUTSIDE_THE_TABLE),
+];
+
 /// The script of a session, and what it prints. The session writes `N*hh` for N times the byte hh, whose digits are all
 /// printed.
 fn script_and_output(alloc: Global, session: &str) -> Result<(String, String), Fail> {
@@ -192,61 +246,25 @@ fn script_and_output(alloc: Global, session: &str) -> Result<(String, String), F
     Ok((script, output))
 }
 
-/// Each line of the session prints what it says, where the calls are numbered from `first_call`.
-fn is_printed(rt: &impl Abort, alloc: Global, first_call: u64, session: &str) -> Result<(), Fail> {
-    let (script, output) = script_and_output(alloc, session)?;
-    let mut written = Vec::new(alloc);
-    let result = run_from(alloc, first_call, script.as_bytes(), &mut written);
-    let lines = u32::try_from(session.lines().count())?;
-    let totals = Totals {
-        lines,
-        steps: lines,
-        nomem: 0,
-    };
-    assert_eq!(rt; result, Ok(totals), "the end of {session:?}");
-    assert_eq!(rt;
-        str::from_utf8(written.as_slice()),
-        Ok(output.as_str()),
-        "the output of {session:?}"
-    );
-    Ok(())
-}
-
 #[test]
-fn calls_wait(rt: HostRuntime) -> Result<(), Fail> {
-    for session in [
-        A_SMALL_WRITE_AT_ITS_BOUNDARY,
-        THE_LAST_READER_LEAVES,
-        INTERRUPTED_LARGE_WRITES,
-        A_PARKED_CALL_KEEPS_ITS_END,
-        TWO_PROCESSES,
-    ] {
-        is_printed(&rt, rt.alloc(), 1, session)?;
-    }
-    Ok(())
-}
-
-#[test]
-fn numbers_are_spent(rt: HostRuntime) -> Result<(), Fail> {
-    is_printed(&rt, rt.alloc(), NEVER_GIVEN, NO_NUMBER_IS_LEFT)?;
-    is_printed(
-        &rt,
-        rt.alloc(),
-        18_446_744_073_709_551_613,
-        THE_LAST_NUMBERS,
-    )
-}
-
-#[test]
-fn descriptors_share(rt: HostRuntime) -> Result<(), Fail> {
-    for session in [
-        FLAGS_OF_SHARED_DESCRIPTIONS,
-        INTERLEAVING_WITH_A_LARGE_WRITE,
-        THREE_NAMES_OF_ONE_WRITE_END,
-        AN_EXIT_DROPS_PARKED_CALLS,
-        OUTSIDE_THE_TABLE,
-    ] {
-        is_printed(&rt, rt.alloc(), 1, session)?;
+fn each_session_is_printed(rt: HostRuntime) -> Result<(), Fail> {
+    let alloc = rt.alloc();
+    for (name, first_call, session) in SESSIONS {
+        let (script, output) = script_and_output(alloc, session)?;
+        let mut written = Vec::new(alloc);
+        let result = run_from(alloc, *first_call, script.as_bytes(), &mut written);
+        let lines = u32::try_from(session.lines().count())?;
+        let totals = Totals {
+            lines,
+            steps: lines,
+            nomem: 0,
+        };
+        assert_eq!(rt; result, Ok(totals), "the end of {name}");
+        assert_eq!(rt;
+            str::from_utf8(written.as_slice()),
+            Ok(output.as_str()),
+            "the output of {name}"
+        );
     }
     Ok(())
 }

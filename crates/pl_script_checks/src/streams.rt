@@ -7,7 +7,10 @@ use std::io::{ErrorKind, Read};
 use std::process::Abort;
 use std::test::Fail;
 
-/// A script of good lines alone, what it prints, and how its run ends.
+/// Scripts, what they print, and how their runs end.
+const SCRIPTS: &[(&str, &str, Result<Totals, ScriptFault>)] = &[GOOD, BAD];
+
+/// A script of good lines alone.
 const GOOD: (&str, &str, Result<Totals, ScriptFault>) = (
     "start\n# a comment\n\n1 pipe\r\n\t1 write  1 68656c6c6f\n1 read 0 3\n1 close 1\n1 read 0 10",
     "pid 1\nfds 0 1\ncount 5\ndata 68656c\nok\ndata 6c6f\n",
@@ -18,30 +21,33 @@ const GOOD: (&str, &str, Result<Totals, ScriptFault>) = (
     }),
 );
 
-/// A script with a bad line, likewise.
+/// A script with a bad line.
 const BAD: (&str, &str, Result<Totals, ScriptFault>) = (
     "start\n# a comment\n\n1 pipe\r\n1 wrlte 1 61\nstart\n",
     "pid 1\nfds 0 1\n",
     Err(ScriptFault::BadLine(5)),
 );
 
-const FAILURES: [Failure; 3] = [
+const FAILURES: &[Failure] = &[
     Failure::Error(ErrorKind::BrokenPipe),
     Failure::Error(ErrorKind::Interrupted),
     Failure::Nothing,
 ];
 
+/// How many bytes a read gives.
+const PIECES: &[usize] = &[1, 2, 7];
+
 #[test]
 fn a_script_in_pieces(rt: HostRuntime) {
     let alloc = rt.alloc();
-    for (script, output, end) in [GOOD, BAD] {
-        for most in [1, 2, 7] {
+    for (script, output, end) in SCRIPTS {
+        for most in PIECES {
             let mut written = Vec::new(alloc);
-            let result = run_between(alloc, Trickle::new(script.as_bytes(), most), &mut written);
-            assert_eq!(rt; result, end, "with {most} bytes a read");
+            let result = run_between(alloc, Trickle::new(script.as_bytes(), *most), &mut written);
+            assert_eq!(rt; result, *end, "with {most} bytes a read");
             assert_eq!(rt;
                 str::from_utf8(written.as_slice()),
-                Ok(output),
+                Ok(*output),
                 "with {most} bytes a read"
             );
         }
@@ -49,25 +55,27 @@ fn a_script_in_pieces(rt: HostRuntime) {
             let (front, back) = script.as_bytes().split_at(cut);
             let mut written = Vec::new(alloc);
             let result = run_between(alloc, front.chain(back), &mut written);
-            assert_eq!(rt; result, end, "cut at {cut}");
+            assert_eq!(rt; result, *end, "cut at {cut}");
             assert_eq!(rt;
                 str::from_utf8(written.as_slice()),
-                Ok(output),
+                Ok(*output),
                 "cut at {cut}"
             );
         }
     }
 }
 
+const ERRORS: &[ErrorKind] = &[ErrorKind::BrokenPipe, ErrorKind::Interrupted];
+
 /// A script of which not all was read isn't run.
 #[test]
 fn each_read_fails(rt: HostRuntime) {
     let alloc = rt.alloc();
-    for (script, _, _) in [GOOD, BAD] {
+    for (script, _, _) in SCRIPTS {
         // Each read gives one byte, and the last finds the end.
         for n in 1..script.len() + 2 {
-            for kind in [ErrorKind::BrokenPipe, ErrorKind::Interrupted] {
-                let mut reader = Trickle::failing(script.as_bytes(), 1, n, Failure::Error(kind));
+            for kind in ERRORS {
+                let mut reader = Trickle::failing(script.as_bytes(), 1, n, Failure::Error(*kind));
                 let mut written = Vec::new(alloc);
                 let result = run_between(alloc, &mut reader, &mut written);
                 assert_eq!(rt;
@@ -102,7 +110,7 @@ fn fail_each_write(
     let writes = writer.calls();
     for n in 1..=writes {
         for failure in FAILURES {
-            let mut writer = Drip::failing(alloc, most, n, failure);
+            let mut writer = Drip::failing(alloc, most, n, *failure);
             let result = run_between(alloc, script.as_bytes(), &mut writer);
             assert_eq!(rt;
                 result,
@@ -126,8 +134,8 @@ fn fail_each_write(
 #[test]
 fn each_write_fails(rt: HostRuntime) -> Result<(), Fail> {
     let alloc = rt.alloc();
-    for (script, output, end) in [GOOD, BAD] {
-        let writes = fail_each_write(&rt, alloc, 1, script, output, end);
+    for (script, output, end) in SCRIPTS {
+        let writes = fail_each_write(&rt, alloc, 1, script, output, *end);
         assert_eq!(rt; writes, output.len(), "the writes of one byte");
     }
     // An output that isn't held whole, and so is written in pieces.

@@ -11,3 +11,5 @@ mod flags;
 mod limits;
 #[cfg(test)]
 mod processes;
+#[cfg(test)]
+mod sessions;

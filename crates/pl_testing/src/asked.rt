@@ -169,14 +169,49 @@ pub fn outcome_of<A: Allocator>(answer: Result<Reply<A>, NoMemory>) -> Outcome<A
     }
 }
 
+/// Makes the step, and answers what it came to where that isn't what is wanted. It fails where there is no memory for the
+/// bytes of either.
+pub(crate) fn other_outcome(
+    alloc: Global,
+    kernel: &mut Kernel,
+    ask: Ask,
+    want: Want,
+) -> Result<Option<Outcome>, Fail> {
+    let outcome = outcome_of(kernel.step(ask.step(alloc)?));
+    if outcome == want.outcome(alloc)? {
+        Ok(None)
+    } else {
+        Ok(Some(outcome))
+    }
+}
+
+/// Makes the step, and fails where it doesn't come to what is wanted, or where there is no memory for the bytes of either.
+pub fn answers(alloc: Global, kernel: &mut Kernel, ask: Ask, want: Want) -> Result<(), Fail> {
+    if let Some(outcome) = other_outcome(alloc, kernel, ask, want)? {
+        return Err(Fail::new(format_args!(
+            "{ask:?} is to answer {want:?}, and comes to {outcome:?}"
+        )));
+    }
+    Ok(())
+}
+
 /// Makes the steps, in order, and fails at the first that doesn't come to what its row says, which it names. It fails too
 /// where there is no memory for the bytes of a row.
 pub fn all_answer(alloc: Global, kernel: &mut Kernel, rows: &[(Ask, Want)]) -> Result<(), Fail> {
+    all_answer_in(alloc, kernel, "the table", rows)
+}
+
+/// Makes the steps likewise. A failure names the table too.
+pub(crate) fn all_answer_in(
+    alloc: Global,
+    kernel: &mut Kernel,
+    table: &str,
+    rows: &[(Ask, Want)],
+) -> Result<(), Fail> {
     for (i, (ask, want)) in rows.iter().enumerate() {
-        let outcome = outcome_of(kernel.step(ask.step(alloc)?));
-        if outcome != want.outcome(alloc)? {
+        if let Some(outcome) = other_outcome(alloc, kernel, *ask, *want)? {
             return Err(Fail::new(format_args!(
-                "row {i}: {ask:?} is to answer {want:?}, and comes to {outcome:?}"
+                "row {i} of {table}: {ask:?} is to answer {want:?}, and comes to {outcome:?}"
             )));
         }
     }
@@ -187,11 +222,7 @@ pub fn all_answer(alloc: Global, kernel: &mut Kernel, rows: &[(Ask, Want)]) -> R
 pub fn fill_table(alloc: Global, kernel: &mut Kernel, pid: u32) -> Result<(), Fail> {
     for i in 0..128u8 {
         let first = 2 * i32::from(i);
-        all_answer(
-            alloc,
-            kernel,
-            &[(Ask::Pipe(pid), Want::Fds(first, first + 1))],
-        )?;
+        answers(alloc, kernel, Ask::Pipe(pid), Want::Fds(first, first + 1))?;
     }
     Ok(())
 }

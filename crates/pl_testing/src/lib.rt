@@ -5,4 +5,5 @@
 pub mod asked;
 pub mod examples;
 pub mod refusing;
+pub mod sessions;
 pub mod wanting;

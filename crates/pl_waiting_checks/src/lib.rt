@@ -6,6 +6,8 @@ mod call_numbers;
 #[cfg(test)]
 mod kept_ends;
 #[cfg(test)]
+mod sessions;
+#[cfg(test)]
 mod turns;
 #[cfg(test)]
 mod waiting;

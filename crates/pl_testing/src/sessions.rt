@@ -1,0 +1,65 @@
+//! Tables of sessions: each is made on a kernel of its own.
+ghost use Rattle.std.specs.Prelude.{◌≤◌};
+ghost use Rattle.pl_model.specs.Numbers.{most_file_bytes};
+
+use crate::asked::{Ask, Want, all_answer_in, answers, fill_table};
+use pl_kernel::Kernel;
+use pl_model::Limits;
+use std::alloc::Global;
+use std::test::Fail;
+
+/// What is asked of a new kernel, and what it is to answer.
+#[derive(Clone, Copy, Debug)]
+pub struct Session {
+    /// What a failure calls the session.
+    pub name: &'static str,
+    /// The number of the first call that waits.
+    pub first_call: u64,
+    /// So many processes start before the first row, at most 1,024.
+    pub processes: u32,
+    /// The first so many of these fill their tables before the first row.
+    pub full_tables: u32,
+    /// At least one step, with what it comes to.
+    pub rows: &'static [(Ask, Want)],
+}
+
+/// A session of a kernel without processes, whose calls are numbered from 1: it lacks its name and its rows.
+pub const NEW_KERNEL: Session = Session {
+    name: "",
+    first_call: 1,
+    processes: 0,
+    full_tables: 0,
+    rows: &[],
+};
+
+/// Makes each session on a kernel of its own, within the limits but for its first call. It fails at the first row that isn't
+/// answered as it says, which it names with its session, at a session without rows, and where there is no memory for the bytes
+/// of a row.
+pub fn each_answers(alloc: Global, limits: Limits, sessions: &[Session]) -> Result<(), Fail>
+    requires { limits.file_max ≤ most_file_bytes }
+{
+    for session in sessions {
+        session_answers(alloc, limits, session)?;
+    }
+    Ok(())
+}
+
+fn session_answers(alloc: Global, limits: Limits, session: &Session) -> Result<(), Fail>
+    requires { limits.file_max ≤ most_file_bytes }
+{
+    if session.rows.is_empty() {
+        return Err(Fail::new(format_args!("{} has no rows", session.name)));
+    }
+    let limits = Limits {
+        first_call: session.first_call,
+        ..limits
+    };
+    let mut kernel = Kernel::new(alloc, limits);
+    for pid in 1..=session.processes {
+        answers(alloc, &mut kernel, Ask::Start, Want::Pid(pid))?;
+    }
+    for pid in 1..=session.full_tables {
+        fill_table(alloc, &mut kernel, pid)?;
+    }
+    all_answer_in(alloc, &mut kernel, session.name, session.rows)
+}
