@@ -15,13 +15,14 @@ use Rattle.pl_desc.proofs.SlotLemmas.{at-opened, opened-updates, opened-lent, lo
 use Rattle.pl_desc.proofs.Sound.{counted_there, has_counts, sound-gone, live-less, tidy}
 use Rattle.pl_desc.proofs.Steps.{loose-some, last-is, one-left, sound-less, loose-less}
 use Rattle.pl_desc.proofs.ViewLemmas.{len-same}
+use Rattle.pl_desc.proofs.Known.{known}
 use Rattle.pl_desc.proofs.descs.Descs.release.Goals as goal
 
 pub index-description-requires : goal.index-description-requires
 index-description-requires g c =
     let k = c.self.inside in
     let held = subst (λ d. 0 < count_at d.loose c.args.key) (sym c.self.view_is) c.requires in
-    loose-some k.tables.items k.descriptions.slots (ends_at k.counts) c.self.invariant c.args.key held
+    loose-some (known k c.self.invariant) c.args.key held
 
 pub invariant_of-self : goal.invariant_of-self
 invariant_of-self g c =
@@ -32,7 +33,7 @@ invariant_of-self g c =
     let less : Description = record y { holders = y.holders - 1 } in
     let after = slice_set k.descriptions.slots c.args.key (Some less) in
     let held = subst (λ d. 0 < count_at d.loose c.args.key) (sym c.self.view_is) c.requires in
-    sound-less k.tables.items k.descriptions.slots (ends_at k.counts) c.self.invariant c.args.key y less was refl held refl more
+    sound-less (known k c.self.invariant) c.args.key y less was refl held refl more
 
 pub returns-then-description-gt1-clause-value : goal.returns-then-description-gt1-clause-value
 returns-then-description-gt1-clause-value g c =
@@ -42,7 +43,7 @@ returns-then-description-gt1-clause-value g c =
     let more : 1 < y.holders = subst (λ d. 1 < d.holders) (same_Some c.index-description.result.now y (sym c.index-description.ensures ∙ was)) c.if-description-gt1.true in
     let less : Description = record y { holders = y.holders - 1 } in
     let after = slice_set k.descriptions.slots c.args.key (Some less) in
-    let last : last_hold c.args.self.now c.args.key ≡ false = ap (λ d. last_hold d c.args.key) (sym c.self.view_is) ∙ last-is k.tables.items k.descriptions.slots (ends_at k.counts) c.self.invariant c.args.key y less was (view_of k).room ∙ ne_eqb y.holders 1 (λ e. absurd (omega (arith, more, e))) in
+    let last : last_hold c.args.self.now c.args.key ≡ false = ap (λ d. last_hold d c.args.key) (sym c.self.view_is) ∙ last-is (known k c.self.invariant) c.args.key y less was (view_of k).room ∙ ne_eqb y.holders 1 (λ e. absurd (omega (arith, more, e))) in
     let same = opened-lent k.descriptions.slots c.args.key y less was refl in
     (λ i. option_map (released (last i) (opened_in after)) (at (sym c.self.view_is i).opened c.args.key))
     ∙ ap (option_map (released false (opened_in after))) (at-opened k.descriptions.slots c.args.key ∙ ap (option_map opened_of) was)
@@ -55,7 +56,7 @@ returns-then-description-gt1-clause-opened g c =
     let more : 1 < y.holders = subst (λ d. 1 < d.holders) (same_Some c.index-description.result.now y (sym c.index-description.ensures ∙ was)) c.if-description-gt1.true in
     let less : Description = record y { holders = y.holders - 1 } in
     let after = slice_set k.descriptions.slots c.args.key (Some less) in
-    let last : last_hold c.args.self.now c.args.key ≡ false = ap (λ d. last_hold d c.args.key) (sym c.self.view_is) ∙ last-is k.tables.items k.descriptions.slots (ends_at k.counts) c.self.invariant c.args.key y less was (view_of k).room ∙ ne_eqb y.holders 1 (λ e. absurd (omega (arith, more, e))) in
+    let last : last_hold c.args.self.now c.args.key ≡ false = ap (λ d. last_hold d c.args.key) (sym c.self.view_is) ∙ last-is (known k c.self.invariant) c.args.key y less was (view_of k).room ∙ ne_eqb y.holders 1 (λ e. absurd (omega (arith, more, e))) in
     let same = opened-lent k.descriptions.slots c.args.key y less was refl in
     ap at same ∙ ap (λ d. at d.opened) c.self.view_is
     ∙ ap (λ b. if b then set_at nat_eq (at c.args.self.now.opened) c.args.key None else at c.args.self.now.opened) (sym last)
@@ -68,7 +69,7 @@ returns-then-description-gt1-clause-loose g c =
     let more : 1 < y.holders = subst (λ d. 1 < d.holders) (same_Some c.index-description.result.now y (sym c.index-description.ensures ∙ was)) c.if-description-gt1.true in
     let less : Description = record y { holders = y.holders - 1 } in
     let after = slice_set k.descriptions.slots c.args.key (Some less) in
-    loose-less k.tables.items k.descriptions.slots (ends_at k.counts) c.self.invariant c.args.key y less was refl
+    loose-less (known k c.self.invariant) c.args.key y less was refl
     ∙ ap (λ d. change_count c.args.key one_less (count_at d.loose)) c.self.view_is
 
 pub returns-then-description-gt1-clause-live : goal.returns-then-description-gt1-clause-live
@@ -79,7 +80,7 @@ returns-then-description-gt1-clause-live g c =
     let more : 1 < y.holders = subst (λ d. 1 < d.holders) (same_Some c.index-description.result.now y (sym c.index-description.ensures ∙ was)) c.if-description-gt1.true in
     let less : Description = record y { holders = y.holders - 1 } in
     let after = slice_set k.descriptions.slots c.args.key (Some less) in
-    let last : last_hold c.args.self.now c.args.key ≡ false = ap (λ d. last_hold d c.args.key) (sym c.self.view_is) ∙ last-is k.tables.items k.descriptions.slots (ends_at k.counts) c.self.invariant c.args.key y less was (view_of k).room ∙ ne_eqb y.holders 1 (λ e. absurd (omega (arith, more, e))) in
+    let last : last_hold c.args.self.now c.args.key ≡ false = ap (λ d. last_hold d c.args.key) (sym c.self.view_is) ∙ last-is (known k c.self.invariant) c.args.key y less was (view_of k).room ∙ ne_eqb y.holders 1 (λ e. absurd (omega (arith, more, e))) in
     let same = opened-lent k.descriptions.slots c.args.key y less was refl in
     ap (λ b. live_count (opened_in after) + (if b then 1 else 0)) last
     ∙ (let e : live_count (opened_in after) + 0 ≡ live_count (opened_in after) = omega arith in e)
@@ -93,7 +94,7 @@ returns-then-description-gt1-clause-room g c =
     let more : 1 < y.holders = subst (λ d. 1 < d.holders) (same_Some c.index-description.result.now y (sym c.index-description.ensures ∙ was)) c.if-description-gt1.true in
     let less : Description = record y { holders = y.holders - 1 } in
     let after = slice_set k.descriptions.slots c.args.key (Some less) in
-    let last : last_hold c.args.self.now c.args.key ≡ false = ap (λ d. last_hold d c.args.key) (sym c.self.view_is) ∙ last-is k.tables.items k.descriptions.slots (ends_at k.counts) c.self.invariant c.args.key y less was (view_of k).room ∙ ne_eqb y.holders 1 (λ e. absurd (omega (arith, more, e))) in
+    let last : last_hold c.args.self.now c.args.key ≡ false = ap (λ d. last_hold d c.args.key) (sym c.self.view_is) ∙ last-is (known k c.self.invariant) c.args.key y less was (view_of k).room ∙ ne_eqb y.holders 1 (λ e. absurd (omega (arith, more, e))) in
     let same = opened-lent k.descriptions.slots c.args.key y less was refl in
     let len = len-same k.descriptions.slots after (ap live_count same) in
     let d = ap (λ d. d.room.descriptions) c.self.view_is in
@@ -134,8 +135,8 @@ invariant_of-self-2 g c =
     let x = c.index-description.result.now in
     let was = c.index-description.ensures in
     let held = subst (λ d. 0 < count_at d.loose c.args.key) (sym c.self.view_is) c.requires in
-    let one = one-left k.tables.items k.descriptions.slots (ends_at k.counts) c.self.invariant c.args.key x x was held c.if-description-gt1.false in
-    let last : last_hold c.args.self.now c.args.key ≡ true = ap (λ d. last_hold d c.args.key) (sym c.self.view_is) ∙ last-is k.tables.items k.descriptions.slots (ends_at k.counts) c.self.invariant c.args.key x x was (view_of k).room ∙ eq-eqb x.holders 1 one.0 in
+    let one = one-left (known k c.self.invariant) c.args.key x x was held c.if-description-gt1.false in
+    let last : last_hold c.args.self.now c.args.key ≡ true = ap (λ d. last_hold d c.args.key) (sym c.self.view_is) ∙ last-is (known k c.self.invariant) c.args.key x x was (view_of k).room ∙ eq-eqb x.holders 1 one.0 in
     let updates = c.try_remove-gone.ensures.updates in
     sound-gone k.tables.items k.descriptions c.try_remove-gone.new.self (ends_at k.counts) (ends_at c.remove.new.self) c.args.key x c.self.invariant updates was one.1 c.remove.ensures.counts
 
@@ -145,8 +146,8 @@ returns-clause-value g c =
     let x = c.index-description.result.now in
     let was = c.index-description.ensures in
     let held = subst (λ d. 0 < count_at d.loose c.args.key) (sym c.self.view_is) c.requires in
-    let one = one-left k.tables.items k.descriptions.slots (ends_at k.counts) c.self.invariant c.args.key x x was held c.if-description-gt1.false in
-    let last : last_hold c.args.self.now c.args.key ≡ true = ap (λ d. last_hold d c.args.key) (sym c.self.view_is) ∙ last-is k.tables.items k.descriptions.slots (ends_at k.counts) c.self.invariant c.args.key x x was (view_of k).room ∙ eq-eqb x.holders 1 one.0 in
+    let one = one-left (known k c.self.invariant) c.args.key x x was held c.if-description-gt1.false in
+    let last : last_hold c.args.self.now c.args.key ≡ true = ap (λ d. last_hold d c.args.key) (sym c.self.view_is) ∙ last-is (known k c.self.invariant) c.args.key x x was (view_of k).room ∙ eq-eqb x.holders 1 one.0 in
     let updates = c.try_remove-gone.ensures.updates in
     let after = c.try_remove-gone.new.self.slots in
     let left = sym ((sound-gone k.tables.items k.descriptions c.try_remove-gone.new.self (ends_at k.counts) (ends_at c.remove.new.self) c.args.key x c.self.invariant updates was one.1 c.remove.ensures.counts).counted x.node) ∙ sym c.at-left.ensures in
@@ -160,8 +161,8 @@ returns-clause-opened g c =
     let x = c.index-description.result.now in
     let was = c.index-description.ensures in
     let held = subst (λ d. 0 < count_at d.loose c.args.key) (sym c.self.view_is) c.requires in
-    let one = one-left k.tables.items k.descriptions.slots (ends_at k.counts) c.self.invariant c.args.key x x was held c.if-description-gt1.false in
-    let last : last_hold c.args.self.now c.args.key ≡ true = ap (λ d. last_hold d c.args.key) (sym c.self.view_is) ∙ last-is k.tables.items k.descriptions.slots (ends_at k.counts) c.self.invariant c.args.key x x was (view_of k).room ∙ eq-eqb x.holders 1 one.0 in
+    let one = one-left (known k c.self.invariant) c.args.key x x was held c.if-description-gt1.false in
+    let last : last_hold c.args.self.now c.args.key ≡ true = ap (λ d. last_hold d c.args.key) (sym c.self.view_is) ∙ last-is (known k c.self.invariant) c.args.key x x was (view_of k).room ∙ eq-eqb x.holders 1 one.0 in
     let updates = c.try_remove-gone.ensures.updates in
     opened-updates k.descriptions c.try_remove-gone.new.self c.args.key None updates
     ∙ ap (λ d. set_at nat_eq (at d.opened) c.args.key None) c.self.view_is
@@ -173,8 +174,8 @@ returns-clause-loose g c =
     let x = c.index-description.result.now in
     let was = c.index-description.ensures in
     let held = subst (λ d. 0 < count_at d.loose c.args.key) (sym c.self.view_is) c.requires in
-    let one = one-left k.tables.items k.descriptions.slots (ends_at k.counts) c.self.invariant c.args.key x x was held c.if-description-gt1.false in
-    let last : last_hold c.args.self.now c.args.key ≡ true = ap (λ d. last_hold d c.args.key) (sym c.self.view_is) ∙ last-is k.tables.items k.descriptions.slots (ends_at k.counts) c.self.invariant c.args.key x x was (view_of k).room ∙ eq-eqb x.holders 1 one.0 in
+    let one = one-left (known k c.self.invariant) c.args.key x x was held c.if-description-gt1.false in
+    let last : last_hold c.args.self.now c.args.key ≡ true = ap (λ d. last_hold d c.args.key) (sym c.self.view_is) ∙ last-is (known k c.self.invariant) c.args.key x x was (view_of k).room ∙ eq-eqb x.holders 1 one.0 in
     let updates = c.try_remove-gone.ensures.updates in
     let after = c.try_remove-gone.new.self.slots in
     let none : holders_of (at after c.args.key) ≡ 0 = ap holders_of updates.changed in
@@ -190,8 +191,8 @@ returns-clause-live g c =
     let x = c.index-description.result.now in
     let was = c.index-description.ensures in
     let held = subst (λ d. 0 < count_at d.loose c.args.key) (sym c.self.view_is) c.requires in
-    let one = one-left k.tables.items k.descriptions.slots (ends_at k.counts) c.self.invariant c.args.key x x was held c.if-description-gt1.false in
-    let last : last_hold c.args.self.now c.args.key ≡ true = ap (λ d. last_hold d c.args.key) (sym c.self.view_is) ∙ last-is k.tables.items k.descriptions.slots (ends_at k.counts) c.self.invariant c.args.key x x was (view_of k).room ∙ eq-eqb x.holders 1 one.0 in
+    let one = one-left (known k c.self.invariant) c.args.key x x was held c.if-description-gt1.false in
+    let last : last_hold c.args.self.now c.args.key ≡ true = ap (λ d. last_hold d c.args.key) (sym c.self.view_is) ∙ last-is (known k c.self.invariant) c.args.key x x was (view_of k).room ∙ eq-eqb x.holders 1 one.0 in
     let updates = c.try_remove-gone.ensures.updates in
     ap (λ b. live_count (opened_in c.try_remove-gone.new.self.slots) + (if b then 1 else 0)) last
     ∙ live-less k.tables.items k.descriptions c.try_remove-gone.new.self (ends_at k.counts) (ends_at c.remove.new.self) c.args.key x c.self.invariant updates was one.1 ∙ ap (λ d. live_count d.opened) c.self.view_is
