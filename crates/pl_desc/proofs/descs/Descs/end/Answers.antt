@@ -2,7 +2,6 @@ use Rattle.std.proofs.Common.{◌≡◌, ℕ, ap, ◌∙◌, true, false, None, 
 use Rattle.pl_model.specs.Map.{set_at}
 use Rattle.pl_desc.specs.Rows.{is_pid, row_at, with_table}
 use Rattle.pl_desc.specs.Descs.{Descs}
-use Rattle.pl_desc.specs.Ends.{ends_at}
 use Rattle.pl_desc.specs.Slots.{opened_in}
 use Rattle.pl_desc.specs.DescsView.{view_of}
 use Rattle.pl_desc.proofs.Sound.{tidy}

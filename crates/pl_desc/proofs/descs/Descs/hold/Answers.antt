@@ -1,7 +1,6 @@
 use Rattle.std.proofs.Common.{◌<◌, ◌+◌, ◌^◌, ap, ◌∙◌, sym, subst, refl, arith, Some, slice_set}
 use Rattle.pl_desc.specs.Rows.{count_at, change_count, one_more}
 use Rattle.pl_desc.specs.Descs.{Descs}
-use Rattle.pl_desc.specs.Ends.{ends_at}
 use Rattle.pl_desc.specs.Slots.{loose_from}
 use Rattle.pl_desc.proofs.SlotLemmas.{opened-lent}
 use Rattle.pl_desc.proofs.Sound.{tidy}

@@ -3,7 +3,6 @@ use Rattle.std.proofs.Math.Path.{fun_ext}
 use Rattle.pl_desc.specs.Descs.{holders}
 use Rattle.pl_desc.proofs.Sound.{holders-are, tidy}
 use Rattle.pl_desc.specs.Rows.{is_pid, row_at, with_row, count_at, change_count, one_less}
-use Rattle.pl_desc.specs.Ends.{ends_at}
 use Rattle.pl_desc.specs.Slots.{loose_from, IsSound}
 use Rattle.pl_desc.proofs.Steps.{loose-within, sound-installed, loose-installed, pids-put, rows-put}
 use Rattle.pl_desc.proofs.Known.{Known, known}

@@ -6,7 +6,6 @@ use Rattle.std.proofs.Math.Path.{fun_ext}
 use Rattle.pl_desc.specs.Descs.{holders}
 use Rattle.pl_desc.proofs.Sound.{holders-are, tidy}
 use Rattle.pl_desc.specs.Rows.{is_pid, row_at, row_of, with_row, without_row, count_at, change_count, one_more}
-use Rattle.pl_desc.specs.Ends.{ends_at}
 use Rattle.pl_desc.specs.Slots.{loose_from, IsSound}
 use Rattle.pl_desc.proofs.RowLemmas.{row_of-some}
 use Rattle.pl_desc.proofs.Steps.{sound-closed, loose-closed, pids-put, rows-put}

@@ -4,7 +4,6 @@ use Rattle.std.proofs.lemmas.Bool.{cases_lt}
 use Rattle.pl_model.specs.Map.{set_at}
 use Rattle.pl_desc.specs.Rows.{Tables, is_pid, row_at, free_pid, with_table}
 use Rattle.pl_desc.specs.Descs.{Descs}
-use Rattle.pl_desc.specs.Ends.{ends_at}
 use Rattle.pl_desc.specs.Slots.{opened_in}
 use Rattle.pl_desc.specs.DescsView.{view_of}
 use Rattle.pl_desc.proofs.RowLemmas.{pid-found}

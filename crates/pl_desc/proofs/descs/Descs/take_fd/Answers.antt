@@ -5,7 +5,6 @@ use Rattle.pl_model.specs.Numbers.{open_max}
 use Rattle.pl_desc.specs.Descs.{IsTidy, holders}
 use Rattle.pl_desc.proofs.Sound.{holders-are, tidy}
 use Rattle.pl_desc.specs.Rows.{is_pid, row_at, with_row, without_first, first_open, count_at, change_count, one_more, more_if}
-use Rattle.pl_desc.specs.Ends.{ends_at}
 use Rattle.pl_desc.specs.Slots.{loose_from, IsSound}
 use Rattle.pl_desc.proofs.RowLemmas.{open-found, is_some_value}
 use Rattle.pl_desc.proofs.Steps.{sound-closed, loose-closed, pids-put, rows-put}
@@ -23,7 +22,7 @@ module _ (g : Over) (c : After-clear_row g) where
   process = ap (λ d. is_pid d.tables c.args.pid) c.self.view_is ∙ c.requires
 
   found : (is_some (row_at m.tables c.args.pid c.in_ok-fd.fd) ≡ true) × (c.in_ok-fd.fd < open_max)
-  found = let f = open-found m.tables c.args.pid c.in_ok-fd.fd (ap (λ d. first_open d.tables c.args.pid) c.self.view_is ∙ sym c.in_ok-fd.ensures) in (f.0, f.1)
+  found = open-found m.tables c.args.pid c.in_ok-fd.fd (ap (λ d. first_open d.tables c.args.pid) c.self.view_is ∙ sym c.in_ok-fd.ensures)
 
   some : (key : ℕ) × (row_at m.tables c.args.pid c.in_ok-fd.fd ≡ Some key)
   some = is_some_value (row_at m.tables c.args.pid c.in_ok-fd.fd) found.0
