@@ -4,5 +4,6 @@ pub mod RowLemmas
 pub mod SlotLemmas
 pub mod Sound
 pub mod EndLemmas
+pub mod Known
 pub mod Steps
 pub mod ViewLemmas

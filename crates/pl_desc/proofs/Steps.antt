@@ -11,15 +11,18 @@ use Rattle.pl_model.specs.Map.{set_at}
 use Rattle.pl_model.specs.Modes.{reads, writes}
 use Rattle.pl_desc.specs.declared.description.Description.{Description}
 use Rattle.pl_desc.specs.declared.ends.Ends.{Ends}
-use Rattle.pl_desc.specs.Rows.{at, Tables, table_of, is_pid, rows_in, rows_of, row_at, free_pid, with_row, with_rows_of, with_table, names, named_in, naming, count_at, change_count, one_more, one_less}
+use Rattle.pl_desc.specs.Rows.{at, Tables, table_of, is_pid, rows_in, rows_of, row_at, with_row, with_rows_of, with_table, names, named_in, naming, count_at, change_count, one_more, one_less}
 use Rattle.pl_desc.specs.Descs.{Room, last_hold, is_end_on, same_node, ends_on, live_count}
 use Rattle.pl_desc.specs.Ends.{one_if}
 use Rattle.pl_desc.specs.Slots.{opened_of, opened_in, holders_of, loose_from, held_all, IsSound}
+use Rattle.pl_desc.proofs.Known.{Known, Starts}
 use Rattle.pl_desc.proofs.RowLemmas.{within, pid_in, table_at, pids-set, rows-set, rows-same, naming-set, wide-set, row-naming, row-pids, row-rows, named_in-none, named_in-closed, rows-length, naming-few, pid-found}
 use Rattle.pl_desc.proofs.SlotLemmas.{slot_of, kept-some, at-opened, at-lent, at-lent_other, opened-lent, loose-at, loose-same, loose-change, all-opened, all-holders, all-length}
 use Rattle.pl_desc.proofs.Sound.{live-change, ends-change, sound-tables, sound-slots, is_named, holders-are}
 
-module _ (tables : Tables) (slots : List (Option Description)) (ends : Node → Ends) (sound : IsSound tables slots ends) where
+module _ (m : Known) where
+  open m use {tables, slots, ends, sound}
+
   abbrev loose : ℕ → ℕ
   loose = count_at (loose_from 0 tables slots)
 
@@ -274,10 +277,11 @@ pub ok_part : {T E P : Type 0} (r : Result T E) → is_err r ≡ false → OnOk 
 ok_part (Ok x) h p = p
 ok_part (Err e) h p = absurd (false≢true (sym h))
 
--- a process starts, under the least free pid, where places has a place for its table
-module _ (tables : Tables) (slots : List (Option Description)) (ends : Node → Ends) (sound : IsSound tables slots ends) (pid : ℕ) (free : free_pid tables ≡ Some pid)
-    (places : Tables) (same : table_of places ≡ table_of tables) (names_same : naming places ≡ naming tables) (few : length places ≤ 1024) (high : pid ≤ length places)
-    (table : List (Option ℕ)) (wide : length table ≡ 256) where
+-- a process starts
+module _ (m : Known) (s : Starts m) where
+  open m use {tables, slots, ends, sound}
+  open s use {pid, free, places, same, names_same, few, high, table, wide}
+
   abbrev started : Tables
   started = with_table places pid (Some table)
 

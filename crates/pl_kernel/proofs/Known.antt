@@ -1,4 +1,4 @@
--- What is known of a kernel as a call of it begins.
+-- What is known of a kernel as a call begins, and of a call that waits.
 use Rattle.std.proofs.Common.{◌≡◌, ℕ, true, List, [], ◌∷◌, Option, Some, nat_eq, ap, subst, ◌∙◌}
 use Rattle.pl_model.specs.declared.calls.Limits.{Limits}
 use Rattle.pl_model.specs.Map.{get}
@@ -30,15 +30,15 @@ pub record Caller (A : Type 0) : Type 0 where
   pub process : is_pid descs.tables pid ≡ true
 
 module _ {A : Type 0} (k : Inside A) (invariant : IsSound A (view_of k) × AreHeld A k.descs k.parked.calls) where
-  -- what a kernel's fields are
+  -- what is known of its fields
   abbrev pub known : Known A
   known = record { descs = k.descs; pipes = k.pipes.pipes; calls = k.parked; limits = k.limits; sound = invariant.0; are = invariant.1 }
 
-  -- and of a call's process
+  -- and of the process that calls
   abbrev pub caller : (self : Held A) → view_of k ≡ self → (pid : ℕ) → is_pid self.tables pid ≡ true → Caller A
   caller self is pid process = record { kernel = known; pid = pid; process = ap (λ (z : Held A). is_pid z.tables pid) is ∙ process }
 
-  -- the descriptors are as they were
+  -- the same, where the descriptors are as they were
   pub still_sound : (descs : Descs) → k.descs ≡ descs → (IsSound A (held descs k.pipes.pipes k.parked k.limits)) × (AreHeld A descs k.parked.calls)
   still_sound descs same = subst (λ (d : Descs). (IsSound A (held d k.pipes.pipes k.parked k.limits)) × (AreHeld A d k.parked.calls)) same invariant
 

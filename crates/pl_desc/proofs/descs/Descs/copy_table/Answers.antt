@@ -2,7 +2,7 @@ use Rattle.std.proofs.Common.{◌≡◌, ◌≤◌, ◌<◌, ◌^◌, ◌-◌, l
 use Rattle.std.specs.Prelude.{is_some, count_by}
 use Rattle.std.proofs.lemmas.Bool.{cases_lt}
 use Rattle.pl_model.specs.Map.{set_at}
-use Rattle.pl_desc.specs.Rows.{at, is_pid, row_at, rows_of, free_pid, with_table, with_rows_of, count_at}
+use Rattle.pl_desc.specs.Rows.{Tables, at, is_pid, row_at, rows_of, free_pid, with_table, with_rows_of, count_at}
 use Rattle.pl_desc.specs.Descs.{Descs, live_count}
 use Rattle.pl_desc.specs.Ends.{ends_at}
 use Rattle.pl_desc.specs.Slots.{opened_in, loose_from, held_all, IsSound}
@@ -11,13 +11,47 @@ use Rattle.pl_desc.proofs.SlotLemmas.{slot_of, all-opened}
 use Rattle.pl_desc.proofs.Sound.{is_named, tidy}
 use Rattle.pl_desc.proofs.Steps.{ok_part, holders-few, sound-copied, rows-copied, loose-copied, pids-started}
 use Rattle.pl_desc.proofs.ViewLemmas.{len-same}
+use Rattle.pl_desc.proofs.Known.{Known, Starts, known}
+use Rattle.pl_desc.proofs.descs.Descs.copy_table.Given.{Over}
+use Rattle.pl_desc.proofs.descs.Descs.copy_table.Goals.{After-table-2-1, Joined-index_mut}
 use Rattle.pl_desc.proofs.descs.Descs.copy_table.Goals as goal
+
+-- the table is copied
+copied : (g : Over) (c : After-table-2-1 g) → c.in-Ok.table ≡ rows_of c.self.inside.tables.items c.args.pid
+copied g c = c.in-Ok.ensures ∙ ap (λ d. rows_of d.tables c.args.pid) (sym c.self.view_is)
+
+-- a process starts under the least free pid, with the copied table
+module _ (g : Over) (c : Joined-index_mut g) where
+  abbrev m : Known
+  m = known c.self.inside c.self.invariant
+
+  table_is : c.in-Ok.table ≡ rows_of m.tables c.args.pid
+  table_is = c.in-Ok.ensures ∙ ap (λ d. rows_of d.tables c.args.pid) (sym c.self.view_is)
+
+  abbrev places : Tables
+  places = c.reserve_place.new.tables.items
+
+  free : free_pid m.tables ≡ Some c.in-Some.other
+  free = ap (λ d. free_pid d.tables) c.self.view_is ∙ sym c.in-Some.ensures.value
+
+  high : c.in-Some.other ≤ length places
+  high = ok_part c.reserve_place.result (sym c.is_err.ensures.value ∙ c.if-is_err.false) c.reserve_place.ensures.place
+
+  few : length places ≤ 1024
+  few =
+      let said = c.reserve_place.ensures in
+      ⊎_elim (λ l. omega (arith, l, said.pids, (pid-found m.tables c.in-Some.other free).2)) (λ l. omega (arith, l, said.high l, m.sound.few)) (cases_lt (length m.tables) c.in-Some.other)
+
+  wide : length c.in-Ok.table ≡ 256
+  wide = ap length table_is ∙ rows-length m.tables c.args.pid (ap (λ d. is_pid d.tables c.args.pid) c.self.view_is ∙ c.requires.process) m.sound.wide
+
+  abbrev starts : Starts m
+  starts = record { pid = c.in-Some.other; free = free; places = places; same = c.reserve_place.ensures.rows; names_same = c.reserve_place.ensures.names; few = few; high = high; table = c.in-Ok.table; wide = wide }
 
 pub hold_all-requires-clause-here : goal.hold_all-requires-clause-here
 hold_all-requires-clause-here g c = λ fd key h.
     let k = c.self.inside in
-    let copied : c.in-Ok.table ≡ rows_of k.tables.items c.args.pid = c.in-Ok.ensures ∙ ap (λ d. rows_of d.tables c.args.pid) (sym c.self.view_is) in
-    slot_of k.descriptions.slots key (is_named k.tables.items k.descriptions.slots (ends_at k.counts) c.self.invariant c.args.pid fd key (ap (λ t. at t fd) (sym copied) ∙ h))
+    slot_of k.descriptions.slots key (is_named k.tables.items k.descriptions.slots (ends_at k.counts) c.self.invariant c.args.pid fd key (ap (λ t. at t fd) (sym (copied g c)) ∙ h))
 
 pub hold_all-requires-clause-few : goal.hold_all-requires-clause-few
 hold_all-requires-clause-few g c = λ key.
@@ -26,60 +60,19 @@ hold_all-requires-clause-few g c = λ key.
 
 pub invariant_of-self-2 : goal.invariant_of-self-2
 invariant_of-self-2 g c =
-    let k = c.self.inside in
-    let pid = c.in-Some.other in
-    let free : free_pid k.tables.items ≡ Some pid = ap (λ d. free_pid d.tables) c.self.view_is ∙ sym c.in-Some.ensures.value in
-    let places = c.reserve_place.new.tables.items in
-    let said = c.reserve_place.ensures in
-    let high : pid ≤ length places = ok_part c.reserve_place.result (sym c.is_err.ensures.value ∙ c.if-is_err.false) said.place in
-    let few : length places ≤ 1024 = ⊎_elim (λ l. omega (arith, l, said.pids, (pid-found k.tables.items pid free).2)) (λ l. omega (arith, l, said.high l, c.self.invariant.few)) (cases_lt (length k.tables.items) pid) in
-    let copied : c.in-Ok.table ≡ rows_of k.tables.items c.args.pid = c.in-Ok.ensures ∙ ap (λ d. rows_of d.tables c.args.pid) (sym c.self.view_is) in
-    let process : is_pid k.tables.items c.args.pid ≡ true = ap (λ d. is_pid d.tables c.args.pid) c.self.view_is ∙ c.requires.process in
-    let wide : length c.in-Ok.table ≡ 256 = ap length copied ∙ rows-length k.tables.items c.args.pid process c.self.invariant.wide in
-    subst (λ ss. IsSound (with_table places pid (Some c.in-Ok.table)) ss (ends_at k.counts)) (sym (ap (λ s. s.slots) c.hold_all.ensures))
-    (sound-copied k.tables.items k.descriptions.slots (ends_at k.counts) c.self.invariant pid free places said.rows said.names few high c.in-Ok.table wide c.args.pid copied)
+    subst (λ ss. IsSound (with_table (places g c) c.in-Some.other (Some c.in-Ok.table)) ss (ends_at c.self.inside.counts)) (sym (ap (λ s. s.slots) c.hold_all.ensures))
+    (sound-copied (m g c) (starts g c) c.args.pid (table_is g c))
 
 pub returns-clause-pids : goal.returns-clause-pids
-returns-clause-pids g c =
-    let k = c.self.inside in
-    let pid = c.in-Some.other in
-    let free : free_pid k.tables.items ≡ Some pid = ap (λ d. free_pid d.tables) c.self.view_is ∙ sym c.in-Some.ensures.value in
-    let places = c.reserve_place.new.tables.items in
-    let said = c.reserve_place.ensures in
-    let high : pid ≤ length places = ok_part c.reserve_place.result (sym c.is_err.ensures.value ∙ c.if-is_err.false) said.place in
-    let few : length places ≤ 1024 = ⊎_elim (λ l. omega (arith, l, said.pids, (pid-found k.tables.items pid free).2)) (λ l. omega (arith, l, said.high l, c.self.invariant.few)) (cases_lt (length k.tables.items) pid) in
-    let copied : c.in-Ok.table ≡ rows_of k.tables.items c.args.pid = c.in-Ok.ensures ∙ ap (λ d. rows_of d.tables c.args.pid) (sym c.self.view_is) in
-    let process : is_pid k.tables.items c.args.pid ≡ true = ap (λ d. is_pid d.tables c.args.pid) c.self.view_is ∙ c.requires.process in
-    let wide : length c.in-Ok.table ≡ 256 = ap length copied ∙ rows-length k.tables.items c.args.pid process c.self.invariant.wide in
-    pids-started k.tables.items k.descriptions.slots (ends_at k.counts) c.self.invariant pid free places said.rows said.names few high c.in-Ok.table wide ∙ ap (λ d. set_at nat_eq (is_pid d.tables) pid true) c.self.view_is
+returns-clause-pids g c = pids-started (m g c) (starts g c) ∙ ap (λ d. set_at nat_eq (is_pid d.tables) c.in-Some.other true) c.self.view_is
 
 pub returns-clause-rows : goal.returns-clause-rows
-returns-clause-rows g c =
-    let k = c.self.inside in
-    let pid = c.in-Some.other in
-    let free : free_pid k.tables.items ≡ Some pid = ap (λ d. free_pid d.tables) c.self.view_is ∙ sym c.in-Some.ensures.value in
-    let places = c.reserve_place.new.tables.items in
-    let said = c.reserve_place.ensures in
-    let high : pid ≤ length places = ok_part c.reserve_place.result (sym c.is_err.ensures.value ∙ c.if-is_err.false) said.place in
-    let few : length places ≤ 1024 = ⊎_elim (λ l. omega (arith, l, said.pids, (pid-found k.tables.items pid free).2)) (λ l. omega (arith, l, said.high l, c.self.invariant.few)) (cases_lt (length k.tables.items) pid) in
-    let copied : c.in-Ok.table ≡ rows_of k.tables.items c.args.pid = c.in-Ok.ensures ∙ ap (λ d. rows_of d.tables c.args.pid) (sym c.self.view_is) in
-    let process : is_pid k.tables.items c.args.pid ≡ true = ap (λ d. is_pid d.tables c.args.pid) c.self.view_is ∙ c.requires.process in
-    let wide : length c.in-Ok.table ≡ 256 = ap length copied ∙ rows-length k.tables.items c.args.pid process c.self.invariant.wide in
-    rows-copied k.tables.items k.descriptions.slots (ends_at k.counts) c.self.invariant pid free places said.rows said.names few high c.in-Ok.table wide c.args.pid copied ∙ ap (λ d. with_rows_of (row_at d.tables) c.args.pid pid) c.self.view_is
+returns-clause-rows g c = rows-copied (m g c) (starts g c) c.args.pid (table_is g c) ∙ ap (λ d. with_rows_of (row_at d.tables) c.args.pid c.in-Some.other) c.self.view_is
 
 pub returns-clause-rest : goal.returns-clause-rest
 returns-clause-rest g c =
     let k = c.self.inside in
-    let pid = c.in-Some.other in
-    let free : free_pid k.tables.items ≡ Some pid = ap (λ d. free_pid d.tables) c.self.view_is ∙ sym c.in-Some.ensures.value in
-    let places = c.reserve_place.new.tables.items in
-    let said = c.reserve_place.ensures in
-    let high : pid ≤ length places = ok_part c.reserve_place.result (sym c.is_err.ensures.value ∙ c.if-is_err.false) said.place in
-    let few : length places ≤ 1024 = ⊎_elim (λ l. omega (arith, l, said.pids, (pid-found k.tables.items pid free).2)) (λ l. omega (arith, l, said.high l, c.self.invariant.few)) (cases_lt (length k.tables.items) pid) in
-    let copied : c.in-Ok.table ≡ rows_of k.tables.items c.args.pid = c.in-Ok.ensures ∙ ap (λ d. rows_of d.tables c.args.pid) (sym c.self.view_is) in
-    let process : is_pid k.tables.items c.args.pid ≡ true = ap (λ d. is_pid d.tables c.args.pid) c.self.view_is ∙ c.requires.process in
-    let wide : length c.in-Ok.table ≡ 256 = ap length copied ∙ rows-length k.tables.items c.args.pid process c.self.invariant.wide in
-    let new = with_table places pid (Some c.in-Ok.table) in
+    let new = with_table (places g c) c.in-Some.other (Some c.in-Ok.table) in
     let same = all-opened c.in-Ok.table k.descriptions.slots in
     let others : Descs → Descs = λ d. record d { tables = new } in
     (λ i. record {
@@ -95,7 +88,7 @@ returns-clause-rest g c =
     ∙ (λ i. record {
       tables = new;
       opened = same i;
-      loose = loose-copied k.tables.items k.descriptions.slots (ends_at k.counts) c.self.invariant pid free places said.rows said.names few high c.in-Ok.table wide c.args.pid copied i;
+      loose = loose-copied (m g c) (starts g c) c.args.pid (table_is g c) i;
       room = record {
         descriptions = k.descriptions.capacity - len-same k.descriptions.slots (held_all c.in-Ok.table k.descriptions.slots) (ap live_count same) i;
         pipes = length k.counts.pipes.items;

@@ -1,32 +1,32 @@
 use Rattle.std.proofs.Common.{◌<◌, ◌+◌, ◌^◌, ap, ◌∙◌, sym, subst, refl, arith, Some, slice_set}
 use Rattle.pl_desc.specs.Rows.{count_at, change_count, one_more}
 use Rattle.pl_desc.specs.Descs.{Descs}
-use Rattle.pl_desc.specs.Ends.{ends_at}
 use Rattle.pl_desc.specs.Slots.{loose_from}
 use Rattle.pl_desc.proofs.SlotLemmas.{opened-lent}
 use Rattle.pl_desc.proofs.Sound.{tidy}
 use Rattle.pl_desc.proofs.Steps.{fits-lent, sound-more, loose-more}
 use Rattle.pl_desc.proofs.ViewLemmas.{view-held}
+use Rattle.pl_desc.proofs.Known.{known}
 use Rattle.pl_desc.proofs.descs.Descs.hold.Goals as goal
 
 pub overflow_add-held : goal.overflow_add-held
 overflow_add-held g c =
     let k = c.self.inside in
     let few = subst (λ d. count_at d.loose c.args.key < 2 ^ 100) (sym c.self.view_is) c.requires.few in
-    let fits = fits-lent k.tables.items k.descriptions.slots (ends_at k.counts) c.self.invariant c.args.key c.index_mut-held.result.now c.index_mut-held.result.now c.index_mut-held.ensures.value few in
+    let fits = fits-lent (known k c.self.invariant) c.args.key c.index_mut-held.result.now c.index_mut-held.result.now c.index_mut-held.ensures.value few in
     omega (arith, fits)
 
 pub invariant_of-self : goal.invariant_of-self
 invariant_of-self g c =
     let k = c.self.inside in
     let x = c.index_mut-held.result.now in
-    sound-more k.tables.items k.descriptions.slots (ends_at k.counts) c.self.invariant c.args.key x (record x { holders = x.holders + 1 }) c.index_mut-held.ensures.value refl refl
+    sound-more (known k c.self.invariant) c.args.key x (record x { holders = x.holders + 1 }) c.index_mut-held.ensures.value refl refl
 
 pub returns-clause-loose : goal.returns-clause-loose
 returns-clause-loose g c =
     let k = c.self.inside in
     let x = c.index_mut-held.result.now in
-    loose-more k.tables.items k.descriptions.slots (ends_at k.counts) c.self.invariant c.args.key x (record x { holders = x.holders + 1 }) c.index_mut-held.ensures.value refl
+    loose-more (known k c.self.invariant) c.args.key x (record x { holders = x.holders + 1 }) c.index_mut-held.ensures.value refl
     ∙ ap (λ d. change_count c.args.key one_more (count_at d.loose)) c.self.view_is
 
 pub returns-clause-rest : goal.returns-clause-rest
