@@ -8,7 +8,7 @@ use Rattle.pl_parked.specs.Calls.{Calls}
 use Rattle.pl_desc.specs.Rows.{at, is_pid}
 use Rattle.pl_desc.specs.Descs.{Descs}
 use Rattle.pl_kernel.specs.declared.kernel.Kernel.TheInside.{Inside}
-use Rattle.pl_kernel.specs.Held.{Held, held}
+use Rattle.pl_kernel.specs.Held.{Held, Nodes, pipes_alone, held}
 use Rattle.pl_kernel.specs.KernelView.{view_of}
 use Rattle.pl_kernel.specs.Opens.{OpenOn}
 use Rattle.pl_kernel.specs.Sound.{IsSound, AreHeld}
@@ -16,10 +16,10 @@ use Rattle.pl_kernel.specs.Sound.{IsSound, AreHeld}
 -- a kernel's parts, and its invariant
 pub record Known (A : Type 0) : Type 0 where
   pub descs : Descs
-  pub pipes : List (Option Pipe)
+  pub nodes : Nodes
   pub calls : Calls A
   pub limits : Limits
-  pub sound : IsSound A (held descs pipes calls limits)
+  pub sound : IsSound A (held descs nodes calls limits)
   pub are : AreHeld A descs calls.calls
 
 -- a process of the kernel that is there
@@ -32,15 +32,15 @@ pub record Caller (A : Type 0) : Type 0 where
 module _ {A : Type 0} (k : Inside A) (invariant : IsSound A (view_of k) × AreHeld A k.descs k.parked.calls) where
   -- what is known of its fields
   abbrev pub known : Known A
-  known = record { descs = k.descs; pipes = k.pipes.pipes; calls = k.parked; limits = k.limits; sound = invariant.0; are = invariant.1 }
+  known = record { descs = k.descs; nodes = pipes_alone k.pipes.pipes; calls = k.parked; limits = k.limits; sound = invariant.0; are = invariant.1 }
 
   -- and of the process that calls
   abbrev pub caller : (self : Held A) → view_of k ≡ self → (pid : ℕ) → is_pid self.tables pid ≡ true → Caller A
   caller self is pid process = record { kernel = known; pid = pid; process = ap (λ (z : Held A). is_pid z.tables pid) is ∙ process }
 
   -- the same, where the descriptors are as they were
-  pub still_sound : (descs : Descs) → k.descs ≡ descs → (IsSound A (held descs k.pipes.pipes k.parked k.limits)) × (AreHeld A descs k.parked.calls)
-  still_sound descs same = subst (λ (d : Descs). (IsSound A (held d k.pipes.pipes k.parked k.limits)) × (AreHeld A d k.parked.calls)) same invariant
+  pub still_sound : (descs : Descs) → k.descs ≡ descs → (IsSound A (held descs (pipes_alone k.pipes.pipes) k.parked k.limits)) × (AreHeld A descs k.parked.calls)
+  still_sound descs same = subst (λ (d : Descs). (IsSound A (held d (pipes_alone k.pipes.pipes) k.parked k.limits)) × (AreHeld A d k.parked.calls)) same invariant
 
 -- A call is parked, and waits on a description that is open on a pipe.
 pub record CallOnPipe {A : Type 0} (k : Held A) : Type 0 where
@@ -53,4 +53,4 @@ pub record CallOnPipe {A : Type 0} (k : Held A) : Type 0 where
   pub pipe : ℕ
   pub on : OpenOn k key pipe
   pub held : Pipe
-  pub there : at k.pipes pipe ≡ Some held
+  pub there : at k.nodes.pipes pipe ≡ Some held

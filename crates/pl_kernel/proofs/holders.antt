@@ -4,8 +4,8 @@
 pub mod Holding
 -- The descriptions that are open on pipes, and the ends that the machine counts.
 pub mod Ends
--- That descriptions are on pipes that are there, through each change.
-pub mod OnPipes
+-- That what descriptions are on, and what names stand for, is there, through each change.
+pub mod There
 -- A kernel that holds the same descriptions as before has the same of them live.
 pub mod Staying
 -- What is left of a pipe, from the flags that the kernel read.

@@ -91,8 +91,8 @@ impl<A: Allocator + Copy> Kernel<A> {
 
     // What a read of n bytes, not 0, of a pipe comes to.
     pub(super) fn case_of_read(&self, pipe: usize, n: u32) -> ReadCase
-        requires { IsSome (at self.now.pipes pipe) }
-        ensures { IfSome (at self.now.pipes pipe) (λ x. result ≡ read_case n (length x.bytes) (has_writer self.now.opened pipe)) }
+        requires { IsSome (at self.now.nodes.pipes pipe) }
+        ensures { IfSome (at self.now.nodes.pipes pipe) (λ x. result ≡ read_case n (length x.bytes) (has_writer self.now.opened pipe)) }
     {
         let held = self.pipes.held(pipe);
         let has_writer = self.descs.writers(Node::Pipe(pipe)) > 0;
@@ -107,10 +107,10 @@ impl<A: Allocator + Copy> Kernel<A> {
         taken: usize,
         may_wait: bool,
     ) -> WriteCase
-        requires pipe { IsSome (at self.now.pipes pipe) }
+        requires pipe { IsSome (at self.now.nodes.pipes pipe) }
         requires taken { taken ≤ length }
-        ensures case { IfSome (at self.now.pipes pipe) (λ x. result ≡ write_case length taken (room x) (has_reader self.now.opened pipe) may_wait) }
-        ensures fits { IfSome (at self.now.pipes pipe) (λ x. FitsRoom result length taken (room x)) }
+        ensures case { IfSome (at self.now.nodes.pipes pipe) (λ x. result ≡ write_case length taken (room x) (has_reader self.now.opened pipe) may_wait) }
+        ensures fits { IfSome (at self.now.nodes.pipes pipe) (λ x. FitsRoom result length taken (room x)) }
     {
         let room = self.pipes.room(pipe);
         let has_reader = self.descs.readers(Node::Pipe(pipe)) > 0;

@@ -78,7 +78,7 @@ impl<A: Allocator + Copy> Kernel<A> {
         requires on { OpenOn self.old end.key end.pipe }
         requires may { MayWait call taken }
         requires taken { taken ≤ length (written call) }
-        requires room { IfSome (at self.old.pipes end.pipe) (λ x. taken ≤ room x) }
+        requires room { IfSome (at self.old.nodes.pipes end.pipe) (λ x. taken ≤ room x) }
         ensures number { IfOk result (λ number. number ≡ self.old.calls.next) }
         ensures ok { OnOk result (Adds (with_call self.old (call_on end.key pid call taken)) end.pipe (take taken (written call)) self.new) }
         ensures err { OnErr result (self.new ≡ self.old) }

@@ -15,7 +15,7 @@ use Rattle.pl_model.specs.Live.{in_rows, in_parked, pids, is_live, is_held, read
 use Rattle.pl_model.specs.Settle.{settle, settled_pipe, is_kept, is_hung, had_writer, with_ends, hangs}
 use Rattle.pl_model.specs.Numbered.{numbers}
 use Rattle.pl_model.specs.Laws.{IsSettled}
-use Rattle.pl_model.proofs.settling.Tidy.{is_on, has_end, SameEnds, has_end-same, settled_pipe-is, settles_to, tidy, settled-live, settled-kept, settled-file, kept-same, settled_pipe-same}
+use Rattle.pl_model.proofs.settling.Tidy.{nothing_kept, is_on, has_end, SameEnds, has_end-same, settled_pipe-is, settles_to, tidy, settled-live, settled-kept, settled-file, kept-same, settled_pipe-same}
 
 -- what a map has at another key, and at the key
 pub at_other : {X : Type 0} (m : ℕ → X) (k q : ℕ) (x : X) → k ≢ q → set_at nat_eq m k x q ≡ m q
@@ -107,16 +107,18 @@ module _ {A : Type 0} (c u : Core A numbers) (gone : ℕ) where
   abbrev pub left : Core A numbers
   left = record u { descriptions = set_at nat_eq c.descriptions gone None }
 
-  -- and of a pipe: it goes with its last end, and else is hung once its last writer left
-  abbrev pub left_pipe : ℕ → Pipe → Option Pipe
-  left_pipe p y =
-      kept_if (has_end left any_mode (PipeNode p))
-      (Some (record y { hung = hangs (has_end left reads (PipeNode p)) (has_end left writes (PipeNode p)) (is_hung (c.pipes p) || has_end c writes (PipeNode p)) }))
+  -- what of the pipes and the files, where the description was on the node: only that node is looked at
+  abbrev pub pipes_left : Node numbers → ℕ → Option Pipe
+  pipes_left (PipeNode p) = set_at nat_eq c.pipes p (option_map (settled_pipe c left p) (kept_if (is_kept left (PipeNode p)) (c.pipes p)))
+  pipes_left (FileNode f) = c.pipes
 
--- A description of a pipe's end isn't live any more, and all others are as they were. The bytes of that pipe may have
--- changed.
-module _ {A : Type 0} (c u : Core A numbers) (settled : IsSettled c) (alike : Alike c u) (unnamed : c.names ≡ []) (gone : ℕ) (x : Description numbers)
-    (described : c.descriptions gone ≡ Some x) (p : ℕ) (on : x.node ≡ PipeNode p) (others : (d : ℕ) → d ≢ gone → is_live u d ≡ is_live c d) (dead : is_live u gone ≡ false) where
+  abbrev pub files_left : Node numbers → ℕ → Option (List ℕ)
+  files_left (PipeNode p) = c.files
+  files_left (FileNode f) = set_at nat_eq c.files f (kept_if (is_kept left (FileNode f)) (c.files f))
+
+-- A description isn't live any more, and all others are as they were.
+module _ {A : Type 0} (c u : Core A numbers) (settled : IsSettled c) (alike : Alike c u) (same_pipes : u.pipes ≡ c.pipes) (gone : ℕ) (x : Description numbers)
+    (described : c.descriptions gone ≡ Some x) (others : (d : ℕ) → d ≢ gone → is_live u d ≡ is_live c d) (dead : is_live u gone ≡ false) where
   abbrev rest : Core A numbers
   rest = left c u gone
 
@@ -146,15 +148,14 @@ module _ {A : Type 0} (c u : Core A numbers) (settled : IsSettled c) (alike : Al
       ]
 
   -- another node has the ends that it had
-  other_ends : (node : Node numbers) → same_node {K = numbers} (PipeNode p) node ≡ false → SameEnds c u node
+  other_ends : (node : Node numbers) → same_node x.node node ≡ false → SameEnds c u node
   other_ends node off = record { forth = forth; back = λ d l o. (at_live d l, there d) }
     where
       forth : (d : ℕ) → is_live c d ≡ true → is_on node (c.descriptions d) ≡ true → (is_live u d ≡ true) × (u.descriptions d ≡ c.descriptions d)
       forth d l o = elim (eqb_tells d gone) as (λ _. (is_live u d ≡ true) × (u.descriptions d ≡ c.descriptions d)) [
         | inl t ↦ (
             let here : is_on node (Some x) ≡ true = ap (is_on node) (sym described) ∙ ap (λ z. is_on node (c.descriptions z)) (sym t.1) ∙ o in
-            let not_here : is_on node (Some x) ≡ false = (λ i. same_node {K = numbers} (on i) node && true) ∙ (λ i. off i && true) in
-            let f : false ≡ true = sym not_here ∙ here in
+            let f : false ≡ true = (λ i. sym off i && true) ∙ here in
             absurd (cc))
         | inr t ↦ (others d t.1 ∙ l, there d)
       ]
@@ -165,15 +166,72 @@ module _ {A : Type 0} (c u : Core A numbers) (settled : IsSettled c) (alike : Al
         | inr t ↦ sym (others d t.1) ∙ l
       ]
 
-  pub gone-settled : (y : Pipe) → u.pipes ≡ set_at nat_eq c.pipes p (Some y) → settle c u ≡ record rest { pipes = set_at nat_eq c.pipes p (left_pipe c u gone p y) }
-  gone-settled y pipes = settles_to c u (set_at nat_eq c.descriptions gone None) (set_at nat_eq c.pipes p (left_pipe c u gone p y)) u.files at_d at_p (λ f. at_f f (u.files f) refl)
-    where
-      nothing : (b : Bool) → ◌≡◌ {A = Option (Description numbers)} (kept_if b None) None
-      nothing true = refl
-      nothing false = refl
+  -- a node has the ends, and is kept, as what is left has it
+  kept_as : (node : Node numbers) → is_kept u node ≡ is_kept rest node
+  kept_as node = kept-same rest u refl node (left_ends node)
 
+  pipe_as : (p : ℕ) (y : Pipe) → settled_pipe c u p y ≡ settled_pipe c rest p y
+  pipe_as p y =
+      settled_pipe-is c u p y
+      ∙ (λ i. with_ends (ends any_mode i) (ends reads i) (ends writes i) (is_hung (c.pipes p) || has_end c writes (PipeNode p)) y)
+      ∙ sym (settled_pipe-is c rest p y)
+    where
+      ends : (test : Mode → Bool) → has_end u test (PipeNode p) ≡ has_end rest test (PipeNode p)
+      ends = has_end-same rest u (PipeNode p) (left_ends (PipeNode p))
+
+  abbrev at_pipe : ℕ → Option Pipe → Option Pipe
+  at_pipe q o = option_map (settled_pipe c u q) (kept_if (is_kept u (PipeNode q)) o)
+
+  abbrev at_file : ℕ → Option (List ℕ) → Option (List ℕ)
+  at_file f o = kept_if (is_kept u (FileNode f)) o
+
+  -- what is of another node stays
+  pipe_stays : (q : ℕ) → same_node x.node (PipeNode q) ≡ false → at_pipe q (c.pipes q) ≡ c.pipes q
+  pipe_stays q off = by (c.pipes q) refl
+    where
+      by : (o : Option Pipe) → c.pipes q ≡ o → at_pipe q o ≡ o
+      by None e = ap (option_map (settled_pipe c u q)) (nothing_kept (is_kept u (PipeNode q)))
+      by (Some z) e =
+          let same = other_ends (PipeNode q) off in
+          ap (λ b. option_map (settled_pipe c u q) (kept_if b (Some z))) (kept-same c u alike.names (PipeNode q) same ∙ (settled-kept c settled q z e).0)
+          ∙ ap (λ y. Some y) (settled_pipe-same c u alike.names q z same ∙ (settled-kept c settled q z e).1)
+
+  file_stays : (f : ℕ) → same_node x.node (FileNode f) ≡ false → at_file f (c.files f) ≡ c.files f
+  file_stays f off = by (c.files f) refl
+    where
+      by : (o : Option (List ℕ)) → c.files f ≡ o → at_file f o ≡ o
+      by None e = nothing_kept (is_kept u (FileNode f))
+      by (Some z) e = ap (λ b. kept_if b (Some z)) (kept-same c u alike.names (FileNode f) (other_ends (FileNode f) off) ∙ settled-file c settled f z e)
+
+  -- what is of its own is as what is left of the ends has it
+  pipe_goes : (q : ℕ) → at_pipe q (c.pipes q) ≡ option_map (settled_pipe c rest q) (kept_if (is_kept rest (PipeNode q)) (c.pipes q))
+  pipe_goes q = λ i. option_map (fun_ext (pipe_as q) i) (kept_if (kept_as (PipeNode q) i) (c.pipes q))
+
+  file_goes : (f : ℕ) → at_file f (c.files f) ≡ kept_if (is_kept rest (FileNode f)) (c.files f)
+  file_goes f = ap (λ b. kept_if b (c.files f)) (kept_as (FileNode f))
+
+  -- so all nodes are as before, but for its own
+  pipes_at : (n : Node numbers) → x.node ≡ n → (q : ℕ) → at_pipe q (c.pipes q) ≡ pipes_left c u gone n q
+  pipes_at (PipeNode p) is q = elim (eqb_tells p q) as (λ _. at_pipe q (c.pipes q) ≡ pipes_left c u gone (PipeNode p) q) [
+    | inl t ↦ ap (λ k. at_pipe k (c.pipes k)) (sym t.1) ∙ pipe_goes p ∙ sym (ap (λ b. cond b (option_map (settled_pipe c rest p) (kept_if (is_kept rest (PipeNode p)) (c.pipes p))) (c.pipes q)) t.0)
+    | inr t ↦ pipe_stays q ((λ i. same_node (is i) (PipeNode q)) ∙ t.0) ∙ sym (at_other c.pipes p q (option_map (settled_pipe c rest p) (kept_if (is_kept rest (PipeNode p)) (c.pipes p))) t.1)
+  ]
+  pipes_at (FileNode f) is q = pipe_stays q (λ i. same_node (is i) (PipeNode q))
+
+  files_at : (n : Node numbers) → x.node ≡ n → (f : ℕ) → at_file f (c.files f) ≡ files_left c u gone n f
+  files_at (PipeNode p) is f = file_stays f (λ i. same_node (is i) (FileNode f))
+  files_at (FileNode g) is f = elim (eqb_tells g f) as (λ _. at_file f (c.files f) ≡ files_left c u gone (FileNode g) f) [
+    | inl t ↦ ap (λ k. at_file k (c.files k)) (sym t.1) ∙ file_goes g ∙ sym (ap (λ b. cond b (kept_if (is_kept rest (FileNode g)) (c.files g)) (c.files f)) t.0)
+    | inr t ↦ file_stays f ((λ i. same_node (is i) (FileNode f)) ∙ t.0) ∙ sym (at_other c.files g f (kept_if (is_kept rest (FileNode g)) (c.files g)) t.1)
+  ]
+
+  pub gone-settled : settle c u ≡ record rest { pipes = pipes_left c u gone x.node; files = files_left c u gone x.node }
+  gone-settled = settles_to c u (set_at nat_eq c.descriptions gone None) (pipes_left c u gone x.node) (files_left c u gone x.node) at_d
+      (λ q. (λ i. at_pipe q (same_pipes i q)) ∙ pipes_at x.node refl q)
+      (λ f. (λ i. at_file f (alike.files i f)) ∙ files_at x.node refl f)
+    where
       kept : (d : ℕ) (o : Option (Description numbers)) → c.descriptions d ≡ o → d ≢ gone → kept_if (is_live u d) o ≡ o
-      kept d None e n = nothing (is_live u d)
+      kept d None e n = nothing_kept (is_live u d)
       kept d (Some z) e n = ap (λ b. kept_if b (Some z)) (others d n ∙ settled-live c settled d z e)
 
       at_d : (d : ℕ) → kept_if (is_live u d) (u.descriptions d) ≡ set_at nat_eq c.descriptions gone None d
@@ -181,57 +239,3 @@ module _ {A : Type 0} (c u : Core A numbers) (settled : IsSettled c) (alike : Al
         | inl t ↦ ap (λ b. kept_if b (u.descriptions d)) (ap (is_live u) (sym t.1) ∙ dead) ∙ sym (ap (λ b. cond b None (c.descriptions d)) t.0)
         | inr t ↦ ap (kept_if (is_live u d)) (there d) ∙ kept d (c.descriptions d) refl (λ s. t.1 (sym s)) ∙ sym (at_other c.descriptions gone d None t.1)
       ]
-
-      ends : (test : Mode → Bool) → has_end u test (PipeNode p) ≡ has_end rest test (PipeNode p)
-      ends = has_end-same rest u (PipeNode p) (left_ends (PipeNode p))
-
-      or_none : (b : Bool) → (b || list_any (λ e. same_node {K = numbers} e.1 (PipeNode p)) u.names) ≡ b
-      or_none b = (λ i. b || list_any (λ e. same_node {K = numbers} e.1 (PipeNode p)) (alike.names i)) ∙ (λ i. b || list_any (λ e. same_node {K = numbers} e.1 (PipeNode p)) (unnamed i)) ∙ at b
-        where
-          at : (b : Bool) → (b || false) ≡ b
-          at true = refl
-          at false = refl
-
-      tidied : (h r w had : Bool) → option_map (with_ends h r w had) (kept_if h (Some y)) ≡ kept_if h (Some (record y { hung = hangs r w had }))
-      tidied true r w had = refl
-      tidied false r w had = refl
-
-      here : option_map (settled_pipe c u p) (kept_if (is_kept u (PipeNode p)) (Some y)) ≡ left_pipe c u gone p y
-      here =
-          ap (λ b. option_map (settled_pipe c u p) (kept_if b (Some y))) (or_none (has_end u any_mode (PipeNode p)) ∙ ends any_mode)
-          ∙ seen (has_end rest any_mode (PipeNode p))
-          ∙ tidied (has_end rest any_mode (PipeNode p)) (has_end rest reads (PipeNode p)) (has_end rest writes (PipeNode p)) (is_hung (c.pipes p) || has_end c writes (PipeNode p))
-        where
-          seen : (b : Bool) → option_map (settled_pipe c u p) (kept_if b (Some y)) ≡ option_map (with_ends (has_end rest any_mode (PipeNode p)) (has_end rest reads (PipeNode p)) (has_end rest writes (PipeNode p)) (is_hung (c.pipes p) || has_end c writes (PipeNode p))) (kept_if b (Some y))
-          seen true =
-              ap (λ z. Some z) (settled_pipe-is c u p y
-              ∙ (λ i. with_ends (ends any_mode i) (ends reads i) (ends writes i) (is_hung (c.pipes p) || has_end c writes (PipeNode p)) y))
-          seen false = refl
-
-      at_other_pipe : (q : ℕ) (o : Option Pipe) → c.pipes q ≡ o → nat_eq p q ≡ false → option_map (settled_pipe c u q) (kept_if (is_kept u (PipeNode q)) o) ≡ o
-      at_other_pipe q None e n = none (is_kept u (PipeNode q)) where
-        none : (b : Bool) → ◌≡◌ {A = Option Pipe} (option_map (settled_pipe c u q) (kept_if b None)) None
-        none true = refl
-        none false = refl
-      at_other_pipe q (Some z) e n =
-          let same = other_ends (PipeNode q) n in
-          ap (λ b. option_map (settled_pipe c u q) (kept_if b (Some z))) (kept-same c u alike.names (PipeNode q) same ∙ (settled-kept c settled q z e).0)
-          ∙ ap (λ y. Some y) (settled_pipe-same c u alike.names q z same ∙ (settled-kept c settled q z e).1)
-
-      at_p : (q : ℕ) → option_map (settled_pipe c u q) (kept_if (is_kept u (PipeNode q)) (u.pipes q)) ≡ set_at nat_eq c.pipes p (left_pipe c u gone p y) q
-      at_p q = elim (eqb_tells p q) as (λ _. option_map (settled_pipe c u q) (kept_if (is_kept u (PipeNode q)) (u.pipes q)) ≡ set_at nat_eq c.pipes p (left_pipe c u gone p y) q) [
-        | inl t ↦
-            ap (λ k. option_map (settled_pipe c u k) (kept_if (is_kept u (PipeNode k)) (u.pipes k))) (sym t.1)
-            ∙ ap (λ o. option_map (settled_pipe c u p) (kept_if (is_kept u (PipeNode p)) o)) ((λ i. pipes i p) ∙ at_key c.pipes p (Some y))
-            ∙ here ∙ sym (ap (λ b. cond b (left_pipe c u gone p y) (c.pipes q)) t.0)
-        | inr t ↦
-            ap (λ o. option_map (settled_pipe c u q) (kept_if (is_kept u (PipeNode q)) o)) ((λ i. pipes i q) ∙ at_other c.pipes p q (Some y) t.1)
-            ∙ at_other_pipe q (c.pipes q) refl t.0 ∙ sym (at_other c.pipes p q (left_pipe c u gone p y) t.1)
-      ]
-
-      at_f : (f : ℕ) (o : Option (List ℕ)) → u.files f ≡ o → kept_if (is_kept u (FileNode f)) o ≡ o
-      at_f f None e = none (is_kept u (FileNode f)) where
-        none : (b : Bool) → ◌≡◌ {A = Option (List ℕ)} (kept_if b None) None
-        none true = refl
-        none false = refl
-      at_f f (Some z) e = ap (λ b. kept_if b (Some z)) (kept-same c u alike.names (FileNode f) (other_ends (FileNode f) refl) ∙ settled-file c settled f z (sym (λ i. alike.files i f) ∙ e))

@@ -18,6 +18,11 @@ use Rattle.pl_model.specs.Numbered.{numbers}
 use Rattle.pl_model.specs.Laws.{IsSettled}
 use Rattle.pl_model.proofs.settling.Members.{both_ways, and_left, and_right, or_left, member_found, member_passes, some_count, is_here, member_filter_map, member_flat, any_filter, any_number, number_passes}
 
+-- what is kept of nothing
+pub nothing_kept : {X : Type 0} (b : Bool) → ◌≡◌ {A = Option X} (kept_if b None) None
+nothing_kept true = refl
+nothing_kept false = refl
+
 -- a row of a process names the description
 pub record Row {A : Type 0} (c : Core A numbers) (d : ℕ) : Type 0 where
   pub pid : ℕ
@@ -70,15 +75,6 @@ module _ {A : Type 0} (c u : Core A numbers) (same_parked : u.parked ≡ c.parke
       ∙ ap (λ b. b || is_member nat_eq (in_parked c) d)
       (both_ways (is_member nat_eq (in_rows u) d) (is_member nat_eq (in_rows c) d) (λ h. row_member c d (back (row_found u d h))) (λ h. row_member u d (forth (row_found c d h))))
       ∙ sym (list_any-append (nat_eq d) (in_rows c) (in_parked c))
-
--- a live description that no parked call keeps is named by a row
-module _ {A : Type 0} (c : Core A numbers) (d : ℕ) (unkept : is_member nat_eq (in_parked c) d ≡ false) where
-  or_false : (b : Bool) → (b || false) ≡ b
-  or_false true = refl
-  or_false false = refl
-
-  pub live_row : is_live c d ≡ true → Row c d
-  live_row h = row_found c d (sym (or_false _) ∙ (λ i. is_member nat_eq (in_rows c) d || sym unkept i) ∙ sym (list_any-append (nat_eq d) (in_rows c) (in_parked c)) ∙ h)
 
 -- the description is on the node
 abbrev pub is_on : Node numbers → Option (Description numbers) → Bool
@@ -151,24 +147,15 @@ module _ {A : Type 0} (before u : Core A numbers) where
   tidy live kept files = settles_to u.descriptions u.pipes u.files (λ d. at_d d (u.descriptions d) refl) (λ p. at_p p (u.pipes p) refl) (λ f. at_f f (u.files f) refl)
     where
       at_d : (d : ℕ) (o : Option (Description numbers)) → u.descriptions d ≡ o → kept_if (is_live u d) o ≡ o
-      at_d d None e = always (is_live u d) where
-        always : (b : Bool) → ◌≡◌ {A = Option (Description numbers)} (kept_if b None) None
-        always true = refl
-        always false = refl
+      at_d d None e = nothing_kept (is_live u d)
       at_d d (Some x) e = ap (λ b. kept_if b (Some x)) (live d x e)
 
       at_p : (p : ℕ) (o : Option Pipe) → u.pipes p ≡ o → option_map (settled_pipe before u p) (kept_if (is_kept u (PipeNode p)) o) ≡ o
-      at_p p None e = always (is_kept u (PipeNode p)) where
-        always : (b : Bool) → ◌≡◌ {A = Option Pipe} (option_map (settled_pipe before u p) (kept_if b None)) None
-        always true = refl
-        always false = refl
+      at_p p None e = ap (option_map (settled_pipe before u p)) (nothing_kept (is_kept u (PipeNode p)))
       at_p p (Some x) e = ap (λ b. option_map (settled_pipe before u p) (kept_if b (Some x))) (kept p x e).0 ∙ ap (λ y. Some y) (kept p x e).1
 
       at_f : (f : ℕ) (o : Option (List ℕ)) → u.files f ≡ o → kept_if (is_kept u (FileNode f)) o ≡ o
-      at_f f None e = always (is_kept u (FileNode f)) where
-        always : (b : Bool) → ◌≡◌ {A = Option (List ℕ)} (kept_if b None) None
-        always true = refl
-        always false = refl
+      at_f f None e = nothing_kept (is_kept u (FileNode f))
       at_f f (Some x) e = ap (λ b. kept_if b (Some x)) (files f x e)
 
 -- what a settled state is known to have
