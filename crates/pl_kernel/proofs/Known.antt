@@ -11,7 +11,16 @@ use Rattle.pl_kernel.specs.declared.kernel.Kernel.TheInside.{Inside}
 use Rattle.pl_kernel.specs.Held.{Held, Nodes, pipes_alone, held}
 use Rattle.pl_kernel.specs.KernelView.{view_of}
 use Rattle.pl_kernel.specs.Opens.{OpenOn}
-use Rattle.pl_kernel.specs.Sound.{IsSound, AreHeld}
+use Rattle.pl_kernel.specs.Sound.{IsSound, IsWhole, AreHeld}
+
+-- a kernel's parts, and what holds of them whatever its calls wait for
+pub record Parts (A : Type 0) : Type 0 where
+  pub descs : Descs
+  pub nodes : Nodes
+  pub calls : Calls A
+  pub limits : Limits
+  pub whole : IsWhole A (held descs nodes calls limits)
+  pub are : AreHeld A descs calls.calls
 
 -- a kernel's parts, and its invariant
 pub record Known (A : Type 0) : Type 0 where
@@ -21,6 +30,9 @@ pub record Known (A : Type 0) : Type 0 where
   pub limits : Limits
   pub sound : IsSound A (held descs nodes calls limits)
   pub are : AreHeld A descs calls.calls
+
+abbrev pub parts_of : {A : Type 0} → Known A → Parts A
+parts_of m = record { descs = m.descs; nodes = m.nodes; calls = m.calls; limits = m.limits; whole = m.sound.whole; are = m.are }
 
 -- a process of the kernel that is there
 pub record Caller (A : Type 0) : Type 0 where

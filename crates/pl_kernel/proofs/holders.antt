@@ -14,3 +14,5 @@ pub mod Hung
 pub mod Gone
 -- A hold of a description is given up, at the kernel's keys.
 pub mod GivenUp
+-- Holds of several descriptions are given up one after another.
+pub mod EachInTurn

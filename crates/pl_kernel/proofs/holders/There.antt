@@ -1,7 +1,7 @@
 -- That what descriptions are on, and what names stand for, is there, through each change.
 use Rattle.std.proofs.Common.{◌≡◌, ◌≢◌, ℕ, ◌<◌, Bool, true, false, cond, List, length, Option, Some, None, refl, sym, ◌∙◌, ap, subst, inl, inr, nat_eq, nat_lt, slice_index_or}
 use Rattle.std.proofs.Math.Path.{fun_ext}
-use Rattle.std.specs.Prelude.{◌⊎◌, ◌&&◌, ◌||◌, option_map, IfSome, IsSome}
+use Rattle.std.specs.Prelude.{◌⊎◌, ◌&&◌, ◌||◌, option_map, if◌then◌else◌, IfSome, IsSome}
 use Rattle.std.specs.List.{list_any}
 use Rattle.std.proofs.lemmas.Bool.{eq-eqb}
 use Rattle.std.proofs.lemmas.Bool.Decides.{eqb_tells}
@@ -18,9 +18,9 @@ use Rattle.pl_model.proofs.settling.Members.{or_left, or_right}
 use Rattle.pl_model.proofs.settling.Settled.{settled}
 use Rattle.pl_model.proofs.settling.Settles.{at_other, at_key}
 use Rattle.pl_desc.specs.Rows.{at}
-use Rattle.pl_desc.specs.Descs.{Opened, same_node, is_end_on, ends_on}
+use Rattle.pl_desc.specs.Descs.{Opened, Descs, same_node, is_end_on, ends_on, last_hold}
 use Rattle.pl_kernel.specs.Held.{Nodes, IsThere, has_name}
-use Rattle.pl_kernel.specs.Left.{is_kept, is_open_on, ended_pipe, pipes_left, files_left, Leaves}
+use Rattle.pl_kernel.specs.Left.{is_kept, is_open_on, ended_pipe, pipes_left, files_left, Leaves, Releases}
 use Rattle.pl_kernel.specs.Sound.{AreThere}
 use Rattle.pl_kernel.proofs.holders.Holding.{some_counted}
 use Rattle.pl_kernel.proofs.Views.{within}
@@ -119,6 +119,17 @@ module _ (before after : List (Option Opened)) (old new : Nodes) (n : Node) (lea
       by : (d : ℕ) (o : Option Opened) → at after d ≡ o → IfSome o (λ o. IsThere old o.node) → IfSome o (λ o. IsThere new o.node)
       by d None e h = tt
       by d (Some o) e h = stays o.node (kept_open after old d o e) h
+
+-- a hold is given up, with the description where that was its last holder
+pub there-released : (old new : Descs) (before after : Nodes) (key : ℕ) (o : Opened) → at old.opened key ≡ Some o → Releases old new before after key → AreThere (at old.opened) before → AreThere (at new.opened) after
+there-released old new before after key o here r there = by (last_hold old key) refl
+  where
+    opened_is : (b : Bool) → last_hold old key ≡ b → at new.opened ≡ (if b then set_at nat_eq (at old.opened) key None else at old.opened)
+    opened_is b e = r.opened ∙ ap (λ b. if b then set_at nat_eq (at old.opened) key None else at old.opened) e
+
+    by : (b : Bool) → last_hold old key ≡ b → AreThere (at new.opened) after
+    by true e = there-left old.opened new.opened before after o.node (subst (λ z. IfSome z (λ o. Leaves old.opened new.opened before after o.node)) here (r.leaves e)) (subst (λ m. AreThere m before) (sym (opened_is true e)) (there-removed (at old.opened) before there key))
+    by false e = subst (λ m. AreThere m after) (sym (opened_is false e)) (subst (λ ns. AreThere (at old.opened) ns) (sym (r.stays e)) there)
 
 -- the function of a map with this at a key
 pub map-set_at : {V W : Type 0} (f : V → W) (m : ℕ → Option V) (k : ℕ) (o : Option V) → (λ d. option_map f (set_at nat_eq m k o d)) ≡ set_at nat_eq (λ d. option_map f (m d)) k (option_map f o)

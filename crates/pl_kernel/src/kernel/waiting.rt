@@ -15,7 +15,7 @@ ghost use Rattle.pl_kernel.specs.Makes.{Does, MayWant};
 use super::Kernel;
 use super::transfers::no_bytes;
 use crate::access::OpenEnd;
-use crate::leaving::release;
+use crate::leaving::release_all;
 use crate::parking::park_call;
 use pl_desc::NoMemory;
 use pl_model::{Bytes8, Call, Errno, ReadCase, Reply, Step, WriteCase};
@@ -105,13 +105,13 @@ impl<A: Allocator + Copy> Kernel<A> {
         }
     }
 
-    // Ends a parked call, which keeps its description no more.
+    // Ends a parked call, which keeps its descriptions no more.
     pub(super) fn end_call(&mut self, number: u64)
         requires { IsSome (get nat_eq self.old.calls.calls number) }
         ensures { core_of self.new ≡ settle (core_of self.old) (without_call (core_of self.old) number) }
     {
         let call = self.parked.take(number).unwrap();
-        release(&mut self.descs, &mut self.pipes, call.kept.as_slice()[0]);
+        release_all(&mut self.descs, &mut self.pipes, call.kept.as_slice());
     }
 
     fn resume_read(&mut self, number: u64, key: usize, n: u32) -> Result<Reply<A>, NoMemory>

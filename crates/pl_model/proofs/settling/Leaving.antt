@@ -8,14 +8,14 @@ use Rattle.std.specs.Set.{is_member}
 use Rattle.std.proofs.lemmas.Bool.{eq-eqb, ne_eqb}
 use Rattle.std.proofs.lemmas.Bool.Decides.{eqb_tells}
 use Rattle.pl_model.specs.Modes.{writes}
-use Rattle.pl_model.specs.Map.{Map, without}
+use Rattle.pl_model.specs.Map.{Map, get, put, without}
 use Rattle.pl_model.specs.Keys.{PipeNode}
 use Rattle.pl_model.specs.State.{Core, Waiting}
 use Rattle.pl_model.specs.Live.{in_rows, in_parked, pids, is_live, is_end}
 use Rattle.pl_model.specs.Live.{writers as count_writers}
 use Rattle.pl_model.specs.Settle.{settle, had_writer, is_hung}
 use Rattle.pl_model.specs.Tables.{install, close_row, end, exit}
-use Rattle.pl_model.specs.Step.{without_call}
+use Rattle.pl_model.specs.Step.{parked_again, without_call}
 use Rattle.pl_model.specs.Numbered.{numbers}
 use Rattle.pl_model.specs.Laws.{IsSettled, HasFewer, with_held_of}
 use Rattle.pl_model.proofs.settling.Members.{or_left, or_right, or_elim, and_right, any_filter}
@@ -78,6 +78,28 @@ module _ {A : Type 0} where
     live = λ d. live_fewer u (without_call u n) d
         (λ r. record { pid = r.pid; fd = r.fd; low = r.low; high = r.high; process = r.process; within = r.within; names = r.names })
         (λ k. any_more (λ (e : ℕ × Waiting A numbers). not (nat_eq n e.0)) (λ e. is_member nat_eq e.1.kept d) u.parked (sym (any_filter (λ (e : ℕ × Waiting A numbers). is_member nat_eq e.1.kept d) (λ e. not (nat_eq n e.0)) u.parked) ∙ k));
+  }
+
+  -- a parked call keeps fewer descriptions
+  keeps_less : (calls : Map ℕ (Waiting A numbers)) (n : ℕ) (w now : Waiting A numbers) (d : ℕ) → get nat_eq calls n ≡ Some w → (is_member nat_eq now.kept d ≡ true → is_member nat_eq w.kept d ≡ true) →
+      keeps (put nat_eq calls n now) d ≡ true → keeps calls d ≡ true
+  keeps_less [] n w now d here less k = absurd (cc)
+  keeps_less (e ∷ es) n w now d here less k = by (nat_eq e.0 n) here k (keeps_less es n w now d)
+    where
+      by : (b : Bool) → cond b (Some e.1) (get nat_eq es n) ≡ Some w → keeps (cond b ((n, now) ∷ es) (e ∷ put nat_eq es n now)) d ≡ true →
+          (get nat_eq es n ≡ Some w → (is_member nat_eq now.kept d ≡ true → is_member nat_eq w.kept d ≡ true) → keeps (put nat_eq es n now) d ≡ true → keeps es d ≡ true) → keeps (e ∷ es) d ≡ true
+      by true h k rest = (let is : e.1 ≡ w = cc in or_elim (is_member nat_eq now.kept d) _ (λ m. or_left _ _ (ap (λ (z : Waiting A numbers). is_member nat_eq z.kept d) is ∙ less m)) (λ m. or_right _ _ m) k)
+      by false h k rest = or_elim (is_member nat_eq e.1.kept d) _ (λ m. or_left _ _ m) (λ m. or_right _ _ (rest h less m)) k
+
+  pub keep_fewer : (u : Core A numbers) (n : ℕ) (w now : Waiting A numbers) → get nat_eq u.parked n ≡ Some w → ((d : ℕ) → is_member nat_eq now.kept d ≡ true → is_member nat_eq w.kept d ≡ true) → HasFewer u (parked_again u n now)
+  keep_fewer u n w now here less = record {
+    descriptions = refl;
+    pipes = refl;
+    files = refl;
+    names = refl;
+    live = λ d. live_fewer u (parked_again u n now) d
+        (λ r. record { pid = r.pid; fd = r.fd; low = r.low; high = r.high; process = r.process; within = r.within; names = r.names })
+        (keeps_less u.parked n w now d here (less d));
   }
 
 -- what is left of a state, settled, in which something more goes

@@ -1,0 +1,16 @@
+use Rattle.std.proofs.Common.{◌≤◌, ℕ, take, drop}
+use Rattle.pl_desc.specs.Rows.{at, count_at}
+use Rattle.pl_desc.specs.Descs.{IsTidy}
+use Rattle.pl_kernel.specs.Held.{pipes_alone}
+use Rattle.pl_kernel.specs.Left.{ReleasesAll}
+use Rattle.pl_kernel.specs.Sound.{AreThere, times}
+use Rattle.pl_kernel.proofs.leaving.release_all.Given as goal
+
+-- the keys before this place are released, and each of the others is held
+abbrev pub invariant-loop-place : goal.invariant-loop-place
+invariant-loop-place g l = record {
+  released : ReleasesAll (take l.place l.keys) l.fn.descs l.descs (pipes_alone l.fn.pipes.pipes) (pipes_alone l.pipes.pipes);
+  held : (key : ℕ) → times (drop l.place l.keys) key ≤ count_at l.descs.loose key;
+  there : AreThere (at l.descs.opened) (pipes_alone l.pipes.pipes);
+  tidy : IsTidy l.descs;
+}
