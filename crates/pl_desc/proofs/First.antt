@@ -34,6 +34,19 @@ module _ (test : ℕ → Bool) where
       by rest true t e = (let s : k ≡ x = cc in (ap test (sym s) ∙ t, omega (arith, s), omega (arith, s)))
       by rest false t e = (let r = rest e in (r.0, omega (arith, r.1), omega (arith, r.2)))
 
+  -- where there is none, each fails
+  pub first_fails : (n k : ℕ) → first_from test n k ≡ None → (y : ℕ) → k ≤ y → y < k + n → test y ≡ false
+  unfolding first_from
+  first_fails zero k e y low high = absurd (omega arith)
+  first_fails (suc n) k e y low high = by (first_fails n (k + 1)) (test k) refl e
+    where
+      by : (first_from test n (k + 1) ≡ None → (x : ℕ) → k + 1 ≤ x → x < (k + 1) + n → test x ≡ false) → (b : Bool) → test k ≡ b → (elim b as (λ _. Option ℕ) [ true ↦ Some k | false ↦ first_from test n (k + 1) ]) ≡ None → test y ≡ false
+      by rest true t e = absurd (cc)
+      by rest false t e = elim (eqb_tells k y) as (λ _. test y ≡ false) [
+        | inl s ↦ ap test (sym s.1) ∙ t
+        | inr s ↦ (let apart : k ≢ y = s.1 in rest e y (omega (arith, apart)) (omega arith))
+      ]
+
 -- tests that agree have the same first
 pub first_agree : (p q : ℕ → Bool) → ((x : ℕ) → p x ≡ q x) → (n k : ℕ) → first_from p n k ≡ first_from q n k
 unfolding first_from

@@ -145,7 +145,7 @@ impl<A: Allocator + Copy> Descs<A> {
     }
 
     /// Closes the least open descriptor of a process, and answers the key that it named, of which the caller has a loose
-    /// hold; `None` where no descriptor is open. It takes no memory.
+    /// hold. `None` says that no descriptor is open, and changes nothing. It takes no memory.
     pub fn take_fd(&mut self, pid: u32) -> Option<usize>
         requires { IsTrue (is_pid self.old.tables pid) }
         ensures key { result ≡ option_and_then (row_at self.old.tables pid) (first_open self.old.tables pid) }
@@ -155,6 +155,8 @@ impl<A: Allocator + Copy> Descs<A> {
         ensures holders { holders self.new ≡ holders self.old }
         ensures rest { self.new ≡ record self.old { tables = self.new.tables; loose = self.new.loose } }
         ensures tidy { IsTidy self.new }
+        ensures closed { IfNone result ((fd : ℕ) → row_at self.old.tables pid fd ≡ None) }
+        ensures none { IfNone result (self.new ≡ self.old) }
     {
         let fd = self.first_open(pid)?;
         let key = self.row(pid, fd);
