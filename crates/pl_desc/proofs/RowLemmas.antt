@@ -1,11 +1,11 @@
 -- The tables of processes, before and after a change, and how many rows name a key.
-use Rattle.std.proofs.Common.{◌≡◌, ◌≢◌, ℕ, zero, suc, ◌+◌, ◌-◌, ◌*◌, ◌<◌, ◌≤◌, Bool, true, false, cond, List, [], ◌∷◌, ◌++◌, Option, Some, None, refl, sym, ◌∙◌, ap, subst, inl, inr, nat_eq, nat_lt, length, replicate, arith, ℤ, pos, negsuc}
+use Rattle.std.proofs.Common.{◌≡◌, ◌≢◌, ℕ, zero, suc, ◌+◌, ◌-◌, ◌*◌, ◌<◌, ◌≤◌, Bool, true, false, cond, List, [], ◌∷◌, ◌++◌, Option, Some, None, refl, sym, ◌∙◌, ap, subst, inl, inr, nat_eq, nat_lt, length, replicate, arith, ℤ, pos, negsuc, ⊎_elim}
 use Rattle.std.specs.Prelude.{if◌then◌else◌, ◌&&◌, not, is_some, slice_set, slice_index_or, count_by, IfSome, IfNone}
 use Rattle.std.specs.List.{sum_by, All}
 use Rattle.std.proofs.Math.Path.{fun_ext}
-use Rattle.std.proofs.lemmas.List.{get_or-set_same, get_or-set_other, get_or_default}
+use Rattle.std.proofs.lemmas.List.{get_or-set_same, get_or-set_other, get_or_default, get_or_past}
 use Rattle.std.proofs.lemmas.List.Sums.{sum_by-set, sum_by_push, sum_by-le, get_or-le-sum_by, count_by-le-length}
-use Rattle.std.proofs.lemmas.Bool.{eq-eqb, ne_eqb, lt-ltb}
+use Rattle.std.proofs.lemmas.Bool.{eq-eqb, ne_eqb, lt-ltb, cases_lt}
 use Rattle.std.proofs.lemmas.Bool.Decides.{eqb_tells, nat_tests}
 use Rattle.pl_model.specs.Map.{set_at}
 use Rattle.pl_model.specs.Numbers.{open_max}
@@ -243,24 +243,22 @@ row_of-some tables pid key (pos n) h = by (nat_lt n 256) refl h
 pub open-found : (tables : Tables) (pid fd : ℕ) → first_open tables pid ≡ Some fd → (is_some (row_at tables pid fd) ≡ true) × (fd < 256)
 open-found tables pid fd h = let f = first_found (λ fd. is_some (row_at tables pid fd)) 256 0 fd h in (f.0, omega (arith, f.2))
 
--- where there is none, no row names anything
-pub open-none : (tables : Tables) (pid : ℕ) → is_pid tables pid ≡ true → ((place : ℕ) → IfSome (at tables place) (λ t. length t ≡ open_max)) → first_open tables pid ≡ None → (fd : ℕ) → row_at tables pid fd ≡ None
-open-none tables pid process wide none fd = by (row_at tables pid fd) refl
-  where
-    by : (o : Option ℕ) → row_at tables pid fd ≡ o → row_at tables pid fd ≡ None
-    by None e = e
-    by (Some key) e =
-        let some : is_some (row_at tables pid fd) ≡ true = ap is_some e in
-        let low = within (rows_of tables pid) fd some in
-        let size = rows-length tables pid process wide in
-        let closed = first_fails (λ fd. is_some (row_at tables pid fd)) open_max 0 none fd (omega arith) (omega (arith, low, size)) in
-        absurd (let f : false ≡ true = sym closed ∙ some in cc)
-
 -- what is there is not none
 pub no_none : (P : Type 0) (o : Option ℕ) (x : ℕ) → o ≡ Some x → IfNone o P
 no_none P None x e = absurd (cc)
 no_none P (Some y) x e = tt
 
+pub isnt_some : (o : Option ℕ) → is_some o ≡ false → o ≡ None
+isnt_some None h = refl
+isnt_some (Some x) h = absurd (cc)
+
 pub is_some_value : (o : Option ℕ) → is_some o ≡ true → (x : ℕ) × (o ≡ Some x)
 is_some_value None h = absurd (cc)
 is_some_value (Some x) h = (x, refl)
+
+-- where there is none, no row names anything
+pub open-none : (tables : Tables) (pid : ℕ) → is_pid tables pid ≡ true → ((place : ℕ) → IfSome (at tables place) (λ t. length t ≡ open_max)) → first_open tables pid ≡ None → (fd : ℕ) → row_at tables pid fd ≡ None
+open-none tables pid process wide none fd = ⊎_elim
+    (λ l. isnt_some (row_at tables pid fd) (first_fails (λ fd. is_some (row_at tables pid fd)) open_max 0 none fd (omega arith) (omega arith)))
+    (λ l. let size = rows-length tables pid process wide in get_or_past (rows_of tables pid) fd None (omega arith))
+    (cases_lt fd open_max)

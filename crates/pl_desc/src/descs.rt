@@ -368,7 +368,7 @@ impl<A: Allocator + Copy> Descs<A> {
         requires { IsTrue (is_pid self.now.tables pid) }
         ensures { result ≡ first_open self.now.tables pid }
     {
-        self.table(pid)?.first_open()
+        self.table(pid)?.next_open(0)
     }
 
     // The key that a descriptor of a process names.
