@@ -14,7 +14,7 @@ use Rattle.pl_desc.specs.Rows.{at, no_key}
 use Rattle.pl_desc.specs.TableView.{named, bit_of, IsMasked}
 
 -- a place and a mask are changed together
-pub masked-set : (rows : List (Option ℕ)) (masks : List ℕ) (fd : ℕ) (o : Option ℕ) (mask : ℕ) → fd < 256 → length masks ≡ 4
+pub masked-set : (rows : List (Option ℕ)) (masks : List ℕ) (fd : ℕ) (o : Option ℕ) (mask : ℕ) → fd < open_max → length masks ≡ 4
     → bit_at mask (fd % 64) ≡ (if is_none o then 1 else 0)
     → ((i : ℕ) → i < 64 → i ≢ fd % 64 → bit_at mask i ≡ bit_at (slice_index_or masks (fd / 64) 0) i)
     → IsMasked rows masks → IsMasked (slice_set rows fd o) (slice_set masks (fd / 64) mask)
@@ -45,14 +45,14 @@ masked-set rows masks fd o mask place four here others was = record {
       | inr e ↦ ap (λ m. bit_at m (q % 64)) (get_or-set_other masks (fd / 64) (q / 64) mask 0 e.1)
     ]
 
-    told : (q : ℕ) → q < 256 → bit_of (slice_set masks (fd / 64) mask) q ≡ (if is_none (at (slice_set rows fd o) q) then 1 else 0)
+    told : (q : ℕ) → q < open_max → bit_of (slice_set masks (fd / 64) mask) q ≡ (if is_none (at (slice_set rows fd o) q) then 1 else 0)
     told q l = elim (eqb_tells q fd) as (λ _. bit_of (slice_set masks (fd / 64) mask) q ≡ (if is_none (at (slice_set rows fd o) q) then 1 else 0)) [
       | inl e ↦ ap (λ p. bit_of (slice_set masks (fd / 64) mask) p) e.1 ∙ mine ∙ ap (λ p. if is_none (at (slice_set rows fd o) p) then 1 else 0) (sym e.1)
       | inr e ↦ other_bit q e.1 ∙ was.told q l ∙ ap (λ p. if is_none p then 1 else 0) (sym (get_or-set_other rows fd q o None e.1))
     ]
 
 -- a place is free, and a place is taken
-pub masked-freed : (rows : List (Option ℕ)) (masks : List ℕ) (fd : ℕ) → fd < 256 → length masks ≡ 4 → IsMasked rows masks
+pub masked-freed : (rows : List (Option ℕ)) (masks : List ℕ) (fd : ℕ) → fd < open_max → length masks ≡ 4 → IsMasked rows masks
     → IsMasked (slice_set rows fd None) (slice_set masks (fd / 64) (bit_or (slice_index_or masks (fd / 64) 0) (1 * 2 ^ (fd % 64) % 2 ^ 64)))
 masked-freed rows masks fd place four was =
     masked-set rows masks fd None _ place four
@@ -60,7 +60,7 @@ masked-freed rows masks fd place four was =
     (λ i l n. bit_at_set_other w64 (slice_index_or masks (fd / 64) 0) (fd % 64) (omega arith) i n)
     was
 
-pub masked-taken : (rows : List (Option ℕ)) (masks : List ℕ) (fd key : ℕ) → fd < 256 → length masks ≡ 4 → IsMasked rows masks
+pub masked-taken : (rows : List (Option ℕ)) (masks : List ℕ) (fd key : ℕ) → fd < open_max → length masks ≡ 4 → IsMasked rows masks
     → IsMasked (slice_set rows fd (Some key)) (slice_set masks (fd / 64) (bit_and (slice_index_or masks (fd / 64) 0) (2 ^ 64 - 1 - 1 * 2 ^ (fd % 64) % 2 ^ 64)))
 masked-taken rows masks fd key place four was =
     masked-set rows masks fd (Some key) _ place four
@@ -159,13 +159,13 @@ map-replicate f zero x = refl
 map-replicate f (suc n) x = ap (λ ys. f x ∷ ys) (map-replicate f n x)
 
 -- a table with no open descriptor
-pub named-free : map named (replicate 256 no_key) ≡ replicate 256 None
-named-free = map-replicate named 256 no_key
+pub named-free : map named (replicate open_max no_key) ≡ replicate open_max None
+named-free = map-replicate named open_max no_key
 
-pub masked-none : IsMasked (replicate 256 None) (replicate 4 (2 ^ 64 - 1))
+pub masked-none : IsMasked (replicate open_max None) (replicate 4 (2 ^ 64 - 1))
 masked-none = record {
-  wide = length-replicate {A = Option ℕ} 256 None;
+  wide = length-replicate {A = Option ℕ} open_max None;
   told = λ fd l.
       ap (λ m. bit_at m (fd % 64)) (get_or-replicate 4 (fd / 64) (2 ^ 64 - 1) 0 (omega arith)) ∙ bit_at_ones 64 (fd % 64) (omega arith)
-      ∙ ap (λ (o : Option ℕ). if is_none o then 1 else 0) (sym (get_or-replicate 256 fd None None l));
+      ∙ ap (λ (o : Option ℕ). if is_none o then 1 else 0) (sym (get_or-replicate open_max fd None None l));
 }

@@ -15,7 +15,7 @@ use crate::fault::{NoMemory, OpenFault, StartFault};
 use crate::released::Released;
 use crate::table::Table;
 use crate::tables::{clear_row, put_row, reserve_place};
-use pl_model::numbers::{MAX_DESCRIPTIONS, MAX_PROCESSES};
+use pl_model::numbers::{MAX_DESCRIPTIONS, MAX_PROCESSES, OPEN_MAX};
 use pl_model::{Mode, Node, OpenFlags};
 use slab::Slab;
 use std::alloc::{Allocator, Global};
@@ -169,7 +169,7 @@ impl<A: Allocator + Copy> Descs<A> {
     pub fn find(&self, pid: u32, fd: i32) -> Option<usize>
         ensures { result ≡ row_of self.now.tables pid fd }
     {
-        if fd < 0 || 255 < fd {
+        if fd < 0 || OPEN_MAX <= fd as usize {
             return None;
         }
         self.table(pid)?.get(fd as usize)
