@@ -25,17 +25,42 @@ module _ (test : ℕ → Bool) where
       ap (λ b. elim b as (λ _. Option ℕ) [ true ↦ Some k | false ↦ first_from test n (k + 1) ]) (all k (omega arith) (omega arith))
       ∙ first_none n (k + 1) (λ y l m. all y (omega arith) (omega arith))
 
-  pub first_found : (n k x : ℕ) → first_from test n k ≡ Some x → (test x ≡ true) × (k ≤ x) × (x < k + n)
+  pub first_found : (n k x : ℕ) → first_from test n k ≡ Some x → (test x ≡ true) × (k ≤ x) × (x < k + n) × ((y : ℕ) → k ≤ y → y < x → test y ≡ false)
   unfolding first_from
   first_found zero k x e = absurd (cc)
   first_found (suc n) k x e = by (first_found n (k + 1) x) (test k) refl e
     where
-      by : (first_from test n (k + 1) ≡ Some x → (test x ≡ true) × (k + 1 ≤ x) × (x < (k + 1) + n)) → (b : Bool) → test k ≡ b → (elim b as (λ _. Option ℕ) [ true ↦ Some k | false ↦ first_from test n (k + 1) ]) ≡ Some x → (test x ≡ true) × (k ≤ x) × (x < k + suc n)
-      by rest true t e = (let s : k ≡ x = cc in (ap test (sym s) ∙ t, omega (arith, s), omega (arith, s)))
-      by rest false t e = (let r = rest e in (r.0, omega (arith, r.1), omega (arith, r.2)))
+      by : (first_from test n (k + 1) ≡ Some x → (test x ≡ true) × (k + 1 ≤ x) × (x < (k + 1) + n) × ((y : ℕ) → k + 1 ≤ y → y < x → test y ≡ false)) → (b : Bool) → test k ≡ b → (elim b as (λ _. Option ℕ) [ true ↦ Some k | false ↦ first_from test n (k + 1) ]) ≡ Some x
+          → (test x ≡ true) × (k ≤ x) × (x < k + suc n) × ((y : ℕ) → k ≤ y → y < x → test y ≡ false)
+      by rest true t e = (let s : k ≡ x = cc in (ap test (sym s) ∙ t, omega (arith, s), omega (arith, s), λ y l m. absurd (omega (arith, s))))
+      by rest false t e = (
+          let r = rest e in (
+            r.0,
+            omega (arith, r.1),
+            omega (arith, r.2),
+            λ y l m. elim (eqb_tells k y) as (λ _. test y ≡ false) [
+              | inl s ↦ ap test (sym s.1) ∙ t
+              | inr s ↦ (let apart : k ≢ y = s.1 in r.3 y (omega (arith, apart)) m)
+            ],
+          ))
 
--- tests that agree have the same first
-pub first_agree : (p q : ℕ → Bool) → ((x : ℕ) → p x ≡ q x) → (n k : ℕ) → first_from p n k ≡ first_from q n k
+  -- where there is none, each fails
+  pub first_fails : (n k : ℕ) → first_from test n k ≡ None → (y : ℕ) → k ≤ y → y < k + n → test y ≡ false
+  unfolding first_from
+  first_fails zero k e y low high = absurd (omega arith)
+  first_fails (suc n) k e y low high = by (first_fails n (k + 1)) (test k) refl e
+    where
+      by : (first_from test n (k + 1) ≡ None → (x : ℕ) → k + 1 ≤ x → x < (k + 1) + n → test x ≡ false) → (b : Bool) → test k ≡ b → (elim b as (λ _. Option ℕ) [ true ↦ Some k | false ↦ first_from test n (k + 1) ]) ≡ None → test y ≡ false
+      by rest true t e = absurd (cc)
+      by rest false t e = elim (eqb_tells k y) as (λ _. test y ≡ false) [
+        | inl s ↦ ap test (sym s.1) ∙ t
+        | inr s ↦ (let apart : k ≢ y = s.1 in rest e y (omega (arith, apart)) (omega arith))
+      ]
+
+-- tests that agree on these numbers have the same first of them
+pub first_agree : (p q : ℕ → Bool) (n k : ℕ) → ((y : ℕ) → k ≤ y → y < k + n → p y ≡ q y) → first_from p n k ≡ first_from q n k
 unfolding first_from
-first_agree p q h zero k = refl
-first_agree p q h (suc n) k = λ i. elim (h k i) as (λ _. Option ℕ) [ true ↦ Some k | false ↦ first_agree p q h n (k + 1) i ]
+first_agree p q zero k h = refl
+first_agree p q (suc n) k h =
+    (λ i. elim (h k (omega arith) (omega arith) i) as (λ _. Option ℕ) [ true ↦ Some k | false ↦ first_from p n (k + 1) ])
+    ∙ ap (λ o. elim (q k) as (λ _. Option ℕ) [ true ↦ Some k | false ↦ o ]) (first_agree p q n (k + 1) (λ y l m. h y (omega arith) (omega arith)))

@@ -1,5 +1,6 @@
 -- What is known of descriptions as a call begins.
 use Rattle.std.proofs.Common.{◌≡◌, ◌≤◌, ℕ, List, Option, Some, length}
+use Rattle.pl_model.specs.Numbers.{most_processes, open_max}
 use Rattle.pl_model.specs.declared.node.Node.{Node}
 use Rattle.pl_desc.specs.declared.description.Description.{Description}
 use Rattle.pl_desc.specs.declared.descs.Descs.TheInside.{Inside}
@@ -25,7 +26,7 @@ pub record Starts (m : Known) : Type 0 where
   pub places : Tables
   pub same : table_of places ≡ table_of m.tables
   pub names_same : naming places ≡ naming m.tables
-  pub few : length places ≤ 1024
+  pub few : length places ≤ most_processes
   pub high : pid ≤ length places
   pub table : List (Option ℕ)
-  pub wide : length table ≡ 256
+  pub wide : length table ≡ open_max

@@ -1,6 +1,6 @@
 -- Masks of free places, before and after a change, and the first bit that is set.
-use Rattle.std.proofs.Common.{◌≡◌, ◌≢◌, ℕ, zero, suc, ◌+◌, ◌-◌, ◌*◌, ◌/◌, ◌%◌, ◌^◌, ◌<◌, ◌≤◌, Bool, true, false, List, Option, Some, None, refl, sym, ◌∙◌, ap, inl, inr, map, length, arith, bit_and, bit_or, ⊎_elim, ◌∷◌, replicate}
-use Rattle.std.specs.Prelude.{if◌then◌else◌, slice_set, slice_index_or, is_none, is_some}
+use Rattle.std.proofs.Common.{◌≡◌, ◌≢◌, ℕ, zero, suc, ◌+◌, ◌-◌, ◌*◌, ◌/◌, ◌%◌, ◌^◌, ◌<◌, ◌≤◌, Bool, true, false, List, Option, Some, None, refl, sym, ◌∙◌, ap, inl, inr, map, length, arith, bit_and, bit_or, ⊎_elim, [], ◌∷◌, replicate}
+use Rattle.std.specs.Prelude.{if◌then◌else◌, nat_eq, slice_set, slice_index_or, is_none, is_some}
 use Rattle.std.specs.Int.{bit_at, bit_not, trailing_zeros, w64}
 use Rattle.std.proofs.lemmas.List.{get_or-set_same, get_or-set_other, length-set, get_or-replicate, length-replicate}
 use Rattle.std.proofs.lemmas.Bool.{ne_eqb}
@@ -9,11 +9,12 @@ use Rattle.std.proofs.lemmas.Nat.Bits.{bit_at-zero, bit_at-trailing_zeros, bit_a
 use Rattle.std.proofs.lemmas.Nat.{pow-add}
 use Rattle.std.proofs.Math.Nat.{div-div-eq-div-mul, div-le_self}
 use Rattle.std.proofs.lemmas.Bool.{cases_lt}
+use Rattle.pl_model.specs.Numbers.{open_max}
 use Rattle.pl_desc.specs.Rows.{at, no_key}
 use Rattle.pl_desc.specs.TableView.{named, bit_of, IsMasked}
 
 -- a place and a mask are changed together
-pub masked-set : (rows : List (Option ℕ)) (masks : List ℕ) (fd : ℕ) (o : Option ℕ) (mask : ℕ) → fd < 256 → length masks ≡ 4
+pub masked-set : (rows : List (Option ℕ)) (masks : List ℕ) (fd : ℕ) (o : Option ℕ) (mask : ℕ) → fd < open_max → length masks ≡ 4
     → bit_at mask (fd % 64) ≡ (if is_none o then 1 else 0)
     → ((i : ℕ) → i < 64 → i ≢ fd % 64 → bit_at mask i ≡ bit_at (slice_index_or masks (fd / 64) 0) i)
     → IsMasked rows masks → IsMasked (slice_set rows fd o) (slice_set masks (fd / 64) mask)
@@ -44,14 +45,14 @@ masked-set rows masks fd o mask place four here others was = record {
       | inr e ↦ ap (λ m. bit_at m (q % 64)) (get_or-set_other masks (fd / 64) (q / 64) mask 0 e.1)
     ]
 
-    told : (q : ℕ) → q < 256 → bit_of (slice_set masks (fd / 64) mask) q ≡ (if is_none (at (slice_set rows fd o) q) then 1 else 0)
+    told : (q : ℕ) → q < open_max → bit_of (slice_set masks (fd / 64) mask) q ≡ (if is_none (at (slice_set rows fd o) q) then 1 else 0)
     told q l = elim (eqb_tells q fd) as (λ _. bit_of (slice_set masks (fd / 64) mask) q ≡ (if is_none (at (slice_set rows fd o) q) then 1 else 0)) [
       | inl e ↦ ap (λ p. bit_of (slice_set masks (fd / 64) mask) p) e.1 ∙ mine ∙ ap (λ p. if is_none (at (slice_set rows fd o) p) then 1 else 0) (sym e.1)
       | inr e ↦ other_bit q e.1 ∙ was.told q l ∙ ap (λ p. if is_none p then 1 else 0) (sym (get_or-set_other rows fd q o None e.1))
     ]
 
 -- a place is free, and a place is taken
-pub masked-freed : (rows : List (Option ℕ)) (masks : List ℕ) (fd : ℕ) → fd < 256 → length masks ≡ 4 → IsMasked rows masks
+pub masked-freed : (rows : List (Option ℕ)) (masks : List ℕ) (fd : ℕ) → fd < open_max → length masks ≡ 4 → IsMasked rows masks
     → IsMasked (slice_set rows fd None) (slice_set masks (fd / 64) (bit_or (slice_index_or masks (fd / 64) 0) (1 * 2 ^ (fd % 64) % 2 ^ 64)))
 masked-freed rows masks fd place four was =
     masked-set rows masks fd None _ place four
@@ -59,7 +60,7 @@ masked-freed rows masks fd place four was =
     (λ i l n. bit_at_set_other w64 (slice_index_or masks (fd / 64) 0) (fd % 64) (omega arith) i n)
     was
 
-pub masked-taken : (rows : List (Option ℕ)) (masks : List ℕ) (fd key : ℕ) → fd < 256 → length masks ≡ 4 → IsMasked rows masks
+pub masked-taken : (rows : List (Option ℕ)) (masks : List ℕ) (fd key : ℕ) → fd < open_max → length masks ≡ 4 → IsMasked rows masks
     → IsMasked (slice_set rows fd (Some key)) (slice_set masks (fd / 64) (bit_and (slice_index_or masks (fd / 64) 0) (2 ^ 64 - 1 - 1 * 2 ^ (fd % 64) % 2 ^ 64)))
 masked-taken rows masks fd key place four was =
     masked-set rows masks fd (Some key) _ place four
@@ -75,24 +76,19 @@ named-key key l = ap (λ b. if b then None else Some key) (ne_eqb key no_key (λ
 bit_at-shifted : (n k i : ℕ) → bit_at (n / 2 ^ k) i ≡ bit_at n (k + i)
 bit_at-shifted n k i = ap (λ m. m % 2) (div-div-eq-div-mul n (2 ^ k) (2 ^ i) ∙ ap (λ p. n / p) (sym (pow-add 2 k i)))
 
--- what a bit of a mask tells
-bit_set : (b : Bool) → ◌≡◌ {A = ℕ} (if b then 1 else 0) 1 → b ≡ true
-bit_set true h = refl
-bit_set false h = absurd (omega arith)
+-- a bit that is set or isn't, as a test
+is_bit : (b : Bool) → nat_eq (if b then 1 else 0) 1 ≡ b
+is_bit true = refl
+is_bit false = refl
 
-bit_clear : (b : Bool) → ◌≡◌ {A = ℕ} (if b then 1 else 0) 0 → b ≡ false
-bit_clear true h = absurd (omega arith)
-bit_clear false h = refl
+isnt_bit : (o : Option ℕ) → nat_eq (1 - (if is_none o then 1 else 0)) 1 ≡ is_some o
+isnt_bit None = refl
+isnt_bit (Some key) = refl
 
-none_is : (o : Option ℕ) → is_none o ≡ true → is_some o ≡ false
-none_is None h = refl
-none_is (Some x) h = absurd (cc)
+module _ (masks : List ℕ) where
+  abbrev is_set : ℕ → Bool
+  is_set fd = nat_eq (bit_of masks fd) 1
 
-some_is : (o : Option ℕ) → is_none o ≡ false → is_some o ≡ true
-some_is None h = absurd (cc)
-some_is (Some x) h = refl
-
-module _ (rows : List (Option ℕ)) (masks : List ℕ) (masked : IsMasked rows masks) where
   -- the bits of a mask from a place on
   bit_from : (from i : ℕ) → from % 64 + i < 64 → bit_of masks (from + i) ≡ bit_at (slice_index_or masks (from / 64) 0 / 2 ^ (from % 64)) i
   bit_from from i l =
@@ -102,25 +98,23 @@ module _ (rows : List (Option ℕ)) (masks : List ℕ) (masked : IsMasked rows m
       ∙ ap (bit_at (slice_index_or masks (from / 64) 0)) place
       ∙ sym (bit_at-shifted (slice_index_or masks (from / 64) 0) (from % 64) i)
 
-  module _ (from : ℕ) (place : from < 256) where
+  module _ (from : ℕ) (place : from < open_max) where
     abbrev rest : ℕ
     rest = slice_index_or masks (from / 64) 0 / 2 ^ (from % 64)
 
-    -- the places of a mask are all taken, where no bit of it is set
-    pub none_free : rest ≡ 0 → (fd : ℕ) → from ≤ fd → fd < from - from % 64 + 64 → is_none (at rows fd) ≡ false
-    none_free none fd low high =
-        let i : ℕ = fd - from in
+    -- a place of the mask, by its distance
+    unset_at : (fd : ℕ) → from ≤ fd → fd < from - from % 64 + 64 → bit_at rest (fd - from) ≡ 0 → is_set fd ≡ false
+    unset_at fd low high zero_bit =
         let e : from + (fd - from) ≡ fd = omega arith in
-        let bit : bit_of masks (from + (fd - from)) ≡ 0 = bit_from from (fd - from) (omega arith) ∙ ap (λ n. bit_at n (fd - from)) none ∙ bit_at-zero (fd - from) in
-        bit_clear (is_none (at rows fd)) (sym (masked.told fd (omega arith)) ∙ ap (bit_of masks) (sym e) ∙ bit)
+        ap is_set (sym e) ∙ ap (λ n. nat_eq n 1) (bit_from from (fd - from) (omega arith) ∙ zero_bit)
 
-    -- else the lowest bit is the first free place
+    pub none_set : rest ≡ 0 → (fd : ℕ) → from ≤ fd → fd < from - from % 64 + 64 → is_set fd ≡ false
+    none_set none fd low high = unset_at fd low high (ap (λ n. bit_at n (fd - from)) none ∙ bit_at-zero (fd - from))
+
+    -- else the lowest bit is the first that is set
     module _ (some : 0 < rest) (fits : slice_index_or masks (from / 64) 0 < 2 ^ 64) where
-      rest_fits : rest < 2 ^ 64
-      rest_fits = let l : rest ≤ slice_index_or masks (from / 64) 0 = div-le_self _ _ in omega arith
-
       lowest_bit : (trailing_zeros w64 rest < 64) × (bit_at rest (trailing_zeros w64 rest) ≡ 1) × ((i : ℕ) → i < trailing_zeros w64 rest → bit_at rest i ≡ 0)
-      lowest_bit = bit_at-trailing_zeros w64 rest some rest_fits
+      lowest_bit = bit_at-trailing_zeros w64 rest some (let l : rest ≤ slice_index_or masks (from / 64) 0 = div-le_self _ _ in omega arith)
 
       within_mask : from % 64 + trailing_zeros w64 rest < 64
       within_mask = ⊎_elim (λ l. l)
@@ -130,77 +124,48 @@ module _ (rows : List (Option ℕ)) (masks : List ℕ) (masked : IsMasked rows m
           omega arith))
           (cases_lt (from % 64 + trailing_zeros w64 rest) 64)
 
-      pub first_free : (from + trailing_zeros w64 rest < 256) × (is_none (at rows (from + trailing_zeros w64 rest)) ≡ true) × ((fd : ℕ) → from ≤ fd → fd < from + trailing_zeros w64 rest → is_none (at rows fd) ≡ false)
-      first_free = (within, here, before)
-        where
-          within : from + trailing_zeros w64 rest < 256
-          within = let a = within_mask in omega arith
+      pub first_set : (from + trailing_zeros w64 rest < open_max) × (is_set (from + trailing_zeros w64 rest) ≡ true) × ((fd : ℕ) → from ≤ fd → fd < from + trailing_zeros w64 rest → is_set fd ≡ false)
+      first_set =
+          let a = within_mask in (
+            omega arith,
+            ap (λ n. nat_eq n 1) (bit_from from (trailing_zeros w64 rest) within_mask ∙ lowest_bit.1),
+            λ fd low high. unset_at fd low (omega arith) (lowest_bit.2 (fd - from) (omega arith)),
+          )
 
-          here : is_none (at rows (from + trailing_zeros w64 rest)) ≡ true
-          here = bit_set (is_none (at rows (from + trailing_zeros w64 rest))) (sym (masked.told (from + trailing_zeros w64 rest) within) ∙ bit_from from (trailing_zeros w64 rest) within_mask ∙ lowest_bit.1)
+-- four masks turned round
+abbrev pub turned : List ℕ → List ℕ
+turned masks = bit_not w64 (slice_index_or masks 0 0) ∷ bit_not w64 (slice_index_or masks 1 0) ∷ bit_not w64 (slice_index_or masks 2 0) ∷ bit_not w64 (slice_index_or masks 3 0) ∷ []
 
-          before : (fd : ℕ) → from ≤ fd → fd < from + trailing_zeros w64 rest → is_none (at rows fd) ≡ false
-          before fd low high =
-              let e : from + (fd - from) ≡ fd = omega arith in
-              let a = within_mask in
-              let bit : bit_of masks (from + (fd - from)) ≡ 0 = bit_from from (fd - from) (omega arith) ∙ lowest_bit.2 (fd - from) (omega arith) in
-              bit_clear (is_none (at rows fd)) (sym (masked.told fd (omega arith)) ∙ ap (bit_of masks) (sym e) ∙ bit)
+turned_at : (masks : List ℕ) (word : ℕ) → word < 4 → slice_index_or (turned masks) word 0 ≡ bit_not w64 (slice_index_or masks word 0)
+turned_at masks zero l = refl
+turned_at masks (suc zero) l = refl
+turned_at masks (suc (suc zero)) l = refl
+turned_at masks (suc (suc (suc zero))) l = refl
+turned_at masks (suc (suc (suc (suc n)))) l = absurd (omega arith)
 
-  -- the first taken place of a mask, by the bits that aren't set
-  module _ (word : ℕ) (place : word < 4) (fits : slice_index_or masks word 0 < 2 ^ 64) where
-    abbrev taken : ℕ
-    taken = bit_not w64 (slice_index_or masks word 0)
+-- a bit is set where a place is free, and where it isn't set in the masks turned round
+module _ (rows : List (Option ℕ)) (masks : List ℕ) (masked : IsMasked rows masks) (fd : ℕ) (place : fd < open_max) where
+  pub is_free : nat_eq (bit_of masks fd) 1 ≡ is_none (at rows fd)
+  is_free = ap (λ n. nat_eq n 1) (masked.told fd place) ∙ is_bit (is_none (at rows fd))
 
-    taken_bit : (i : ℕ) → i < 64 → bit_at taken i ≡ 1 - (if is_none (at rows (word * 64 + i)) then 1 else 0)
-    taken_bit i l =
-        let at_word : (word * 64 + i) / 64 ≡ word = omega arith in
-        let at_bit : (word * 64 + i) % 64 ≡ i = omega arith in
-        bit_at_not w64 (slice_index_or masks word 0) i fits l
-        ∙ ap (λ b. 1 - b) ((λ j. bit_at (slice_index_or masks (sym at_word j) 0) (sym at_bit j)) ∙ masked.told (word * 64 + i) (omega arith))
-
-    clear_some : (b : Bool) → 1 - (if b then 1 else 0) ≡ 1 → b ≡ false
-    clear_some true h = absurd (omega arith)
-    clear_some false h = refl
-
-    clear_none : (b : Bool) → 1 - (if b then 1 else 0) ≡ 0 → b ≡ true
-    clear_none true h = refl
-    clear_none false h = absurd (omega arith)
-
-    pub none_taken : taken ≡ 0 → (fd : ℕ) → word * 64 ≤ fd → fd < (word + 1) * 64 → is_some (at rows fd) ≡ false
-    none_taken none fd low high =
-        let e : word * 64 + (fd - word * 64) ≡ fd = omega arith in
-        ap (λ k. is_some (at rows k)) (sym e)
-        ∙ none_is (at rows (word * 64 + (fd - word * 64))) (clear_none _ (sym (taken_bit (fd - word * 64) (omega arith)) ∙ ap (λ n. bit_at n (fd - word * 64)) none ∙ bit_at-zero (fd - word * 64)))
-
-    module _ (some : 0 < taken) where
-      lowest_taken : (trailing_zeros w64 taken < 64) × (bit_at taken (trailing_zeros w64 taken) ≡ 1) × ((i : ℕ) → i < trailing_zeros w64 taken → bit_at taken i ≡ 0)
-      lowest_taken = bit_at-trailing_zeros w64 taken some (omega arith)
-
-      pub first_taken : (trailing_zeros w64 taken < 64) × (is_some (at rows (word * 64 + trailing_zeros w64 taken)) ≡ true) × ((fd : ℕ) → word * 64 ≤ fd → fd < word * 64 + trailing_zeros w64 taken → is_some (at rows fd) ≡ false)
-      first_taken = (lowest_taken.0, here, before)
-        where
-          here : is_some (at rows (word * 64 + trailing_zeros w64 taken)) ≡ true
-          here = some_is (at rows (word * 64 + trailing_zeros w64 taken)) (clear_some _ (sym (taken_bit (trailing_zeros w64 taken) lowest_taken.0) ∙ lowest_taken.1))
-
-          before : (fd : ℕ) → word * 64 ≤ fd → fd < word * 64 + trailing_zeros w64 taken → is_some (at rows fd) ≡ false
-          before fd low high =
-              let e : word * 64 + (fd - word * 64) ≡ fd = omega arith in
-              let a = lowest_taken.0 in
-              ap (λ k. is_some (at rows k)) (sym e)
-              ∙ none_is (at rows (word * 64 + (fd - word * 64))) (clear_none _ (sym (taken_bit (fd - word * 64) (omega arith)) ∙ lowest_taken.2 (fd - word * 64) (omega arith)))
+  pub is_taken : slice_index_or masks (fd / 64) 0 < 2 ^ 64 → nat_eq (bit_of (turned masks) fd) 1 ≡ is_some (at rows fd)
+  is_taken fits =
+      ap (λ m. nat_eq (bit_at m (fd % 64)) 1) (turned_at masks (fd / 64) (omega arith))
+      ∙ ap (λ n. nat_eq n 1) (bit_at_not w64 (slice_index_or masks (fd / 64) 0) (fd % 64) fits (omega arith) ∙ ap (λ b. 1 - b) (masked.told fd place))
+      ∙ isnt_bit (at rows fd)
 
 map-replicate : {X Y : Type 0} (f : X → Y) (n : ℕ) (x : X) → map f (replicate n x) ≡ replicate n (f x)
 map-replicate f zero x = refl
 map-replicate f (suc n) x = ap (λ ys. f x ∷ ys) (map-replicate f n x)
 
 -- a table with no open descriptor
-pub named-free : map named (replicate 256 no_key) ≡ replicate 256 None
-named-free = map-replicate named 256 no_key
+pub named-free : map named (replicate open_max no_key) ≡ replicate open_max None
+named-free = map-replicate named open_max no_key
 
-pub masked-none : IsMasked (replicate 256 None) (replicate 4 (2 ^ 64 - 1))
+pub masked-none : IsMasked (replicate open_max None) (replicate 4 (2 ^ 64 - 1))
 masked-none = record {
-  wide = length-replicate {A = Option ℕ} 256 None;
+  wide = length-replicate {A = Option ℕ} open_max None;
   told = λ fd l.
       ap (λ m. bit_at m (fd % 64)) (get_or-replicate 4 (fd / 64) (2 ^ 64 - 1) 0 (omega arith)) ∙ bit_at_ones 64 (fd % 64) (omega arith)
-      ∙ ap (λ (o : Option ℕ). if is_none o then 1 else 0) (sym (get_or-replicate 256 fd None None l));
+      ∙ ap (λ (o : Option ℕ). if is_none o then 1 else 0) (sym (get_or-replicate open_max fd None None l));
 }

@@ -1,16 +1,17 @@
 -- The tables of processes, before and after a change, and how many rows name a key.
-use Rattle.std.proofs.Common.{◌≡◌, ◌≢◌, ℕ, zero, suc, ◌+◌, ◌-◌, ◌*◌, ◌<◌, ◌≤◌, Bool, true, false, cond, List, [], ◌∷◌, ◌++◌, Option, Some, None, refl, sym, ◌∙◌, ap, subst, inl, inr, nat_eq, nat_lt, length, replicate, arith, ℤ, pos, negsuc}
-use Rattle.std.specs.Prelude.{if◌then◌else◌, ◌&&◌, not, is_some, slice_set, slice_index_or, count_by, IfSome}
+use Rattle.std.proofs.Common.{◌≡◌, ◌≢◌, ℕ, zero, suc, ◌+◌, ◌-◌, ◌*◌, ◌<◌, ◌≤◌, Bool, true, false, cond, List, [], ◌∷◌, ◌++◌, Option, Some, None, refl, sym, ◌∙◌, ap, subst, inl, inr, nat_eq, nat_lt, length, replicate, arith, ℤ, pos, negsuc, ⊎_elim}
+use Rattle.std.specs.Prelude.{if◌then◌else◌, ◌&&◌, not, is_some, slice_set, slice_index_or, count_by, IfSome, IfNone}
 use Rattle.std.specs.List.{sum_by, All}
 use Rattle.std.proofs.Math.Path.{fun_ext}
-use Rattle.std.proofs.lemmas.List.{get_or-set_same, get_or-set_other, get_or_default}
+use Rattle.std.proofs.lemmas.List.{get_or-set_same, get_or-set_other, get_or_default, get_or_past}
 use Rattle.std.proofs.lemmas.List.Sums.{sum_by-set, sum_by_push, sum_by-le, get_or-le-sum_by, count_by-le-length}
-use Rattle.std.proofs.lemmas.Bool.{eq-eqb, ne_eqb, lt-ltb}
+use Rattle.std.proofs.lemmas.Bool.{eq-eqb, ne_eqb, lt-ltb, cases_lt}
 use Rattle.std.proofs.lemmas.Bool.Decides.{eqb_tells, nat_tests}
 use Rattle.pl_model.specs.Map.{set_at}
+use Rattle.pl_model.specs.Numbers.{most_processes, open_max}
 use Rattle.pl_desc.specs.Rows.{at, Tables, table_of, is_pid, rows_in, rows_of, row_at, row_of, first_open, free_pid, with_row, with_table, names, named_in, naming}
 use Rattle.pl_desc.specs.Ends.{one_if}
-use Rattle.pl_desc.proofs.First.{first_is, first_none, first_found}
+use Rattle.pl_desc.proofs.First.{first_is, first_none, first_found, first_fails}
 use lib.IntN.{nat_abs}
 
 -- a key with a value is within the list
@@ -94,10 +95,10 @@ module _ (tables : Tables) (pid : ℕ) (table : Option (List (Option ℕ))) (low
       ap (λ o. sum_by (named_in key) changed + named_in key o) (table_at tables pid low)
       ∙ sum_by-set (named_in key) tables (pid - 1) table None (omega arith)
 
-  pub wide-set : IfSome table (λ t. length t ≡ 256) → ((place : ℕ) → IfSome (at tables place) (λ t. length t ≡ 256)) → (place : ℕ) → IfSome (at changed place) (λ t. length t ≡ 256)
-  wide-set one wide place = elim (eqb_tells place (pid - 1)) as (λ _. IfSome (at changed place) (λ t. length t ≡ 256)) [
-    | inl e ↦ subst (λ o. IfSome o (λ t. length t ≡ 256)) (sym (ap (at changed) e.1 ∙ get_or-set_same tables (pid - 1) table None (omega arith))) one
-    | inr e ↦ subst (λ o. IfSome o (λ t. length t ≡ 256)) (sym (get_or-set_other tables (pid - 1) place table None e.1)) (wide place)
+  pub wide-set : IfSome table (λ t. length t ≡ open_max) → ((place : ℕ) → IfSome (at tables place) (λ t. length t ≡ open_max)) → (place : ℕ) → IfSome (at changed place) (λ t. length t ≡ open_max)
+  wide-set one wide place = elim (eqb_tells place (pid - 1)) as (λ _. IfSome (at changed place) (λ t. length t ≡ open_max)) [
+    | inl e ↦ subst (λ o. IfSome o (λ t. length t ≡ open_max)) (sym (ap (at changed) e.1 ∙ get_or-set_same tables (pid - 1) table None (omega arith))) one
+    | inr e ↦ subst (λ o. IfSome o (λ t. length t ≡ open_max)) (sym (get_or-set_other tables (pid - 1) place table None e.1)) (wide place)
   ]
 
 -- one row is changed
@@ -163,10 +164,10 @@ table-push tables = fun_ext (λ pid. ap (λ o. if nat_lt 0 pid then o else None)
     by (t ∷ ts) zero = refl
     by (t ∷ ts) (suc k) = by ts k
 
-pub rows-length : (tables : Tables) (pid : ℕ) → is_pid tables pid ≡ true → ((place : ℕ) → IfSome (at tables place) (λ t. length t ≡ 256)) → length (rows_of tables pid) ≡ 256
-rows-length tables pid process wide = by (table_of tables pid) process (subst (λ o. IfSome o (λ t. length t ≡ 256)) (sym (table_at tables pid (pid_in tables pid process).0)) (wide (pid - 1)))
+pub rows-length : (tables : Tables) (pid : ℕ) → is_pid tables pid ≡ true → ((place : ℕ) → IfSome (at tables place) (λ t. length t ≡ open_max)) → length (rows_of tables pid) ≡ open_max
+rows-length tables pid process wide = by (table_of tables pid) process (subst (λ o. IfSome o (λ t. length t ≡ open_max)) (sym (table_at tables pid (pid_in tables pid process).0)) (wide (pid - 1)))
   where
-    by : (o : Option (List (Option ℕ))) → is_some o ≡ true → IfSome o (λ t. length t ≡ 256) → length (rows_in o) ≡ 256
+    by : (o : Option (List (Option ℕ))) → is_some o ≡ true → IfSome o (λ t. length t ≡ open_max) → length (rows_in o) ≡ open_max
     by None s h = absurd (cc)
     by (Some t) s h = h
 
@@ -189,59 +190,75 @@ row-names tables pid fd key h =
     omega (arith, one, is_one, all, same)
 
 -- the rows are few
-pub naming-few : (tables : Tables) (key : ℕ) → length tables ≤ 1024 → ((place : ℕ) → IfSome (at tables place) (λ t. length t ≡ 256)) → naming tables key ≤ 262144
+pub naming-few : (tables : Tables) (key : ℕ) → length tables ≤ most_processes → ((place : ℕ) → IfSome (at tables place) (λ t. length t ≡ open_max)) → naming tables key ≤ most_processes * open_max
 unfolding naming
 naming-few tables key few wide =
-    let all : sum_by (named_in key) tables ≤ length tables * 256 = sum_by-le (named_in key) 256 tables each in
+    let all : sum_by (named_in key) tables ≤ length tables * open_max = sum_by-le (named_in key) open_max tables each in
     omega (arith, all)
   where
-    by : (o : Option (List (Option ℕ))) → IfSome o (λ t. length t ≡ 256) → named_in key o ≤ 256
+    by : (o : Option (List (Option ℕ))) → IfSome o (λ t. length t ≡ open_max) → named_in key o ≤ open_max
     by None h = omega arith
     by (Some t) h = let l = count_by-le-length (names key) t in omega (arith, l, h)
 
-    each : All (λ o. named_in key o ≤ 256) tables
-    each k d l = by (slice_index_or tables k d) (subst (λ o. IfSome o (λ t. length t ≡ 256)) (get_or_default tables k None d l) (wide k))
+    each : All (λ o. named_in key o ≤ open_max) tables
+    each k d l = by (slice_index_or tables k d) (subst (λ o. IfSome o (λ t. length t ≡ open_max)) (get_or_default tables k None d l) (wide k))
 
 -- the least free pid
 pid_taken : (tables : Tables) (place : ℕ) → ((q : ℕ) → q < place → is_some (at tables q) ≡ true) → (y : ℕ) → 1 ≤ y → y < place + 1 → not (is_pid tables y) ≡ false
 pid_taken tables place taken y low high = ap (λ o. not (is_some o)) (table_at tables y (omega arith)) ∙ ap not (taken (y - 1) (omega arith))
 
-pub pid-first : (tables : Tables) (place : ℕ) → place < 1024 → at tables place ≡ None → ((q : ℕ) → q < place → is_some (at tables q) ≡ true) → free_pid tables ≡ Some (place + 1)
+pub pid-first : (tables : Tables) (place : ℕ) → place < most_processes → at tables place ≡ None → ((q : ℕ) → q < place → is_some (at tables q) ≡ true) → free_pid tables ≡ Some (place + 1)
 pid-first tables place few free taken =
     let low : 1 ≤ place + 1 = omega arith in
     let e : (place + 1) - 1 ≡ place = omega arith in
-    first_is (λ pid. not (is_pid tables pid)) 1024 1 (place + 1) low (omega arith)
+    first_is (λ pid. not (is_pid tables pid)) most_processes 1 (place + 1) low (omega arith)
     (ap (λ o. not (is_some o)) (table_at tables (place + 1) (omega arith) ∙ ap (at tables) e ∙ free))
     (λ y l m. pid_taken tables place taken y l m)
 
-pub pid-none : (tables : Tables) → ((q : ℕ) → q < 1024 → is_some (at tables q) ≡ true) → free_pid tables ≡ None
-pid-none tables taken = first_none (λ pid. not (is_pid tables pid)) 1024 1 (λ y l m. pid_taken tables 1024 taken y l (omega arith))
+pub pid-none : (tables : Tables) → ((q : ℕ) → q < most_processes → is_some (at tables q) ≡ true) → free_pid tables ≡ None
+pid-none tables taken = first_none (λ pid. not (is_pid tables pid)) most_processes 1 (λ y l m. pid_taken tables most_processes taken y l (omega arith))
 
 pub no_table : (o : Option (List (Option ℕ))) → not (is_some o) ≡ true → o ≡ None
 no_table None h = refl
 no_table (Some t) h = absurd (cc)
 
-pub pid-found : (tables : Tables) (pid : ℕ) → free_pid tables ≡ Some pid → (table_of tables pid ≡ None) × (1 ≤ pid) × (pid ≤ 1024)
+pub pid-found : (tables : Tables) (pid : ℕ) → free_pid tables ≡ Some pid → (table_of tables pid ≡ None) × (1 ≤ pid) × (pid ≤ most_processes)
 pid-found tables pid h =
-    let f = first_found (λ pid. not (is_pid tables pid)) 1024 1 pid h in
+    let f = first_found (λ pid. not (is_pid tables pid)) most_processes 1 pid h in
     (no_table (table_of tables pid) f.0, f.1, omega (arith, f.2))
 
-below_256 : (n : ℕ) → nat_lt n 256 ≡ true → n < 256
-below_256 n h = grind (arith, nat_tests)
+below_open_max : (n : ℕ) → nat_lt n open_max ≡ true → n < open_max
+below_open_max n h = grind (arith, nat_tests)
 
 -- a row of any whole number
-pub row_of-some : (tables : Tables) (pid key : ℕ) (z : ℤ) → row_of tables pid z ≡ Some key → (nat_abs z < 256) × (row_at tables pid (nat_abs z) ≡ Some key) × (z ≡ pos (nat_abs z)) × (is_pid tables pid ≡ true)
+pub row_of-some : (tables : Tables) (pid key : ℕ) (z : ℤ) → row_of tables pid z ≡ Some key → (nat_abs z < open_max) × (row_at tables pid (nat_abs z) ≡ Some key) × (z ≡ pos (nat_abs z)) × (is_pid tables pid ≡ true)
 row_of-some tables pid key (negsuc n) h = absurd (cc)
-row_of-some tables pid key (pos n) h = by (nat_lt n 256) refl h
+row_of-some tables pid key (pos n) h = by (nat_lt n open_max) refl h
   where
-    by : (b : Bool) → nat_lt n 256 ≡ b → (if b then row_at tables pid n else None) ≡ Some key → (n < 256) × (row_at tables pid n ≡ Some key) × (pos n ≡ pos n) × (is_pid tables pid ≡ true)
-    by true e h = (below_256 n e, h, refl, has_table (table_of tables pid) n (ap is_some h))
+    by : (b : Bool) → nat_lt n open_max ≡ b → (if b then row_at tables pid n else None) ≡ Some key → (n < open_max) × (row_at tables pid n ≡ Some key) × (pos n ≡ pos n) × (is_pid tables pid ≡ true)
+    by true e h = (below_open_max n e, h, refl, has_table (table_of tables pid) n (ap is_some h))
     by false e h = absurd (cc)
 
 -- the first open descriptor
-pub open-found : (tables : Tables) (pid fd : ℕ) → first_open tables pid ≡ Some fd → (is_some (row_at tables pid fd) ≡ true) × (fd < 256)
-open-found tables pid fd h = let f = first_found (λ fd. is_some (row_at tables pid fd)) 256 0 fd h in (f.0, omega (arith, f.2))
+pub open-found : (tables : Tables) (pid fd : ℕ) → first_open tables pid ≡ Some fd → (is_some (row_at tables pid fd) ≡ true) × (fd < open_max)
+open-found tables pid fd h = let f = first_found (λ fd. is_some (row_at tables pid fd)) open_max 0 fd h in (f.0, omega (arith, f.2))
+
+-- what is there is not none
+pub no_none : (P : Type 0) (o : Option ℕ) (x : ℕ) → o ≡ Some x → IfNone o P
+no_none P None x e = absurd (cc)
+no_none P (Some y) x e = tt
+
+pub isnt_some : (o : Option ℕ) → is_some o ≡ false → o ≡ None
+isnt_some None h = refl
+isnt_some (Some x) h = absurd (cc)
 
 pub is_some_value : (o : Option ℕ) → is_some o ≡ true → (x : ℕ) × (o ≡ Some x)
 is_some_value None h = absurd (cc)
 is_some_value (Some x) h = (x, refl)
+
+-- where there is none, no row names anything
+pub open-none : (tables : Tables) (pid : ℕ) → is_pid tables pid ≡ true → ((place : ℕ) → IfSome (at tables place) (λ t. length t ≡ open_max)) → first_open tables pid ≡ None → (fd : ℕ) → row_at tables pid fd ≡ None
+open-none tables pid process wide none fd = ⊎_elim
+    (λ l. isnt_some (row_at tables pid fd) (first_fails (λ fd. is_some (row_at tables pid fd)) open_max 0 none fd (omega arith) (omega arith)))
+    (λ l. let size = rows-length tables pid process wide in get_or_past (rows_of tables pid) fd None (omega arith))
+    (cases_lt fd open_max)

@@ -244,9 +244,17 @@ all-some rows slots fd key x l row was =
     ∙ ap (λ o. held_all (o ∷ drop (fd + 1) rows) slots) row
     ∙ ap (λ o. held_all (drop (fd + 1) rows) (slice_set slots key (option_map held_more o))) was
 
-pub all-none : (rows : List (Option ℕ)) (slots : List (Option Description)) (fd : ℕ) → fd < length rows → at rows fd ≡ None → held_all (drop fd rows) slots ≡ held_all (drop (fd + 1) rows) slots
+-- rows that name nothing are passed over
+pub all-none : (rows : List (Option ℕ)) (slots : List (Option Description)) (from to : ℕ) → from ≤ to → to ≤ length rows → ((q : ℕ) → from ≤ q → q < to → at rows q ≡ None) → held_all (drop from rows) slots ≡ held_all (drop to rows) slots
 unfolding held_all
-all-none rows slots fd l row = at_drop_more (λ rs. held_all rs slots) rows fd None l ∙ ap (λ o. held_all (o ∷ drop (fd + 1) rows) slots) row
+all-none rows slots from to low high none = passed (to - from) from (let e : from + (to - from) ≡ to = omega arith in e) (omega arith)
+  where
+    passed : (n fd : ℕ) → fd + n ≡ to → from ≤ fd → held_all (drop fd rows) slots ≡ held_all (drop to rows) slots
+    passed zero fd e l = ap (λ k. held_all (drop k rows) slots) (let s : fd ≡ to = omega arith in s)
+    passed (suc n) fd e l =
+        at_drop_more (λ rs. held_all rs slots) rows fd None (omega arith)
+        ∙ ap (λ o. held_all (o ∷ drop (fd + 1) rows) slots) (none fd l (omega arith))
+        ∙ passed n (fd + 1) (let s : (fd + 1) + n ≡ to = omega arith in s) (omega arith)
 
 pub all-end : (rows : List (Option ℕ)) (slots : List (Option Description)) (fd : ℕ) → length rows ≤ fd → held_all (drop fd rows) slots ≡ slots
 unfolding held_all

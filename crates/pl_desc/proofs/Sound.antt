@@ -1,11 +1,12 @@
 -- What holds of the fields, part by part, through each change.
-use Rattle.std.proofs.Common.{◌≡◌, ◌≢◌, ℕ, ◌+◌, ◌-◌, ◌<◌, ◌≤◌, Bool, true, false, cond, List, [], ◌∷◌, Option, Some, None, refl, sym, ◌∙◌, ap, subst, inl, inr, nat_eq, length, arith, ⊎_elim}
+use Rattle.std.proofs.Common.{◌≡◌, ◌≢◌, ℕ, ◌+◌, ◌-◌, ◌<◌, ◌≤◌, Bool, true, false, cond, List, [], ◌∷◌, Option, Some, None, refl, sym, ◌∙◌, ap, subst, inl, inr, length, arith, ⊎_elim}
 use Rattle.std.specs.Prelude.{if◌then◌else◌, ◌&&◌, is_some, count_by, IfSome, option_map}
-use Rattle.std.proofs.lemmas.Bool.{eq-eqb, ne_eqb, cases_lt}
+use Rattle.std.proofs.lemmas.Bool.{eq-eqb, cases_lt}
 use Rattle.std.proofs.lemmas.Bool.Decides.{eqb_tells}
 use Rattle.std.proofs.lemmas.List.Sums.{sum_by-cons, get_or-le-sum_by, sum_by-le-sum_by}
 use Rattle.std.proofs.lemmas.List.{get_or_past}
 use Rattle.slab.specs.Slab.{Slab, Updates}
+use Rattle.pl_model.specs.Numbers.{most_descriptions, most_processes, open_max}
 use Rattle.pl_model.specs.declared.calls.Mode.{Mode}
 use Rattle.pl_model.specs.declared.calls.Mode.TheVariants as mode
 use Rattle.pl_model.specs.declared.node.Node.{Node}
@@ -40,13 +41,6 @@ module _ (key : ℕ) (xs ys : List (Option Opened)) (others : (q : ℕ) → q �
   pub ends-change : (test : Mode → Bool) (node : Node) → ends_on test ys node + one_if (is_end_on test node (at xs key)) ≡ ends_on test xs node + one_if (is_end_on test node (at ys key))
   unfolding ends_on
   ends-change test node = tally-change (is_end_on test node) refl key xs ys others
-
--- the keys but one keep what they had
-pub others-same : {V : Type 0} (m n : ℕ → V) (key : ℕ) (v : V) → n ≡ (λ q. if nat_eq key q then v else m q) → (q : ℕ) → q ≢ key → n q ≡ m q
-others-same m n key v e q ne = ap (λ f. f q) e ∙ ap (λ b. if b then v else m q) (ne_eqb key q (λ h. ne (sym h)))
-
-pub same-here : {V : Type 0} (m n : ℕ → V) (key : ℕ) (v : V) → n ≡ (λ q. if nat_eq key q then v else m q) → n key ≡ v
-same-here m n key v e = ap (λ f. f key) e ∙ ap (λ b. if b then v else m key) (eq-eqb key key refl)
 
 pub node_same : (node : Node) → same_node node node ≡ true
 node_same (Pipe p) = eq-eqb p p refl
@@ -87,7 +81,7 @@ module _ (tables : Tables) (slots : List (Option Description)) (ends : Node → 
   }
 
   -- the tables change
-  pub sound-tables : (other : Tables) → length other ≤ 1024 → ((place : ℕ) → IfSome (at other place) (λ t. length t ≡ 256)) → ((key : ℕ) → naming other key ≤ holders_of (at slots key)) → IsSound other slots ends
+  pub sound-tables : (other : Tables) → length other ≤ most_processes → ((place : ℕ) → IfSome (at other place) (λ t. length t ≡ open_max)) → ((key : ℕ) → naming other key ≤ holders_of (at slots key)) → IsSound other slots ends
   sound-tables other few wide held = record {
     few = few;
     wide = wide;
@@ -108,7 +102,7 @@ module _ (tables : Tables) (slots : List (Option Description)) (ends : Node → 
     wide = sound.wide;
     held = held;
     alive = alive;
-    most = subst (λ os. live_count os ≤ 4096) (sym same) sound.most;
+    most = subst (λ os. live_count os ≤ most_descriptions) (sym same) sound.most;
     counted = λ node. sound.counted node ∙ ap (λ os. counted os node) (sym same);
   }
 
@@ -159,7 +153,7 @@ module _ (tables : Tables) (old new : Slab Description) (ends other : Node → E
       let a : one_if (is_end_on test node (at after key)) ≡ one_if (same_node d.node node && test d.mode) = ap (λ o. one_if (is_end_on test node o)) here_after in
       (let r : ends_on test after node ≡ ends_on test before node + one_if (same_node d.node node && test d.mode) = omega (arith, a, b, c) in r)
 
-  pub sound-opened : live_count before < 4096 → other ≡ change_ends d.node (raised d.mode) ends → IsSound tables new.slots other
+  pub sound-opened : live_count before < most_descriptions → other ≡ change_ends d.node (raised d.mode) ends → IsSound tables new.slots other
   sound-opened room e = record {
     few = sound.few;
     wide = sound.wide;

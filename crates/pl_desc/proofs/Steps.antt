@@ -5,6 +5,7 @@ use Rattle.std.proofs.Math.Path.{fun_ext}
 use Rattle.std.proofs.lemmas.Bool.{eq-eqb, ne_eqb, false≢true}
 use Rattle.std.proofs.lemmas.Bool.Decides.{eqb_tells}
 use Rattle.std.proofs.lemmas.List.{length-set}
+use Rattle.pl_model.specs.Numbers.{most_descriptions, most_processes, open_max}
 use Rattle.pl_model.specs.declared.calls.Mode.{Mode}
 use Rattle.pl_model.specs.declared.node.Node.{Node}
 use Rattle.pl_model.specs.Map.{set_at}
@@ -150,7 +151,7 @@ module _ (m : Known) where
         wide = sound.wide;
         held = λ q. held q;
         alive = λ q. alive q;
-        most = subst (λ n. n ≤ 4096) (sym said-live) sound.most;
+        most = subst (λ n. n ≤ most_descriptions) (sym said-live) sound.most;
         counted = λ n. sound.counted n ∙ (λ i. record { readers = sym (said-ends reads) i n; writers = sym (said-ends writes) i n });
       }
         where
@@ -167,7 +168,7 @@ module _ (m : Known) where
           ]
 
   -- a row of a process
-  module _ (pid fd : ℕ) (process : is_pid tables pid ≡ true) (place : fd < 256) where
+  module _ (pid fd : ℕ) (process : is_pid tables pid ≡ true) (place : fd < open_max) where
     pub in_rows : fd < length (rows_of tables pid)
     in_rows = omega (arith, place, rows-length tables pid process sound.wide)
 
@@ -298,7 +299,7 @@ module _ (m : Known) (s : Starts m) where
       let e : naming places key ≡ naming tables key = ap (λ m. m key) names_same in
       (let r : naming started key ≡ naming tables key + count_by (names key) table = omega (arith, n, z, e) in r)
 
-  few_started : length started ≤ 1024
+  few_started : length started ≤ most_processes
   few_started = omega (arith, few, length-set places (pid - 1) (Some table))
 
   place_same : (q : ℕ) → at places q ≡ at tables q
@@ -307,8 +308,8 @@ module _ (m : Known) (s : Starts m) where
       let e : (q + 1) - 1 ≡ q = omega arith in
       ap (at places) (sym e) ∙ sym (table_at places (q + 1) l) ∙ ap (λ m. m (q + 1)) same ∙ table_at tables (q + 1) l ∙ ap (at tables) e
 
-  wide_started : (place : ℕ) → IfSome (at started place) (λ t. length t ≡ 256)
-  wide_started = wide-set places pid (Some table) low high wide (λ q. subst (λ o. IfSome o (λ t. length t ≡ 256)) (sym (place_same q)) (sound.wide q))
+  wide_started : (place : ℕ) → IfSome (at started place) (λ t. length t ≡ open_max)
+  wide_started = wide-set places pid (Some table) low high wide (λ q. subst (λ o. IfSome o (λ t. length t ≡ open_max)) (sym (place_same q)) (sound.wide q))
 
   pub pids-started : is_pid started ≡ set_at nat_eq (is_pid tables) pid true
   pids-started = pids-set places pid (Some table) low high ∙ ap (λ (m : ℕ → Option (List (Option ℕ))). set_at nat_eq (λ q. is_some (m q)) pid true) same
@@ -317,18 +318,18 @@ module _ (m : Known) (s : Starts m) where
   rows-started = rows-set places pid (Some table) low high ∙ ap (λ (m : ℕ → Option (List (Option ℕ))). λ q k. if nat_eq q pid then at table k else at (rows_in (m q)) k) same
 
   -- with no open descriptor
-  module _ (empty : table ≡ replicate 256 None) where
+  module _ (empty : table ≡ replicate open_max None) where
     naming_same : (key : ℕ) → naming started key ≡ naming tables key
     naming_same key =
         let n = naming-started key in
-        let z : count_by (names key) table ≡ 0 = ap (count_by (names key)) empty ∙ named_in-none 256 key in
+        let z : count_by (names key) table ≡ 0 = ap (count_by (names key)) empty ∙ named_in-none open_max key in
         (let r : naming started key ≡ naming tables key = omega (arith, n, z) in r)
 
     pub sound-empty : IsSound started slots ends
     sound-empty = sound-tables tables slots ends sound started few_started wide_started (λ key. let a = naming_same key in let b = sound.held key in omega arith)
 
     pub rows-empty : row_at started ≡ row_at tables
-    rows-empty = rows-same places pid (Some table) low high (λ k. ap (λ t. at t k) empty ∙ at-free 256 k ∙ sym (ap (λ o. at (rows_in o) k) vacant)) ∙ ap (λ (m : ℕ → Option (List (Option ℕ))). λ q k. at (rows_in (m q)) k) same
+    rows-empty = rows-same places pid (Some table) low high (λ k. ap (λ t. at t k) empty ∙ at-free open_max k ∙ sym (ap (λ o. at (rows_in o) k) vacant)) ∙ ap (λ (m : ℕ → Option (List (Option ℕ))). λ q k. at (rows_in (m q)) k) same
 
     pub loose-empty : loose_from 0 started slots ≡ loose_from 0 tables slots
     loose-empty = loose-same tables started slots slots refl (λ q. ap (λ n. holders_of (at slots q) - n) (naming_same q))

@@ -5,7 +5,6 @@ ghost use Rattle.pl_desc.specs.Rows.{at};
 ghost use Rattle.pl_desc.specs.Slots.{holders_of, held_all};
 
 use crate::table::Table;
-use pl_model::numbers::OPEN_MAX;
 use pl_model::{Mode, Node, OpenFlags};
 use slab::Slab;
 use std::alloc::Allocator;
@@ -28,10 +27,11 @@ pub(crate) fn hold_all<A: Allocator>(descriptions: &mut Slab<Description, A>, ta
     requires few { (key : ℕ) → holders_of (at descriptions.old.slots key) < 2 ^ 127 }
     ensures { descriptions.new ≡ record descriptions.old { slots = held_all table.now descriptions.old.slots } }
 {
-    for fd in 0..OPEN_MAX {
-        if let Some(key) = table.get(fd) {
-            let held = &mut descriptions[key];
-            held.holders += 1;
-        }
+    let mut from = 0;
+    while let Some(fd) = table.next_open(from) {
+        let key = table.get(fd).unwrap();
+        let held = &mut descriptions[key];
+        held.holders += 1;
+        from = fd + 1;
     }
 }

@@ -15,7 +15,7 @@ use crate::fault::{NoMemory, OpenFault, StartFault};
 use crate::released::Released;
 use crate::table::Table;
 use crate::tables::{clear_row, put_row, reserve_place};
-use pl_model::numbers::{MAX_DESCRIPTIONS, MAX_PROCESSES};
+use pl_model::numbers::{MAX_DESCRIPTIONS, MAX_PROCESSES, OPEN_MAX};
 use pl_model::{Mode, Node, OpenFlags};
 use slab::Slab;
 use std::alloc::{Allocator, Global};
@@ -145,7 +145,7 @@ impl<A: Allocator + Copy> Descs<A> {
     }
 
     /// Closes the least open descriptor of a process, and answers the key that it named, of which the caller has a loose
-    /// hold; `None` where no descriptor is open. It takes no memory.
+    /// hold. `None` says that no descriptor is open, and changes nothing. It takes no memory.
     pub fn take_fd(&mut self, pid: u32) -> Option<usize>
         requires { IsTrue (is_pid self.old.tables pid) }
         ensures key { result ≡ option_and_then (row_at self.old.tables pid) (first_open self.old.tables pid) }
@@ -155,6 +155,8 @@ impl<A: Allocator + Copy> Descs<A> {
         ensures holders { holders self.new ≡ holders self.old }
         ensures rest { self.new ≡ record self.old { tables = self.new.tables; loose = self.new.loose } }
         ensures tidy { IsTidy self.new }
+        ensures closed { IfNone result ((fd : ℕ) → row_at self.old.tables pid fd ≡ None) }
+        ensures none { IfNone result (self.new ≡ self.old) }
     {
         let fd = self.first_open(pid)?;
         let key = self.row(pid, fd);
@@ -167,7 +169,7 @@ impl<A: Allocator + Copy> Descs<A> {
     pub fn find(&self, pid: u32, fd: i32) -> Option<usize>
         ensures { result ≡ row_of self.now.tables pid fd }
     {
-        if fd < 0 || 255 < fd {
+        if fd < 0 || OPEN_MAX <= fd as usize {
             return None;
         }
         self.table(pid)?.get(fd as usize)
@@ -366,7 +368,7 @@ impl<A: Allocator + Copy> Descs<A> {
         requires { IsTrue (is_pid self.now.tables pid) }
         ensures { result ≡ first_open self.now.tables pid }
     {
-        self.table(pid)?.first_open()
+        self.table(pid)?.next_open(0)
     }
 
     // The key that a descriptor of a process names.

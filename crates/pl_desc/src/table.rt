@@ -1,7 +1,8 @@
 //! The table of descriptors of one process.
-ghost use Rattle.std.specs.Prelude.{◌≡◌, ◌+◌, ◌-◌, ◌<◌, ◌≤◌, length, IfOk, Some, None, replicate, slice_set, is_none, is_some};
+ghost use Rattle.std.specs.Prelude.{◌≡◌, ◌-◌, ◌<◌, ◌≤◌, length, IfOk, Some, None, nat_eq, replicate, slice_set, is_none, is_some};
 ghost use Rattle.pl_model.specs.Numbers.{open_max, first_from};
 ghost use Rattle.pl_desc.specs.Rows.{at, no_key};
+ghost use Rattle.pl_desc.specs.TableView.{bit_of};
 
 use crate::fault::NoMemory;
 use pl_model::numbers::OPEN_MAX;
@@ -91,27 +92,31 @@ impl<A: Allocator> Table<A> {
         requires { least ≤ open_max }
         ensures { result ≡ first_from (λ fd. is_none (at self.now fd)) (open_max - least) least }
     {
-        let mut from = least;
-        while from < OPEN_MAX {
-            let rest = self.free[from / WIDTH] >> (from % WIDTH);
-            if rest != 0 {
-                return Some(from + rest.trailing_zeros() as usize);
-            }
-            from = from - from % WIDTH + WIDTH;
-        }
-        None
+        least_set(&self.free, least)
     }
 
-    /// The least open descriptor.
-    pub(crate) fn first_open(&self) -> Option<usize>
-        ensures { result ≡ first_from (λ fd. is_some (at self.now fd)) open_max 0 }
+    /// The least open descriptor, from `least` on.
+    pub(crate) fn next_open(&self, least: usize) -> Option<usize>
+        requires { least ≤ open_max }
+        ensures { result ≡ first_from (λ fd. is_some (at self.now fd)) (open_max - least) least }
     {
-        for word in 0..4usize {
-            let open = !self.free[word];
-            if open != 0 {
-                return Some(word * WIDTH + open.trailing_zeros() as usize);
-            }
-        }
-        None
+        let [a, b, c, d] = self.free;
+        least_set(&[!a, !b, !c, !d], least)
     }
+}
+
+// The least descriptor, from `least` on, whose bit is set in the masks.
+fn least_set(masks: &[u64; 4], least: usize) -> Option<usize>
+    requires { least ≤ open_max }
+    ensures { result ≡ first_from (λ fd. nat_eq (bit_of masks.now fd) 1) (open_max - least) least }
+{
+    let mut from = least;
+    while from < OPEN_MAX {
+        let rest = masks[from / WIDTH] >> (from % WIDTH);
+        if rest != 0 {
+            return Some(from + rest.trailing_zeros() as usize);
+        }
+        from = from - from % WIDTH + WIDTH;
+    }
+    None
 }

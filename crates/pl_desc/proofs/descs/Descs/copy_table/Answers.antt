@@ -1,6 +1,7 @@
 use Rattle.std.proofs.Common.{◌≡◌, ◌≤◌, ◌<◌, ◌^◌, ◌-◌, length, ap, ◌∙◌, sym, subst, Some, true, nat_eq, arith, ⊎_elim}
 use Rattle.std.specs.Prelude.{is_some, count_by}
 use Rattle.std.proofs.lemmas.Bool.{cases_lt}
+use Rattle.pl_model.specs.Numbers.{most_processes, open_max}
 use Rattle.pl_model.specs.Map.{set_at}
 use Rattle.pl_desc.specs.Rows.{Tables, at, is_pid, row_at, rows_of, free_pid, with_table, with_rows_of, count_at}
 use Rattle.pl_desc.specs.Descs.{Descs, live_count}
@@ -37,12 +38,12 @@ module _ (g : Over) (c : Joined-index_mut g) where
   high : c.in-Some.other ≤ length places
   high = ok_part c.reserve_place.result (sym c.is_err.ensures.value ∙ c.if-is_err.false) c.reserve_place.ensures.place
 
-  few : length places ≤ 1024
+  few : length places ≤ most_processes
   few =
       let said = c.reserve_place.ensures in
       ⊎_elim (λ l. omega (arith, l, said.pids, (pid-found m.tables c.in-Some.other free).2)) (λ l. omega (arith, l, said.high l, m.sound.few)) (cases_lt (length m.tables) c.in-Some.other)
 
-  wide : length c.in-Ok.table ≡ 256
+  wide : length c.in-Ok.table ≡ open_max
   wide = ap length table_is ∙ rows-length m.tables c.args.pid (ap (λ d. is_pid d.tables c.args.pid) c.self.view_is ∙ c.requires.process) m.sound.wide
 
   abbrev starts : Starts m

@@ -1,6 +1,7 @@
 use Rattle.std.proofs.Common.{◌≡◌, ℕ, ◌+◌, ◌-◌, ◌<◌, ap, ◌∙◌, sym, subst, refl, arith, Some, nat_eq}
 use Rattle.std.specs.Prelude.{option_map}
 use Rattle.slab.specs.Slab.{Slab}
+use Rattle.pl_model.specs.Numbers.{most_descriptions}
 use Rattle.pl_model.specs.Map.{set_at}
 use Rattle.pl_model.specs.Modes.{reads, writes}
 use Rattle.pl_desc.specs.declared.description.Description.{Description}
@@ -45,7 +46,7 @@ add-requires-clause-writers g c =
 pub invariant_of-self : goal.invariant_of-self
 invariant_of-self g c =
     let k = c.self.inside in
-    let few : live_count (opened_in k.descriptions.slots) < 4096 = subst (λ os. live_count os < 4096) (sym (same g c)) (omega (arith, c.live.ensures.value, c.live.ensures.tidy.most, c.if-live-eq-MAX_DESCRIPTIONS.false)) in
+    let few : live_count (opened_in k.descriptions.slots) < most_descriptions = subst (λ os. live_count os < most_descriptions) (sym (same g c)) (omega (arith, c.live.ensures.value, c.live.ensures.tidy.most, c.if-live-eq-MAX_DESCRIPTIONS.false)) in
     sound-opened k.tables.items k.descriptions (new g c) (ends_at k.counts) (ends_at c.add.new.self) (key g c) (added g c) c.self.invariant c.insert_reserved-key.ensures.updates c.insert_reserved-key.ensures.was_vacant refl few c.add.ensures.counts
 
 pub returns-clause-vacant : goal.returns-clause-vacant

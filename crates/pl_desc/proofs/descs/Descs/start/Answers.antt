@@ -1,6 +1,7 @@
 use Rattle.std.proofs.Common.{◌≡◌, ◌≤◌, ℕ, Option, length, ap, ◌∙◌, sym, Some, None, true, nat_eq, arith, ⊎_elim}
 use Rattle.std.proofs.lemmas.List.{length-replicate}
 use Rattle.std.proofs.lemmas.Bool.{cases_lt}
+use Rattle.pl_model.specs.Numbers.{most_processes, open_max}
 use Rattle.pl_model.specs.Map.{set_at}
 use Rattle.pl_desc.specs.Rows.{Tables, is_pid, row_at, free_pid, with_table}
 use Rattle.pl_desc.specs.Descs.{Descs}
@@ -28,13 +29,13 @@ module _ (g : Over) (c : Joined-index_mut g) where
   high : c.in-Some.pid ≤ length places
   high = ok_part c.reserve_place.result (sym c.is_err.ensures.value ∙ c.if-is_err.false) c.reserve_place.ensures.place
 
-  few : length places ≤ 1024
+  few : length places ≤ most_processes
   few =
       let said = c.reserve_place.ensures in
       ⊎_elim (λ l. omega (arith, l, said.pids, (pid-found m.tables c.in-Some.pid free).2)) (λ l. omega (arith, l, said.high l, m.sound.few)) (cases_lt (length m.tables) c.in-Some.pid)
 
-  wide : length c.in-Ok.table ≡ 256
-  wide = ap length c.in-Ok.ensures ∙ length-replicate {A = Option ℕ} 256 None
+  wide : length c.in-Ok.table ≡ open_max
+  wide = ap length c.in-Ok.ensures ∙ length-replicate {A = Option ℕ} open_max None
 
   abbrev starts : Starts m
   starts = record { pid = c.in-Some.pid; free = free; places = places; same = c.reserve_place.ensures.rows; names_same = c.reserve_place.ensures.names; few = few; high = high; table = c.in-Ok.table; wide = wide }
