@@ -1,5 +1,5 @@
 -- What is known of a kernel as a call begins, and of a call that waits.
-use Rattle.std.proofs.Common.{◌≡◌, ℕ, true, List, [], ◌∷◌, Option, Some, nat_eq, ap, subst, ◌∙◌}
+use Rattle.std.proofs.Common.{◌≡◌, ℕ, true, [], ◌∷◌, Some, nat_eq, ap, subst, ◌∙◌}
 use Rattle.pl_model.specs.declared.calls.Limits.{Limits}
 use Rattle.pl_model.specs.Map.{get}
 use Rattle.pl_model.specs.State.{Pipe}

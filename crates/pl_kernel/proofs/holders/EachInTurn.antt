@@ -1,8 +1,8 @@
 -- Holds of several descriptions are given up one after another.
-use Rattle.std.proofs.Common.{◌≡◌, ◌≢◌, ℕ, ◌+◌, ◌-◌, ◌<◌, ◌≤◌, Bool, true, false, cond, List, [], ◌∷◌, ◌++◌, Option, Some, None, IfSome, refl, sym, ◌∙◌, ap, subst, nat_eq, arith, take, drop, length, slice_index_or}
+use Rattle.std.proofs.Common.{◌≡◌, ℕ, ◌+◌, ◌-◌, ◌<◌, ◌≤◌, Bool, true, false, cond, List, [], ◌∷◌, ◌++◌, Option, Some, None, IfSome, refl, sym, ◌∙◌, ap, subst, nat_eq, arith, take, drop, length, slice_index_or}
 use Rattle.std.proofs.lemmas.Bool.{eq-eqb}
 use Rattle.std.proofs.lemmas.List.{take_more, drop_more}
-use Rattle.pl_desc.specs.Rows.{at, count_at, change_count, one_less}
+use Rattle.pl_desc.specs.Rows.{at, count_at}
 use Rattle.pl_desc.specs.Descs.{Opened, Descs, IsTidy, holders}
 use Rattle.pl_kernel.specs.Held.{Nodes, IsThere}
 use Rattle.pl_kernel.specs.Left.{Releases, ReleasesAll}

@@ -1,8 +1,7 @@
 -- That what descriptions are on, and what names stand for, is there, through each change.
-use Rattle.std.proofs.Common.{◌≡◌, ◌≢◌, ℕ, ◌<◌, Bool, true, false, cond, List, length, Option, Some, None, refl, sym, ◌∙◌, ap, subst, inl, inr, nat_eq, nat_lt, slice_index_or}
+use Rattle.std.proofs.Common.{◌≡◌, ◌≢◌, ℕ, ◌<◌, Bool, true, false, cond, List, length, Option, Some, None, refl, sym, ◌∙◌, ap, subst, inl, inr, nat_eq, slice_index_or}
 use Rattle.std.proofs.Math.Path.{fun_ext}
-use Rattle.std.specs.Prelude.{◌⊎◌, ◌&&◌, ◌||◌, option_map, if◌then◌else◌, IfSome, IsSome}
-use Rattle.std.specs.List.{list_any}
+use Rattle.std.specs.Prelude.{◌⊎◌, ◌&&◌, option_map, if◌then◌else◌, IfSome, IsSome}
 use Rattle.std.proofs.lemmas.Bool.{eq-eqb}
 use Rattle.std.proofs.lemmas.Bool.Decides.{eqb_tells}
 use Rattle.std.proofs.lemmas.List.Folds.{list_any_at}
@@ -16,7 +15,7 @@ use Rattle.pl_model.specs.Numbered.{numbers}
 use Rattle.pl_model.specs.Laws.{IsSettled}
 use Rattle.pl_model.proofs.settling.Members.{or_left, or_right}
 use Rattle.pl_model.proofs.settling.Settled.{settled}
-use Rattle.pl_model.proofs.settling.Settles.{at_other, at_key}
+use Rattle.pl_model.proofs.settling.Settles.{at_other}
 use Rattle.pl_desc.specs.Rows.{at}
 use Rattle.pl_desc.specs.Descs.{Opened, Descs, same_node, is_end_on, ends_on, last_hold}
 use Rattle.pl_kernel.specs.Held.{Nodes, IsThere, has_name}

@@ -1,4 +1,4 @@
-use Rattle.std.proofs.Common.{refl, ap}
+use Rattle.std.proofs.Common.{ap}
 use Rattle.pl_kernel.specs.Held.{pipes_alone}
 use Rattle.pl_kernel.specs.Left.{Releases}
 use Rattle.pl_kernel.proofs.holders.EachInTurn.{released_next, held_next, there_next}
