@@ -64,11 +64,11 @@ module _ (tables : Tables) (slots : List (Option Description)) (ends : Node → 
   held_none (Some d) h = absurd (cc)
 
   -- what has a holder is there
-  pub is_held : (key : ℕ) → 0 < holders_of (at slots key) → is_some (at (opened_in slots) key) ≡ true
-  is_held key l = ap is_some (at-opened slots key) ∙ opened_some (at slots key) l
+  pub is_open : (key : ℕ) → 0 < holders_of (at slots key) → is_some (at (opened_in slots) key) ≡ true
+  is_open key l = ap is_some (at-opened slots key) ∙ opened_some (at slots key) l
 
   pub is_named : (pid fd key : ℕ) → row_at tables pid fd ≡ Some key → is_some (at (opened_in slots) key) ≡ true
-  is_named pid fd key h = is_held key (let a = row-names tables pid fd key h in let b = sound.held key in (let c : 0 < holders_of (at slots key) = omega (arith, a, b) in c))
+  is_named pid fd key h = is_open key (let a = row-names tables pid fd key h in let b = sound.held key in (let c : 0 < holders_of (at slots key) = omega (arith, a, b) in c))
 
   pub tidy : (room : Room) → IsTidy (record { tables = tables; opened = opened_in slots; loose = loose_from 0 tables slots; room = room })
   tidy room = record {

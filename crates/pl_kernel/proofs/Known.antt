@@ -8,10 +8,10 @@ use Rattle.pl_parked.specs.Calls.{Calls}
 use Rattle.pl_desc.specs.Rows.{at, is_pid}
 use Rattle.pl_desc.specs.Descs.{Descs}
 use Rattle.pl_kernel.specs.declared.kernel.Kernel.TheInside.{Inside}
-use Rattle.pl_kernel.specs.Held.{Held, Nodes, pipes_alone, held}
+use Rattle.pl_kernel.specs.Contents.{Contents, Nodes, pipes_alone, contents}
 use Rattle.pl_kernel.specs.KernelView.{view_of}
 use Rattle.pl_kernel.specs.Opens.{OpenOn}
-use Rattle.pl_kernel.specs.Sound.{IsSound, IsWhole, AreHeld}
+use Rattle.pl_kernel.specs.Sound.{IsSound, IsWhole, AreCounted}
 
 -- a kernel's parts, and what holds of them whatever its calls wait for
 pub record Parts (A : Type 0) : Type 0 where
@@ -19,8 +19,8 @@ pub record Parts (A : Type 0) : Type 0 where
   pub nodes : Nodes
   pub calls : Calls A
   pub limits : Limits
-  pub whole : IsWhole A (held descs nodes calls limits)
-  pub are : AreHeld A descs calls.calls
+  pub whole : IsWhole A (contents descs nodes calls limits)
+  pub are : AreCounted A descs calls.calls
 
 -- a kernel's parts, and its invariant
 pub record Known (A : Type 0) : Type 0 where
@@ -28,8 +28,8 @@ pub record Known (A : Type 0) : Type 0 where
   pub nodes : Nodes
   pub calls : Calls A
   pub limits : Limits
-  pub sound : IsSound A (held descs nodes calls limits)
-  pub are : AreHeld A descs calls.calls
+  pub sound : IsSound A (contents descs nodes calls limits)
+  pub are : AreCounted A descs calls.calls
 
 abbrev pub parts_of : {A : Type 0} → Known A → Parts A
 parts_of m = record { descs = m.descs; nodes = m.nodes; calls = m.calls; limits = m.limits; whole = m.sound.whole; are = m.are }
@@ -41,21 +41,21 @@ pub record Caller (A : Type 0) : Type 0 where
   pub pid : ℕ
   pub process : is_pid descs.tables pid ≡ true
 
-module _ {A : Type 0} (k : Inside A) (invariant : IsSound A (view_of k) × AreHeld A k.descs k.parked.calls) where
+module _ {A : Type 0} (k : Inside A) (invariant : IsSound A (view_of k) × AreCounted A k.descs k.parked.calls) where
   -- what is known of its fields
   abbrev pub known : Known A
   known = record { descs = k.descs; nodes = pipes_alone k.pipes.pipes; calls = k.parked; limits = k.limits; sound = invariant.0; are = invariant.1 }
 
   -- and of the process that calls
-  abbrev pub caller : (self : Held A) → view_of k ≡ self → (pid : ℕ) → is_pid self.tables pid ≡ true → Caller A
-  caller self is pid process = record { kernel = known; pid = pid; process = ap (λ (z : Held A). is_pid z.tables pid) is ∙ process }
+  abbrev pub caller : (self : Contents A) → view_of k ≡ self → (pid : ℕ) → is_pid self.tables pid ≡ true → Caller A
+  caller self is pid process = record { kernel = known; pid = pid; process = ap (λ (z : Contents A). is_pid z.tables pid) is ∙ process }
 
   -- the same, where the descriptors are as they were
-  pub still_sound : (descs : Descs) → k.descs ≡ descs → (IsSound A (held descs (pipes_alone k.pipes.pipes) k.parked k.limits)) × (AreHeld A descs k.parked.calls)
-  still_sound descs same = subst (λ (d : Descs). (IsSound A (held d (pipes_alone k.pipes.pipes) k.parked k.limits)) × (AreHeld A d k.parked.calls)) same invariant
+  pub still_sound : (descs : Descs) → k.descs ≡ descs → (IsSound A (contents descs (pipes_alone k.pipes.pipes) k.parked k.limits)) × (AreCounted A descs k.parked.calls)
+  still_sound descs same = subst (λ (d : Descs). (IsSound A (contents d (pipes_alone k.pipes.pipes) k.parked k.limits)) × (AreCounted A d k.parked.calls)) same invariant
 
 -- A call is parked, and waits on a description that is open on a pipe.
-pub record CallOnPipe {A : Type 0} (k : Held A) : Type 0 where
+pub record CallOnPipe {A : Type 0} (k : Contents A) : Type 0 where
   pub sound : IsSound A k
   pub number : ℕ
   pub call : ParkedCall A

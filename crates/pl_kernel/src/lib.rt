@@ -6,7 +6,7 @@
 
 mod access;
 mod kernel;
-mod leaving;
+mod last_hold;
 mod opening;
 mod parking;
 mod pipes;

@@ -3,11 +3,11 @@
 -- Members of lists, and which of them pass a test.
 pub mod Members
 -- The end of a step leaves nothing more to settle.
-pub mod Settled
+pub mod Idempotent
 -- What settling comes to, where it is known who is live.
-pub mod Tidy
+pub mod WhoIsLive
 -- What settling makes of a settled state in which the bytes of one pipe may have changed, and one description of it may
-pub mod Settles
+pub mod FromSettled
 -- What the end of a step makes of each change that a call makes to a settled state.
 pub mod Changes
 -- What the end of a step makes of a call that is parked, or tried again in vain.
@@ -15,6 +15,6 @@ pub mod Parking
 -- What leaves in turn is settled as if it left at once.
 pub mod InTurn
 -- Descriptors that are closed, calls that are dropped and processes that end one after another are settled as if they went
-pub mod Leaving
+pub mod AtOnce
 -- The invariant of the machine's states, and what of it stands at the start.
 pub mod Sound

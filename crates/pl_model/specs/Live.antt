@@ -50,8 +50,8 @@ module _ {A : Type 0} {K : Keys} where
   writers s p = live_with writes s (PipeNode p)
 
   -- a live description is on the node
-  abbrev pub is_held : Core A K → Node K → Bool
-  is_held s node = list_any (λ d. is_end any_mode node (s.descriptions d)) (in_use s)
+  abbrev pub is_open : Core A K → Node K → Bool
+  is_open s node = list_any (λ d. is_end any_mode node (s.descriptions d)) (in_use s)
 
   abbrev pub has_name : Core A K → Node K → Bool
   has_name s node = list_any (λ e. same_node e.1 node) s.names

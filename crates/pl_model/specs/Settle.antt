@@ -4,7 +4,7 @@ use Rattle.std.specs.declared.option.Option.TheVariants.{None, Some}
 use Rattle.pl_model.specs.Map.{kept_if}
 use Rattle.pl_model.specs.Keys.{Keys, Node, PipeNode, FileNode}
 use Rattle.pl_model.specs.State.{Core, Pipe, empty_pipe}
-use Rattle.pl_model.specs.Live.{is_live, readers, writers, is_held, has_name}
+use Rattle.pl_model.specs.Live.{is_live, readers, writers, is_open, has_name}
 
 abbrev pub is_hung : Option Pipe → Bool
 is_hung None = false
@@ -25,10 +25,10 @@ module _ {A : Type 0} {K : Keys} where
 
   -- POSIX.1-2017, close and unlink: a file lives while a name or an open description has it.
   abbrev pub is_kept : Core A K → Node K → Bool
-  is_kept s node = is_held s node || has_name s node
+  is_kept s node = is_open s node || has_name s node
 
   abbrev pub settled_pipe : Core A K → Core A K → K.Pipe → Pipe → Pipe
-  settled_pipe before s p pipe = with_ends (is_held s (PipeNode p)) (nat_lt 0 (readers s p)) (nat_lt 0 (writers s p)) (had_writer before p) pipe
+  settled_pipe before s p pipe = with_ends (is_open s (PipeNode p)) (nat_lt 0 (readers s p)) (nat_lt 0 (writers s p)) (had_writer before p) pipe
 
   -- Descriptions that aren't live go, and so do files and pipes that nothing keeps. `before` is the state at the step's
   -- beginning.

@@ -4,7 +4,7 @@ use Rattle.std.specs.declared.option.Option.TheVariants.{None, Some}
 use Rattle.pl_model.specs.Keys.{Keys, PipeNode}
 use Rattle.pl_model.specs.State.{Core}
 use Rattle.pl_model.specs.Trial.{pipe_at}
-use Rattle.pl_model.specs.Live.{is_held}
+use Rattle.pl_model.specs.Live.{is_open}
 
 module _ (K : Keys) where
   -- what goes into the pipe p
@@ -24,4 +24,4 @@ module _ {A : Type 0} {K : Keys} where
 
   -- what a pipe without ends forgets as it settles
   abbrev pub forgotten : Core A K → K.Pipe → List ℕ
-  forgotten s p = if is_held s (PipeNode p) then [] else held s p
+  forgotten s p = if is_open s (PipeNode p) then [] else held s p

@@ -4,8 +4,8 @@ use Rattle.std.proofs.lemmas.Bool.{eq-eqb}
 use Rattle.std.proofs.lemmas.List.{take_more, drop_more}
 use Rattle.pl_desc.specs.Rows.{at, count_at}
 use Rattle.pl_desc.specs.Descs.{Opened, Descs, IsTidy, holders}
-use Rattle.pl_kernel.specs.Held.{Nodes, IsThere}
-use Rattle.pl_kernel.specs.Left.{Releases, ReleasesAll}
+use Rattle.pl_kernel.specs.Contents.{Nodes, IsThere}
+use Rattle.pl_kernel.specs.LastHold.{Releases, ReleasesAll}
 use Rattle.pl_kernel.specs.Sound.{AreThere, times}
 use Rattle.pl_kernel.proofs.holders.Holding.{times-cons}
 use Rattle.pl_kernel.proofs.holders.There.{there-released}

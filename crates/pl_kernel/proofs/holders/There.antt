@@ -14,12 +14,12 @@ use Rattle.pl_model.specs.Settle.{settle}
 use Rattle.pl_model.specs.Numbered.{numbers}
 use Rattle.pl_model.specs.Laws.{IsSettled}
 use Rattle.pl_model.proofs.settling.Members.{or_left, or_right}
-use Rattle.pl_model.proofs.settling.Settled.{settled}
-use Rattle.pl_model.proofs.settling.Settles.{at_other}
+use Rattle.pl_model.proofs.settling.Idempotent.{settled}
+use Rattle.pl_model.proofs.settling.FromSettled.{at_other}
 use Rattle.pl_desc.specs.Rows.{at}
 use Rattle.pl_desc.specs.Descs.{Opened, Descs, same_node, is_end_on, ends_on, last_hold}
-use Rattle.pl_kernel.specs.Held.{Nodes, IsThere, has_name}
-use Rattle.pl_kernel.specs.Left.{is_kept, is_open_on, ended_pipe, pipes_left, files_left, Leaves, Releases}
+use Rattle.pl_kernel.specs.Contents.{Nodes, IsThere, has_name}
+use Rattle.pl_kernel.specs.LastHold.{is_kept, is_open_on, ended_pipe, pipes_left, files_left, Leaves, Releases}
 use Rattle.pl_kernel.specs.Sound.{AreThere}
 use Rattle.pl_kernel.proofs.holders.Holding.{some_counted}
 use Rattle.pl_kernel.proofs.Views.{within}

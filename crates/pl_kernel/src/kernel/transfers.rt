@@ -1,14 +1,14 @@
 //! Pipes: how they are made, read and written.
-ghost use Rattle.std.specs.Prelude.{◌≡◌, ◌≤◌, [], length, IfOk, OnErr, IsTrue, IsSome, IfSome, IfNone, None, Some};
+ghost use Rattle.std.specs.Prelude.{◌≡◌, ◌≤◌, [], length, IfOk, OnErr, IsSome, IfSome, IfNone, None, Some};
 ghost use Rattle.pl_model.specs.Flags.{nonblock_if};
 ghost use Rattle.pl_model.specs.Transfer.{read_case, write_case, room};
 ghost use Rattle.pl_model.specs.Begin.{open_for};
-ghost use Rattle.pl_desc.specs.Rows.{at, is_pid};
+ghost use Rattle.pl_desc.specs.Rows.{at};
 ghost use Rattle.pl_decisions.specs.Decided.{FitsRoom};
-ghost use Rattle.pl_kernel.specs.Held.{core_of, allows};
+ghost use Rattle.pl_kernel.specs.Contents.{IsProcess, core_of, allows};
 ghost use Rattle.pl_kernel.specs.Opens.{OpenOn, Opens};
-ghost use Rattle.pl_kernel.specs.Left.{has_reader, has_writer};
-ghost use Rattle.pl_kernel.specs.Makes.{Does, MayWant};
+ghost use Rattle.pl_kernel.specs.LastHold.{has_reader, has_writer};
+ghost use Rattle.pl_kernel.specs.Makes.{MakesAtKeys, MayWantAtKeys};
 
 use super::Kernel;
 use crate::access::{Access, OpenEnd};
@@ -39,10 +39,10 @@ fn flags_of(nonblock: bool) -> OpenFlags
 
 impl<A: Allocator + Copy> Kernel<A> {
     pub(super) fn pipe(&mut self, pid: u32, nonblock: bool) -> Result<Reply<A>, NoMemory>
-        requires { IsTrue (is_pid self.old.tables pid) }
-        ensures done { IfOk result (λ reply. Does self.old (Step.Begin pid (Call.Pipe nonblock)) reply self.new) }
+        requires { IsProcess self.old pid }
+        ensures done { IfOk result (λ reply. MakesAtKeys self.old (Step.Begin pid (Call.Pipe nonblock)) reply self.new) }
         ensures undone { OnErr result (self.new ≡ self.old) }
-        ensures wanted { OnErr result (MayWant {A = A} self.old (Step.Begin pid (Call.Pipe nonblock))) }
+        ensures wanted { OnErr result (MayWantAtKeys {A = A} self.old (Step.Begin pid (Call.Pipe nonblock))) }
     {
         let Some(first) = self.descs.lowest(pid, 0) else {
             return Ok(Reply::Fault(Errno::EMFILE));
@@ -118,10 +118,10 @@ impl<A: Allocator + Copy> Kernel<A> {
     }
 
     pub(super) fn read(&mut self, pid: u32, fd: i32, n: u32) -> Result<Reply<A>, NoMemory>
-        requires { IsTrue (is_pid self.old.tables pid) }
-        ensures done { IfOk result (λ reply. Does self.old (Step.Begin pid (Call.Read fd n)) reply self.new) }
+        requires { IsProcess self.old pid }
+        ensures done { IfOk result (λ reply. MakesAtKeys self.old (Step.Begin pid (Call.Read fd n)) reply self.new) }
         ensures undone { OnErr result (self.new ≡ self.old) }
-        ensures wanted { OnErr result (MayWant {A = A} self.old (Step.Begin pid (Call.Read fd n))) }
+        ensures wanted { OnErr result (MayWantAtKeys {A = A} self.old (Step.Begin pid (Call.Read fd n))) }
     {
         let Some(open) = self.end_for(pid, fd, Access::Reading) else {
             return Ok(Reply::Fault(Errno::EBADF));
@@ -151,10 +151,10 @@ impl<A: Allocator + Copy> Kernel<A> {
         fd: i32,
         bytes: Bytes8<A>,
     ) -> Result<Reply<A>, NoMemory>
-        requires { IsTrue (is_pid self.old.tables pid) }
-        ensures done { IfOk result (λ reply. Does self.old (Step.Begin pid (Call.Write fd bytes)) reply self.new) }
+        requires { IsProcess self.old pid }
+        ensures done { IfOk result (λ reply. MakesAtKeys self.old (Step.Begin pid (Call.Write fd bytes)) reply self.new) }
         ensures undone { OnErr result (self.new ≡ self.old) }
-        ensures wanted { OnErr result (MayWant {A = A} self.old (Step.Begin pid (Call.Write fd bytes))) }
+        ensures wanted { OnErr result (MayWantAtKeys {A = A} self.old (Step.Begin pid (Call.Write fd bytes))) }
     {
         let Some(open) = self.end_for(pid, fd, Access::Writing) else {
             return Ok(Reply::Fault(Errno::EBADF));

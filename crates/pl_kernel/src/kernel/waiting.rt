@@ -6,16 +6,16 @@ ghost use Rattle.pl_model.specs.Settle.{settle};
 ghost use Rattle.pl_model.specs.Step.{without_call};
 ghost use Rattle.pl_model.specs.Transfer.{room};
 ghost use Rattle.pl_desc.specs.Rows.{at};
-ghost use Rattle.pl_kernel.specs.Held.{core_of};
+ghost use Rattle.pl_kernel.specs.Contents.{core_of};
 ghost use Rattle.pl_kernel.specs.Opens.{OpenOn};
 ghost use Rattle.pl_kernel.specs.Sound.{MayWait};
 ghost use Rattle.pl_kernel.specs.Parking.{written, refusal, call_on, with_call, Adds, ReadWaits, WriteWaits};
-ghost use Rattle.pl_kernel.specs.Makes.{Does, MayWant};
+ghost use Rattle.pl_kernel.specs.Makes.{MakesAtKeys, MayWantAtKeys};
 
 use super::Kernel;
 use super::transfers::no_bytes;
 use crate::access::OpenEnd;
-use crate::leaving::release_all;
+use crate::last_hold::release_all;
 use crate::parking::park_call;
 use pl_desc::NoMemory;
 use pl_model::{Bytes8, Call, Errno, ReadCase, Reply, Step, WriteCase};
@@ -116,9 +116,9 @@ impl<A: Allocator + Copy> Kernel<A> {
 
     fn resume_read(&mut self, number: u64, key: usize, n: u32) -> Result<Reply<A>, NoMemory>
         requires { ReadWaits self.old number key n }
-        ensures done { IfOk result (λ reply. Does self.old (Step.Resume number) reply self.new) }
+        ensures done { IfOk result (λ reply. MakesAtKeys self.old (Step.Resume number) reply self.new) }
         ensures undone { OnErr result (self.new ≡ self.old) }
-        ensures wanted { OnErr result (MayWant {A = A} self.old (Step.Resume number)) }
+        ensures wanted { OnErr result (MayWantAtKeys {A = A} self.old (Step.Resume number)) }
     {
         let pipe = self.pipe_of(key);
         match self.case_of_read(pipe, n) {
@@ -143,9 +143,9 @@ impl<A: Allocator + Copy> Kernel<A> {
         taken: u32,
     ) -> Result<Reply<A>, NoMemory>
         requires { WriteWaits self.old number key length taken }
-        ensures done { IfOk result (λ reply. Does self.old (Step.Resume number) reply self.new) }
+        ensures done { IfOk result (λ reply. MakesAtKeys self.old (Step.Resume number) reply self.new) }
         ensures undone { OnErr result (self.new ≡ self.old) }
-        ensures wanted { OnErr result (MayWant {A = A} self.old (Step.Resume number)) }
+        ensures wanted { OnErr result (MayWantAtKeys {A = A} self.old (Step.Resume number)) }
     {
         let pipe = self.pipe_of(key);
         match self.case_of_write(pipe, length, taken as usize, true) {
@@ -179,9 +179,9 @@ impl<A: Allocator + Copy> Kernel<A> {
     }
 
     pub(super) fn resume(&mut self, number: u64) -> Result<Reply<A>, NoMemory>
-        ensures done { IfOk result (λ reply. Does self.old (Step.Resume number) reply self.new) }
+        ensures done { IfOk result (λ reply. MakesAtKeys self.old (Step.Resume number) reply self.new) }
         ensures undone { OnErr result (self.new ≡ self.old) }
-        ensures wanted { OnErr result (MayWant {A = A} self.old (Step.Resume number)) }
+        ensures wanted { OnErr result (MayWantAtKeys {A = A} self.old (Step.Resume number)) }
     {
         let Some(call) = self.parked.get(number) else {
             return Ok(Reply::NoCall);
@@ -202,7 +202,7 @@ impl<A: Allocator + Copy> Kernel<A> {
     }
 
     pub(super) fn interrupt(&mut self, number: u64) -> Reply<A>
-        ensures { Does self.old (Step.Interrupt number) result self.new }
+        ensures { MakesAtKeys self.old (Step.Interrupt number) result self.new }
     {
         let Some(call) = self.parked.get(number) else {
             return Reply::NoCall;

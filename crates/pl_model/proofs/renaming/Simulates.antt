@@ -13,7 +13,7 @@ use Rattle.pl_model.specs.declared.replies.Reply.{Reply}
 use Rattle.pl_model.specs.Keys.{Node, NewKeys, PipeNode, FileNode, Drawing, Plain, Draws, drawn, drawing_map, same_node}
 use Rattle.pl_model.specs.State.{Core, Description, Waiting}
 use Rattle.pl_model.specs.Numbers.{numbers_from, open_max}
-use Rattle.pl_model.specs.Live.{is_live, in_rows, in_parked, in_use, pids, is_end, is_held, has_name}
+use Rattle.pl_model.specs.Live.{is_live, in_rows, in_parked, in_use, pids, is_end, is_open, has_name}
 use Rattle.pl_model.specs.Settle.{settle, settled_pipe, is_kept}
 use Rattle.pl_model.specs.Modes.{any_mode}
 use Rattle.pl_model.specs.Map.{kept_if}
@@ -526,7 +526,7 @@ module _ {A : Type 0} (s : State A) (x : Step A) (below : IsBelowCounters s) whe
   unfolding settle
   not_kept node u =
       let kept : (d : ℕ) → is_live unsettled d ≡ true → left.descriptions d ≡ unsettled.descriptions d = λ d l. ap (λ z. z.descriptions d) is_settled ∙ ap (λ b. kept_if b (unsettled.descriptions d)) l in
-      let held : is_held unsettled node ≡ false = none_held (λ d. is_end any_mode node (unsettled.descriptions d)) (in_use unsettled) (λ d l. ap (is_end any_mode node) (sym (kept d l)) ∙ not_end any_mode node (left.descriptions d) (u.descriptions d)) in
+      let held : is_open unsettled node ≡ false = none_held (λ d. is_end any_mode node (unsettled.descriptions d)) (in_use unsettled) (λ d l. ap (is_end any_mode node) (sym (kept d l)) ∙ not_end any_mode node (left.descriptions d) (u.descriptions d)) in
       let unnamed : has_name unsettled node ≡ false = ap (λ z. has_name z node) (sym is_settled) ∙ list_any_none (λ e. same_node e.1 node) left.names (λ k y l. off_node _ node (u.names k y l)) in
       λ i. held i || unnamed i
 

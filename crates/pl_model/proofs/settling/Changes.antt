@@ -13,7 +13,7 @@ use Rattle.pl_model.specs.Modes.{any_mode, reads, writes}
 use Rattle.pl_model.specs.Map.{set_at}
 use Rattle.pl_model.specs.Keys.{Node, NewKeys, PipeNode, FileNode, same_node}
 use Rattle.pl_model.specs.State.{Core, Description, Pipe, empty_pipe, set_pipe, set_description}
-use Rattle.pl_model.specs.Live.{in_rows, in_parked, pids, in_use, is_live, is_end, is_held, has_name}
+use Rattle.pl_model.specs.Live.{in_rows, in_parked, pids, in_use, is_live, is_end, is_open, has_name}
 use Rattle.pl_model.specs.Settle.{settle, settled_pipe, is_kept, is_hung, with_ends}
 use Rattle.pl_model.specs.Tables.{install, close_row}
 use Rattle.pl_model.specs.Begin.{make_pipe}
@@ -21,11 +21,11 @@ use Rattle.pl_model.specs.Numbered.{numbers}
 use Rattle.pl_model.specs.StandsFor.{AreUnused}
 use Rattle.pl_model.specs.Laws.{IsSettled}
 use Rattle.pl_model.proofs.settling.Members.{or_left}
-use Rattle.pl_model.proofs.settling.Settles.{at_other, at_key, moved-settled}
-use Rattle.pl_model.proofs.settling.Tidy.{Row, row_live, live_same, is_on, has_end, end_passes, SameEnds, settled_pipe-is, tidy, settled-live, settled-kept, settled-file, kept-same, settled_pipe-same}
+use Rattle.pl_model.proofs.settling.FromSettled.{at_other, at_key, moved-settled}
+use Rattle.pl_model.proofs.settling.WhoIsLive.{Row, row_live, live_same, is_on, has_end, end_passes, SameEnds, settled_pipe-is, tidy, settled-live, settled-kept, settled-file, kept-same, settled_pipe-same}
 
 -- the bytes of a pipe with an end change
-module _ {A : Type 0} (c : Core A numbers) (settled : IsSettled c) (p : ℕ) (x : Pipe) (is : c.pipes p ≡ Some x) (held : is_held c (PipeNode p) ≡ true) (bytes : List ℕ) where
+module _ {A : Type 0} (c : Core A numbers) (settled : IsSettled c) (p : ℕ) (x : Pipe) (is : c.pipes p ≡ Some x) (held : is_open c (PipeNode p) ≡ true) (bytes : List ℕ) where
   abbrev changed : Core A numbers
   changed = set_pipe c p (record x { bytes = bytes })
 

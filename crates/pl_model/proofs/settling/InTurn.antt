@@ -13,7 +13,7 @@ use Rattle.pl_model.specs.Settle.{settle, settled_pipe, is_kept, is_hung, had_wr
 use Rattle.pl_model.specs.Numbered.{numbers}
 use Rattle.pl_model.specs.Laws.{HasFewer, with_held_of}
 use Rattle.pl_model.proofs.settling.Members.{or_left, or_right, or_elim}
-use Rattle.pl_model.proofs.settling.Tidy.{has_end, end_found, end_passes, SameEnds, has_end-same, writers-is, settled_pipe-is, settles_to, kept-same}
+use Rattle.pl_model.proofs.settling.WhoIsLive.{has_end, end_found, end_passes, SameEnds, has_end-same, writers-is, settled_pipe-is, settles_to, kept-same}
 
 -- a pipe that settles twice, with fewer ends each time
 tidy_twice : (hv hu rv ru wv wu hb : Bool) → (hv ≡ true → hu ≡ true) → (rv ≡ true → ru ≡ true) → (wu ≡ true → hb ≡ true) → (x : Pipe)

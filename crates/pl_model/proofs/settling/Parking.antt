@@ -12,7 +12,7 @@ use Rattle.pl_model.specs.Step.{parked, parked_again}
 use Rattle.pl_model.specs.Numbered.{numbers}
 use Rattle.pl_model.specs.Laws.{IsSettled}
 use Rattle.pl_model.proofs.settling.Members.{both_ways, or_left, or_right, or_elim, member_flat}
-use Rattle.pl_model.proofs.settling.Settles.{same-settled}
+use Rattle.pl_model.proofs.settling.FromSettled.{same-settled}
 
 module _ {A : Type 0} where
   -- a parked call keeps the description

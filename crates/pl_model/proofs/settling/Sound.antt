@@ -11,7 +11,7 @@ use Rattle.pl_model.specs.Step.{Stepped, happen, core_step, ended}
 use Rattle.pl_model.specs.Numbered.{numbers, State, opening, next_numbers, step_of, step}
 use Rattle.pl_model.specs.Run.{after}
 use Rattle.pl_model.specs.Laws.{IsSettled, IsSound}
-use Rattle.pl_model.proofs.settling.Settled.{settled}
+use Rattle.pl_model.proofs.settling.Idempotent.{settled}
 use Rattle.pl_model.proofs.renaming.Simulates.{below_step}
 use Rattle.pl_model.proofs.streams.StreamRuns.{opening_below}
 

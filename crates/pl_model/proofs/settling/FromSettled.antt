@@ -10,11 +10,11 @@ use Rattle.pl_model.specs.Modes.{any_mode, reads, writes}
 use Rattle.pl_model.specs.Map.{kept_if, set_at}
 use Rattle.pl_model.specs.Keys.{Node, PipeNode, FileNode, same_node}
 use Rattle.pl_model.specs.State.{Core, Description, Pipe, empty_pipe, set_pipe}
-use Rattle.pl_model.specs.Live.{in_rows, in_parked, pids, is_live, is_held, readers, writers}
+use Rattle.pl_model.specs.Live.{in_rows, in_parked, pids, is_live, is_open, readers, writers}
 use Rattle.pl_model.specs.Settle.{settle, settled_pipe, is_kept, is_hung, had_writer, with_ends}
 use Rattle.pl_model.specs.Numbered.{numbers}
 use Rattle.pl_model.specs.Laws.{IsSettled}
-use Rattle.pl_model.proofs.settling.Tidy.{nothing_kept, is_on, has_end, SameEnds, has_end-same, settled_pipe-is, settles_to, tidy, settled-live, settled-kept, settled-file, kept-same, settled_pipe-same}
+use Rattle.pl_model.proofs.settling.WhoIsLive.{nothing_kept, is_on, has_end, SameEnds, has_end-same, settled_pipe-is, settles_to, tidy, settled-live, settled-kept, settled-file, kept-same, settled_pipe-same}
 
 -- what a map has at another key, and at the key
 pub at_other : {X : Type 0} (m : ℕ → X) (k q : ℕ) (x : X) → k ≢ q → set_at nat_eq m k x q ≡ m q
@@ -34,7 +34,7 @@ pub settle-before : {A : Type 0} (b c u : Core A numbers) → ((p : ℕ) → had
 unfolding settle
 settle-before b c u same = λ i. record u {
   descriptions = λ d. kept_if (is_live u d) (u.descriptions d);
-  pipes = λ p. option_map (with_ends (is_held u (PipeNode p)) (nat_lt 0 (readers u p)) (nat_lt 0 (writers u p)) (same p i)) (kept_if (is_kept u (PipeNode p)) (u.pipes p));
+  pipes = λ p. option_map (with_ends (is_open u (PipeNode p)) (nat_lt 0 (readers u p)) (nat_lt 0 (writers u p)) (same p i)) (kept_if (is_kept u (PipeNode p)) (u.pipes p));
   files = λ f. kept_if (is_kept u (FileNode f)) (u.files f);
 }
 
@@ -74,7 +74,7 @@ module _ {A : Type 0} (c u : Core A numbers) (settled : IsSettled c) (alike : Al
   same-settled pipes = tidy c u described_live (λ q y e. pipe_kept q y (sym (λ i. pipes i q) ∙ e)) file_kept
 
   -- the bytes of a pipe with an end changed
-  module _ (p : ℕ) (x : Pipe) (is : c.pipes p ≡ Some x) (held : is_held c (PipeNode p) ≡ true) (bytes : List ℕ)
+  module _ (p : ℕ) (x : Pipe) (is : c.pipes p ≡ Some x) (held : is_open c (PipeNode p) ≡ true) (bytes : List ℕ)
       (pipes : u.pipes ≡ set_at nat_eq c.pipes p (Some (record x { bytes = bytes }))) where
     hung_only : (h : Bool) → record x { hung = h } ≡ x → record x { bytes = bytes; hung = h } ≡ record x { bytes = bytes }
     hung_only h e = ap (λ (z : Pipe). record x { bytes = bytes; hung = z.hung }) e

@@ -12,7 +12,7 @@ use Rattle.pl_model.specs.Modes.{any_mode, reads, writes}
 use Rattle.pl_model.specs.Map.{kept_if}
 use Rattle.pl_model.specs.Keys.{Node, PipeNode, FileNode, same_node}
 use Rattle.pl_model.specs.State.{Core, Description, Pipe, Waiting}
-use Rattle.pl_model.specs.Live.{in_use, in_rows, in_parked, pids, is_live, is_end, is_held, readers, writers, live_with}
+use Rattle.pl_model.specs.Live.{in_use, in_rows, in_parked, pids, is_live, is_end, is_open, readers, writers, live_with}
 use Rattle.pl_model.specs.Settle.{settle, settled_pipe, with_ends, is_kept, is_hung}
 use Rattle.pl_model.specs.Numbered.{numbers}
 use Rattle.pl_model.specs.Laws.{IsSettled}
@@ -126,7 +126,7 @@ module _ {A : Type 0} (c u : Core A numbers) (node : Node numbers) (same : SameE
 
 module _ {A : Type 0} (before u : Core A numbers) (p : ℕ) where
   pub settled_pipe-is : (x : Pipe) → settled_pipe before u p x ≡ with_ends (has_end u any_mode (PipeNode p)) (has_end u reads (PipeNode p)) (has_end u writes (PipeNode p)) (is_hung (before.pipes p) || has_end before writes (PipeNode p)) x
-  settled_pipe-is x = λ i. with_ends (is_held u (PipeNode p)) (readers-is u p i) (writers-is u p i) (is_hung (before.pipes p) || writers-is before p i) x
+  settled_pipe-is x = λ i. with_ends (is_open u (PipeNode p)) (readers-is u p i) (writers-is u p i) (is_hung (before.pipes p) || writers-is before p i) x
 
 module _ {A : Type 0} (before u : Core A numbers) where
   -- settling gives these, where it does so at each key

@@ -19,9 +19,9 @@ use Rattle.pl_model.specs.Step.{parked_again, without_call}
 use Rattle.pl_model.specs.Numbered.{numbers}
 use Rattle.pl_model.specs.Laws.{IsSettled, HasFewer, with_held_of}
 use Rattle.pl_model.proofs.settling.Members.{or_left, or_right, or_elim, and_right, any_filter}
-use Rattle.pl_model.proofs.settling.Tidy.{Row, row_found, row_member, live_same, end_found, end_passes, writers-is}
-use Rattle.pl_model.proofs.settling.Settles.{same-settled, at_other, at_same}
-use Rattle.pl_model.proofs.settling.Settled.{settled}
+use Rattle.pl_model.proofs.settling.WhoIsLive.{Row, row_found, row_member, live_same, end_found, end_passes, writers-is}
+use Rattle.pl_model.proofs.settling.FromSettled.{same-settled, at_other, at_same}
+use Rattle.pl_model.proofs.settling.Idempotent.{settled}
 use Rattle.pl_model.proofs.settling.InTurn.{in_turn}
 use Rattle.pl_model.proofs.settling.Changes.{same_row, installed_live}
 use Rattle.pl_model.proofs.settling.Parking.{keeps, live-is}
@@ -153,7 +153,7 @@ module _ {A : Type 0} (c : Core A numbers) (pid fd d gone : ℕ) (named : c.rows
 
 -- A process is on its way out: `now` is what of c is left and settled, once some descriptors of the process were closed and
 -- some of its calls dropped.
-pub record IsLeaving {A : Type 0} (c : Core A numbers) (pid : ℕ) (now : Core A numbers) : Type 0 where
+pub record IsExiting {A : Type 0} (c : Core A numbers) (pid : ℕ) (now : Core A numbers) : Type 0 where
   pub rest : Core A numbers
   pub fewer : HasFewer c rest
   pub same : exit rest pid ≡ exit c pid
@@ -164,13 +164,13 @@ abbrev pub is_others : {A : Type 0} → Core A numbers → ℕ → ℕ → Bool
 is_others c pid n = list_any (λ e. nat_eq n e.0 && not (nat_eq e.1.pid pid)) c.parked
 
 module _ {A : Type 0} (c : Core A numbers) (pid : ℕ) where
-  pub leaving_begins : IsSettled c → IsLeaving c pid c
-  leaving_begins settled = record { rest = c; fewer = fewer_same c; same = refl; settles = sym settled }
+  pub exiting_begins : IsSettled c → IsExiting c pid c
+  exiting_begins settled = record { rest = c; fewer = fewer_same c; same = refl; settles = sym settled }
 
   -- a descriptor of it is closed
-  pub leaving_closes : (now : Core A numbers) (fd : ℕ) → IsLeaving c pid now → IsLeaving c pid (settle now (close_row now pid fd))
+  pub exiting_closes : (now : Core A numbers) (fd : ℕ) → IsExiting c pid now → IsExiting c pid (settle now (close_row now pid fd))
   unfolding settle
-  leaving_closes now fd l = record {
+  exiting_closes now fd l = record {
     rest = close_row l.rest pid fd;
     fewer = fewer_still c l.rest (close_row l.rest pid fd) l.fewer (close_fewer l.rest pid fd);
     same = ap (λ rows. record (exit l.rest pid) { rows = rows }) (fun_ext (λ q. at q)) ∙ l.same;
@@ -186,9 +186,9 @@ module _ {A : Type 0} (c : Core A numbers) (pid : ℕ) where
       ]
 
   -- a call of it is dropped
-  pub leaving_drops : (now : Core A numbers) (n : ℕ) → is_others now pid n ≡ false → IsLeaving c pid now → IsLeaving c pid (settle now (without_call now n))
+  pub exiting_drops : (now : Core A numbers) (n : ℕ) → is_others now pid n ≡ false → IsExiting c pid now → IsExiting c pid (settle now (without_call now n))
   unfolding settle
-  leaving_drops now n own l = record {
+  exiting_drops now n own l = record {
     rest = without_call l.rest n;
     fewer = fewer_still c l.rest (without_call l.rest n) l.fewer (drop_fewer l.rest n);
     same = ap (λ calls. record (exit l.rest pid) { parked = calls }) (not_its l.rest.parked (sym (ap (λ z. is_others z pid n) l.settles) ∙ own)) ∙ l.same;
@@ -207,7 +207,7 @@ module _ {A : Type 0} (c : Core A numbers) (pid : ℕ) where
           by false o t h rest = (λ i. cond (not (t i)) (e ∷ filter (λ e. not (nat_eq e.1.pid pid)) (without nat_eq es n)) (filter (λ e. not (nat_eq e.1.pid pid)) (without nat_eq es n))) ∙ ap (λ z. cond (not o) (e ∷ z) z) (rest h)
 
   -- With no descriptor and no call left it ends, as if all had gone at once.
-  module _ (now : Core A numbers) (closed : (fd : ℕ) → now.rows pid fd ≡ None) (dropped : list_any (λ e. nat_eq e.1.pid pid) now.parked ≡ false) (l : IsLeaving c pid now) where
+  module _ (now : Core A numbers) (closed : (fd : ℕ) → now.rows pid fd ≡ None) (dropped : list_any (λ e. nat_eq e.1.pid pid) now.parked ≡ false) (l : IsExiting c pid now) where
     abbrev rest : Core A numbers
     rest = l.rest
 
@@ -240,6 +240,6 @@ module _ {A : Type 0} (c : Core A numbers) (pid : ℕ) where
     ended_fewer : HasFewer rest (end rest pid)
     ended_fewer = record { descriptions = refl; pipes = refl; files = refl; names = refl; live = λ d h. sym (ended_live d) ∙ h }
 
-    pub leaving_ends : settle c (exit c pid) ≡ end now pid
+    pub exiting_ends : settle c (exit c pid) ≡ end now pid
     unfolding settle
-    leaving_ends = ap (settle c) (sym l.same ∙ nothing_left) ∙ stays c rest (end rest pid) l.fewer ended_fewer ended_live ∙ ap (λ z. end z pid) (sym l.settles)
+    exiting_ends = ap (settle c) (sym l.same ∙ nothing_left) ∙ stays c rest (end rest pid) l.fewer ended_fewer ended_live ∙ ap (λ z. end z pid) (sym l.settles)

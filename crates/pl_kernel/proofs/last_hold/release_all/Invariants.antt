@@ -1,10 +1,10 @@
 use Rattle.std.proofs.Common.{◌≤◌, ℕ, take, drop}
 use Rattle.pl_desc.specs.Rows.{at, count_at}
 use Rattle.pl_desc.specs.Descs.{IsTidy}
-use Rattle.pl_kernel.specs.Held.{pipes_alone}
-use Rattle.pl_kernel.specs.Left.{ReleasesAll}
+use Rattle.pl_kernel.specs.Contents.{pipes_alone}
+use Rattle.pl_kernel.specs.LastHold.{ReleasesAll}
 use Rattle.pl_kernel.specs.Sound.{AreThere, times}
-use Rattle.pl_kernel.proofs.leaving.release_all.Given as goal
+use Rattle.pl_kernel.proofs.last_hold.release_all.Given as goal
 
 -- the keys before this place are released, and each of the others is held
 abbrev pub invariant-loop-place : goal.invariant-loop-place

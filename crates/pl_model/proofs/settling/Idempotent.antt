@@ -11,7 +11,7 @@ use Rattle.pl_model.specs.Modes.{any_mode, reads, writes}
 use Rattle.pl_model.specs.Map.{kept_if}
 use Rattle.pl_model.specs.Keys.{Node, PipeNode, FileNode}
 use Rattle.pl_model.specs.State.{Core, Pipe}
-use Rattle.pl_model.specs.Live.{in_use, in_rows, in_parked, pids, is_live, is_end, is_held, readers, writers, live_with, has_name}
+use Rattle.pl_model.specs.Live.{in_use, in_rows, in_parked, pids, is_live, is_end, is_open, readers, writers, live_with, has_name}
 use Rattle.pl_model.specs.Settle.{settle, settled_pipe, with_ends, hangs, is_kept, is_hung, had_writer}
 use Rattle.pl_model.specs.Numbered.{numbers}
 
@@ -71,7 +71,7 @@ module _ {A : Type 0} (before u : Core A numbers) where
   unfolding writers
   same_writers p = same_counts writes (PipeNode p)
 
-  same_held : (node : Node numbers) → is_held s node ≡ is_held u node
+  same_held : (node : Node numbers) → is_open s node ≡ is_open u node
   same_held node =
       ap (λ xs. list_any (λ d. is_end any_mode node (s.descriptions d)) xs) same_use
       ∙ any_agree (λ d. is_end any_mode node (s.descriptions d)) (λ d. is_end any_mode node (u.descriptions d)) (in_use u) (λ d m. same_ends any_mode node d m)
@@ -86,7 +86,7 @@ module _ {A : Type 0} (before u : Core A numbers) where
       let node : Node numbers = PipeNode p in
       let y : Pipe = settled_pipe before u p x in
       (λ i. with_ends (same_held node i) (nat_lt 0 (same_readers p i)) (nat_lt 0 (same_writers p i)) (is_hung (e i) || nat_lt 0 (same_writers p i)) y)
-      ∙ settled_twice (is_held u node) (nat_lt 0 (readers u p)) (nat_lt 0 (writers u p)) (had_writer before p) x
+      ∙ settled_twice (is_open u node) (nat_lt 0 (readers u p)) (nat_lt 0 (writers u p)) (had_writer before p) x
 
   pipe_again : (p : ℕ) (b : Bool) (o : Option Pipe) → s.pipes p ≡ option_map (settled_pipe before u p) (kept_if b o) → option_map (settled_pipe s s p) (kept_if b (option_map (settled_pipe before u p) (kept_if b o))) ≡ option_map (settled_pipe before u p) (kept_if b o)
   pipe_again p false o e = refl

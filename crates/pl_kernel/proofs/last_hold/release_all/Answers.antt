@@ -1,8 +1,8 @@
 use Rattle.std.proofs.Common.{ap}
-use Rattle.pl_kernel.specs.Held.{pipes_alone}
-use Rattle.pl_kernel.specs.Left.{Releases}
+use Rattle.pl_kernel.specs.Contents.{pipes_alone}
+use Rattle.pl_kernel.specs.LastHold.{Releases}
 use Rattle.pl_kernel.proofs.holders.EachInTurn.{released_next, held_next, there_next}
-use Rattle.pl_kernel.proofs.leaving.release_all.Goals as goal
+use Rattle.pl_kernel.proofs.last_hold.release_all.Goals as goal
 
 pub loop-place-preserved : goal.loop-place-preserved
 loop-place-preserved g c =
