@@ -100,6 +100,10 @@ impl<A: Allocator> Table<A> {
         requires { least ≤ open_max }
         ensures { result ≡ first_from (λ fd. is_some (at self.now fd)) (open_max - least) least }
     {
+        // In a table with no gap there is nothing to search for.
+        if least < OPEN_MAX && self.get(least).is_some() {
+            return Some(least);
+        }
         let [a, b, c, d] = self.free;
         least_set(&[!a, !b, !c, !d], least)
     }

@@ -1,11 +1,17 @@
-use Rattle.std.proofs.Common.{◌∙◌, ◌-◌, ◌/◌, ◌<◌, ◌^◌, slice_index_or, subst, arith, rules}
+use Rattle.std.proofs.Common.{◌∙◌, ◌-◌, ◌/◌, ◌<◌, ◌^◌, slice_index_or, ap, sym, subst, arith, rules}
 use Rattle.std.specs.Prelude.{nat_eq, is_some}
 use Rattle.pl_model.specs.Numbers.{open_max}
 use Rattle.pl_desc.specs.Rows.{at}
 use Rattle.pl_desc.specs.TableView.{IsMasked, bit_of}
-use Rattle.pl_desc.proofs.First.{first_agree}
+use Rattle.pl_desc.proofs.First.{first_agree, first_is}
 use Rattle.pl_desc.proofs.Masks.{turned, is_taken}
 use Rattle.pl_desc.proofs.table.Table.next_open.Goals as goal
+
+pub returns-then-is_some : goal.returns-then-is_some
+returns-then-is_some g c =
+    let place = c.if-least-lt-OPEN_MAX.true in
+    sym (first_is (λ fd. is_some (at c.args.self.now fd)) (open_max - c.args.least) c.args.least c.args.least (omega arith) (omega arith)
+    (ap is_some (sym c.get.ensures.value) ∙ sym c.is_some.ensures ∙ c.if-is_some.true) (λ fd l m. absurd (omega arith)))
 
 pub returns : goal.returns
 returns g c =
