@@ -1,23 +1,16 @@
 //! The bytes in words.
-ghost use Rattle.std.specs.Prelude.{◌≡◌, ◌<◌, ◌==◌, length, position, is_some, IfSome};
+ghost use Rattle.std.specs.Prelude.{◌≡◌, ◌<◌, length, is_some};
 ghost use Rattle.std.specs.List.{list_all};
 ghost use Rattle.pl_model.specs.Words.{hex_digit, one_byte, hex_bytes, repeated, digits_or_repeated, bytes_of};
 ghost use Rattle.pl_lines.specs.Parsed.{GivesTaking, BytesTake, one_write};
 
 use crate::fault::LineFault;
-use crate::numbers::parse_count;
+use crate::numbers::{MOST_DIGITS, parse_count};
+use crate::search::place_of;
 use hex::FromHexError;
 use pl_model::Bytes8;
 use pl_model::numbers::MAX_BYTES;
 use std::alloc::Allocator;
-
-/// Where the byte stands first; `None` where it stands nowhere.
-pub(crate) fn place_of(byte: u8, text: &[u8]) -> Option<usize>
-    ensures place { result ≡ position (λ c. c == byte) text.now }
-    ensures within { IfSome result (λ i. i < length text.now) }
-{
-    text.iter().position(|c| *c == byte)
-}
 
 /// The one byte of two hexadecimal digits.
 fn one_byte(digits: &[u8]) -> Option<u8>
@@ -98,7 +91,9 @@ fn repeated<A: Allocator + Copy>(
 fn digits_or_repeated<A: Allocator + Copy>(alloc: A, word: &[u8]) -> Result<Bytes8<A>, LineFault>
     ensures { GivesTaking BytesTake result (one_write (digits_or_repeated word.now)) }
 {
-    if let Some(star) = place_of(b'*', word) {
+    // The `*` stands behind a number.
+    let front = word.split_at(word.len().min(MOST_DIGITS + 1)).0;
+    if let Some(star) = place_of(b'*', front) {
         return repeated(alloc, word.split_at(star).0, word.split_at(star + 1).1);
     }
     if word.is_empty() {

@@ -4,8 +4,8 @@ ghost use Rattle.pl_model.specs.Flags.{no_flags};
 ghost use Rattle.pl_model.specs.Words.{is_comma, flag_of, with_flags, flags_of, flags_or_none};
 ghost use Rattle.pl_lines.specs.Parsed.{Gives};
 
-use crate::bytes::place_of;
 use crate::fault::LineFault;
+use crate::search::place_of;
 use bitflags::Flags;
 use pl_model::OpenFlags;
 

@@ -15,6 +15,7 @@ mod flags;
 mod lines;
 mod numbers;
 mod parse;
+mod search;
 mod text;
 mod words;
 

@@ -9,6 +9,9 @@ ghost use Rattle.pl_lines.specs.Parsed.{Gives};
 use crate::fault::LineFault;
 use pl_model::numbers::MAX_BYTES;
 
+/// The most digits of a number.
+pub(crate) const MOST_DIGITS: usize = 20;
+
 /// The value of decimal digits; `None` where another byte stands among them.
 fn value(word: &[u8]) -> Option<u128>
     requires { length word.now ≤ 20 }
@@ -30,7 +33,7 @@ fn number(limit: u128, word: &[u8]) -> Result<u128, LineFault>
     ensures said { Gives result (number limit word.now) }
     ensures below { IfOk result (λ n. n < limit) }
 {
-    if word.is_empty() || word.len() > 20 {
+    if word.is_empty() || word.len() > MOST_DIGITS {
         return Err(LineFault::Bad);
     }
     match value(word) {

@@ -1,10 +1,25 @@
 //! The text of replies.
-ghost use Rattle.std.specs.Prelude.{◌≡◌, [], ◌∷◌, ◌++◌, OnOk, IfOk, string_bytes};
+ghost use Rattle.std.specs.Prelude.{◌≡◌, [], ◌∷◌, ◌++◌, OnOk, OnErr, IfOk, string_bytes};
 ghost use Rattle.pl_model.specs.Shown.{bytes_text, errno_text, mode_text, flags_text, reply_text, outcome_text};
+ghost use Rattle.pl_lines.specs.Pushed.{IsFront};
 
 use bitflags::Flags;
+use itoa::{Buffer, Integer};
 use pl_model::{Errno, Mode, OpenFlags, Outcome, Reply};
 use std::alloc::{AllocError, Allocator};
+
+/// Adds a number behind its name.
+fn push_number<A: Allocator + Copy, I: Integer>(
+    text: &mut String<A>,
+    name: &str,
+    number: I,
+) -> Result<(), AllocError>
+    ensures all { OnOk result (string_bytes text.new ≡ string_bytes text.old ++ (name.now ++ I.text number)) }
+    ensures front { IsFront (string_bytes text.old) (string_bytes text.new) }
+{
+    text.push_str(name)?;
+    text.push_str(Buffer::new().format(number))
+}
 
 /// Adds the bytes as hexadecimal digits in lower case, or `-` for none.
 #[tactic(auto, unfolding(pl_model::specs::Shown::bytes_text), using(crate::proofs::HexText::hex_text_is))]
@@ -13,7 +28,8 @@ fn push_bytes<A: Allocator + Copy>(
     text: &mut String<A>,
     bytes: &[u8],
 ) -> Result<(), AllocError>
-    ensures { OnOk result (string_bytes text.new ≡ string_bytes text.old ++ bytes_text bytes.now) }
+    ensures all { OnOk result (string_bytes text.new ≡ string_bytes text.old ++ bytes_text bytes.now) }
+    ensures front { IsFront (string_bytes text.old) (string_bytes text.new) }
 {
     if bytes.is_empty() {
         return text.push_str("-");
@@ -77,25 +93,34 @@ fn push_reply<A: Allocator + Copy>(
     text: &mut String<A>,
     reply: &Reply<A>,
 ) -> Result<(), AllocError>
-    ensures { OnOk result (string_bytes text.new ≡ string_bytes text.old ++ reply_text reply.now) }
+    ensures all { OnOk result (string_bytes text.new ≡ string_bytes text.old ++ reply_text reply.now) }
+    ensures front { IsFront (string_bytes text.old) (string_bytes text.new) }
 {
     match reply {
-        Reply::Pid(pid) => write!(text, "pid {pid}"),
-        Reply::Fd(fd) => write!(text, "fd {fd}"),
-        Reply::Fds(reader, writer) => write!(text, "fds {reader} {writer}"),
-        Reply::Count { n, sigpipe: false } => write!(text, "count {n}"),
-        Reply::Count { n, sigpipe: true } => write!(text, "count {n} sigpipe"),
+        Reply::Pid(pid) => push_number(text, "pid ", *pid),
+        Reply::Fd(fd) => push_number(text, "fd ", *fd),
+        Reply::Fds(reader, writer) => {
+            push_number(text, "fds ", *reader)?;
+            push_number(text, " ", *writer)
+        }
+        Reply::Count { n, sigpipe: false } => push_number(text, "count ", *n),
+        Reply::Count { n, sigpipe: true } => {
+            push_number(text, "count ", *n)?;
+            text.push_str(" sigpipe")
+        }
         Reply::Bytes(bytes) => {
             text.push_str("data ")?;
             push_bytes(alloc, text, bytes.as_slice())
         }
         Reply::Flags { mode, flags } => {
-            let (mode, flags) = (mode_text(*mode), flags_text(*flags));
-            write!(text, "flags {mode} {flags}")
+            text.push_str("flags ")?;
+            text.push_str(mode_text(*mode))?;
+            text.push_str(" ")?;
+            text.push_str(flags_text(*flags))
         }
         Reply::Unit => text.push_str("ok"),
         Reply::Fault(errno) => text.push_str(errno_text(*errno)),
-        Reply::Parked(call) => write!(text, "parked {call}"),
+        Reply::Parked(call) => push_number(text, "parked ", *call),
         Reply::NoProcess => text.push_str("no process"),
         Reply::NoCall => text.push_str("no call"),
         Reply::CallsSpent => text.push_str("calls spent"),
@@ -109,7 +134,8 @@ fn push_outcome<A: Allocator + Copy>(
     text: &mut String<A>,
     outcome: &Outcome<A>,
 ) -> Result<(), AllocError>
-    ensures { OnOk result (string_bytes text.new ≡ string_bytes text.old ++ outcome_text outcome.now) }
+    ensures all { OnOk result (string_bytes text.new ≡ string_bytes text.old ++ outcome_text outcome.now) }
+    ensures front { IsFront (string_bytes text.old) (string_bytes text.new) }
 {
     match outcome {
         Outcome::Replied(reply) => push_reply(alloc, text, reply),
@@ -117,16 +143,37 @@ fn push_outcome<A: Allocator + Copy>(
     }
 }
 
-/// Adds the line of an outcome: its text and a line feed.
+/// Adds the line of an outcome, or a front of it where there is no memory for it.
+fn push_front_of_line<A: Allocator + Copy>(
+    alloc: A,
+    text: &mut String<A>,
+    outcome: &Outcome<A>,
+) -> Result<(), AllocError>
+    ensures all { OnOk result (string_bytes text.new ≡ string_bytes text.old ++ (outcome_text outcome.now ++ 10 ∷ [])) }
+    ensures front { IsFront (string_bytes text.old) (string_bytes text.new) }
+{
+    push_outcome(alloc, text, outcome)?;
+    text.push_str("\n")
+}
+
+/// Adds the line of an outcome: its text and a line feed. Where there is no memory for it, which is the only error, the text is
+/// as it was.
 pub fn push_line<A: Allocator + Copy>(
     alloc: A,
     text: &mut String<A>,
     outcome: &Outcome<A>,
 ) -> Result<(), AllocError>
-    ensures { OnOk result (string_bytes text.new ≡ string_bytes text.old ++ (outcome_text outcome.now ++ 10 ∷ [])) }
+    ensures done { OnOk result (string_bytes text.new ≡ string_bytes text.old ++ (outcome_text outcome.now ++ 10 ∷ [])) }
+    ensures undone { OnErr result (string_bytes text.new ≡ string_bytes text.old) }
 {
-    push_outcome(alloc, text, outcome)?;
-    text.push_str("\n")
+    let len = text.as_str().len();
+    let pushed = push_front_of_line(alloc, text, outcome);
+    if pushed.is_err() {
+        // It is text still, and was whole at the length of before: a character ends there.
+        let _ = text.as_str();
+        text.truncate(len);
+    }
+    pushed
 }
 
 /// The text of an outcome, without the line feed that ends its line. The only error is want of memory.

@@ -4,19 +4,7 @@ ghost use Rattle.pl_model.specs.Words.{is_blank, words, without_return};
 ghost use Rattle.pl_lines.specs.declared.fault.LineFault.TheVariants.{Bad};
 
 use crate::fault::LineFault;
-
-fn is_blank(c: u8) -> bool
-    ensures { result ≡ is_blank c }
-{
-    c == b' ' || c == b'\t'
-}
-
-fn first_blank(line: &[u8]) -> Option<usize>
-    ensures place { result ≡ position is_blank line.now }
-    ensures within { IfSome result (λ i. i < length line.now) }
-{
-    line.iter().position(|c| is_blank(*c))
-}
+use crate::search::{first_blank, is_blank};
 
 fn first_nonblank(line: &[u8]) -> Option<usize>
     ensures place { result ≡ position (λ c. not (is_blank c)) line.now }

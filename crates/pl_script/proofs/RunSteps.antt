@@ -1,9 +1,9 @@
 -- From one line of a script to the next.
-use Rattle.std.proofs.Common.{◌≡◌, ℕ, ◌+◌, ◌<◌, ◌≤◌, Bool, true, false, cond, ◌&&◌, List, [], ◌∷◌, ◌++◌, length, take, drop, Option, Some, None, Ok, Err, refl, sym, ap, ◌∙◌, append_assoc, arith}
-use Rattle.std.specs.Prelude.{count_by, replicate}
+use Rattle.std.proofs.Common.{◌≡◌, ℕ, ◌+◌, ◌<◌, ◌≤◌, Bool, true, false, cond, ◌&&◌, List, [], ◌∷◌, ◌++◌, length, take, drop, Option, Some, None, Ok, Err, inr, refl, sym, ap, subst, ◌∙◌, append_assoc, arith}
+use Rattle.std.specs.Prelude.{count_by, replicate, IfSome}
 use Rattle.std.specs.Io.KnownBytes.{Appends}
 use Rattle.std.proofs.KnownBytes.{Appends-nil, Appends-trans}
-use Rattle.std.proofs.lemmas.List.{append-nil, take-append-drop}
+use Rattle.std.proofs.lemmas.List.{append-nil, take-append-drop, length-append}
 use Rattle.std.proofs.lemmas.List.Sums.{sum_by-cons, sum_by_push}
 use Rattle.pl_model.specs.declared.calls.Limits.{Limits}
 use Rattle.pl_model.specs.declared.calls.Step.{Step}
@@ -16,10 +16,13 @@ use Rattle.pl_model.specs.Numbered.{State, opening, step}
 use Rattle.pl_model.specs.Lines.{line}
 use Rattle.pl_model.specs.Numbers.{most_script_bytes}
 use Rattle.pl_model.specs.Shown.{outcome_text}
-use Rattle.pl_model.specs.Script.{lines, asked, if_good, first_bad, number_if_bad, answers, answer, are_marks, never_marked, is_step, output, totals}
+use Rattle.pl_model.specs.Script.{lines, asked, if_good, first_bad, number_if_bad, answers, answer, are_marks, never_marked, is_step}
 use Rattle.pl_script.specs.declared.fault.ScriptFault.TheVariants as faults
-use Rattle.pl_script.specs.LineByLine.{IsAt, IsAnswered}
-use Rattle.pl_script.specs.Running.{IsRun, WritesOutput, WritesFrontOfOutput, WritesAndCounts}
+use Rattle.pl_script.specs.declared.fault.ScriptFault.{ScriptFault}
+use Rattle.pl_script.specs.Running.{IsRun, IsCountedRun, Asks, WritesOutput, WritesFrontOfOutput, WritesAndCounts, WritesLinesBefore}
+use Rattle.pl_script.specs.LineByLine.{none_counted, IsAt, IsAnswered, Stops}
+use Rattle.pl_lines.specs.declared.fault.LineFault.{LineFault}
+use Rattle.pl_lines.specs.declared.fault.LineFault.TheVariants.{Bad, NoMemory}
 use Rattle.pl_lines.proofs.LineLemmas.{length-lines}
 
 -- ---- the definitions, one line at a time
@@ -44,14 +47,18 @@ at_most_one : (b : Bool) → cond b 1 0 ≤ 1
 at_most_one true = omega arith
 at_most_one false = omega arith
 
-abbrev pub none_counted : Totals
-none_counted = record { lines = 0; steps = 0; nomem = 0 }
-
 abbrev counts : ℕ → ℕ → ℕ → Totals
 counts a b c = record { lines = a; steps = b; nomem = c }
 
 same_counts : (a b c x y z : ℕ) → a ≡ x → b ≡ y → c ≡ z → counts a b c ≡ counts x y z
 same_counts a b c x y z p q r = rw (p, q, r) refl
+
+-- the line joins those before it
+joins : (before : List (List ℕ)) (l : List ℕ) (others : List (List ℕ)) → (before ++ l ∷ []) ++ others ≡ before ++ (l ∷ others)
+joins before l others = append_assoc before (l ∷ []) others
+
+one_more : (before : List (List ℕ)) (l : List ℕ) (n : ℕ) → n ≡ length before → n + 1 ≡ length (before ++ l ∷ [])
+one_more before l n e = omega (arith, e, length-append before (l ∷ []))
 
 module _ {A : Type 0} where
   asked-cons : (l : List ℕ) (ls : List (List ℕ)) (o : Option (Option (Line A))) → line l ≡ o → asked (l ∷ ls) ≡ if_good o (asked ls)
@@ -95,14 +102,16 @@ module _ {A : Type 0} where
 
   at_start : (script : List ℕ) (limits : Limits) (Stands : State A → Type 0) → Stands (opening limits) → IsAt script limits Stands [] none_counted (lines script)
   at_start script limits Stands stands = record {
+    before = [];
     state = opening limits;
     marks = [];
     stands = stands;
-    texts = λ more. refl;
-    lawful = λ more. refl;
-    bad = refl;
-    lines_count = omega arith;
-    steps_count = omega arith;
+    parts = refl;
+    texts = λ others more. refl;
+    lawful = λ others more. refl;
+    bad = λ others. refl;
+    lines_count = refl;
+    steps_count = λ others. omega arith;
     nomem_count = refl;
     steps_below = omega arith;
     nomem_below = omega arith;
@@ -112,16 +121,18 @@ module _ {A : Type 0} where
     -- a line that asks nothing
     pub skips : line {A = A} l ≡ Some None → IsAt script limits Stands text counted (l ∷ rest) → IsAt script limits Stands text (record counted { lines = counted.lines + 1 }) rest
     skips e at =
-        let same : asked {A = A} (l ∷ rest) ≡ asked rest = asked-cons l rest (Some None) e in
+        let same = λ (others : List (List ℕ)). asked-cons l others (Some None) e in
         record {
+          before = at.before ++ l ∷ [];
           state = at.state;
           marks = at.marks;
           stands = at.stands;
-          texts = λ more. at.texts more ∙ ap (λ xs. text ++ answers at.state xs more) same;
-          lawful = λ more. at.lawful more ∙ ap (λ xs. are_marks at.state xs more) same;
-          bad = at.bad ∙ first_bad-cons A (counted.lines + 1) l rest (Some None) e;
-          lines_count = omega (arith, at.lines_count);
-          steps_count = ap (λ xs. counted.steps + count_by is_step xs) (sym same) ∙ at.steps_count;
+          parts = at.parts ∙ sym (joins at.before l rest);
+          texts = λ others more. rw (joins at.before l others) (at.texts (l ∷ others) more ∙ ap (λ xs. text ++ answers at.state xs more) (same others));
+          lawful = λ others more. rw (joins at.before l others) (at.lawful (l ∷ others) more ∙ ap (λ xs. are_marks at.state xs more) (same others));
+          bad = λ others. rw (joins at.before l others) (at.bad (l ∷ others) ∙ first_bad-cons A (counted.lines + 1) l others (Some None) e);
+          lines_count = one_more at.before l counted.lines at.lines_count;
+          steps_count = λ others. rw (joins at.before l others) (ap (λ xs. counted.steps + count_by is_step xs) (sym (same others)) ∙ at.steps_count (l ∷ others));
           nomem_count = at.nomem_count;
           steps_below = omega (arith, at.steps_below);
           nomem_below = omega (arith, at.nomem_below);
@@ -137,75 +148,94 @@ module _ {A : Type 0} where
         let written : List ℕ = (answer at.state x mark).1 ++ 10 ∷ [] in
         let grown : before ++ new ≡ text ++ ((answer at.state x mark).1 ++ 10 ∷ []) =
         ap (λ t. before ++ t) done.text ∙ sym (append_assoc before added ((answer at.state x mark).1 ++ 10 ∷ [])) ∙ ap (λ t. t ++ ((answer at.state x mark).1 ++ 10 ∷ [])) (sym split) in
-        let more_asked : asked {A = A} (l ∷ rest) ≡ x ∷ asked rest = asked-cons l rest (Some (Some x)) e in
-        let count : count_by is_step (asked {A = A} (l ∷ rest)) ≡ 1 + count_by is_step (asked {A = A} rest) =
-        ap (count_by is_step) more_asked ∙ sum_by-cons (λ y. cond (is_step y) 1 0) x (asked rest) ∙ ap (λ b. cond b 1 0 + count_by is_step (asked {A = A} rest)) (is_step-all x) in
+        let more_asked = λ (others : List (List ℕ)). asked-cons l others (Some (Some x)) e in
         record {
+          before = at.before ++ l ∷ [];
           state = next;
           marks = at.marks ++ mark ∷ [];
           stands = done.stands;
-          texts = λ more.
-              ap (answers (opening limits) (asked (lines script))) (append_assoc at.marks (mark ∷ []) more)
-              ∙ at.texts (mark ∷ more)
-              ∙ ap (λ xs. text ++ answers at.state xs (mark ∷ more)) more_asked
-              ∙ ap (λ t. text ++ t) (answers-cons at.state x (asked rest) mark more)
-              ∙ sym (append_assoc text written (answers next (asked rest) more))
-              ∙ ap (λ t. t ++ answers next (asked rest) more) (sym grown);
-          lawful = λ more.
-              ap (are_marks (opening limits) (asked (lines script))) (append_assoc at.marks (mark ∷ []) more)
-              ∙ at.lawful (mark ∷ more)
-              ∙ ap (λ xs. are_marks at.state xs (mark ∷ more)) more_asked
-              ∙ are_marks-cons at.state x (asked rest) mark more done.lawful;
-          bad = at.bad ∙ first_bad-cons A (counted.lines + 1) l rest (Some (Some x)) e;
-          lines_count = omega (arith, at.lines_count);
-          steps_count = omega (arith, count, at.steps_count);
+          parts = at.parts ∙ sym (joins at.before l rest);
+          texts = λ others more.
+              rw (joins at.before l others)
+              (ap (answers (opening limits) (asked (at.before ++ (l ∷ others)))) (append_assoc at.marks (mark ∷ []) more)
+              ∙ at.texts (l ∷ others) (mark ∷ more)
+              ∙ ap (λ xs. text ++ answers at.state xs (mark ∷ more)) (more_asked others)
+              ∙ ap (λ t. text ++ t) (answers-cons at.state x (asked others) mark more)
+              ∙ sym (append_assoc text written (answers next (asked others) more))
+              ∙ ap (λ t. t ++ answers next (asked others) more) (sym grown));
+          lawful = λ others more.
+              rw (joins at.before l others)
+              (ap (are_marks (opening limits) (asked (at.before ++ (l ∷ others)))) (append_assoc at.marks (mark ∷ []) more)
+              ∙ at.lawful (l ∷ others) (mark ∷ more)
+              ∙ ap (λ xs. are_marks at.state xs (mark ∷ more)) (more_asked others)
+              ∙ are_marks-cons at.state x (asked others) mark more done.lawful);
+          bad = λ others. rw (joins at.before l others) (at.bad (l ∷ others) ∙ first_bad-cons A (counted.lines + 1) l others (Some (Some x)) e);
+          lines_count = one_more at.before l counted.lines at.lines_count;
+          steps_count = λ others.
+              let count : count_by is_step (asked {A = A} (l ∷ others)) ≡ 1 + count_by is_step (asked {A = A} others) =
+              ap (count_by is_step) (more_asked others) ∙ sum_by-cons (λ y. cond (is_step y) 1 0) x (asked others) ∙ ap (λ b. cond b 1 0 + count_by is_step (asked {A = A} others)) (is_step-all x) in
+              rw (joins at.before l others) (omega (arith, count, at.steps_count (l ∷ others)));
           nomem_count = ap (λ n. n + cond mark 1 0) at.nomem_count ∙ sym (sum_by_push (λ m. cond m 1 0) at.marks mark);
           steps_below = omega (arith, at.steps_below);
           nomem_below = omega (arith, at.nomem_below, at_most_one mark);
         }
 
-    -- a bad line
-    is_bad : line {A = A} l ≡ None → IsAt script limits Stands text counted (l ∷ rest) → (first_bad A 1 (lines script) ≡ Some (counted.lines + 1)) × WritesOutput A script limits text
-    is_bad e at =
-        let none : asked {A = A} (l ∷ rest) ≡ [] = asked-cons l rest None e in
-        let lawful : are_marks (opening {A = A} limits) (asked (lines script)) at.marks ≡ true =
-        ap (are_marks (opening limits) (asked (lines script))) (sym (append-nil at.marks)) ∙ at.lawful [] ∙ ap (λ xs. are_marks at.state xs []) none ∙ are_marks-nil at.state in
-        let all : text ≡ answers (opening {A = A} limits) (asked (lines script)) at.marks =
-        sym (ap (answers (opening limits) (asked (lines script))) (sym (append-nil at.marks)) ∙ at.texts [] ∙ ap (λ xs. text ++ answers at.state xs []) none ∙ ap (λ t. text ++ t) (answers-nil at.state []) ∙ append-nil text) in
-        (at.bad ∙ first_bad-cons A (counted.lines + 1) l rest None e, (at.marks, lawful, all))
-
     -- the counts fit
     below : length script ≤ most_script_bytes → IsAt script limits Stands text counted (l ∷ rest) → counted.lines < most_script_bytes
-    below short at = omega (arith, at.lines_count, length-lines script)
+    below short at = omega (arith, at.lines_count, ap length at.parts, length-append at.before (l ∷ rest), length-lines script)
 
   -- ---- the end
 
-  module _ (script text : List ℕ) (limits : Limits) (Stands : State A → Type 0) (counted : Totals) where
+  module _ (script text : List ℕ) (limits : Limits) (Stands : State A → Type 0) (counted : Totals) (rest : List (List ℕ)) (at : IsAt script limits Stands text counted rest) where
+    -- where none of the others asks anything before the first bad one, the marks and the text are those of the run
+    marks_to : (others : List (List ℕ)) → asked {A = A} others ≡ [] → are_marks (opening {A = A} limits) (asked (at.before ++ others)) at.marks ≡ true
+    marks_to others none =
+        ap (are_marks (opening limits) (asked (at.before ++ others))) (sym (append-nil at.marks)) ∙ at.lawful others [] ∙ ap (λ xs. are_marks at.state xs []) none ∙ are_marks-nil at.state
+
+    text_to : (others : List (List ℕ)) → asked {A = A} others ≡ [] → text ≡ answers (opening {A = A} limits) (asked (at.before ++ others)) at.marks
+    text_to others none =
+        sym (ap (answers (opening limits) (asked (at.before ++ others))) (sym (append-nil at.marks)) ∙ at.texts others [] ∙ ap (λ xs. text ++ answers at.state xs []) none ∙ ap (λ t. text ++ t) (answers-nil at.state []) ∙ append-nil text)
+
     -- no line is left
-    at_end : IsAt script limits Stands text counted [] → (first_bad A 1 (lines script) ≡ None) × WritesAndCounts A script limits counted text
-    at_end at =
-        let lawful : are_marks (opening {A = A} limits) (asked (lines script)) at.marks ≡ true =
-        ap (are_marks (opening limits) (asked (lines script))) (sym (append-nil at.marks)) ∙ at.lawful [] ∙ ap (λ xs. are_marks at.state xs []) (asked-nil A) ∙ are_marks-nil at.state in
-        let all : text ≡ answers (opening {A = A} limits) (asked (lines script)) at.marks =
-        sym (ap (answers (opening limits) (asked (lines script))) (sym (append-nil at.marks)) ∙ at.texts [] ∙ ap (λ xs. text ++ answers at.state xs []) (asked-nil A) ∙ ap (λ t. text ++ t) (answers-nil at.state []) ∙ append-nil text) in
-        let all_lines : counted.lines ≡ length (lines script) = omega (arith, at.lines_count) in
-        let all_steps : counted.steps ≡ count_by is_step (asked {A = A} (lines script)) = omega (arith, at.steps_count, ap (count_by is_step) (asked-nil A)) in
-        let whole : counted ≡ totals A script at.marks = same_counts counted.lines counted.steps counted.nomem _ _ _ all_lines all_steps at.nomem_count in
-        (at.bad ∙ first_bad-nil A (counted.lines + 1), (at.marks, lawful, all, whole))
+    at_end : rest ≡ [] → (first_bad A 1 (lines script) ≡ None) × WritesAndCounts A script limits counted text
+    at_end none =
+        let all : lines script ≡ at.before = at.parts ∙ ap (λ ls. at.before ++ ls) none ∙ append-nil at.before in
+        let good : first_bad A 1 at.before ≡ None = ap (first_bad A 1) (sym (append-nil at.before)) ∙ at.bad [] ∙ first_bad-nil A (counted.lines + 1) in
+        let lawful : are_marks (opening {A = A} limits) (asked at.before) at.marks ≡ true = rw append-nil at (marks_to [] (asked-nil A)) in
+        let written : text ≡ answers (opening {A = A} limits) (asked at.before) at.marks = rw append-nil at (text_to [] (asked-nil A)) in
+        let steps : counted.steps ≡ count_by is_step (asked {A = A} at.before) = omega (arith, rw append-nil at (at.steps_count []), ap (count_by is_step) (asked-nil A)) in
+        rw all (good, (at.marks, lawful, written, same_counts counted.lines counted.steps counted.nomem _ _ _ at.lines_count steps at.nomem_count))
+
+    -- the next line is bad
+    is_bad : (l : List ℕ) (later : List (List ℕ)) → rest ≡ l ∷ later → line {A = A} l ≡ None → (first_bad A 1 (lines script) ≡ Some (counted.lines + 1)) × WritesOutput A script limits text
+    is_bad l later next e =
+        let all : lines script ≡ at.before ++ (l ∷ later) = at.parts ∙ ap (λ ls. at.before ++ ls) next in
+        let none : asked {A = A} (l ∷ later) ≡ [] = asked-cons l later None e in
+        rw all (at.bad (l ∷ later) ∙ first_bad-cons A (counted.lines + 1) l later None e, (at.marks, marks_to (l ∷ later) none, text_to (l ∷ later) none))
+
+    -- memory is wanting at the next line
+    is_wanting : (l : List ℕ) (later : List (List ℕ)) → rest ≡ l ∷ later → Asks A l → WritesLinesBefore A script limits counted.lines text
+    is_wanting l later next asks = record {
+      before = at.before;
+      next = l;
+      after = later;
+      marks = at.marks;
+      parts = at.parts ∙ ap (λ ls. at.before ++ ls) next;
+      count = sym at.lines_count;
+      asks = asks;
+      good = ap (first_bad A 1) (sym (append-nil at.before)) ∙ at.bad [] ∙ first_bad-nil A (counted.lines + 1);
+      lawful = rw append-nil at (marks_to [] (asked-nil A));
+      text = rw append-nil at (text_to [] (asked-nil A));
+    }
 
     -- a front of the text is a front of some output
-    at_front : (rest : List (List ℕ)) (front more : List ℕ) → text ≡ front ++ more → IsAt script limits Stands text counted rest → WritesFrontOfOutput A script limits front
-    at_front rest front more e at =
+    at_front : (front more : List ℕ) → text ≡ front ++ more → WritesFrontOfOutput A script limits front
+    at_front front more e =
         let marks : List Bool = no_marks (asked {A = A} rest) in
-        let lawful : are_marks (opening {A = A} limits) (asked (lines script)) (at.marks ++ no_marks (asked {A = A} rest)) ≡ true = at.lawful (no_marks (asked {A = A} rest)) ∙ are_marks-no_marks at.state (asked rest) in
-        let all : answers (opening {A = A} limits) (asked (lines script)) (at.marks ++ no_marks (asked {A = A} rest)) ≡ front ++ (more ++ answers at.state (asked rest) (no_marks (asked {A = A} rest))) =
-        at.texts (no_marks (asked {A = A} rest)) ∙ ap (λ t. t ++ answers at.state (asked rest) (no_marks (asked {A = A} rest))) e ∙ append_assoc front more (answers at.state (asked rest) (no_marks (asked {A = A} rest))) in
-        (at.marks ++ no_marks (asked {A = A} rest), more ++ answers at.state (asked rest) (no_marks (asked {A = A} rest)), lawful, all)
-
--- nothing is a front of any output
-pub nothing_in_front : (A : Type 0) (script : List ℕ) (limits : Limits) → WritesFrontOfOutput A script limits []
-nothing_in_front A script limits =
-    (no_marks (asked {A = A} (lines script)), output A script limits (no_marks (asked {A = A} (lines script))), are_marks-no_marks (opening {A = A} limits) (asked (lines script)), refl)
+        let lawful : are_marks (opening {A = A} limits) (asked (at.before ++ rest)) (at.marks ++ no_marks (asked {A = A} rest)) ≡ true = at.lawful rest (no_marks (asked {A = A} rest)) ∙ are_marks-no_marks at.state (asked rest) in
+        let all : answers (opening {A = A} limits) (asked (at.before ++ rest)) (at.marks ++ no_marks (asked {A = A} rest)) ≡ front ++ (more ++ answers at.state (asked rest) (no_marks (asked {A = A} rest))) =
+        at.texts rest (no_marks (asked {A = A} rest)) ∙ ap (λ t. t ++ answers at.state (asked rest) (no_marks (asked {A = A} rest))) e ∙ append_assoc front more (answers at.state (asked rest) (no_marks (asked {A = A} rest))) in
+        rw at.parts (at.marks ++ no_marks (asked {A = A} rest), more ++ answers at.state (asked rest) (no_marks (asked {A = A} rest)), lawful, all)
 
 -- ---- between two lines, with what was written
 
@@ -225,25 +255,21 @@ module _ {A : Type 0} {script waiting : List ℕ} {limits : Limits} {Stands : St
   }
 
   -- the writer took a front of what waited
-  pub fails_to_write : (new : Option (List ℕ)) → length script ≤ most_script_bytes → (count : ℕ) × (count ≤ length waiting) × Appends now new (take count waiting)
-      → IsUnderway script limits Stands waiting counted rest old now → (text : List ℕ) × Appends old new text × IsRun A script limits (Err faults.Write) text
-  fails_to_write new short took way =
+  pub fails_to_write : (new : Option (List ℕ)) (left : Totals) → length script ≤ most_script_bytes → (count : ℕ) × (count ≤ length waiting) × Appends now new (take count waiting)
+      → IsUnderway script limits Stands waiting counted rest old now → (text : List ℕ) × Appends old new text × IsCountedRun A script limits (Err faults.Write) left text
+  fails_to_write new left short took way =
       let cut : way.flushed ++ waiting ≡ (way.flushed ++ take took.0 waiting) ++ drop took.0 waiting =
       ap (λ t. way.flushed ++ t) (sym (take-append-drop took.0 waiting)) ∙ sym (append_assoc way.flushed (take took.0 waiting) (drop took.0 waiting)) in (
         way.flushed ++ take took.0 waiting,
         Appends-trans old now new way.flushed (take took.0 waiting) way.written took.2,
-        (short, at_front script (way.flushed ++ waiting) limits Stands counted rest (way.flushed ++ take took.0 waiting) (drop took.0 waiting) cut way.at),
+        (short, at_front script (way.flushed ++ waiting) limits Stands counted rest way.at (way.flushed ++ take took.0 waiting) (drop took.0 waiting) cut),
       )
-
-  -- memory was wanting, and what waited isn't written
-  pub lacks_memory : IsUnderway script limits Stands waiting counted rest old now → (text : List ℕ) × Appends old now text × IsRun A script limits (Err faults.NoMemory) text
-  lacks_memory way = (way.flushed, way.written, at_front script (way.flushed ++ waiting) limits Stands counted rest way.flushed waiting refl way.at)
 
   -- no line was left, and the writer took all that waited
   pub ends : (new : Option (List ℕ)) → length script ≤ most_script_bytes → rest ≡ [] → Appends now new waiting
-      → IsUnderway script limits Stands waiting counted rest old now → (text : List ℕ) × Appends old new text × IsRun A script limits (Ok counted) text
+      → IsUnderway script limits Stands waiting counted rest old now → (text : List ℕ) × Appends old new text × IsCountedRun A script limits (Ok tt) counted text
   ends new short none took way =
-      let whole = at_end script (way.flushed ++ waiting) limits Stands counted (rw none at way.at) in
+      let whole = at_end script (way.flushed ++ waiting) limits Stands counted rest way.at none in
       (way.flushed ++ waiting, Appends-trans old now new way.flushed waiting way.written took, (short, whole.0, whole.1))
 
 module _ {A : Type 0} {script waiting : List ℕ} {limits : Limits} {Stands : State A → Type 0} {counted : Totals} {l : List ℕ} {rest : List (List ℕ)} {old now : Option (List ℕ)} where
@@ -254,11 +280,18 @@ module _ {A : Type 0} {script waiting : List ℕ} {limits : Limits} {Stands : St
   goes_on After left next run way = record { flushed = way.flushed; written = way.written; at = run way.flushed way.at }
 
   -- the next line is bad, and the writer took all that waited
-  pub ends_at_bad : (new : Option (List ℕ)) (n : ℕ) → length script ≤ most_script_bytes → line {A = A} l ≡ None → n ≡ counted.lines + 1 → Appends now new waiting
-      → IsUnderway script limits Stands waiting counted (l ∷ rest) old now → (text : List ℕ) × Appends old new text × IsRun A script limits (Err (faults.BadLine n)) text
-  ends_at_bad new n short bad number took way =
-      let stop = is_bad script (way.flushed ++ waiting) limits Stands counted l rest bad way.at in
+  pub ends_at_bad : (new : Option (List ℕ)) (left : Totals) (n : ℕ) → length script ≤ most_script_bytes → line {A = A} l ≡ None → n ≡ counted.lines + 1 → Appends now new waiting
+      → IsUnderway script limits Stands waiting counted (l ∷ rest) old now → (text : List ℕ) × Appends old new text × IsCountedRun A script limits (Err (faults.BadLine n)) left text
+  ends_at_bad new left n short bad number took way =
+      let stop = is_bad script (way.flushed ++ waiting) limits Stands counted (l ∷ rest) way.at l rest refl bad in
       (way.flushed ++ waiting, Appends-trans old now new way.flushed waiting way.written took, (short, rw number stop.0, stop.1))
+
+  -- memory is wanting at the next line, and the writer took all that waited
+  pub ends_at_want : (new : Option (List ℕ)) (left : Totals) → length script ≤ most_script_bytes → Asks A l → left ≡ counted → Appends now new waiting
+      → IsUnderway script limits Stands waiting counted (l ∷ rest) old now → (text : List ℕ) × Appends old new text × IsCountedRun A script limits (Err faults.NoMemory) left text
+  ends_at_want new left short asks same took way =
+      let stop = is_wanting script (way.flushed ++ waiting) limits Stands counted (l ∷ rest) way.at l rest refl asks in
+      (way.flushed ++ waiting, Appends-trans old now new way.flushed waiting way.written took, (short, rw same stop))
 
   -- the number of the next line fits
   pub number_fits : length script ≤ most_script_bytes → IsUnderway script limits Stands waiting counted (l ∷ rest) old now → counted.lines < most_script_bytes
@@ -266,3 +299,25 @@ module _ {A : Type 0} {script waiting : List ℕ} {limits : Limits} {Stands : St
 
 pub starts : {A : Type 0} (script : List ℕ) (limits : Limits) (Stands : State A → Type 0) (old : Option (List ℕ)) → Stands (opening limits) → IsUnderway script limits Stands [] none_counted (lines script) old old
 starts script limits Stands old stands = record { flushed = []; written = Appends-nil old; at = at_start script limits Stands stands }
+
+-- a line that isn't run isn't counted and prints nothing
+pub unchanged : (A : Type 0) (l : List ℕ) (old new : Totals) (before after : List ℕ) (fault : LineFault) → Stops A l old new before after fault → (new ≡ old) × (after ≡ before)
+unchanged A l old new before after Bad stop = (stop.0, stop.1)
+unchanged A l old new before after NoMemory stop = (stop.0, stop.1)
+
+-- what a run is that counted its lines, without its counts
+pub uncounted : (A : Type 0) (script : List ℕ) (limits : Limits) (fault : ScriptFault) (counted : Totals) (text : List ℕ) → IsCountedRun A script limits (Err fault) counted text → IsRun A script limits (Err fault) text
+uncounted A script limits faults.NoMemory counted text run = inr (run.0, (counted.lines, run.1))
+uncounted A script limits faults.Read counted text run = run
+uncounted A script limits faults.Write counted text run = run
+uncounted A script limits faults.TooLong counted text run = run
+uncounted A script limits (faults.BadLine n) counted text run = run
+
+-- the same of what was read, where the reader told it
+pub uncounted_known : (A : Type 0) (remaining old new : Option (List ℕ)) (held read : List ℕ) (limits : Limits) (fault : ScriptFault) (counted : Totals) → read ≡ held → IfSome remaining (λ script. held ≡ script)
+    → (text : List ℕ) × Appends old new text × IsCountedRun A read limits (Err fault) counted text
+    → IfSome remaining (λ script. (text : List ℕ) × Appends old new text × IsRun A script limits (Err fault) text)
+uncounted_known A None old new held read limits fault counted all known run = tt
+uncounted_known A (Some script) old new held read limits fault counted all known run =
+    let Ran : List ℕ → Type 0 = λ bytes. IsRun A bytes limits (Err fault) run.0 in
+    (run.0, run.1, subst Ran (all ∙ known) (uncounted A read limits fault counted run.0 run.2))

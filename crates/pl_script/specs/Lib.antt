@@ -1,3 +1,3 @@
 pub mod Streams
-pub mod LineByLine
 pub mod Running
+pub mod LineByLine

@@ -1,9 +1,11 @@
 -- What a run of a script comes to.
-use Rattle.std.specs.Prelude.{◌≡◌, ⊤, ℕ, ◌<◌, ◌≤◌, List, [], ◌++◌, length, Bool, true, Option, Some, None, Result, Ok, Err}
+use Rattle.std.specs.Prelude.{◌≡◌, ⊤, ℕ, ◌<◌, ◌≤◌, List, [], ◌∷◌, ◌++◌, ◌⊎◌, length, Bool, true, Option, Some, None, IsSome, IsSomeAnd, Result, Ok, Err}
 use Rattle.std.specs.Io.KnownBytes.{IsAtEnd}
 use Rattle.pl_model.specs.declared.calls.Limits.{Limits}
 use Rattle.pl_model.specs.declared.script.Totals.{Totals}
-use Rattle.pl_model.specs.Script.{lines, first_bad, output, AreMarks, totals}
+use Rattle.pl_model.specs.Numbered.{opening}
+use Rattle.pl_model.specs.Lines.{line}
+use Rattle.pl_model.specs.Script.{lines, asked, first_bad, answers, are_marks, output, AreMarks, totals}
 use Rattle.pl_model.specs.Numbers.{most_script_bytes}
 use Rattle.pl_script.specs.declared.fault.ScriptFault.{ScriptFault}
 use Rattle.pl_script.specs.declared.fault.ScriptFault.TheVariants as faults
@@ -27,20 +29,46 @@ WritesAndCounts A script limits counted written =
     (marks : List Bool) × AreMarks A script limits marks × (written ≡ output A script limits marks)
     × (counted ≡ totals A script marks)
 
+-- the line asks for a step
+abbrev pub Asks : (A : Type 0) → List ℕ → Type 0
+Asks A bytes = IsSomeAnd (line {A = A} bytes) (λ asked. IsSome asked)
+
+-- Memory was wanting at the line behind the first n, which asks for a step: what was written is the output of those n lines,
+-- at some marks, and none of them is bad. The step may have been made, but its text isn't written.
+pub record WritesLinesBefore (A : Type 0) (script : List ℕ) (limits : Limits) (n : ℕ) (written : List ℕ) : Type 0 where
+  pub before : List (List ℕ)
+  pub next : List ℕ
+  pub after : List (List ℕ)
+  pub marks : List Bool
+  pub parts : lines script ≡ before ++ (next ∷ after)
+  pub count : length before ≡ n
+  pub asks : Asks A next
+  pub good : first_bad A 1 before ≡ None
+  pub lawful : are_marks {A = A} (opening limits) (asked before) marks ≡ true
+  pub text : written ≡ answers {A = A} (opening limits) (asked before) marks
+
 -- the script isn't too long to be run
 abbrev pub Fits : List ℕ → Type 0
 Fits script = length script ≤ most_script_bytes
 
--- what a run of the script answers, and what it writes
+-- what a run of the script answers, and what it writes; at want of memory either the script wasn't read, or a line wasn't run
 abbrev pub IsRun : (A : Type 0) → List ℕ → Limits → Result Totals ScriptFault → List ℕ → Type 0
 IsRun A script limits (Ok counted) written =
     Fits script × (first_bad A 1 (lines script) ≡ None) × WritesAndCounts A script limits counted written
 IsRun A script limits (Err (faults.BadLine n)) written =
     Fits script × (first_bad A 1 (lines script) ≡ Some n) × WritesOutput A script limits written
 IsRun A script limits (Err faults.Write) written = Fits script × WritesFrontOfOutput A script limits written
-IsRun A script limits (Err faults.NoMemory) written = WritesFrontOfOutput A script limits written
+IsRun A script limits (Err faults.NoMemory) written =
+    (written ≡ []) ⊎ (Fits script × ((n : ℕ) × WritesLinesBefore A script limits n written))
 IsRun A script limits (Err faults.TooLong) written = (most_script_bytes < length script) × (written ≡ [])
 IsRun A script limits (Err faults.Read) written = written ≡ []
+
+-- The same of a run that counts its lines as it goes: where memory was wanting, the lines that it counted are those before.
+abbrev pub IsCountedRun : (A : Type 0) → List ℕ → Limits → Result (Unit {0}) ScriptFault → Totals → List ℕ → Type 0
+IsCountedRun A script limits (Ok x) counted written = IsRun A script limits (Ok counted) written
+IsCountedRun A script limits (Err faults.NoMemory) counted written =
+    Fits script × WritesLinesBefore A script limits counted.lines written
+IsCountedRun A script limits (Err fault) counted written = IsRun A script limits (Err fault) written
 
 -- where a script was run, and where its output couldn't be written, it was read to its end
 abbrev pub IsReadToEnd : Result Totals ScriptFault → Option (List ℕ) → Type 0

@@ -1,11 +1,11 @@
 //! Scripts, run line by line.
-ghost use Rattle.std.specs.Prelude.{◌≡◌, ◌+◌, ◌<◌, ◌≤◌, ◌++◌, ◌∷◌, ◌↔◌, ◌⊎◌, ℕ, List, length, true, false, string_bytes, IfOk, IfSome, IsErrOf, MatchResult};
+ghost use Rattle.std.specs.Prelude.{◌≡◌, ◌+◌, ◌<◌, ◌≤◌, ◌++◌, ◌∷◌, ◌↔◌, ◌⊎◌, ℕ, List, length, true, false, string_bytes, OnErr, IfOk, IfSome, IsErrOf, MatchResult};
 ghost use Rattle.std.specs.Io.KnownBytes.{Appends};
 ghost use Rattle.pl_model.specs.declared.calls.Limits.{Limits};
 ghost use Rattle.pl_model.specs.Numbers.{most_file_bytes, most_script_bytes, most_reads};
 ghost use Rattle.pl_kernel.specs.Makes.{Stands};
-ghost use Rattle.pl_script.specs.LineByLine.{IsAnswered, IsAt, Stops};
-ghost use Rattle.pl_script.specs.Running.{IsRun, IsReadToEnd, WritingEnds};
+ghost use Rattle.pl_script.specs.LineByLine.{none_counted, IsAnswered, IsAt, Stops};
+ghost use Rattle.pl_script.specs.Running.{IsRun, IsCountedRun, IsReadToEnd, WritingEnds};
 
 use crate::fault::ScriptFault;
 use crate::reading::read_script;
@@ -19,15 +19,17 @@ use std::alloc::{AllocError, Allocator};
 /// Output is written once so many bytes of it wait.
 const WAITING: usize = 65_536;
 
-/// Does what a line asks and adds its line to the output; tells whether it found no memory.
+/// Does what a line asks and adds its line to the output; tells whether it found no memory. Where there is no memory for the
+/// line, the step may have been made, and the output is as it was.
 fn answer_line<A: Allocator + Copy>(
     alloc: A,
     kernel: &mut Kernel<A>,
     out: &mut String<A>,
     asked: Line<A>,
 ) -> Result<bool, AllocError>
-    ensures { IfOk result (λ mark.
+    ensures answered { IfOk result (λ mark.
         IsAnswered {A = A} (Stands kernel.old) (Stands kernel.new) asked mark (string_bytes out.old) (string_bytes out.new)) }
+    ensures unanswered { OnErr result (string_bytes out.new ≡ string_bytes out.old) }
 {
     let Line::Do(step) = asked;
     match kernel.step(step) {
@@ -42,7 +44,8 @@ fn answer_line<A: Allocator + Copy>(
     }
 }
 
-/// Runs one line: adds its line to the output, if it asks something, and counts it.
+/// Runs one line: adds its line to the output, if it asks something, and counts it. A line that isn't run isn't counted, and
+/// leaves the output as it was.
 fn run_line<A: Allocator + Copy>(
     alloc: A,
     kernel: &mut Kernel<A>,
@@ -59,46 +62,45 @@ fn run_line<A: Allocator + Copy>(
         (λ _. IsAt {A = A} script limits (Stands kernel.new) (front ++ string_bytes out.new) totals.new rest)
         (Stops A line.now totals.old totals.new (string_bytes out.old) (string_bytes out.new)) }
 {
-    let asked = parse_line(alloc, line)?;
-    totals.lines += 1;
-    let Some(asked) = asked else {
+    let Some(asked) = parse_line(alloc, line)? else {
+        totals.lines += 1;
         return Ok(());
     };
+    let found_none = answer_line(alloc, kernel, out, asked)?;
+    totals.lines += 1;
     totals.steps += 1;
-    totals.nomem += u32::from(answer_line(alloc, kernel, out, asked)?);
+    totals.nomem += u32::from(found_none);
     Ok(())
 }
 
-/// Runs a script that was read.
+/// Runs a script that was read, and counts the lines that were run. Where it ends at a line, for which there was no memory or
+/// which is bad, the output of just the lines counted was written.
 fn run_lines<A: Allocator + Copy, T: Sink>(
     alloc: A,
     script: &[u8],
     writer: &mut T,
     limits: Limits,
-) -> Result<Totals, ScriptFault>
+    totals: &mut Totals,
+) -> Result<(), ScriptFault>
     requires short { length script.now ≤ most_script_bytes }
     requires most { limits.file_max ≤ most_file_bytes }
+    requires none { totals.old ≡ none_counted }
     ensures run { (written : List ℕ) × Appends (T.contents writer.old) (T.contents writer.new) written
-        × IsRun A script.now limits result written }
+        × IsCountedRun A script.now limits result totals.new written }
     ensures ends { WritingEnds (T.has_stopped writer.old) (T.has_stopped writer.new) result }
 {
     let mut kernel = Kernel::new(alloc, limits);
     let mut out = String::new(alloc);
-    let mut totals = Totals {
-        lines: 0,
-        steps: 0,
-        nomem: 0,
-    };
     let mut rest = script;
     while !rest.is_empty() {
         let (line, after) = next_line(rest);
-        match run_line(alloc, &mut kernel, &mut out, &mut totals, line) {
-            Ok(()) => {}
-            Err(LineFault::Bad) => {
-                write_whole(writer, out.as_bytes())?;
-                return Err(ScriptFault::BadLine(totals.lines + 1));
-            }
-            Err(LineFault::NoMemory) => return Err(ScriptFault::NoMemory),
+        if let Err(fault) = run_line(alloc, &mut kernel, &mut out, totals, line) {
+            let answered = out.as_bytes();
+            write_whole(writer, answered)?;
+            return Err(match fault {
+                LineFault::Bad => ScriptFault::BadLine(totals.lines + 1),
+                LineFault::NoMemory => ScriptFault::NoMemory,
+            });
         }
         rest = after;
         if out.len() >= WAITING {
@@ -107,7 +109,7 @@ fn run_lines<A: Allocator + Copy, T: Sink>(
         }
     }
     write_whole(writer, out.as_bytes())?;
-    Ok(totals)
+    Ok(())
 }
 
 /// Reads a script to its end, runs it on a new kernel, and writes a line for each step before the first bad line. Answers
@@ -122,7 +124,8 @@ fn run_lines<A: Allocator + Copy, T: Sink>(
 /// - `TooLong` where the script has more than `MAX_SCRIPT_BYTES` bytes; nothing was written.
 /// - `BadLine(n)` where line `n`, counted from 1, is the first bad one; the output of the lines before it was written.
 /// - `Write` exactly where a write failed or took no byte; a front of the output was written.
-/// - `NoMemory` where there was none to hold the script, a line of it or its output; a front of the output was written.
+/// - `NoMemory` where there was none to hold the script, and then nothing was written; or none for a line of it or the line's
+///   output, and then the output of the lines before it was written. The step of that line may have been made.
 pub fn run_script<A: Allocator + Copy, S: Source, T: Sink>(
     alloc: A,
     reader: &mut S,
@@ -150,5 +153,11 @@ pub fn run_script<A: Allocator + Copy, S: Source, T: Sink>(
         writer.new ≡ writer.old }
 {
     let script = read_script(alloc, reader)?;
-    run_lines(alloc, script.as_slice(), writer, limits)
+    let mut totals = Totals {
+        lines: 0,
+        steps: 0,
+        nomem: 0,
+    };
+    run_lines(alloc, script.as_slice(), writer, limits, &mut totals)?;
+    Ok(totals)
 }

@@ -1,4 +1,5 @@
 //! Scripts that run where a request for memory is refused.
+use super::trickling::{Drip, Failure};
 use pl_model::Totals;
 use pl_run::LIMITS;
 use pl_script::{MAX_READS, Reads, ScriptFault, Writes, run_script};
@@ -8,12 +9,14 @@ use std::alloc::Global;
 use std::process::Abort;
 use std::test::Fail;
 
-/// A script of seven steps, what it prints, and what it prints where one step finds no memory, which then changes nothing.
+/// A script of seven steps, what it prints, what it prints where one step finds no memory, which then changes nothing, and what
+/// it has printed where a line that writes finds none for its bytes.
 #[derive(Clone, Copy)]
 struct Run {
     script: &'static str,
     output: &'static str,
     outputs_with_nomem: &'static [&'static str],
+    outputs_before_writes: &'static [&'static str],
 }
 
 const NOTHING_WAITS: Run = Run {
@@ -27,6 +30,11 @@ const NOTHING_WAITS: Run = Run {
         "pid 1\nfds 0 1\nEAGAIN\ncount 70\ndata 616161\nnomem\ncount 1\n",
         "pid 1\nfds 0 1\nEAGAIN\ncount 70\ndata 616161\ncount 70\nnomem\n",
     ],
+    outputs_before_writes: &[
+        "pid 1\nfds 0 1\nEAGAIN\n",
+        "pid 1\nfds 0 1\nEAGAIN\ncount 70\ndata 616161\n",
+        "pid 1\nfds 0 1\nEAGAIN\ncount 70\ndata 616161\ncount 70\n",
+    ],
 };
 
 const A_WRITE_WAITS: Run = Run {
@@ -39,6 +47,7 @@ const A_WRITE_WAITS: Run = Run {
         "pid 1\nfds 0 1\nparked 1\nnomem\nparked 1\ncount 65536\nno call\n",
         "pid 1\nfds 0 1\nparked 1\ndata 616161\nnomem\ncount 65536\nno call\n",
     ],
+    outputs_before_writes: &["pid 1\nfds 0 1\n"],
 };
 
 /// What a refused request makes of a run.
@@ -66,7 +75,7 @@ fn run_without(
 }
 
 /// The run printed what it prints without a refusal, or what one step without memory makes of it, or found no memory to go
-/// on.
+/// on, and printed the lines till then, each of them whole.
 fn ending_of(
     rt: &impl Abort,
     run: Run,
@@ -85,7 +94,7 @@ fn ending_of(
             );
             assert!(rt; is_refused, "no request is refused");
             assert!(rt;
-                run.output.starts_with(output),
+                run.output.starts_with(output) && (output.is_empty() || output.ends_with('\n')),
                 "{output:?}, where request {n} is refused"
             );
             return Ending::Stopped;
@@ -109,21 +118,40 @@ fn ending_of(
     Ending::Nomem
 }
 
-/// Refuses each request of the run in turn.
-fn refuse_each(rt: &impl Abort, alloc: Global, run: Run) -> Result<(), Fail> {
+/// Where the `n`th request is refused and the first write fails too, the run ends by the write.
+fn fail_the_write_too(rt: &impl Abort, alloc: Global, heap: &Refusing<Global>, script: &str, n: u64) {
+    heap.refuse(n);
+    let mut reader = Reads::new(script.as_bytes(), MAX_READS);
+    let mut writer = Writes::new(Drip::failing(alloc, usize::MAX, 1, Failure::Nothing));
+    let ended = run_script(heap, &mut reader, &mut writer, LIMITS);
+    assert_eq!(rt;
+        ended,
+        Err(ScriptFault::Write),
+        "where request {n} is refused, and the first write fails"
+    );
+}
+
+/// Refuses each request of the run in turn. Answers what was printed by the runs that found no memory to go on.
+fn refuse_each(rt: &impl Abort, alloc: Global, run: Run) -> Result<Vec<String>, Fail> {
     let heap = Refusing::new(alloc);
+    let mut stopped = Vec::new(alloc);
     let mut has_ended = false;
-    let mut has_stopped = false;
     let mut has_printed_nomem = false;
     for n in 1..MOST_REQUESTS {
         let (ended, written) = run_without(alloc, &heap, run.script, n);
-        let output = str::from_utf8(written.as_slice())?;
-        match ending_of(rt, run, n, heap.refused(), ended, output) {
+        let is_refused = heap.refused();
+        let output = String::from_utf8(written)?;
+        match ending_of(rt, run, n, is_refused, ended, output.as_str()) {
             Ending::Whole => {}
             Ending::Nomem => has_printed_nomem = true,
-            Ending::Stopped => has_stopped = true,
+            Ending::Stopped => {
+                if !output.is_empty() {
+                    fail_the_write_too(rt, alloc, &heap, run.script, n);
+                }
+                stopped.push(output)?;
+            }
         }
-        if !heap.refused() {
+        if !is_refused {
             has_ended = true;
             break;
         }
@@ -133,15 +161,27 @@ fn refuse_each(rt: &impl Abort, alloc: Global, run: Run) -> Result<(), Fail> {
         "the script makes {} requests",
         heap.requests()
     );
-    assert!(rt;
-        has_stopped && has_printed_nomem,
-        "stopped: {has_stopped}, printed nomem: {has_printed_nomem}"
-    );
-    Ok(())
+    assert!(rt; has_printed_nomem, "no run printed nomem");
+    Ok(stopped)
 }
+
+/// Where a line that writes finds no memory for its bytes, the lines before it are printed.
+fn print_what_was_answered(rt: &impl Abort, run: Run, stopped: &[String]) {
+    for output in run.outputs_before_writes {
+        assert!(rt;
+            stopped.iter().any(|printed| printed.as_str() == *output),
+            "{output:?} is printed by no run that found no memory"
+        );
+    }
+}
+
+const RUNS: &[Run] = &[NOTHING_WAITS, A_WRITE_WAITS];
 
 #[test]
 fn each_request_is_refused(rt: HostRuntime) -> Result<(), Fail> {
-    refuse_each(&rt, rt.alloc(), NOTHING_WAITS)?;
-    refuse_each(&rt, rt.alloc(), A_WRITE_WAITS)
+    for run in RUNS {
+        let stopped = refuse_each(&rt, rt.alloc(), *run)?;
+        print_what_was_answered(&rt, *run, stopped.as_slice());
+    }
+    Ok(())
 }

@@ -153,6 +153,6 @@ fn each_write_fails(rt: HostRuntime) -> Result<(), Fail> {
     });
     let writes = fail_each_write(&rt, alloc, usize::MAX, script, output.as_str(), end);
     assert!(rt; writes > 1, "the output is written at once");
-    fail_each_write(&rt, alloc, 1_000, script, output.as_str(), end);
+    fail_each_write(&rt, alloc, 40_000, script, output.as_str(), end);
     Ok(())
 }
