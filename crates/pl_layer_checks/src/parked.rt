@@ -72,28 +72,91 @@ fn no_number_at_all(rt: HostRuntime) -> Result<(), Fail> {
     Ok(())
 }
 
-const TAKEN: &[u64] = &[7, 5, 9, 6];
+/// The calls of the tests that take them: each has its number as the bytes that it reads, and one of three pids.
+const CALLS: u64 = 12;
+
+fn pid_of(number: u64) -> u32 {
+    (number % 3) as u32 + 1
+}
+
+/// The calls 1 to 12, parked.
+fn park_all(alloc: Global) -> Result<Parked, Fail> {
+    let mut parked = Parked::new(alloc, 1);
+    for number in 1..CALLS + 1 {
+        let call = read(alloc, pid_of(number), number as u32)?;
+        parked.park(call).map_err(|_| "not parked")?;
+    }
+    Ok(parked)
+}
+
+/// The numbers under which the call stands that was parked under it.
+fn numbers_left(alloc: Global, parked: &Parked) -> Result<Vec<u64>, Fail> {
+    let mut left = Vec::new(alloc);
+    for number in 0..CALLS + 2 {
+        let call = read(alloc, pid_of(number), number as u32)?;
+        if parked.get(number) == Some(&call) {
+            left.push(number)?;
+        }
+    }
+    Ok(left)
+}
+
+/// What `next_of_process` answers for each of the pids, from each number on.
+fn next_numbers(alloc: Global, parked: &Parked) -> Result<Vec<Option<u64>>, Fail> {
+    let mut next = Vec::new(alloc);
+    for pid in 0..5u32 {
+        for from in 0..CALLS + 2 {
+            next.push(parked.next_of_process(pid, from))?;
+        }
+    }
+    Ok(next)
+}
+
+/// What it is to answer where these numbers are left.
+fn next_wanted(alloc: Global, left: &[u64]) -> Result<Vec<Option<u64>>, Fail> {
+    let mut next = Vec::new(alloc);
+    for pid in 0..5u32 {
+        for from in 0..CALLS + 2 {
+            let least = left
+                .iter()
+                .copied()
+                .find(|number| *number >= from && pid_of(*number) == pid);
+            next.push(least)?;
+        }
+    }
+    Ok(next)
+}
+
+/// Orders in which the calls are taken: from the front, from the back, and scattered. In each, the calls that are left move
+/// together twice and more.
+const ORDERS: &[&[u64]] = &[
+    &[1, 2, 3, 4, 5, 6, 7, 8, 9, 10, 11, 12],
+    &[12, 11, 10, 9, 8, 7, 6, 5, 4, 3, 2, 1],
+    &[7, 2, 12, 9, 4, 1, 10, 6, 3, 11, 8, 5],
+];
 
 #[test]
 fn calls_are_taken_in_any_order(rt: HostRuntime) -> Result<(), Fail> {
     let alloc = rt.alloc();
-    let mut parked = Parked::new(alloc, 5);
-    for number in 5..10u64 {
-        let call = read(alloc, 1, number as u32)?;
-        assert_eq!(rt; parked.next_number(), number);
-        assert_eq!(rt; parked.park(call), Ok(number));
+    for order in ORDERS {
+        let mut parked = park_all(alloc)?;
+        let mut left = numbers_left(alloc, &parked)?;
+        assert_eq!(rt; left.len(), 12);
+        for number in *order {
+            let number = *number;
+            let call = read(alloc, pid_of(number), number as u32)?;
+            assert_eq!(rt; parked.take(number), Some(call));
+            assert_eq!(rt; parked.take(number), None, "a call ends once");
+            left.retain(|other| *other != number);
+            assert_eq!(rt; numbers_left(alloc, &parked)?, left, "after {number}");
+            assert_eq!(rt;
+                next_numbers(alloc, &parked)?,
+                next_wanted(alloc, &left)?,
+                "after {number}"
+            );
+        }
+        assert_eq!(rt; parked.park(read(alloc, 1, 13)?), Ok(13));
     }
-    for number in TAKEN {
-        let number = *number;
-        let call = read(alloc, 1, number as u32)?;
-        assert_eq!(rt; parked.get(number), Some(&call));
-        assert_eq!(rt; parked.take(number), Some(call));
-        assert_eq!(rt; parked.get(number), None);
-        assert_eq!(rt; parked.get(8), Some(&read(alloc, 1, 8)?), "after {number}");
-    }
-    assert_eq!(rt; parked.take(4), None);
-    assert_eq!(rt; parked.take(10), None);
-    assert_eq!(rt; parked.park(read(alloc, 1, 10)?), Ok(10));
     Ok(())
 }
 
@@ -110,23 +173,71 @@ fn a_call_that_is_taken_back_gives_up_its_number(rt: HostRuntime) -> Result<(), 
     Ok(())
 }
 
+/// Calls that end before the last one is taken back: the two before it, and enough that the others move together.
+const ENDED: &[&[u64]] = &[&[11, 10], &[1, 2, 3, 4, 5, 6, 7, 8]];
+
+#[test]
+fn a_call_is_taken_back_after_others_ended(rt: HostRuntime) -> Result<(), Fail> {
+    let alloc = rt.alloc();
+    for ended in ENDED {
+        let mut parked = park_all(alloc)?;
+        for number in *ended {
+            assert!(rt; parked.take(*number).is_some());
+        }
+        let mut left = numbers_left(alloc, &parked)?;
+        let number = parked.park(read(alloc, 2, 20)?).map_err(|_| "not parked")?;
+        assert_eq!(rt; parked.unpark(number), read(alloc, 2, 20)?);
+        assert_eq!(rt; numbers_left(alloc, &parked)?, left);
+        assert_eq!(rt; next_numbers(alloc, &parked)?, next_wanted(alloc, &left)?);
+        assert_eq!(rt; parked.park(read(alloc, 2, 13)?), Ok(13));
+        left.push(13)?;
+        assert_eq!(rt; next_numbers(alloc, &parked)?, next_wanted(alloc, &left)?);
+    }
+    Ok(())
+}
+
 const PIDS: &[u32] = &[2, 1, 2, 1];
 
 #[test]
 fn the_calls_of_a_process_come_in_order(rt: HostRuntime) -> Result<(), Fail> {
     let alloc = rt.alloc();
     let mut parked = Parked::new(alloc, 1);
-    assert_eq!(rt; parked.next_of_process(1), None);
+    assert_eq!(rt; parked.next_of_process(1, 0), None);
     for pid in PIDS {
         assert!(rt; parked.park(read(alloc, *pid, 10)?).is_ok());
     }
-    assert_eq!(rt; parked.next_of_process(1), Some(2));
-    assert_eq!(rt; parked.next_of_process(2), Some(1));
-    assert_eq!(rt; parked.next_of_process(3), None);
+    assert_eq!(rt; parked.next_of_process(1, 0), Some(2));
+    assert_eq!(rt; parked.next_of_process(2, 0), Some(1));
+    assert_eq!(rt; parked.next_of_process(3, 0), None);
+    assert_eq!(rt; parked.next_of_process(2, 1), Some(1));
+    assert_eq!(rt; parked.next_of_process(2, 2), Some(3));
+    assert_eq!(rt; parked.next_of_process(2, 4), None);
+    assert_eq!(rt; parked.next_of_process(2, u64::MAX), None);
     assert!(rt; parked.take(2).is_some());
-    assert_eq!(rt; parked.next_of_process(1), Some(4));
+    assert_eq!(rt; parked.next_of_process(1, 0), Some(4));
     assert!(rt; parked.take(4).is_some());
-    assert_eq!(rt; parked.next_of_process(1), None);
+    assert_eq!(rt; parked.next_of_process(1, 0), None);
+    Ok(())
+}
+
+/// Pids that are 1,024 apart: their calls are counted together.
+const SHARING: &[u32] = &[3, 1_027, 3];
+
+#[test]
+fn any_pid_has_calls(rt: HostRuntime) -> Result<(), Fail> {
+    let alloc = rt.alloc();
+    let mut parked = Parked::new(alloc, 1);
+    for pid in SHARING {
+        assert!(rt; parked.park(read(alloc, *pid, 10)?).is_ok());
+    }
+    assert!(rt; parked.park(read(alloc, u32::MAX, 10)?).is_ok());
+    assert_eq!(rt; parked.next_of_process(3, 2), Some(3));
+    assert_eq!(rt; parked.next_of_process(1_027, 0), Some(2));
+    assert_eq!(rt; parked.next_of_process(2_051, 0), None);
+    assert_eq!(rt; parked.next_of_process(u32::MAX, 0), Some(4));
+    assert!(rt; parked.take(2).is_some());
+    assert_eq!(rt; parked.next_of_process(1_027, 0), None);
+    assert_eq!(rt; parked.next_of_process(3, 0), Some(1));
     Ok(())
 }
 
@@ -142,36 +253,56 @@ fn a_write_takes_more(rt: HostRuntime) -> Result<(), Fail> {
     Ok(())
 }
 
+/// The requests for memory that a call may make: each is refused in turn.
+const REQUESTS: &[u64] = &[1, 2];
+
 #[test]
 fn a_want_of_memory_changes_nothing(rt: HostRuntime) -> Result<(), Fail> {
+    for request in REQUESTS {
+        let heap = Refusing::new(rt.alloc());
+        let mut parked = Parked::new(&heap, 1);
+        let mut has_wanted = false;
+        for number in 1..20u64 {
+            let pid = number as u32;
+            let call = read(&heap, pid, 10)?;
+            let same_call = read(&heap, pid, 10)?;
+            heap.refuse(*request);
+            match parked.park(call) {
+                Ok(given) => assert_eq!(rt; given, number),
+                Err(fault) => {
+                    has_wanted = true;
+                    assert_eq!(rt; fault, ParkFault::NoMemory);
+                    assert!(rt; heap.refused());
+                    assert_eq!(rt; parked.next_number(), number);
+                    assert!(rt; parked.get(number).is_none());
+                    assert_eq!(rt; parked.next_of_process(pid, 0), None);
+                    heap.refuse(0);
+                    assert_eq!(rt; parked.park(same_call), Ok(number), "once there is memory");
+                }
+            }
+            assert_eq!(rt; parked.get(number).map(|call| call.pid), Some(pid));
+            heap.refuse(0);
+        }
+        assert!(rt; has_wanted, "the first call needs memory twice");
+    }
+    Ok(())
+}
+
+#[test]
+fn a_call_that_ends_takes_no_memory(rt: HostRuntime) -> Result<(), Fail> {
     let heap = Refusing::new(rt.alloc());
     let mut parked = Parked::new(&heap, 1);
-    let mut has_wanted = false;
+    for number in 1..20u64 {
+        let call = read(&heap, number as u32, 10)?;
+        assert_eq!(rt; parked.park(call), Ok(number));
+    }
+    heap.refuse(1);
     for number in 1..20u64 {
         let pid = number as u32;
-        let call = read(&heap, pid, 10)?;
-        let same_call = read(&heap, pid, 10)?;
-        heap.refuse(1);
-        match parked.park(call) {
-            Ok(given) => assert_eq!(rt; given, number),
-            Err(fault) => {
-                has_wanted = true;
-                assert_eq!(rt; fault, ParkFault::NoMemory);
-                assert!(rt; heap.refused());
-                assert_eq!(rt; parked.next_number(), number);
-                assert!(rt; parked.get(number).is_none());
-                heap.refuse(0);
-                assert_eq!(rt; parked.park(same_call), Ok(number), "once there is memory");
-            }
-        }
-        assert_eq!(rt; parked.get(number).map(|call| call.pid), Some(pid));
-        heap.refuse(0);
+        assert_eq!(rt; parked.next_of_process(pid, 0), Some(number));
+        assert!(rt; parked.take(number).is_some());
+        assert_eq!(rt; parked.next_of_process(pid, 0), None);
     }
-    assert!(rt; has_wanted, "the first call needs memory");
-    heap.refuse(1);
-    assert_eq!(rt; parked.next_of_process(5), Some(5));
-    assert!(rt; parked.take(5).is_some());
-    assert_eq!(rt; parked.next_of_process(5), None);
-    assert!(rt; !heap.refused(), "a call that goes takes no memory");
+    assert_eq!(rt; heap.requests(), 0);
     Ok(())
 }

@@ -1,2 +1,6 @@
+pub mod CountLemmas
+pub mod EntryLemmas
+pub mod Finding
+pub mod Keeping
 pub mod Rising
 pub mod Searched

@@ -1,5 +1,5 @@
 -- The calls that wait.
-use Rattle.std.specs.Prelude.{◌≤◌, ℕ, ◌+◌, Bool, [], ◌∷◌, Option, nat_eq, slice_get, option_map}
+use Rattle.std.specs.Prelude.{◌≤◌, ℕ, ◌+◌, Bool, [], ◌∷◌, Option, ◌&&◌, nat_eq, nat_le, slice_get, option_map}
 use Rattle.pl_model.specs.Map.{Map}
 use Rattle.pl_parked.specs.declared.call.ParkedCall.{ParkedCall}
 
@@ -20,3 +20,7 @@ number_at es place = option_map (λ e. e.0) (slice_get es place)
 -- the call is one of the process
 abbrev pub is_of : {A : Type 0} → ℕ → ℕ × ParkedCall A → Bool
 is_of pid entry = nat_eq entry.1.pid pid
+
+-- the call is one of the process, under this number or above it
+abbrev pub is_of_from : {A : Type 0} → ℕ → ℕ → ℕ × ParkedCall A → Bool
+is_of_from pid from entry = is_of pid entry && nat_le from entry.0

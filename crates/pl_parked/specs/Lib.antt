@@ -1,2 +1,4 @@
 pub mod Calls
 pub mod CallsView
+pub mod Counted
+pub mod Entries

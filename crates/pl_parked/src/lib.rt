@@ -4,6 +4,8 @@
 #![tactic(auto)]
 
 mod call;
+mod counts;
+mod entries;
 mod fault;
 mod parked;
 

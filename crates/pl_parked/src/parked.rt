@@ -1,12 +1,14 @@
 //! The calls that wait, by number.
-ghost use Rattle.std.specs.Prelude.{ℕ, ◌≡◌, ◌+◌, ◌≤◌, ◌++◌, ◌==◌, [], ◌∷◌, ◌↔◌, IfOk, OnOk, OnErr, IfSome, IfNone, IsSome, Some, None, nat_eq, length, slice_get, option_map};
+ghost use Rattle.std.specs.Prelude.{ℕ, ◌≡◌, ◌+◌, ◌≤◌, ◌++◌, ◌==◌, [], ◌∷◌, ◌↔◌, IfOk, OnOk, OnErr, IfSome, IfNone, IsSome, IsSomeAnd, Some, None, nat_eq, length, slice_get, option_map};
 ghost use Rattle.std.specs.Option.{option_copied};
 ghost use Rattle.std.specs.List.{find};
 ghost use Rattle.pl_model.specs.Numbers.{last_call};
 ghost use Rattle.pl_model.specs.Map.{get, put, without};
-ghost use Rattle.pl_parked.specs.Calls.{Rise, number_at, is_of};
+ghost use Rattle.pl_parked.specs.Calls.{Rise, is_of_from};
 
 use crate::call::ParkedCall;
+use crate::counts::Counts;
+use crate::entries::{Entry, next_of, place_of};
 use crate::fault::ParkFault;
 use pl_model::numbers::LAST_CALL;
 use std::alloc::{Allocator, Global};
@@ -16,7 +18,10 @@ use std::marker::Model;
 /// of number.
 #[derive(Drop)]
 pub struct Parked<A: Allocator = Global> {
-    entries: Vec<(u64, ParkedCall<A>), A>,
+    entries: Vec<Entry<A>, A>,
+    /// How many entries are empty.
+    empty: usize,
+    counts: Counts<A>,
     next: u64,
 }
 
@@ -25,25 +30,28 @@ impl<A: Allocator> Model for Parked<A> {
 
     ghost Value = { Calls A };
 
-    ghost use Rattle.pl_parked.specs.CallsView.{view_of};
-    ghost use Rattle.pl_parked.specs.Calls.{Rise};
+    ghost use Rattle.pl_parked.specs.CallsView.{view_of, IsSound};
 
     ghost view = { view_of };
 
-    ghost invariant = { λ p. Rise 0 p.next p.entries.items };
+    ghost invariant = { λ p. IsSound p.entries.items p.empty p.counts.list.items p.next };
 }
 
-impl<A: Allocator> Parked<A> {
+impl<A: Allocator + Copy> Parked<A> {
     /// No calls. The first one parked gets the number `first`. It takes no memory.
     pub fn new(alloc: A, first: u64) -> Self
         ensures { result ≡ record { calls = []; next = first } }
     {
         Parked {
             entries: Vec::new(alloc),
+            empty: 0,
+            counts: Counts::new(alloc),
             next: first,
         }
     }
+}
 
+impl<A: Allocator> Parked<A> {
     /// Whether no number is left for one call more.
     pub fn spent(&self) -> bool
         ensures { result ≡ (self.now.next == last_call) }
@@ -75,11 +83,12 @@ impl<A: Allocator> Parked<A> {
         if self.spent() {
             return Err(ParkFault::CallsSpent);
         }
-        if self.entries.try_reserve(1).is_err() {
+        if self.counts.reserve(call.pid).is_err() || self.entries.try_reserve(1).is_err() {
             return Err(ParkFault::NoMemory);
         }
         let number = self.next;
-        self.entries.push_reserved((number, call));
+        self.counts.add(call.pid);
+        self.entries.push_reserved((number, Some(call)));
         self.next = number + 1;
         Ok(number)
     }
@@ -91,7 +100,9 @@ impl<A: Allocator> Parked<A> {
         ensures calls { self.old.calls ≡ self.new.calls ++ (number, result) ∷ [] }
         ensures next { self.new.next ≡ number }
     {
-        let (_, call) = self.entries.pop().unwrap();
+        let (_, entry) = self.entries.pop().unwrap();
+        let call = entry.unwrap();
+        self.counts.remove(call.pid);
         self.next = number;
         call
     }
@@ -100,8 +111,8 @@ impl<A: Allocator> Parked<A> {
     pub fn get(&self, number: u64) -> Option<&ParkedCall<A>>
         ensures { option_copied result ≡ get nat_eq self.now.calls number }
     {
-        let place = self.place(number)?;
-        Some(&self.entries[place].1)
+        let place = place_of(&self.entries, number)?;
+        self.entries[place].1.as_ref()
     }
 
     /// Takes the call of a number out. The number isn't given again. It takes no memory.
@@ -109,22 +120,26 @@ impl<A: Allocator> Parked<A> {
         ensures call { result ≡ get nat_eq self.old.calls number }
         ensures rest { self.new ≡ record self.old { calls = without nat_eq self.old.calls number } }
     {
-        let place = self.place(number)?;
-        let (_, call) = self.entries.remove(place);
+        let place = place_of(&self.entries, number)?;
+        let call = self.entries[place].1.take()?;
+        self.counts.remove(call.pid);
+        self.empty += 1;
+        self.close_gaps();
         Some(call)
     }
 
-    /// The least number of the calls of a process, if it has any.
-    pub fn next_of_process(&self, pid: u32) -> Option<u64>
-        ensures value { result ≡ option_map (λ entry. entry.0) (find (is_of pid) self.now.calls) }
-        ensures parked { IfSome result (λ number. IfSome (get nat_eq self.now.calls number) (λ call. call.pid ≡ pid)) }
-        ensures least { IfSome result (λ number. (other : ℕ) → IfSome (get nat_eq self.now.calls other) (λ call. call.pid ≡ pid → number ≤ other)) }
-        ensures none { IfNone result ((number : ℕ) → IfSome (get nat_eq self.now.calls number) (λ call. ¬ (call.pid ≡ pid))) }
+    /// The least number, `from` or above, of the calls of a process, if it has one there. It goes over the calls from `from`
+    /// on, and over none where the process has none at all.
+    pub fn next_of_process(&self, pid: u32, from: u64) -> Option<u64>
+        ensures value { result ≡ option_map (λ entry. entry.0) (find (is_of_from pid from) self.now.calls) }
+        ensures parked { IfSome result (λ number. (from ≤ number) × IsSomeAnd (get nat_eq self.now.calls number) (λ call. call.pid ≡ pid)) }
+        ensures least { IfSome result (λ number. (other : ℕ) → from ≤ other → IfSome (get nat_eq self.now.calls other) (λ call. call.pid ≡ pid → number ≤ other)) }
+        ensures none { IfNone result ((number : ℕ) → from ≤ number → IfSome (get nat_eq self.now.calls number) (λ call. ¬ (call.pid ≡ pid))) }
     {
-        // A proof learns here that the numbers rise, so that the first entry has the least.
-        let _ = &self.entries;
-        let (number, _) = self.first_of(pid)?;
-        Some(*number)
+        if self.counts.of(pid) == 0 {
+            return None;
+        }
+        next_of(&self.entries, pid, from)
     }
 
     /// Says how many bytes the write of a number took so far. It takes no memory.
@@ -132,25 +147,21 @@ impl<A: Allocator> Parked<A> {
         requires { IsSome (get nat_eq self.old.calls number) }
         ensures { IfSome (get nat_eq self.old.calls number) (λ call. self.new ≡ record self.old { calls = put nat_eq self.old.calls number (record call { taken = taken }) }) }
     {
-        let place = self.place(number).unwrap();
-        let entry = &mut self.entries[place];
-        entry.1.taken = taken;
+        let place = place_of(&self.entries, number).unwrap();
+        let Some(call) = &mut self.entries[place].1 else {
+            unreachable!()
+        };
+        call.taken = taken;
     }
 
-    // The first entry of a process.
-    fn first_of(&self, pid: u32) -> Option<&(u64, ParkedCall<A>)>
-        ensures { option_copied result ≡ find (is_of pid) self.now.calls }
+    // Moves the calls together once more than half of the entries are empty, so that fewer calls move than ended since the
+    // last time.
+    fn close_gaps(&mut self)
+        ensures { self.new ≡ self.old }
     {
-        self.entries.iter().find(|entry| entry.1.pid == pid)
-    }
-
-    // Where the call of a number stands.
-    fn place(&self, number: u64) -> Option<usize>
-        ensures here { IfSome result (λ place. number_at self.now.calls place ≡ Some number) }
-        ensures none { IfNone result (get nat_eq self.now.calls number ≡ None) }
-    {
-        self.entries
-            .binary_search_by_key(&number, |entry| entry.0)
-            .ok()
+        if self.empty > self.entries.len() / 2 {
+            self.entries.retain(|entry| entry.1.is_some());
+            self.empty = 0;
+        }
     }
 }

@@ -1,21 +1,65 @@
-use Rattle.std.proofs.Common.{◌≡◌, ap, sym, ◌∙◌, subst, slice_index_or, slice_set, IfSome, Some, nat_eq}
-use Rattle.pl_model.specs.Map.{put}
-use Rattle.pl_parked.specs.Calls.{Calls, Rise, number_at}
-use Rattle.pl_parked.proofs.Rising.{here_call, here_put, here_rises}
+use Rattle.std.proofs.Common.{◌≡◌, Option, Some, IfSome, IsSome, slice_set, refl, ap, sym, ◌∙◌, subst, nat_eq, arith}
+use Rattle.pl_model.specs.Map.{get, put}
+use Rattle.pl_parked.specs.declared.call.ParkedCall.{ParkedCall}
+use Rattle.pl_parked.specs.Calls.{Calls, number_at}
+use Rattle.pl_parked.specs.Entries.{calls_in}
+use Rattle.pl_parked.proofs.Keeping.{Found, seen-here, seen-some, entry-call, changes, keeps-changed}
+use Rattle.pl_parked.proofs.Rising.{at-within}
+use Rattle.pl_parked.proofs.parked.Parked.set_taken.Given.{Over}
+use Rattle.pl_parked.proofs.parked.Parked.set_taken.Goals.{After-unwrap-place, After-index_mut}
 use Rattle.pl_parked.proofs.parked.Parked.set_taken.Goals as goal
+
+pub unwrap-place-requires : goal.unwrap-place-requires
+unwrap-place-requires g c =
+    seen-some c.self.inside.entries.items c.deref.result.now c.args.number c.self.inside.next c.place_of.result c.deref.ensures.value c.self.invariant.rise c.place_of.ensures.none
+    (subst (λ (v : Calls _). IsSome (get nat_eq v.calls c.args.number)) (sym c.self.view_is) c.requires)
+
+-- the place of the number
+module _ (g : Over) (c : After-unwrap-place g) where
+  here : number_at c.self.inside.entries.items c.unwrap-place.result ≡ Some c.args.number
+  here = seen-here c.self.inside.entries.items c.deref.result.now c.args.number c.self.inside.next c.unwrap-place.result c.deref.ensures.value c.self.invariant.rise
+      (λ next rise. subst (λ o. IfSome o (λ k. number_at c.deref.result.now k ≡ Some c.args.number)) c.unwrap-place.ensures (c.place_of.ensures.here next rise))
+
+pub index_mut-requires : goal.index_mut-requires
+index_mut-requires g c =
+    let l = at-within c.args.number c.unwrap-place.result c.self.inside.entries.items (here g (goal.at.index_mut-requires g c).After-unwrap-place) in
+    omega (arith, l, c.self.inside.entries.ok.0)
+
+-- the entry there
+module _ (g : Over) (c : After-index_mut g) (at : number_at c.self.inside.entries.items c.unwrap-place.result ≡ Some c.args.number) where
+  abbrev found : Found g.row.A.Denot
+  found = record {
+    entries = c.self.inside.entries.items;
+    empty = c.self.inside.empty;
+    next = c.self.inside.next;
+    list = c.self.inside.counts.list.items;
+    number = c.args.number;
+    place = c.unwrap-place.result;
+    entry = c.index_mut.result.now;
+    sound = c.self.invariant;
+    at = at;
+    is = c.index_mut.ensures.value;
+  }
+
+  had : get nat_eq c.args.self.now.calls c.args.number ≡ c.index_mut.result.now.1
+  had = sym (ap (λ (v : Calls _). get nat_eq v.calls c.args.number) c.self.view_is) ∙ entry-call found
+
+pub unreachable-requires : goal.unreachable-requires
+unreachable-requires g c =
+    let w = goal.at.unreachable-requires g c in
+    let none = subst (λ (o : Option (ParkedCall g.row.A.Denot)). IsSome o) (had g w.After-index_mut (here g w.After-unwrap-place) ∙ c.in_default.is) c.requires in
+    cc
 
 pub invariant_of-self : goal.invariant_of-self
 invariant_of-self g c =
-    let at = subst (λ o. IfSome o (λ k. number_at c.args.self.now.calls k ≡ Some c.args.number)) c.unwrap-place.ensures c.place.ensures.here in
-    here_rises c.args.number c.self.inside.next c.unwrap-place.result c.self.inside.entries.items c.index_mut-entry.result.now c.self.invariant
-    (subst (λ (v : Calls _). number_at v.calls c.unwrap-place.result ≡ Some c.args.number) (sym c.self.view_is) at) c.index_mut-entry.ensures.value _
+    let w = goal.at.invariant_of-self g c in
+    keeps-changed (found g w.After-index_mut (here g w.After-unwrap-place)) c.in-Some.call c.in-Some.is (record c.in-Some.call { taken = c.args.taken }) refl
 
 pub returns : goal.returns
 returns g c =
-    let at = subst (λ o. IfSome o (λ k. number_at c.args.self.now.calls k ≡ Some c.args.number)) c.unwrap-place.ensures c.place.ensures.here in
-    let rises = subst (λ (v : Calls _). Rise 0 v.next v.calls) c.self.view_is c.self.invariant in
-    let is = c.index_mut-entry.ensures.value ∙ ap (λ (v : Calls _). slice_index_or v.calls c.unwrap-place.result c.index_mut-entry.result.now) c.self.view_is in
-    let was = here_call c.args.number _ c.unwrap-place.result c.args.self.now.calls c.index_mut-entry.result.now rises at is in
-    subst (λ o. IfSome o (λ call. record { calls = slice_set c.self.inside.entries.items c.unwrap-place.result (c.index_mut-entry.result.now.0, record c.index_mut-entry.result.now.1 { taken = c.args.taken }); next = c.self.inside.next } ≡ record c.args.self.now { calls = put nat_eq c.args.self.now.calls c.args.number (record call { taken = c.args.taken }) })) (sym was)
-    (ap (λ (v : Calls _). record v { calls = slice_set v.calls c.unwrap-place.result (c.index_mut-entry.result.now.0, record c.index_mut-entry.result.now.1 { taken = c.args.taken }) }) c.self.view_is
-    ∙ ap (λ cs. record c.args.self.now { calls = cs }) (here_put c.args.number _ c.unwrap-place.result c.args.self.now.calls c.index_mut-entry.result.now rises at is (record c.index_mut-entry.result.now.1 { taken = c.args.taken })))
+    let w = goal.at.returns g c in
+    let f = found g w.After-index_mut (here g w.After-unwrap-place) in
+    let new = record c.in-Some.call { taken = c.args.taken } in
+    subst (λ o. IfSome o (λ call. record { calls = calls_in (slice_set c.self.inside.entries.items c.unwrap-place.result (c.index_mut.result.now.0, Some new)); next = c.self.inside.next } ≡ record c.args.self.now { calls = put nat_eq c.args.self.now.calls c.args.number (record call { taken = c.args.taken }) })) (sym (had g w.After-index_mut (here g w.After-unwrap-place) ∙ c.in-Some.is))
+    (ap (λ calls. record { calls = calls; next = c.self.inside.next }) (changes f c.in-Some.call c.in-Some.is new)
+    ∙ ap (λ (v : Calls _). record v { calls = put nat_eq v.calls c.args.number new }) c.self.view_is)

@@ -1,0 +1,166 @@
+-- What each change of the fields leaves.
+use Rattle.std.proofs.Common.{◌≡◌, ℕ, ◌+◌, ◌-◌, ◌<◌, ◌≤◌, not, cond, List, [], ◌∷◌, ◌++◌, Option, Some, None, IfNone, IsSome, refl, sym, ◌∙◌, ap, subst, nat_eq, length, slice_set, slice_index_or, arith}
+use Rattle.std.specs.Prelude.{is_some}
+use Rattle.std.specs.Option.{option_flatten}
+use Rattle.std.proofs.lemmas.List.{set-get_or}
+use Rattle.pl_model.specs.Map.{Map, get, put, without}
+use Rattle.pl_parked.specs.declared.call.ParkedCall.{ParkedCall}
+use Rattle.pl_parked.specs.Calls.{Rise, number_at}
+use Rattle.pl_parked.specs.CallsView.{IsSound}
+use Rattle.pl_parked.specs.Counted.{place_of, count_at, calls_at, Counts}
+use Rattle.pl_parked.specs.Entries.{calls_in, is_empty}
+use Rattle.pl_parked.proofs.CountLemmas.{HasOneMore, counted-more, counted-fewer, some-counted, counts-few, push-more, without-fewer, put-counted}
+use Rattle.pl_parked.proofs.EntryLemmas.{calls-rise, no-entry, few-calls, get-call, call-at, emptied-calls, changed-calls, empties-set, empties-push, calls-push, full, full-calls, full-rise, full-empties}
+use Rattle.pl_parked.proofs.Rising.{Rise-push, Rise-pop, Rise-set, at-within, number_here, last_number, get-last}
+
+module _ {A : Type 0} where
+  pub keeps-full : (es : Map ℕ (Option (ParkedCall A))) (empty next : ℕ) (list : List ℕ) → IsSound es empty list next → IsSound (full es) 0 list next
+  keeps-full es empty next list s = record {
+    rise = full-rise 0 next es s.rise;
+    empty_ones = sym (full-empties es);
+    counted = subst (λ (calls : Map ℕ (ParkedCall A)). Counts list calls) (sym (full-calls es)) s.counted;
+  }
+
+  pub keeps-push : (es : Map ℕ (Option (ParkedCall A))) (empty next : ℕ) (list : List ℕ) (x : ParkedCall A) → IsSound es empty list next → place_of x.pid < length list
+      → IsSound (es ++ (next, Some x) ∷ []) empty (slice_set list (place_of x.pid) (count_at list (place_of x.pid) + 1)) (next + 1)
+  keeps-push es empty next list x s l = record {
+    rise = Rise-push 0 next es (Some x) s.rise;
+    empty_ones = (let h = empties-push es (next, Some x) in let e = s.empty_ones in omega arith);
+    counted = subst (λ (calls : Map ℕ (ParkedCall A)). Counts (slice_set list (place_of x.pid) (count_at list (place_of x.pid) + 1)) calls) (sym (calls-push es next x))
+        (counted-more list x.pid (calls_in es) (calls_in es ++ (next, x) ∷ []) (push-more (calls_in es) next x) s.counted l);
+  }
+
+  -- another list with the same counts
+  pub keeps-counts : (es : Map ℕ (Option (ParkedCall A))) (empty next : ℕ) (list more : List ℕ) → count_at more ≡ count_at list → IsSound es empty list next → IsSound es empty more next
+  keeps-counts es empty next list more same s = record { rise = s.rise; empty_ones = s.empty_ones; counted = λ place. (λ i. same i place) ∙ s.counted place }
+
+  -- no count is greater than the entries are many
+  pub few-counted : (es : Map ℕ (Option (ParkedCall A))) (empty next : ℕ) (list : List ℕ) (place : ℕ) → IsSound es empty list next → count_at list place ≤ length es
+  few-counted es empty next list place s = let a = counts-few list place (calls_in es) s.counted in let b = few-calls es in omega (arith, a, b)
+
+  -- what a search in a slice of the entries says of the entries
+  pub seen-here : (es now : Map ℕ (Option (ParkedCall A))) (n next k : ℕ) → now ≡ es → Rise 0 next es → ((next : ℕ) → Rise 0 next now → number_at now k ≡ Some n) → number_at es k ≡ Some n
+  seen-here es now n next k is r h = subst (λ (z : Map ℕ (Option (ParkedCall A))). number_at z k ≡ Some n) is (h next (subst (λ (z : Map ℕ (Option (ParkedCall A))). Rise 0 next z) (sym is) r))
+
+  pub seen-none : (es now : Map ℕ (Option (ParkedCall A))) (n next : ℕ) → now ≡ es → Rise 0 next es → ((next : ℕ) → Rise 0 next now → get nat_eq now n ≡ None) → get nat_eq (calls_in es) n ≡ None
+  seen-none es now n next is r h = no-entry n next es r (subst (λ (z : Map ℕ (Option (ParkedCall A))). get nat_eq z n ≡ None) is (h next (subst (λ (z : Map ℕ (Option (ParkedCall A))). Rise 0 next z) (sym is) r)))
+
+  -- a number that has a call has an entry
+  pub seen-some : (es now : Map ℕ (Option (ParkedCall A))) (n next : ℕ) (o : Option ℕ) → now ≡ es → Rise 0 next es → ((next : ℕ) → Rise 0 next now → IfNone o (get nat_eq now n ≡ None)) → IsSome (get nat_eq (calls_in es) n) → IsSome o
+  seen-some es now n next None is r h has = subst (λ (q : Option (ParkedCall A)). IsSome q) (seen-none es now n next is r h) has
+  seen-some es now n next (Some k) is r h has = refl
+
+-- the place of a number, and the entry there
+pub record Found (A : Type 0) : Type 0 where
+  pub entries : Map ℕ (Option (ParkedCall A))
+  pub empty : ℕ
+  pub next : ℕ
+  pub list : List ℕ
+  pub number : ℕ
+  pub place : ℕ
+  pub entry : ℕ × Option (ParkedCall A)
+  pub sound : IsSound entries empty list next
+  pub at : number_at entries place ≡ Some number
+  pub is : entry ≡ slice_index_or entries place entry
+
+module _ {A : Type 0} (f : Found A) where
+  open f use {entries, empty, next, list, number, place, entry, sound, at, is}
+
+  numbered : entry.0 ≡ number
+  numbered = let a = number_here entries place entry (at-within number place entries at) in let b : (slice_index_or entries place entry).0 ≡ number = cc in ap (λ (z : ℕ × Option (ParkedCall A)). z.0) is ∙ b
+
+  pub entry-call : get nat_eq (calls_in entries) number ≡ entry.1
+  entry-call = call-at number 0 next place entries entry sound.rise at ∙ ap (λ (z : ℕ × Option (ParkedCall A)). z.1) (sym is)
+
+  -- an empty one stays as it is
+  pub still-empty : entry.1 ≡ None → slice_set entries place (entry.0, None) ≡ entries
+  still-empty none = ap (λ o. slice_set entries place (entry.0, o)) (sym none) ∙ ap (slice_set entries place) is ∙ set-get_or entries place entry
+
+  module _ (x : ParkedCall A) (full-one : entry.1 ≡ Some x) where
+    has : get nat_eq (calls_in entries) number ≡ Some x
+    has = entry-call ∙ full-one
+
+    was_full : ◌≡◌ {A = ℕ} (cond (is_empty (slice_index_or entries place entry)) 1 0) 0
+    was_full = ap (λ (o : Option (ParkedCall A)). cond (not (is_some o)) 1 0) (sym (call-at number 0 next place entries entry sound.rise at) ∙ has)
+
+    one-more : HasOneMore x.pid (without nat_eq (calls_in entries) number) (calls_in entries)
+    one-more = without-fewer number 0 next (calls_in entries) x (calls-rise 0 next entries sound.rise) has
+
+    pub is-counted : 0 < count_at list (place_of x.pid)
+    is-counted = some-counted list x.pid (without nat_eq (calls_in entries) number) (calls_in entries) one-more sound.counted
+
+    -- its call leaves
+    pub leaves : calls_in (slice_set entries place (entry.0, None)) ≡ without nat_eq (calls_in entries) number
+    leaves = ap (λ m. calls_in (slice_set entries place (m, None))) numbered ∙ emptied-calls number 0 next place entries sound.rise at
+
+    pub keeps-emptied : IsSound (slice_set entries place (entry.0, None)) (empty + 1) (slice_set list (place_of x.pid) (count_at list (place_of x.pid) - 1)) next
+    keeps-emptied = record {
+      rise = subst (λ m. Rise 0 next (slice_set entries place (m, None))) (sym numbered) (Rise-set number 0 next place entries None sound.rise at);
+      empty_ones = (let h = empties-set place entries (entry.0, None) entry (at-within number place entries at) in let z = was_full in let c = sound.empty_ones in omega arith);
+      counted = subst (λ (calls : Map ℕ (ParkedCall A)). Counts (slice_set list (place_of x.pid) (count_at list (place_of x.pid) - 1)) calls) (sym leaves)
+          (counted-fewer list x.pid (without nat_eq (calls_in entries) number) (calls_in entries) one-more sound.counted);
+    }
+
+    -- it gets another call
+    pub changes : (y : ParkedCall A) → calls_in (slice_set entries place (entry.0, Some y)) ≡ put nat_eq (calls_in entries) number y
+    changes y = ap (λ m. calls_in (slice_set entries place (m, Some y))) numbered ∙ changed-calls number 0 next place entries x y sound.rise at has
+
+    pub keeps-changed : (y : ParkedCall A) → y.pid ≡ x.pid → IsSound (slice_set entries place (entry.0, Some y)) empty list next
+    keeps-changed y same = record {
+      rise = subst (λ m. Rise 0 next (slice_set entries place (m, Some y))) (sym numbered) (Rise-set number 0 next place entries (Some y) sound.rise at);
+      empty_ones = (let h = empties-set place entries (entry.0, Some y) entry (at-within number place entries at) in let z = was_full in let c = sound.empty_ones in omega arith);
+      counted = λ p. sound.counted p ∙ sym (put-counted number (calls_in entries) x y has same p) ∙ ap (λ (calls : Map ℕ (ParkedCall A)). calls_at calls p) (sym (changes y));
+    }
+
+-- the last entry, that of the call that was parked last
+pub record Ended (A : Type 0) : Type 0 where
+  pub entries : Map ℕ (Option (ParkedCall A))
+  pub empty : ℕ
+  pub next : ℕ
+  pub list : List ℕ
+  pub number : ℕ
+  pub before : Map ℕ (Option (ParkedCall A))
+  pub entry : ℕ × Option (ParkedCall A)
+  pub sound : IsSound entries empty list next
+  pub is : entries ≡ before ++ entry ∷ []
+  pub last : number + 1 ≡ next
+  pub here : IsSome (get nat_eq (calls_in entries) number)
+
+module _ {A : Type 0} (f : Ended A) where
+  open f use {entries, empty, next, list, number, before, entry, sound, is, last, here}
+
+  ends : IsSound (before ++ entry ∷ []) empty list next
+  ends = subst (λ (z : Map ℕ (Option (ParkedCall A))). IsSound z empty list next) is sound
+
+  found : IsSome (option_flatten (get nat_eq (before ++ entry ∷ []) number))
+  found = subst (λ o. IsSome o) (get-call number 0 next (before ++ entry ∷ []) ends.rise) (subst (λ (z : Map ℕ (Option (ParkedCall A))). IsSome (get nat_eq (calls_in z) number)) is here)
+
+  last-numbered : entry.0 ≡ number
+  last-numbered = last_number number 0 next before entry ends.rise last (by (get nat_eq (before ++ entry ∷ []) number) found)
+    where
+      by : (o : Option (Option (ParkedCall A))) → IsSome (option_flatten o) → IsSome o
+      by None h = h
+      by (Some o) h = refl
+
+  pub last-full : IsSome entry.1
+  last-full = subst (λ o. IsSome (option_flatten o)) (ap (get nat_eq (before ++ entry ∷ [])) (sym last-numbered) ∙ get-last 0 next before entry ends.rise) found
+
+  module _ (x : ParkedCall A) (full-one : entry.1 ≡ Some x) where
+    ends-there : entries ≡ before ++ (number, Some x) ∷ []
+    ends-there = is ∙ (λ i. before ++ (last-numbered i, full-one i) ∷ [])
+
+    pub last-call : calls_in entries ≡ calls_in before ++ (number, x) ∷ []
+    last-call = ap calls_in ends-there ∙ calls-push before number x
+
+    counts-it : Counts list (calls_in before ++ (number, x) ∷ [])
+    counts-it = subst (λ (calls : Map ℕ (ParkedCall A)). Counts list calls) last-call sound.counted
+
+    pub last-counted : 0 < count_at list (place_of x.pid)
+    last-counted = some-counted list x.pid (calls_in before) (calls_in before ++ (number, x) ∷ []) (push-more (calls_in before) number x) counts-it
+
+    pub keeps-popped : IsSound before empty (slice_set list (place_of x.pid) (count_at list (place_of x.pid) - 1)) number
+    keeps-popped = (let there = subst (λ (z : Map ℕ (Option (ParkedCall A))). IsSound z empty list next) ends-there sound in record {
+      rise = Rise-pop 0 next before (number, Some x) there.rise;
+      empty_ones = (let h = empties-push before (number, Some x) in let c = there.empty_ones in omega arith);
+      counted = counted-fewer list x.pid (calls_in before) (calls_in before ++ (number, x) ∷ []) (push-more (calls_in before) number x) counts-it;
+    })
