@@ -119,7 +119,13 @@ fn ending_of(
 }
 
 /// Where the `n`th request is refused and the first write fails too, the run ends by the write.
-fn fail_the_write_too(rt: &impl Abort, alloc: Global, heap: &Refusing<Global>, script: &str, n: u64) {
+fn fail_the_write_too(
+    rt: &impl Abort,
+    alloc: Global,
+    heap: &Refusing<Global>,
+    script: &str,
+    n: u64,
+) {
     heap.refuse(n);
     let mut reader = Reads::new(script.as_bytes(), MAX_READS);
     let mut writer = Writes::new(Drip::failing(alloc, usize::MAX, 1, Failure::Nothing));
