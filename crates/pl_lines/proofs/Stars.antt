@@ -1,6 +1,6 @@
 -- The `*` of a word of bytes, which stands behind a number.
-use Rattle.std.proofs.Common.{◌≡◌, ℕ, ◌+◌, ◌<◌, ◌≤◌, Bool, true, false, ◌&&◌, cond, List, length, take, drop, get_or, min, Option, Some, None, refl, sym, arith}
-use Rattle.std.specs.Prelude.{position, nat_lt, nat_le, is_some}
+use Rattle.std.proofs.Common.{◌≡◌, ℕ, ◌+◌, ◌<◌, ◌≤◌, Bool, true, false, ◌&&◌, List, length, take, drop, get_or, min, Option, Some, None, refl, arith}
+use Rattle.std.specs.Prelude.{position, nat_lt, is_some}
 use Rattle.std.specs.List.{position_or_len, list_all}
 use Rattle.std.proofs.lemmas.Bool.{lt-ltb, ltb-true, lt-leb, eqb-true}
 use Rattle.std.proofs.lemmas.List.{length-take-le}
