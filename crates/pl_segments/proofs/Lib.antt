@@ -3,3 +3,4 @@ pub mod Storing
 pub mod Turning
 pub mod Shared
 pub mod Appending
+pub mod Making

@@ -1,0 +1,2 @@
+pub mod TwoView
+pub mod PairView
