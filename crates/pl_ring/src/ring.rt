@@ -49,7 +49,7 @@ impl<A: Allocator> Model for Ring<A> {
 }
 
 impl<A: Allocator + Copy> Ring<A> {
-    /// No slots. A capacity is a multiple of 4,096, and at most 1,048,576.
+    /// No slots. A capacity is a multiple of 4,096, from 4,096 to 1,048,576.
     pub fn new(alloc: A, capacity: usize) -> Result<Ring<A>, NoMemory>
         requires { IsCapacity capacity }
         ensures { IfOk result (λ ring. ring ≡ record { slots = []; capacity = capacity }) }
@@ -112,9 +112,9 @@ impl<A: Allocator + Copy> Ring<A> {
         Ok(())
     }
 
-    /// Adds slices of held segments at the end, whose bytes fit. Where they are the front of one ring, at most three segments
-    /// are made, and all slots but three at most are slots that were there or lie within slices that were added. An error
-    /// leaves all as it was.
+    /// Adds slices of held segments at the end, whose bytes fit; one of no bytes adds no slot. Where they are the front of one
+    /// ring, at most three segments are made, and all slots but three at most are slots that were there or lie within slices
+    /// that were added. An error leaves all as it was.
     pub fn push_slices(
         &mut self,
         store: &mut Store<A>,
@@ -192,7 +192,7 @@ impl<A: Allocator + Copy> Ring<A> {
         self.held = 0;
     }
 
-    /// Sets how many bytes may be held: a multiple of 4,096, and at most 1,048,576. An error leaves all as it was.
+    /// Sets how many bytes may be held: a multiple of 4,096, from 4,096 to 1,048,576. An error leaves all as it was.
     ///
     /// # Errors
     ///
