@@ -1,9 +1,0 @@
-use Rattle.pl_segments.specs.Segments.{segment_at}
-use Rattle.pl_segment_checks.proofs.Both.{left-held, left-turned}
-use Rattle.pl_segment_checks.proofs.pair.Pair.skip.Goals as goal
-
-pub drop_front-requires-clause-held : goal.drop_front-requires-clause-held
-drop_front-requires-clause-held g c = left-held (segment_at c.self.inside.store) c.self.inside.left.slots c.self.inside.right.slots c.self.invariant.shared
-
-pub invariant_of-self : goal.invariant_of-self
-invariant_of-self g c = record { shared = left-turned (segment_at c.self.inside.store) c.self.inside.left.slots c.self.inside.right.slots c.self.invariant.shared (segment_at c.drop_front.new.store) c.drop_front.new.self.slots c.drop_front.ensures.turns }

@@ -1,2 +1,0 @@
-pub mod TwoView
-pub mod PairView
