@@ -1,0 +1,132 @@
+-- Slots, and slices that are still to be pushed behind them.
+use Rattle.std.proofs.Common.{◌≡◌, ◌≢◌, ℕ, ◌+◌, ◌<◌, ◌≤◌, Bool, true, false, List, [], ◌∷◌, ◌++◌, refl, sym, ◌∙◌, ap, subst, get_or, drop, length, arith}
+use Rattle.std.specs.Prelude.{if◌then◌else◌}
+use Rattle.std.proofs.lemmas.Bool.{eq-eqb, ne_eqb}
+use Rattle.std.proofs.lemmas.List.{append-nil, append_assoc, drop_more, drop_all}
+use Rattle.pl_segments.specs.declared.slice.Slice.{Slice}
+use Rattle.pl_segments.specs.Segments.{Map, Segments, segment_at, live_count}
+use Rattle.pl_segments.specs.Slices.{all_read, one_if}
+use Rattle.pl_segments.specs.Turns.{Holds, Turns}
+use Rattle.pl_segments.proofs.Turning.{read-append, turns-then, turns-same, holds-turned, turns-before, read-before}
+use Rattle.pl_ring.specs.Slots.{total, AllSolid, solid_of, last_len}
+use Rattle.pl_ring.specs.Merging.{lens, AreMerged, joins, joining, merges, merges_onto}
+use Rattle.pl_ring.specs.Parts.{strange}
+use Rattle.pl_ring.proofs.SlotLemmas.{no_slice, solid-append, solid-left, solid-right, total-append, total-read}
+use Rattle.pl_ring.proofs.Placing.{holds-left}
+use Rattle.pl_ring.proofs.Lying.{strange-append}
+
+-- Slots xs0 with slices ds0 became slots xs with slices ds, and the merges that are left were all counted.
+pub record Underway (m0 : Map) (xs0 ds0 : List Slice) (live0 : ℕ) (m : Map) (xs ds : List Slice) (live room : ℕ) : Type 0 where
+  pub turns : Turns m0 (xs0 ++ ds0) m (xs ++ ds)
+  pub read : all_read m (xs ++ ds) ≡ all_read m0 (xs0 ++ ds0)
+  pub solid : AllSolid (xs ++ ds)
+  pub merged : AreMerged (lens xs)
+  pub enough : merges_onto xs (lens ds) ≤ room
+  pub in_use : live + merges_onto xs (lens ds) ≤ live0 + merges_onto xs0 (lens ds0)
+  pub parts : (ps : List Slice) → strange ps (xs ++ ds) + merges_onto xs (lens ds) ≤ strange ps (xs0 ++ ds0) + merges_onto xs0 (lens ds0)
+
+-- where the slices are those of a list from a place on, but those of no bytes
+module _ {m0 : Map} {xs0 ds0 : List Slice} {live0 : ℕ} {m : Map} {xs : List Slice} {live room : ℕ} (slices : List Slice) (i : ℕ) (u : Underway m0 xs0 ds0 live0 m xs (solid_of (drop i slices)) live room) where
+  abbrev it : Slice
+  it = get_or slices i no_slice
+
+  abbrev rest : List Slice
+  rest = solid_of (drop (i + 1) slices)
+
+  pub underway-at : i < length slices → it.len ≢ 0 → Underway m0 xs0 ds0 live0 m xs (it ∷ rest) live room
+  underway-at l n =
+      subst (λ ds. Underway m0 xs0 ds0 live0 m xs ds live room)
+      (ap solid_of (drop_more slices i no_slice l) ∙ ap (λ b. if b then rest else it ∷ rest) (ne_eqb it.len 0 n)) u
+
+  pub underway-past : i < length slices → it.len ≡ 0 → Underway m0 xs0 ds0 live0 m xs rest live room
+  underway-past l e =
+      subst (λ ds. Underway m0 xs0 ds0 live0 m xs ds live room)
+      (ap solid_of (drop_more slices i no_slice l) ∙ ap (λ b. if b then rest else it ∷ rest) (eq-eqb it.len 0 e)) u
+
+  pub underway-end : length slices ≤ i → Underway m0 xs0 ds0 live0 m xs [] live room
+  underway-end l = subst (λ ds. Underway m0 xs0 ds0 live0 m xs ds live room) (ap solid_of (drop_all i slices l)) u
+
+-- the store and the slots under other names
+pub underway-as : {m0 : Map} {xs0 ds0 : List Slice} {live0 : ℕ} {ds : List Slice} (s t : Segments) (ys zs : List Slice) → s ≡ t → ys ≡ zs
+    → Underway m0 xs0 ds0 live0 (segment_at t) zs ds (live_count t.held) t.room → Underway m0 xs0 ds0 live0 (segment_at s) ys ds (live_count s.held) s.room
+underway-as {m0} {xs0} {ds0} {live0} {ds} s t ys zs e f u =
+    subst (λ (k : Segments). Underway m0 xs0 ds0 live0 (segment_at k) ys ds (live_count k.held) k.room) (sym e)
+    (subst (λ ks. Underway m0 xs0 ds0 live0 (segment_at t) ks ds (live_count t.held) t.room) (sym f) u)
+
+-- before the first
+pub underway-first : (m : Map) (xs ds : List Slice) (live room : ℕ) → Holds m (xs ++ ds) → AllSolid (xs ++ ds) → AreMerged (lens xs) → merges_onto xs (lens ds) ≤ room → Underway m xs ds live m xs ds live room
+underway-first m xs ds live room held solid merged enough = record {
+  turns = turns-same m (xs ++ ds) held.lie;
+  read = refl;
+  solid = solid;
+  merged = merged;
+  enough = enough;
+  in_use = omega arith;
+  parts = λ ps. omega arith;
+}
+
+-- one more slice
+module _ {m0 : Map} {xs0 ds0 : List Slice} {live0 : ℕ} {m : Map} {xs : List Slice} {x : Slice} {ds : List Slice} {live room : ℕ}
+    (held0 : Holds m0 (xs0 ++ ds0)) (u : Underway m0 xs0 ds0 live0 m xs (x ∷ ds) live room) where
+  apart : xs ++ (x ∷ ds) ≡ (xs ++ x ∷ []) ++ ds
+  apart = sym (append_assoc xs (x ∷ []) ds)
+
+  held : Holds m ((xs ++ x ∷ []) ++ ds)
+  held = subst (Holds m) apart (holds-turned m0 m (xs0 ++ ds0) (xs ++ (x ∷ ds)) held0 u.turns)
+
+  pub next-held : Holds m (xs ++ x ∷ [])
+  next-held = holds-left m (xs ++ x ∷ []) ds held
+
+  solid : AllSolid ((xs ++ x ∷ []) ++ ds)
+  solid = subst AllSolid apart u.solid
+
+  pub next-solid : AllSolid (xs ++ x ∷ [])
+  next-solid = solid-left (xs ++ x ∷ []) ds solid
+
+  pub next-total : total xs + x.len ≤ total (xs0 ++ ds0)
+  next-total =
+      let all : total (xs ++ (x ∷ ds)) ≡ total (xs0 ++ ds0) = sym (total-read m (xs ++ (x ∷ ds)) u.turns.lie) ∙ ap length u.read ∙ total-read m0 (xs0 ++ ds0) held0.lie in
+      let sum : total (xs ++ (x ∷ ds)) ≡ total xs + (x.len + total ds) = total-append xs (x ∷ ds) in
+      omega (arith, all, sum)
+
+  pub next-room : joining xs x ≤ room
+  next-room = by (joins (length xs) (last_len xs) x.len) u.enough
+    where
+      by : (b : Bool) → (if b then 1 + merges (length xs) (last_len xs + x.len) (lens ds) else merges (length xs + 1) x.len (lens ds)) ≤ room → one_if b ≤ room
+      by true l = omega (arith, l)
+      by false l = omega arith
+
+  module _ (n : Map) (ys : List Slice) (live1 room1 : ℕ) (t : Turns m (xs ++ x ∷ []) n ys) (r : all_read n ys ≡ all_read m (xs ++ x ∷ []))
+      (tight : AreMerged (lens ys)) (some : AllSolid ys) (left : room ≤ room1 + joining xs x) (made : live1 ≤ live + joining xs x)
+      (plan : (rest : List ℕ) → merges_onto ys rest + joining xs x ≡ merges_onto xs (x.len ∷ rest))
+      (within : (ps : List Slice) → strange ps ys ≤ strange ps (xs ++ x ∷ []) + joining xs x) where
+    pub underway-next : Underway m0 xs0 ds0 live0 n ys ds live1 room1
+    underway-next = record {
+      turns = turns-then m0 m n (xs0 ++ ds0) (xs ++ (x ∷ ds)) (ys ++ ds) u.turns (subst (λ zs. Turns m zs n (ys ++ ds)) (sym apart) (turns-before m n (xs ++ x ∷ []) ys ds held t));
+      read = read-before m n (xs ++ x ∷ []) ys ds held t ∙ ap (λ bs. bs ++ all_read m ds) r ∙ sym (read-append m (xs ++ x ∷ []) ds) ∙ ap (all_read m) (sym apart) ∙ u.read;
+      solid = solid-append ys ds some (solid-right (xs ++ x ∷ []) ds solid);
+      merged = tight;
+      enough = (let p = plan (lens ds) in let e = u.enough in omega (arith, p, e, left));
+      in_use = (let p = plan (lens ds) in let e = u.in_use in omega (arith, p, e, made));
+      parts = λ ps.
+          let p = plan (lens ds) in let w = within ps in let o = u.parts ps in
+          let a = strange-append ps ys ds in let b = ap (strange ps) apart ∙ strange-append ps (xs ++ x ∷ []) ds in
+          omega (arith, p, w, o, a, b);
+    }
+
+-- after the last
+module _ {m0 : Map} {xs0 ds0 : List Slice} {live0 : ℕ} {m : Map} {xs : List Slice} {live room : ℕ} (u : Underway m0 xs0 ds0 live0 m xs [] live room) where
+  pub last-turns : Turns m0 (xs0 ++ ds0) m xs
+  last-turns = subst (Turns m0 (xs0 ++ ds0) m) (append-nil xs) u.turns
+
+  pub last-read : all_read m xs ≡ all_read m0 (xs0 ++ ds0)
+  last-read = ap (all_read m) (sym (append-nil xs)) ∙ u.read
+
+  pub last-solid : AllSolid xs
+  last-solid = subst AllSolid (append-nil xs) u.solid
+
+  pub last-in_use : live ≤ live0 + merges_onto xs0 (lens ds0)
+  last-in_use = let e = u.in_use in omega (arith, e)
+
+  pub last-parts : (ps : List Slice) → strange ps xs ≤ strange ps (xs0 ++ ds0) + merges_onto xs0 (lens ds0)
+  last-parts ps = let e = u.parts ps in let a = ap (strange ps) (append-nil xs) in omega (arith, e, a)

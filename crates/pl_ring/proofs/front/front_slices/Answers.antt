@@ -1,0 +1,16 @@
+use Rattle.std.proofs.Common.{◌≡◌, ◌∙◌, ◌++◌, ap, sym}
+use Rattle.pl_ring.specs.Slots.{front_of}
+use Rattle.pl_ring.proofs.Fronting.{front-append}
+use Rattle.pl_ring.proofs.front.front_slices.Goals as goal
+
+pub returns : goal.returns
+returns g c =
+    let n = c.args.count in
+    let front = c.as_slices.result.0.now in
+    let back = c.as_slices.result.1.now in
+    let none = c.in_ok-list.ensures.items in
+    let first : c.add_slices-rest.new.list.items ≡ front_of n front = c.add_slices-rest.ensures.items ∙ ap (λ zs. zs ++ front_of n front) none in
+    c.add_slices.ensures.items
+    ∙ (λ i. first i ++ front_of (c.add_slices-rest.ensures.left i) back)
+    ∙ sym (front-append n front back)
+    ∙ ap (front_of n) c.as_slices.ensures

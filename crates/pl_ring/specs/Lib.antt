@@ -1,0 +1,5 @@
+pub mod Slots
+pub mod Merging
+pub mod Parts
+pub mod Ring
+pub mod RingView

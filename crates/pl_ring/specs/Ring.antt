@@ -1,0 +1,26 @@
+-- A ring as contracts see it.
+use Rattle.std.specs.Prelude.{◌≡◌, ◌≢◌, ◌≤◌, ℕ, ◌%◌, List, [], Option, None, Some}
+use Rattle.circular_buffer.specs.Buffer.{Buffer, buffer}
+use Rattle.pl_model.specs.Numbers.{first_capacity}
+use Rattle.pl_segments.specs.declared.slice.Slice.{Slice}
+use Rattle.pl_segments.specs.Segments.{segment_size}
+
+-- the slots from the front to the back, and how many bytes may be held
+pub record Ring : Type 0 where
+  pub slots : List Slice
+  pub capacity : ℕ
+
+-- Our own: the most bytes that a pipe may hold.
+abbrev pub most_capacity : ℕ
+most_capacity = 1048576
+
+-- what may be the capacity of a ring
+pub record IsCapacity (capacity : ℕ) : Type 0 where
+  pub whole : capacity % segment_size ≡ 0
+  pub least : segment_size ≤ capacity
+  pub most : capacity ≤ most_capacity
+
+-- the places of a new pipe, with no slots, are kept beside those of any other capacity
+abbrev pub IsBeside : ℕ → Option (Buffer Slice) → Type 0
+IsBeside capacity None = capacity ≡ first_capacity
+IsBeside capacity (Some b) = (capacity ≢ first_capacity) × (b ≡ buffer [] 32)

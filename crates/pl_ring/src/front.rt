@@ -1,0 +1,131 @@
+//! Slots at the front.
+ghost use Rattle.std.specs.Prelude.{◌≡◌, ◌+◌, ◌-◌, ◌≤◌, ◌++◌, length, take, drop, vec_len, vec_capacity, IfOk};
+ghost use Rattle.pl_segments.specs.Segments.{segment_at};
+ghost use Rattle.pl_segments.specs.Slices.{AllLie, all_read};
+ghost use Rattle.pl_segments.specs.Turns.{Holds, Turns};
+ghost use Rattle.pl_ring.specs.Slots.{total, AllSolid, drop_bytes, front_of};
+
+use crate::places::{put_first, take_first};
+use circular_buffer::HeapCircularBuffer;
+use pl_segments::{NoMemory, Slice, Store};
+use std::alloc::Allocator;
+
+/// The bytes of the first slots, copied.
+pub(crate) fn copy_front<A: Allocator + Copy>(
+    alloc: A,
+    store: &Store<A>,
+    slots: &HeapCircularBuffer<Slice, A>,
+    count: usize,
+) -> Result<Vec<u8, A>, NoMemory>
+    requires { AllLie (segment_at store.now) slots.now.items }
+    ensures { IfOk result (λ bytes. bytes.items ≡ take count (all_read (segment_at store.now) slots.now.items)) }
+{
+    let mut bytes = Vec::with_capacity(alloc, count)?;
+    let (front, back) = slots.as_slices();
+    add_bytes(store, front, count, &mut bytes);
+    add_bytes(store, back, count, &mut bytes);
+    Ok(bytes)
+}
+
+/// Adds the bytes of slots to a list that has the capacity for `count`, until it has so many.
+fn add_bytes<A: Allocator + Copy>(
+    store: &Store<A>,
+    slots: &[Slice],
+    count: usize,
+    bytes: &mut Vec<u8, A>,
+)
+    requires lie { AllLie (segment_at store.now) slots.now }
+    requires len { vec_len bytes.old ≤ count }
+    requires capacity { count ≤ vec_capacity bytes.old }
+    ensures items { bytes.new.items ≡ bytes.old.items ++ take (count - vec_len bytes.old) (all_read (segment_at store.now) slots.now) }
+    ensures len { vec_len bytes.new ≤ count }
+    ensures capacity { vec_capacity bytes.old ≤ vec_capacity bytes.new }
+{
+    let mut place = 0;
+    while place < slots.len() && bytes.len() < count {
+        let slot = slots[place];
+        let len = (slot.len as usize).min(count - bytes.len());
+        let part = Slice {
+            segment: slot.segment,
+            from: slot.from,
+            len: len as u32,
+        };
+        bytes.extend_from_slice(store.bytes(part)).unwrap();
+        place += 1;
+    }
+}
+
+/// The slices of the first bytes.
+pub(crate) fn front_slices<A: Allocator + Copy>(
+    alloc: A,
+    slots: &HeapCircularBuffer<Slice, A>,
+    count: usize,
+) -> Result<Vec<Slice, A>, NoMemory>
+    ensures { IfOk result (λ list. list.items ≡ front_of count slots.now.items) }
+{
+    let mut list = Vec::with_capacity(alloc, slots.len())?;
+    let (front, back) = slots.as_slices();
+    let rest = add_slices(front, count, &mut list);
+    add_slices(back, rest, &mut list);
+    Ok(list)
+}
+
+/// Adds the slices of the first bytes to a list that has the capacity for all, and answers how many bytes are left to be
+/// listed.
+fn add_slices<A: Allocator>(slots: &[Slice], count: usize, list: &mut Vec<Slice, A>) -> usize
+    requires { vec_len list.old + length slots.now ≤ vec_capacity list.old }
+    ensures items { list.new.items ≡ list.old.items ++ front_of count slots.now }
+    ensures len { vec_len list.new ≤ vec_len list.old + length slots.now }
+    ensures capacity { vec_capacity list.new ≡ vec_capacity list.old }
+    ensures left { result ≡ count - total slots.now }
+{
+    let mut place = 0;
+    let mut rest = count;
+    while place < slots.len() && (slots[place].len as usize) < rest {
+        list.push_reserved(slots[place]);
+        rest -= slots[place].len as usize;
+        place += 1;
+    }
+    if slots.len() <= place || rest == 0 {
+        return rest;
+    }
+    list.push_reserved(Slice {
+        segment: slots[place].segment,
+        from: slots[place].from,
+        len: rest as u32,
+    });
+    0
+}
+
+/// Lets the first bytes go. It takes no memory.
+pub(crate) fn drop_front<A: Allocator + Copy>(
+    store: &mut Store<A>,
+    slots: &mut HeapCircularBuffer<Slice, A>,
+    count: usize,
+)
+    requires held { Holds (segment_at store.old) slots.old.items }
+    requires solid { AllSolid slots.old.items }
+    requires count { count ≤ total slots.old.items }
+    ensures slots { slots.new.items ≡ drop_bytes count slots.old.items }
+    ensures turns { Turns (segment_at store.old) slots.old.items (segment_at store.new) slots.new.items }
+    ensures read { all_read (segment_at store.new) slots.new.items ≡ drop count (all_read (segment_at store.old) slots.old.items) }
+    ensures capacity { slots.new.capacity ≡ slots.old.capacity }
+{
+    let mut rest = count;
+    while 0 < rest {
+        // A proof learns here that no segment has more than 4,096 bytes.
+        let _segments = store.in_use();
+        let first = take_first(slots);
+        if rest < first.len as usize {
+            let kept = Slice {
+                segment: first.segment,
+                from: first.from + rest as u32,
+                len: first.len - rest as u32,
+            };
+            put_first(slots, kept);
+            return;
+        }
+        store.release(first);
+        rest -= first.len as usize;
+    }
+}

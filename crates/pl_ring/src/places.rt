@@ -1,0 +1,97 @@
+//! Slots in a ring of fixed places.
+ghost use Rattle.std.specs.Prelude.{◌≡◌, ℕ, ◌+◌, ◌*◌, ◌%◌, ◌<◌, ◌≤◌, List, [], ◌∷◌, ◌++◌, length};
+ghost use Rattle.circular_buffer.specs.Buffer.{buffer};
+ghost use Rattle.pl_segments.specs.declared.slice.Slice.{Slice as Part};
+ghost use Rattle.pl_segments.specs.Segments.{segment_at, live_count};
+ghost use Rattle.pl_segments.specs.Slices.{all_read};
+ghost use Rattle.pl_segments.specs.Turns.{Holds, Turns};
+ghost use Rattle.pl_ring.specs.Slots.{place_size, total, AllSolid, last_len};
+ghost use Rattle.pl_ring.specs.Merging.{lens, AreMerged, joining, merges_onto};
+ghost use Rattle.pl_ring.specs.Parts.{strange};
+
+use crate::plan::joins;
+use circular_buffer::HeapCircularBuffer;
+use pl_segments::{Slice, Store};
+use std::alloc::Allocator;
+
+/// Adds a slot behind the last, where there is a place for it: none is overwritten. It takes no memory.
+pub(crate) fn put_last<A: Allocator>(slots: &mut HeapCircularBuffer<Slice, A>, slot: Slice)
+    requires { length slots.old.items < slots.old.capacity }
+    ensures { slots.new ≡ buffer (slots.old.items ++ slot ∷ []) slots.old.capacity }
+{
+    slots.push_back(slot);
+}
+
+/// Adds a slot before the first, where there is a place for it. It takes no memory.
+pub(crate) fn put_first<A: Allocator>(slots: &mut HeapCircularBuffer<Slice, A>, slot: Slice)
+    requires { length slots.old.items < slots.old.capacity }
+    ensures { slots.new ≡ buffer (slot ∷ slots.old.items) slots.old.capacity }
+{
+    slots.push_front(slot);
+}
+
+/// Takes the last slot out.
+pub(crate) fn take_last<A: Allocator>(slots: &mut HeapCircularBuffer<Slice, A>) -> Slice
+    requires { 1 ≤ length slots.old.items }
+    ensures items { slots.old.items ≡ slots.new.items ++ result ∷ [] }
+    ensures place { length slots.new.items < slots.new.capacity }
+    ensures capacity { slots.new.capacity ≡ slots.old.capacity }
+{
+    // A proof learns here that there are no more slots than places.
+    let _slots = slots.len();
+    slots.pop_back().unwrap()
+}
+
+/// Takes the first slot out.
+pub(crate) fn take_first<A: Allocator>(slots: &mut HeapCircularBuffer<Slice, A>) -> Slice
+    requires { 1 ≤ length slots.old.items }
+    ensures items { slots.old.items ≡ result ∷ slots.new.items }
+    ensures place { length slots.new.items < slots.new.capacity }
+    ensures capacity { slots.new.capacity ≡ slots.old.capacity }
+{
+    // A proof learns here that there are no more slots than places.
+    let _slots = slots.len();
+    slots.pop_front().unwrap()
+}
+
+/// How many bytes the last slot has; 0 where there is none.
+pub(crate) fn last_len<A: Allocator>(slots: &HeapCircularBuffer<Slice, A>) -> u32
+    ensures { result ≡ last_len slots.now.items }
+{
+    match slots.back() {
+        Some(slot) => slot.len,
+        None => 0,
+    }
+}
+
+/// Adds a slot behind the last, with which it becomes one where they aren't the first pair and fit a segment; then there is room
+/// for one. It takes no memory, and overwrites no slot: there are places for merged slots of all bytes that fit.
+pub(crate) fn push_slot<A: Allocator + Copy>(
+    store: &mut Store<A>,
+    slots: &mut HeapCircularBuffer<Slice, A>,
+    slot: Slice,
+)
+    requires held { Holds (segment_at store.old) (slots.old.items ++ slot ∷ []) }
+    requires room { joining slots.old.items slot ≤ store.old.room }
+    requires solid { AllSolid (slots.old.items ++ slot ∷ []) }
+    requires merged { AreMerged (lens slots.old.items) }
+    requires even { slots.old.capacity % 2 ≡ 0 }
+    requires fits { total slots.old.items + slot.len ≤ place_size * slots.old.capacity }
+    ensures turns { Turns (segment_at store.old) (slots.old.items ++ slot ∷ []) (segment_at store.new) slots.new.items }
+    ensures read { all_read (segment_at store.new) slots.new.items ≡ all_read (segment_at store.old) (slots.old.items ++ slot ∷ []) }
+    ensures merged { AreMerged (lens slots.new.items) }
+    ensures solid { AllSolid slots.new.items }
+    ensures capacity { slots.new.capacity ≡ slots.old.capacity }
+    ensures room { store.old.room ≤ store.new.room + joining slots.old.items slot }
+    ensures in_use { live_count store.new.held ≤ live_count store.old.held + joining slots.old.items slot }
+    ensures plan { (rest : List ℕ) → merges_onto slots.new.items rest + joining slots.old.items slot ≡ merges_onto slots.old.items (slot.len ∷ rest) }
+    ensures parts { (parts : List Part) → strange parts slots.new.items ≤ strange parts (slots.old.items ++ slot ∷ []) + joining slots.old.items slot }
+{
+    if joins(slots.len(), last_len(slots), slot.len) {
+        let last = take_last(slots);
+        let joined = store.join_reserved(last, slot);
+        put_last(slots, joined);
+        return;
+    }
+    put_last(slots, slot);
+}

@@ -1,0 +1,189 @@
+//! Slots that are pushed.
+ghost use Rattle.std.specs.Prelude.{◌≡◌, ℕ, ◌+◌, ◌*◌, ◌%◌, ◌<◌, ◌≤◌, ◌^◌, List, [], ◌∷◌, ◌++◌, length, OnOk, OnErr};
+ghost use Rattle.pl_segments.specs.declared.slice.Slice.{Slice as Part};
+ghost use Rattle.pl_segments.specs.Segments.{segment_size, segment_at, holders, live_count};
+ghost use Rattle.pl_segments.specs.Slices.{AllLie, all_read};
+ghost use Rattle.pl_segments.specs.Turns.{Holds, Turns};
+ghost use Rattle.pl_ring.specs.Slots.{place_size, total, AllSolid, solid_of, tail_room};
+ghost use Rattle.pl_ring.specs.Merging.{lens, AreMerged, merges_onto};
+ghost use Rattle.pl_ring.specs.Parts.{strange};
+
+use crate::places::{last_len, push_slot, put_last, take_last};
+use crate::plan::merges_of;
+use circular_buffer::HeapCircularBuffer;
+use pl_segments::{NoMemory, SEGMENT_SIZE, Slice, Store};
+use std::alloc::Allocator;
+
+/// How many bytes the last slot can be grown by; 0 where there is none.
+fn tail_room<A: Allocator + Copy>(store: &Store<A>, slots: &HeapCircularBuffer<Slice, A>) -> usize
+    requires { AllLie (segment_at store.now) slots.now.items }
+    ensures value { result ≡ tail_room (segment_at store.now) slots.now.items }
+    ensures most { result ≤ segment_size }
+{
+    match slots.back() {
+        Some(slot) => store.room_after(*slot),
+        None => 0,
+    }
+}
+
+/// Grows the last slot by bytes that fit. It takes no memory.
+fn grow_tail<A: Allocator + Copy>(
+    store: &mut Store<A>,
+    slots: &mut HeapCircularBuffer<Slice, A>,
+    bytes: &[u8],
+)
+    requires held { Holds (segment_at store.old) slots.old.items }
+    requires solid { AllSolid slots.old.items }
+    requires merged { AreMerged (lens slots.old.items) }
+    requires some { 1 ≤ length bytes.now }
+    requires fits { length bytes.now ≤ tail_room (segment_at store.old) slots.old.items }
+    ensures turns { Turns (segment_at store.old) slots.old.items (segment_at store.new) slots.new.items }
+    ensures read { all_read (segment_at store.new) slots.new.items ≡ all_read (segment_at store.old) slots.old.items ++ bytes.now }
+    ensures solid { AllSolid slots.new.items }
+    ensures merged { AreMerged (lens slots.new.items) }
+    ensures room { store.new.room ≡ store.old.room }
+    ensures capacity { slots.new.capacity ≡ slots.old.capacity }
+{
+    let last = take_last(slots);
+    let longer = store.try_append(last, bytes).unwrap();
+    put_last(slots, longer);
+}
+
+/// Pushes bytes in new segments, all filled but the last, for which there is room, and for one more. It takes no memory.
+fn push_new<A: Allocator + Copy>(
+    store: &mut Store<A>,
+    slots: &mut HeapCircularBuffer<Slice, A>,
+    bytes: &[u8],
+)
+    requires held { Holds (segment_at store.old) slots.old.items }
+    requires solid { AllSolid slots.old.items }
+    requires merged { AreMerged (lens slots.old.items) }
+    requires even { slots.old.capacity % 2 ≡ 0 }
+    requires fits { total slots.old.items + length bytes.now ≤ place_size * slots.old.capacity }
+    requires room { 1 ≤ length bytes.now → length bytes.now + segment_size ≤ segment_size * store.old.room }
+    ensures turns { Turns (segment_at store.old) slots.old.items (segment_at store.new) slots.new.items }
+    ensures read { all_read (segment_at store.new) slots.new.items ≡ all_read (segment_at store.old) slots.old.items ++ bytes.now }
+    ensures solid { AllSolid slots.new.items }
+    ensures merged { AreMerged (lens slots.new.items) }
+    ensures capacity { slots.new.capacity ≡ slots.old.capacity }
+{
+    let mut rest = bytes;
+    while 0 < rest.len() {
+        let count = rest.len().min(SEGMENT_SIZE);
+        let (first, more) = rest.split_at(count);
+        let slice = store.make_reserved(first);
+        push_slot(store, slots, slice);
+        rest = more;
+    }
+}
+
+/// Pushes bytes that fit: first into the last slot's segment, as many as it takes, and then into new segments. An error leaves
+/// all as it was.
+pub(crate) fn push_bytes<A: Allocator + Copy>(
+    store: &mut Store<A>,
+    slots: &mut HeapCircularBuffer<Slice, A>,
+    bytes: &[u8],
+) -> Result<(), NoMemory>
+    requires held { Holds (segment_at store.old) slots.old.items }
+    requires solid { AllSolid slots.old.items }
+    requires merged { AreMerged (lens slots.old.items) }
+    requires even { slots.old.capacity % 2 ≡ 0 }
+    requires fits { total slots.old.items + length bytes.now ≤ place_size * slots.old.capacity }
+    ensures turns { OnOk result (Turns (segment_at store.old) slots.old.items (segment_at store.new) slots.new.items) }
+    ensures read { OnOk result (all_read (segment_at store.new) slots.new.items ≡ all_read (segment_at store.old) slots.old.items ++ bytes.now) }
+    ensures solid { OnOk result (AllSolid slots.new.items) }
+    ensures merged { OnOk result (AreMerged (lens slots.new.items)) }
+    ensures capacity { OnOk result (slots.new.capacity ≡ slots.old.capacity) }
+    ensures err { OnErr result (slots.new ≡ slots.old) }
+    ensures store_err { OnErr result (store.new ≡ record store.old { room = store.new.room }) }
+{
+    let grown = tail_room(store, slots).min(bytes.len());
+    let (first, rest) = bytes.split_at(grown);
+    if 0 < rest.len() {
+        // One more than the bytes need: the first of the new slots may become one with the last in a segment of their own.
+        store.reserve(rest.len().div_ceil(SEGMENT_SIZE) + 1)?;
+    }
+    if grown != 0 {
+        grow_tail(store, slots, first);
+    }
+    push_new(store, slots, rest);
+    Ok(())
+}
+
+/// Holds the segments of slices that aren't empty. It takes no memory.
+fn hold_all<A: Allocator + Copy>(store: &mut Store<A>, slices: &[Slice])
+    requires lie { AllLie (segment_at store.old) slices.now }
+    requires few { (key : ℕ) → holders (segment_at store.old) key < 2 ^ 100 }
+    ensures turns { Turns (segment_at store.old) [] (segment_at store.new) (solid_of slices.now) }
+    ensures read { all_read (segment_at store.new) (solid_of slices.now) ≡ all_read (segment_at store.old) slices.now }
+    ensures in_use { live_count store.new.held ≡ live_count store.old.held }
+    ensures room { store.new.room ≡ store.old.room }
+{
+    for i in 0..slices.len() {
+        let slice = slices[i];
+        if slice.len != 0 {
+            store.hold(slice);
+        }
+    }
+}
+
+/// Pushes slices that are held, but those of no bytes. There is room for those that become one with what stands before them.
+/// It takes no memory.
+fn push_held<A: Allocator + Copy>(
+    store: &mut Store<A>,
+    slots: &mut HeapCircularBuffer<Slice, A>,
+    slices: &[Slice],
+)
+    requires held { Holds (segment_at store.old) (slots.old.items ++ solid_of slices.now) }
+    requires room { merges_onto slots.old.items (lens (solid_of slices.now)) ≤ store.old.room }
+    requires solid { AllSolid slots.old.items }
+    requires merged { AreMerged (lens slots.old.items) }
+    requires even { slots.old.capacity % 2 ≡ 0 }
+    requires fits { total slots.old.items + total slices.now ≤ place_size * slots.old.capacity }
+    ensures turns { Turns (segment_at store.old) (slots.old.items ++ solid_of slices.now) (segment_at store.new) slots.new.items }
+    ensures read { all_read (segment_at store.new) slots.new.items ≡ all_read (segment_at store.old) (slots.old.items ++ solid_of slices.now) }
+    ensures solid { AllSolid slots.new.items }
+    ensures merged { AreMerged (lens slots.new.items) }
+    ensures capacity { slots.new.capacity ≡ slots.old.capacity }
+    ensures in_use { live_count store.new.held ≤ live_count store.old.held + merges_onto slots.old.items (lens (solid_of slices.now)) }
+    ensures parts { (parts : List Part) → strange parts slots.new.items ≤ strange parts (slots.old.items ++ solid_of slices.now) + merges_onto slots.old.items (lens (solid_of slices.now)) }
+{
+    for i in 0..slices.len() {
+        let slice = slices[i];
+        if slice.len != 0 {
+            push_slot(store, slots, slice);
+        }
+    }
+}
+
+/// Pushes slices whose bytes fit, but those of no bytes. All are held before the first two slots become one: a slot that
+/// goes then may be the last to hold a segment that a slice further on names. An error leaves all as it was.
+pub(crate) fn push_slices<A: Allocator + Copy>(
+    store: &mut Store<A>,
+    slots: &mut HeapCircularBuffer<Slice, A>,
+    slices: &[Slice],
+) -> Result<(), NoMemory>
+    requires lie { AllLie (segment_at store.old) slices.now }
+    requires held { Holds (segment_at store.old) slots.old.items }
+    requires few { (key : ℕ) → holders (segment_at store.old) key < 2 ^ 100 }
+    requires solid { AllSolid slots.old.items }
+    requires merged { AreMerged (lens slots.old.items) }
+    requires even { slots.old.capacity % 2 ≡ 0 }
+    requires most { slots.old.capacity ≤ 512 }
+    requires fits { total slots.old.items + total slices.now ≤ place_size * slots.old.capacity }
+    ensures turns { OnOk result (Turns (segment_at store.old) slots.old.items (segment_at store.new) slots.new.items) }
+    ensures read { OnOk result (all_read (segment_at store.new) slots.new.items ≡ all_read (segment_at store.old) slots.old.items ++ all_read (segment_at store.old) slices.now) }
+    ensures solid { OnOk result (AllSolid slots.new.items) }
+    ensures merged { OnOk result (AreMerged (lens slots.new.items)) }
+    ensures capacity { OnOk result (slots.new.capacity ≡ slots.old.capacity) }
+    ensures in_use { OnOk result (live_count store.new.held ≤ live_count store.old.held + merges_onto slots.old.items (lens (solid_of slices.now))) }
+    ensures parts { OnOk result (strange (slots.old.items ++ slices.now) slots.new.items ≤ merges_onto slots.old.items (lens (solid_of slices.now))) }
+    ensures err { OnErr result (slots.new ≡ slots.old) }
+    ensures store_err { OnErr result (store.new ≡ record store.old { room = store.new.room }) }
+{
+    let merges = merges_of(slots.len(), last_len(slots), slices);
+    store.reserve(merges)?;
+    hold_all(store, slices);
+    push_held(store, slots, slices);
+    Ok(())
+}

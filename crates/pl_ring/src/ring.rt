@@ -1,0 +1,245 @@
+//! The ring of a pipe.
+ghost use Rattle.std.specs.Prelude.{◌≡◌, ℕ, ◌+◌, ◌-◌, ◌*◌, ◌/◌, ◌<◌, ◌≤◌, ◌^◌, ◌↔◌, List, [], ◌++◌, length, take, drop, IfOk, OnOk, OnErr, Err};
+ghost use Rattle.pl_model.specs.Numbers.{first_capacity};
+ghost use Rattle.pl_segments.specs.Segments.{segment_size, segment_at, holders, live_count};
+ghost use Rattle.pl_segments.specs.Slices.{AllLie, all_read};
+ghost use Rattle.pl_segments.specs.Turns.{Holds, Turns};
+ghost use Rattle.pl_ring.specs.Slots.{total, AllSolid, solid_of, drop_bytes, front_of};
+ghost use Rattle.pl_ring.specs.Merging.{lens, AreMerged, merges_onto, IsFront};
+ghost use Rattle.pl_ring.specs.Parts.{strange};
+ghost use Rattle.pl_ring.specs.Ring.{most_capacity, IsCapacity, IsBeside};
+
+use crate::fault::CapacityFault;
+use crate::front::{copy_front, drop_front, front_slices};
+use crate::push::{push_bytes, push_slices};
+use circular_buffer::HeapCircularBuffer;
+use pl_model::numbers::FIRST_CAPACITY;
+use pl_segments::{NoMemory, Slice, SliceList, Store};
+use std::alloc::{Allocator, Global};
+use std::marker::Model;
+
+/// The most bytes that a pipe may hold.
+pub const MAX_CAPACITY: usize = 1_048_576;
+
+/// The bytes of capacity for each place: two places for a segment.
+const PLACE_SIZE: usize = 2_048;
+
+/// The slots of one pipe, from the front to the back: slices of the segments of a store, each of which it holds. With the store
+/// it is a list of bytes. Two neighbouring slots, the first pair excepted, have more than 4,096 bytes together, so the slots
+/// never need more than `2 * capacity / 4096` places.
+#[derive(Drop)]
+pub struct Ring<A: Allocator = Global> {
+    alloc: A,
+    slots: HeapCircularBuffer<Slice, A>,
+    held: usize,
+    // No slots, and the places of a new pipe, where `slots` has others: so `reset` takes no memory.
+    first: Option<HeapCircularBuffer<Slice, A>>,
+}
+
+impl<A: Allocator> Model for Ring<A> {
+    ghost use Rattle.pl_ring.specs.Ring.{Ring as Slots};
+
+    ghost Value = { Slots };
+
+    ghost use Rattle.pl_ring.specs.RingView.{view_of, IsSound};
+
+    ghost view = { view_of };
+
+    ghost invariant = { IsSound };
+}
+
+impl<A: Allocator + Copy> Ring<A> {
+    /// No slots. A capacity is a multiple of 4,096, from 4,096 to 1,048,576.
+    pub fn new(alloc: A, capacity: usize) -> Result<Ring<A>, NoMemory>
+        requires { IsCapacity capacity }
+        ensures { IfOk result (λ ring. ring ≡ record { slots = []; capacity = capacity }) }
+    {
+        let first = places_beside(alloc, capacity)?;
+        let slots = HeapCircularBuffer::with_capacity(alloc, capacity / PLACE_SIZE)?;
+        Ok(Ring {
+            alloc,
+            slots,
+            held: 0,
+            first,
+        })
+    }
+
+    /// How many bytes are held.
+    pub fn len(&self) -> usize
+        ensures value { result ≡ total self.now.slots }
+        ensures fits { result ≤ self.now.capacity }
+        ensures solid { AllSolid self.now.slots }
+    {
+        self.held
+    }
+
+    /// How many bytes may be held.
+    pub fn capacity(&self) -> usize
+        ensures value { result ≡ self.now.capacity }
+        ensures range { IsCapacity result }
+    {
+        self.slots.capacity() * PLACE_SIZE
+    }
+
+    /// How many more bytes fit.
+    pub fn room(&self) -> usize
+        ensures { result ≡ self.now.capacity - total self.now.slots }
+    {
+        self.capacity() - self.held
+    }
+
+    /// How many slots there are.
+    pub fn slots(&self) -> usize
+        ensures value { result ≡ length self.now.slots }
+        ensures bound { result ≤ 2 * self.now.capacity / segment_size }
+        ensures merged { AreMerged (lens self.now.slots) }
+    {
+        self.slots.len()
+    }
+
+    /// Adds bytes at the end, which fit. An error leaves all as it was.
+    pub fn push_bytes(&mut self, store: &mut Store<A>, bytes: &[u8]) -> Result<(), NoMemory>
+        requires held { Holds (segment_at store.old) self.old.slots }
+        requires fits { total self.old.slots + length bytes.now ≤ self.old.capacity }
+        ensures turns { OnOk result (Turns (segment_at store.old) self.old.slots (segment_at store.new) self.new.slots) }
+        ensures read { OnOk result (all_read (segment_at store.new) self.new.slots ≡ all_read (segment_at store.old) self.old.slots ++ bytes.now) }
+        ensures capacity { self.new.capacity ≡ self.old.capacity }
+        ensures err { OnErr result (self.new ≡ self.old) }
+        ensures store_err { OnErr result (store.new ≡ record store.old { room = store.new.room }) }
+    {
+        push_bytes(store, &mut self.slots, bytes)?;
+        self.held += bytes.len();
+        Ok(())
+    }
+
+    /// Adds slices of held segments at the end, whose bytes fit; one of no bytes adds no slot. Where they are the front of one
+    /// ring, at most three segments are made, and all slots but three at most are slots that were there or lie within slices
+    /// that were added. An error leaves all as it was.
+    pub fn push_slices(
+        &mut self,
+        store: &mut Store<A>,
+        slices: &SliceList<A>,
+    ) -> Result<(), NoMemory>
+        requires lie { AllLie (segment_at store.old) slices.now }
+        requires held { Holds (segment_at store.old) self.old.slots }
+        requires few { (key : ℕ) → holders (segment_at store.old) key < 2 ^ 100 }
+        requires fits { total self.old.slots + total slices.now ≤ self.old.capacity }
+        ensures turns { OnOk result (Turns (segment_at store.old) self.old.slots (segment_at store.new) self.new.slots) }
+        ensures read { OnOk result (all_read (segment_at store.new) self.new.slots ≡ all_read (segment_at store.old) self.old.slots ++ all_read (segment_at store.old) slices.now) }
+        ensures in_use { OnOk result (live_count store.new.held ≤ live_count store.old.held + merges_onto self.old.slots (lens (solid_of slices.now))) }
+        ensures parts { OnOk result (strange (self.old.slots ++ slices.now) self.new.slots ≤ merges_onto self.old.slots (lens (solid_of slices.now))) }
+        ensures front_in_use { OnOk result (IsFront slices.now → live_count store.new.held ≤ live_count store.old.held + 3) }
+        ensures front_parts { OnOk result (IsFront slices.now → strange (self.old.slots ++ slices.now) self.new.slots ≤ 3) }
+        ensures capacity { self.new.capacity ≡ self.old.capacity }
+        ensures err { OnErr result (self.new ≡ self.old) }
+        ensures store_err { OnErr result (store.new ≡ record store.old { room = store.new.room }) }
+    {
+        let slices = slices.as_slice();
+        push_slices(store, &mut self.slots, slices)?;
+        self.held += len_of(slices);
+        Ok(())
+    }
+
+    /// The slices of the first bytes.
+    pub fn front_slices(&self, count: usize) -> Result<SliceList<A>, NoMemory>
+        ensures { IfOk result (λ list. list ≡ front_of count self.now.slots) }
+    {
+        let list = front_slices(self.alloc, &self.slots, count)?;
+        Ok(SliceList::from_vec(list))
+    }
+
+    /// Takes the first bytes. An error leaves all as it was.
+    pub fn pop_bytes(&mut self, store: &mut Store<A>, count: usize) -> Result<Vec<u8, A>, NoMemory>
+        requires held { Holds (segment_at store.old) self.old.slots }
+        requires count { count ≤ total self.old.slots }
+        ensures bytes { IfOk result (λ bytes. bytes.items ≡ take count (all_read (segment_at store.old) self.old.slots)) }
+        ensures slots { OnOk result (self.new.slots ≡ drop_bytes count self.old.slots) }
+        ensures turns { OnOk result (Turns (segment_at store.old) self.old.slots (segment_at store.new) self.new.slots) }
+        ensures read { OnOk result (all_read (segment_at store.new) self.new.slots ≡ drop count (all_read (segment_at store.old) self.old.slots)) }
+        ensures capacity { self.new.capacity ≡ self.old.capacity }
+        ensures err { OnErr result (self.new ≡ self.old) }
+        ensures store_err { OnErr result (store.new ≡ store.old) }
+    {
+        let bytes = copy_front(self.alloc, store, &self.slots, count)?;
+        self.drop_front(store, count);
+        Ok(bytes)
+    }
+
+    /// Lets the first bytes go. It takes no memory.
+    pub fn drop_front(&mut self, store: &mut Store<A>, count: usize)
+        requires held { Holds (segment_at store.old) self.old.slots }
+        requires count { count ≤ total self.old.slots }
+        ensures slots { self.new.slots ≡ drop_bytes count self.old.slots }
+        ensures turns { Turns (segment_at store.old) self.old.slots (segment_at store.new) self.new.slots }
+        ensures read { all_read (segment_at store.new) self.new.slots ≡ drop count (all_read (segment_at store.old) self.old.slots) }
+        ensures capacity { self.new.capacity ≡ self.old.capacity }
+    {
+        drop_front(store, &mut self.slots, count);
+        self.held -= count;
+    }
+
+    /// Lets all bytes go, and has the capacity of a new pipe. It takes no memory.
+    pub fn reset(&mut self, store: &mut Store<A>)
+        requires { Holds (segment_at store.old) self.old.slots }
+        ensures value { self.new ≡ record { slots = []; capacity = first_capacity } }
+        ensures turns { Turns (segment_at store.old) self.old.slots (segment_at store.new) [] }
+    {
+        let held = self.held;
+        drop_front(store, &mut self.slots, held);
+        if let Some(first) = self.first.take() {
+            self.slots = first;
+        }
+        self.held = 0;
+    }
+
+    /// Sets how many bytes may be held: a multiple of 4,096, from 4,096 to 1,048,576. An error leaves all as it was.
+    ///
+    /// # Errors
+    ///
+    /// - `Busy` exactly where more bytes are held.
+    /// - `NoMemory` where no more are held, and there is no memory for so many places.
+    pub fn set_capacity(&mut self, capacity: usize) -> Result<(), CapacityFault>
+        requires { IsCapacity capacity }
+        ensures ok { OnOk result (self.new ≡ record self.old { capacity = capacity }) }
+        ensures busy { (result ≡ Err CapacityFault.Busy) ↔ (capacity < total self.old.slots) }
+        ensures err { OnErr result (self.new ≡ self.old) }
+    {
+        if capacity < self.held {
+            return Err(CapacityFault::Busy);
+        }
+        let Ok(first) = places_beside(self.alloc, capacity) else {
+            return Err(CapacityFault::NoMemory);
+        };
+        if self.slots.resize(capacity / PLACE_SIZE).is_err() {
+            return Err(CapacityFault::NoMemory);
+        }
+        self.first = first;
+        Ok(())
+    }
+}
+
+/// The places of a new pipe, to be kept beside those of another capacity.
+fn places_beside<A: Allocator + Copy>(
+    alloc: A,
+    capacity: usize,
+) -> Result<Option<HeapCircularBuffer<Slice, A>>, NoMemory>
+    ensures { IfOk result (IsBeside capacity) }
+{
+    if capacity == FIRST_CAPACITY {
+        return Ok(None);
+    }
+    let first = HeapCircularBuffer::with_capacity(alloc, FIRST_CAPACITY / PLACE_SIZE)?;
+    Ok(Some(first))
+}
+
+/// How many bytes slices have, whose sum fits.
+fn len_of(slices: &[Slice]) -> usize
+    requires { total slices.now ≤ most_capacity }
+    ensures { result ≡ total slices.now }
+{
+    let mut sum = 0;
+    for i in 0..slices.len() {
+        sum += slices[i].len as usize;
+    }
+    sum
+}

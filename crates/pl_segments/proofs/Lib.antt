@@ -1,0 +1,6 @@
+pub mod Changing
+pub mod Storing
+pub mod Turning
+pub mod Shared
+pub mod Appending
+pub mod Making

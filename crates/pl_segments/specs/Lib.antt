@@ -1,0 +1,5 @@
+pub mod Segments
+pub mod Slices
+pub mod Turns
+pub mod Sharing
+pub mod StoreView

@@ -1,0 +1,84 @@
+//! Segments with the counts of their holders.
+ghost use Rattle.std.specs.Prelude.{◌≡◌, ◌+◌, ◌-◌, ◌<◌, ◌≤◌, ◌^◌, ◌++◌, length};
+ghost use Rattle.pl_segments.specs.Segments.{segment_size};
+
+use crate::block::Block;
+use std::alloc::Allocator;
+use std::marker::Model;
+
+/// Bytes that are only added to, and how many slots and slices hold them.
+#[derive(Drop)]
+pub(crate) struct Segment<A: Allocator> {
+    block: Block<A>,
+    holders: u128,
+}
+
+impl<A: Allocator> Model for Segment<A> {
+    ghost use Rattle.pl_segments.specs.Segments.{Segment as Held};
+
+    ghost Value = { Held };
+
+    ghost view = { λ s. record { filled = s.block; holders = s.holders } };
+}
+
+impl<A: Allocator> Segment<A> {
+    /// A segment held once.
+    pub(crate) fn new(block: Block<A>) -> Segment<A>
+        ensures { result ≡ record { filled = block; holders = 1 } }
+    {
+        Segment { block, holders: 1 }
+    }
+
+    /// The bytes.
+    pub(crate) fn filled(&self) -> &[u8]
+        ensures { result.now ≡ self.now.filled }
+    {
+        self.block.as_slice()
+    }
+
+    /// How many bytes there are.
+    pub(crate) fn len(&self) -> usize
+        ensures value { result ≡ length self.now.filled }
+        ensures most { result ≤ segment_size }
+    {
+        self.block.len()
+    }
+
+    /// How many hold it.
+    pub(crate) fn holders(&self) -> u128
+        ensures { result ≡ self.now.holders }
+    {
+        self.holders
+    }
+
+    /// Adds bytes at the end, which fit. It takes no memory.
+    pub(crate) fn append(&mut self, more: &[u8])
+        requires { length self.old.filled + length more.now ≤ segment_size }
+        ensures { self.new ≡ record self.old { filled = self.old.filled ++ more.now } }
+    {
+        self.block.append(more);
+    }
+
+    /// Adds a holder.
+    pub(crate) fn hold(&mut self)
+        requires { self.old.holders < 2 ^ 127 }
+        ensures { self.new ≡ record self.old { holders = self.old.holders + 1 } }
+    {
+        self.holders += 1;
+    }
+
+    /// Lets a holder go.
+    pub(crate) fn release(&mut self)
+        requires { 1 ≤ self.old.holders }
+        ensures { self.new ≡ record self.old { holders = self.old.holders - 1 } }
+    {
+        self.holders -= 1;
+    }
+
+    /// The memory, which nobody holds any more.
+    pub(crate) fn into_block(self) -> Block<A>
+        ensures { result ≡ self.filled }
+    {
+        self.block
+    }
+}

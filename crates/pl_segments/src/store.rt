@@ -1,0 +1,322 @@
+//! The store of segments.
+ghost use Rattle.std.specs.Prelude.{◌≡◌, ◌++◌, nat_eq, if◌then◌else◌, ℕ, ◌+◌, ◌-◌, ◌<◌, ◌≤◌, ◌^◌, [], ◌∷◌, length, max, IsOk, IfOk, OnErr, OnOk, Some, None};
+ghost use Rattle.pl_segments.specs.Segments.{segment_size, most_spare, segment_at, set_at, filled, holders, AreGood, live_count, more_held, less_held, longer};
+ghost use Rattle.pl_segments.specs.Slices.{Lies, reads, longer_by, appended, room_after};
+ghost use Rattle.pl_segments.specs.Turns.{Holds, Turns};
+
+use crate::block::{Block, SEGMENT_SIZE};
+use crate::fault::{AppendFault, NoMemory};
+use crate::segment::Segment;
+use crate::slice::Slice;
+use slab::Slab;
+use std::alloc::{Allocator, Global};
+use std::marker::Model;
+
+/// The blocks of gone segments that are kept for further ones: 1,048,576 bytes of memory, as much as one full pipe of the
+/// greatest capacity holds, so that filling and draining it again takes no memory for segments.
+const MOST_SPARE: usize = 256;
+
+/// Segments of at most 4,096 bytes, which are only added to, each with the number of its holders. A segment is there as long
+/// as it is held.
+#[derive(Drop)]
+pub struct Store<A: Allocator = Global> {
+    alloc: A,
+    segments: Slab<Segment<A>, A>,
+    // Memory for further segments, each of which has a place in the slab.
+    spare: Vec<Block<A>, A>,
+}
+
+impl<A: Allocator> Model for Store<A> {
+    ghost use Rattle.pl_segments.specs.Segments.{Segments};
+
+    ghost Value = { Segments };
+
+    ghost use Rattle.pl_segments.specs.StoreView.{view_of, IsSound};
+
+    ghost view = { view_of };
+
+    ghost invariant = { IsSound };
+}
+
+// Keeps a block where fewer than `MOST_SPARE` are kept and there is a place for it. It takes no memory.
+fn keep_spare<A: Allocator>(spare: &mut Vec<Block<A>, A>, block: Block<A>)
+    ensures least { length spare.old.items ≤ length spare.new.items }
+    ensures most { length spare.new.items ≤ length spare.old.items + 1 }
+    ensures bound { length spare.new.items ≤ max most_spare (length spare.old.items) }
+{
+    if spare.len() < MOST_SPARE && spare.len() < spare.capacity() {
+        spare.push_reserved(block);
+    }
+}
+
+impl<A: Allocator + Copy> Store<A> {
+    /// No segments. It takes no memory.
+    pub fn new(alloc: A) -> Store<A>
+        ensures { result ≡ record { held = []; room = 0 } }
+    {
+        Store {
+            alloc,
+            segments: Slab::new(alloc),
+            spare: Vec::new(alloc),
+        }
+    }
+
+    /// How many segments are held.
+    pub fn in_use(&self) -> usize
+        ensures value { result ≡ live_count self.now.held }
+        ensures good { AreGood self.now.held }
+    {
+        self.segments.len()
+    }
+
+    /// Makes room for `count` more segments, so that making them takes no memory. Nothing else changes.
+    pub fn reserve(&mut self, count: usize) -> Result<(), NoMemory>
+        ensures room { OnOk result (count ≤ self.new.room) }
+        ensures grows { self.old.room ≤ self.new.room }
+        ensures kept { self.new ≡ record self.old { room = self.new.room } }
+        ensures succeeds { count ≤ self.old.room → IsOk result }
+    {
+        if count <= self.spare.len() {
+            return Ok(());
+        }
+        let missing = count - self.spare.len();
+        self.segments.reserve(count)?;
+        self.spare.try_reserve(missing)?;
+        for _ in 0..missing {
+            let block = Block::new(self.alloc)?;
+            self.spare.push_reserved(block);
+        }
+        Ok(())
+    }
+
+    /// Makes a segment of these 1 to 4,096 bytes, for which there is room, and answers the slice of them, which holds it. It
+    /// takes no memory.
+    pub fn make_reserved(&mut self, bytes: &[u8]) -> Slice
+        requires room { 1 ≤ self.old.room }
+        requires some { 1 ≤ length bytes.now }
+        requires most { length bytes.now ≤ segment_size }
+        ensures slice { result ≡ record { segment = result.segment; from = 0; len = length bytes.now } }
+        ensures vacant { segment_at self.old result.segment ≡ None }
+        ensures made { segment_at self.new ≡ set_at (segment_at self.old) result.segment (Some (record { filled = bytes.now; holders = 1 })) }
+        ensures in_use { live_count self.new.held ≡ live_count self.old.held + 1 }
+        ensures room { self.new.room + 1 ≡ self.old.room }
+        ensures turns { Turns (segment_at self.old) [] (segment_at self.new) (result ∷ []) }
+        ensures reads { reads (segment_at self.new) result ≡ bytes.now }
+    {
+        let mut block = self.spare.pop().unwrap();
+        block.clear();
+        block.append(bytes);
+        let segment = self.segments.insert_reserved(Segment::new(block));
+        Slice {
+            segment,
+            from: 0,
+            len: bytes.len() as u32,
+        }
+    }
+
+    /// Adds a hold of a slice's segment, which has fewer than 2^127 of them. It takes no memory.
+    pub fn hold(&mut self, slice: Slice)
+        requires lies { Lies (segment_at self.old) slice }
+        requires few { holders (segment_at self.old) slice.segment < 2 ^ 127 }
+        ensures held { segment_at self.new ≡ set_at (segment_at self.old) slice.segment (more_held (segment_at self.old slice.segment)) }
+        ensures in_use { live_count self.new.held ≡ live_count self.old.held }
+        ensures room { self.new.room ≡ self.old.room }
+        ensures turns { Turns (segment_at self.old) [] (segment_at self.new) (slice ∷ []) }
+        ensures reads { reads (segment_at self.new) slice ≡ reads (segment_at self.old) slice }
+    {
+        let segment = &mut self.segments[slice.segment];
+        segment.hold();
+    }
+
+    /// Gives up a hold of a slice's segment, which is gone where that was its last. It takes no memory.
+    pub fn release(&mut self, slice: Slice)
+        requires { Lies (segment_at self.old) slice }
+        ensures released { segment_at self.new ≡ set_at (segment_at self.old) slice.segment (less_held (segment_at self.old slice.segment)) }
+        ensures in_use { live_count self.new.held + (if nat_eq (holders (segment_at self.old) slice.segment) 1 then 1 else 0) ≡ live_count self.old.held }
+        ensures room { self.old.room ≤ self.new.room }
+        ensures spare { self.new.room ≤ max most_spare self.old.room }
+        ensures turns { Turns (segment_at self.old) (slice ∷ []) (segment_at self.new) [] }
+    {
+        if 1 < self.segments[slice.segment].holders() {
+            let segment = &mut self.segments[slice.segment];
+            segment.release();
+            return;
+        }
+        let gone = self.segments.remove(slice.segment);
+        keep_spare(&mut self.spare, gone.into_block());
+    }
+
+    /// Adds bytes to a slice's segment, and answers the slice with them, which takes over its hold. An error leaves all as it
+    /// was. It takes no memory.
+    ///
+    /// # Errors
+    ///
+    /// - `NotAtEnd` exactly where the slice doesn't end where its segment is filled to.
+    /// - `NoRoom` exactly where it does, and the bytes don't fit the segment.
+    pub fn try_append(&mut self, slice: Slice, bytes: &[u8]) -> Result<Slice, AppendFault>
+        requires { Lies (segment_at self.old) slice }
+        ensures value { result ≡ appended (segment_at self.old) slice (length bytes.now) }
+        ensures filled { OnOk result (segment_at self.new ≡ set_at (segment_at self.old) slice.segment (longer bytes.now (segment_at self.old slice.segment))) }
+        ensures in_use { OnOk result (live_count self.new.held ≡ live_count self.old.held) }
+        ensures room { OnOk result (self.new.room ≡ self.old.room) }
+        ensures turns { IfOk result (λ more. Turns (segment_at self.old) (slice ∷ []) (segment_at self.new) (more ∷ [])) }
+        ensures reads { IfOk result (λ more. reads (segment_at self.new) more ≡ reads (segment_at self.old) slice ++ bytes.now) }
+        ensures err { OnErr result (self.new ≡ self.old) }
+    {
+        let end = slice.from as usize + slice.len as usize;
+        let segment = &mut self.segments[slice.segment];
+        if end != segment.len() {
+            return Err(AppendFault::NotAtEnd);
+        }
+        if SEGMENT_SIZE - end < bytes.len() {
+            return Err(AppendFault::NoRoom);
+        }
+        segment.append(bytes);
+        Ok(Slice {
+            segment: slice.segment,
+            from: slice.from,
+            len: slice.len + bytes.len() as u32,
+        })
+    }
+
+    /// Copies the bytes of a slice into a list of its length.
+    pub fn read_into(&self, slice: Slice, into: &mut [u8])
+        requires lies { Lies (segment_at self.now) slice }
+        requires long { length into.old ≡ slice.len }
+        ensures { into.new ≡ reads (segment_at self.now) slice }
+    {
+        into.copy_from_slice(self.bytes(slice));
+    }
+
+    /// The bytes of a slice.
+    pub fn bytes(&self, slice: Slice) -> &[u8]
+        requires { Lies (segment_at self.now) slice }
+        ensures { result.now ≡ reads (segment_at self.now) slice }
+    {
+        let from = slice.from as usize;
+        &self.segments[slice.segment].filled()[from..from + slice.len as usize]
+    }
+
+    /// How many hold the segment of a slice.
+    pub fn holders(&self, slice: Slice) -> u128
+        requires { Lies (segment_at self.now) slice }
+        ensures { result ≡ holders (segment_at self.now) slice.segment }
+    {
+        self.segments[slice.segment].holders()
+    }
+
+    /// How many bytes the segment of a slice is filled with.
+    pub fn filled(&self, slice: Slice) -> usize
+        requires { Lies (segment_at self.now) slice }
+        ensures value { result ≡ length (filled (segment_at self.now) slice.segment) }
+        ensures most { result ≤ segment_size }
+    {
+        self.segments[slice.segment].len()
+    }
+
+    /// Makes a segment of these 1 to 4,096 bytes, and answers the slice of them, which holds it.
+    pub fn make(&mut self, bytes: &[u8]) -> Result<Slice, NoMemory>
+        requires some { 1 ≤ length bytes.now }
+        requires most { length bytes.now ≤ segment_size }
+        ensures slice { IfOk result (λ slice. slice ≡ record { segment = slice.segment; from = 0; len = length bytes.now }) }
+        ensures vacant { IfOk result (λ slice. segment_at self.old slice.segment ≡ None) }
+        ensures made { IfOk result (λ slice. segment_at self.new ≡ set_at (segment_at self.old) slice.segment (Some (record { filled = bytes.now; holders = 1 }))) }
+        ensures in_use { OnOk result (live_count self.new.held ≡ live_count self.old.held + 1) }
+        ensures turns { IfOk result (λ slice. Turns (segment_at self.old) [] (segment_at self.new) (slice ∷ [])) }
+        ensures reads { IfOk result (λ slice. reads (segment_at self.new) slice ≡ bytes.now) }
+        ensures err { OnErr result (self.new ≡ record self.old { room = self.new.room }) }
+    {
+        self.reserve(1)?;
+        Ok(self.make_reserved(bytes))
+    }
+
+    /// How many bytes can be appended to a slice: as many as its segment has room for, where the slice ends where the segment is
+    /// filled to, and else none.
+    pub fn room_after(&self, slice: Slice) -> usize
+        requires { Lies (segment_at self.now) slice }
+        ensures value { result ≡ room_after (segment_at self.now) slice }
+        ensures most { result ≤ segment_size }
+    {
+        let end = slice.from as usize + slice.len as usize;
+        if end == self.filled(slice) {
+            SEGMENT_SIZE - end
+        } else {
+            0
+        }
+    }
+
+    /// Makes one slice of the bytes of two, whose holds it takes over; there is room for one more segment. Where the bytes of
+    /// the second fit behind the first they are appended to it, and else all are copied into a new segment. It takes no memory.
+    pub fn join_reserved(&mut self, first: Slice, second: Slice) -> Slice
+        requires room { 1 ≤ self.old.room }
+        requires held { Holds (segment_at self.old) (first ∷ second ∷ []) }
+        requires some { 1 ≤ second.len }
+        requires most { first.len + second.len ≤ segment_size }
+        ensures appended { second.len ≤ room_after (segment_at self.old) first → result ≡ longer_by second.len first }
+        ensures copied { room_after (segment_at self.old) first < second.len → result ≡ record { segment = result.segment; from = 0; len = first.len + second.len } }
+        ensures len { result.len ≡ first.len + second.len }
+        ensures in_use { live_count self.new.held ≤ live_count self.old.held + 1 }
+        ensures appended_in_use { second.len ≤ room_after (segment_at self.old) first → live_count self.new.held ≤ live_count self.old.held }
+        ensures room { self.old.room ≤ self.new.room + 1 }
+        ensures turns { Turns (segment_at self.old) (first ∷ second ∷ []) (segment_at self.new) (result ∷ []) }
+        ensures reads { reads (segment_at self.new) result ≡ reads (segment_at self.old) first ++ reads (segment_at self.old) second }
+    {
+        if second.len as usize <= self.room_after(first) {
+            return self.append_slice(first, second);
+        }
+        let joined = self.copy_both(first, second);
+        self.release(first);
+        self.release(second);
+        joined
+    }
+
+    // Appends the bytes of the second slice to the first, by way of a spare block: the two may be of one segment.
+    fn append_slice(&mut self, first: Slice, second: Slice) -> Slice
+        requires room { 1 ≤ self.old.room }
+        requires held { Holds (segment_at self.old) (first ∷ second ∷ []) }
+        requires some { 1 ≤ second.len }
+        requires fits { second.len ≤ room_after (segment_at self.old) first }
+        ensures value { result ≡ longer_by second.len first }
+        ensures in_use { live_count self.new.held ≤ live_count self.old.held }
+        ensures room { self.old.room ≤ self.new.room }
+        ensures turns { Turns (segment_at self.old) (first ∷ second ∷ []) (segment_at self.new) (result ∷ []) }
+        ensures reads { reads (segment_at self.new) result ≡ reads (segment_at self.old) first ++ reads (segment_at self.old) second }
+    {
+        let mut block = self.spare.pop().unwrap();
+        block.clear();
+        block.append(self.bytes(second));
+        let segment = &mut self.segments[first.segment];
+        segment.append(block.as_slice());
+        self.spare.push_reserved(block);
+        self.release(second);
+        Slice {
+            segment: first.segment,
+            from: first.from,
+            len: first.len + second.len,
+        }
+    }
+
+    // Makes a segment of the bytes of two slices.
+    fn copy_both(&mut self, first: Slice, second: Slice) -> Slice
+        requires room { 1 ≤ self.old.room }
+        requires first { Lies (segment_at self.old) first }
+        requires second { Lies (segment_at self.old) second }
+        requires most { first.len + second.len ≤ segment_size }
+        ensures slice { result ≡ record { segment = result.segment; from = 0; len = first.len + second.len } }
+        ensures in_use { live_count self.new.held ≡ live_count self.old.held + 1 }
+        ensures room { self.new.room + 1 ≡ self.old.room }
+        ensures turns { Turns (segment_at self.old) [] (segment_at self.new) (result ∷ []) }
+        ensures reads { reads (segment_at self.new) result ≡ reads (segment_at self.old) first ++ reads (segment_at self.old) second }
+    {
+        let mut block = self.spare.pop().unwrap();
+        block.clear();
+        block.append(self.bytes(first));
+        block.append(self.bytes(second));
+        let segment = self.segments.insert_reserved(Segment::new(block));
+        Slice {
+            segment,
+            from: 0,
+            len: first.len + second.len,
+        }
+    }
+}
