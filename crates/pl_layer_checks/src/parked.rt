@@ -174,7 +174,7 @@ fn a_call_that_is_taken_back_gives_up_its_number(rt: HostRuntime) -> Result<(), 
 }
 
 /// Calls that end before the last one is taken back: the two before it, and enough that the others move together.
-const ENDED: &[&[u64]] = &[&[11, 10], &[1, 2, 3, 4, 5, 6, 7, 8]];
+const ENDED: &[&[u64]] = &[&[12, 11], &[1, 2, 3, 4, 5, 6, 7, 8]];
 
 #[test]
 fn a_call_is_taken_back_after_others_ended(rt: HostRuntime) -> Result<(), Fail> {
@@ -186,6 +186,7 @@ fn a_call_is_taken_back_after_others_ended(rt: HostRuntime) -> Result<(), Fail> 
         }
         let mut left = numbers_left(alloc, &parked)?;
         let number = parked.park(read(alloc, 2, 20)?).map_err(|_| "not parked")?;
+        assert!(rt; parked.get(number).is_some());
         assert_eq!(rt; parked.unpark(number), read(alloc, 2, 20)?);
         assert_eq!(rt; numbers_left(alloc, &parked)?, left);
         assert_eq!(rt; next_numbers(alloc, &parked)?, next_wanted(alloc, &left)?);
