@@ -6,7 +6,7 @@ use Rattle.std.proofs.lemmas.Bool.Decides.{eqb_tells}
 use Rattle.std.proofs.lemmas.List.{append-nil, append_assoc}
 use Rattle.pl_segments.specs.declared.slice.Slice.{Slice}
 use Rattle.pl_segments.specs.Slices.{one_if}
-use Rattle.pl_ring.specs.Slots.{solid_of}
+use Rattle.pl_segments.specs.Slots.{solid_of}
 use Rattle.pl_ring.specs.Parts.{within, within_any, strange}
 
 pub strange-append : (ps xs ys : List Slice) → strange ps (xs ++ ys) ≡ strange ps xs + strange ps ys

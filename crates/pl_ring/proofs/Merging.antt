@@ -4,9 +4,9 @@ use Rattle.std.specs.Prelude.{if◌then◌else◌, nat_le}
 use Rattle.std.proofs.lemmas.Bool.{le-leb, lt-leb, ne_eqb, cases_lt, and_from, and_right, and_left}
 use Rattle.std.proofs.lemmas.Bool.Decides.{eqb_tells, leb_tells}
 use Rattle.pl_segments.specs.declared.slice.Slice.{Slice}
-use Rattle.pl_ring.specs.Slots.{AllSolid, solid_of, front_of, last_len}
+use Rattle.pl_segments.specs.Slots.{AllSolid, solid_of, front_of, last_len}
 use Rattle.pl_ring.specs.Merging.{lens, AreTight, AreMerged, joins, merges, merges_onto, IsFront}
-use Rattle.pl_ring.proofs.Fronting.{front-whole, front-part, front-none, front-solid}
+use Rattle.pl_segments.proofs.Fronting.{front-whole, front-part, front-none, front-solid}
 
 -- their sum
 abbrev pub sum_of : List ℕ → ℕ

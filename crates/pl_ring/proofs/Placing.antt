@@ -1,5 +1,5 @@
 -- A slot that is pushed into fixed places: alone, or as one with the last.
-use Rattle.std.proofs.Common.{◌≡◌, ℕ, ◌+◌, ◌-◌, ◌*◌, ◌/◌, ◌%◌, ◌<◌, ◌≤◌, true, false, List, [], ◌∷◌, ◌++◌, Some, None, refl, sym, ◌∙◌, ap, subst, length, take, drop, arith, inl, inr}
+use Rattle.std.proofs.Common.{◌≡◌, ℕ, suc, ◌+◌, ◌-◌, ◌*◌, ◌/◌, ◌%◌, ◌<◌, ◌≤◌, true, false, List, [], ◌∷◌, ◌++◌, Some, None, refl, sym, ◌∙◌, ap, subst, length, take, drop, arith, inl, inr}
 use Rattle.std.specs.Prelude.{slice_get}
 use Rattle.std.proofs.lemmas.List.{append-nil, append_assoc, length_push, take_all, take_more}
 use Rattle.std.proofs.lemmas.Option.{get_or_from_slice_get, slice_get-get_or}
@@ -9,11 +9,22 @@ use Rattle.pl_segments.specs.Slices.{Lies, AllLie, reads, all_read, one_if, room
 use Rattle.pl_segments.specs.Turns.{Holds, Turns}
 use Rattle.pl_segments.proofs.Turning.{naming-append, read-append, lie-left, lie-right, turns-behind, read-behind}
 use Rattle.std.proofs.lemmas.Bool.Decides.{leb_tells}
-use Rattle.pl_ring.specs.Slots.{place_size, total, AllSolid, drop_bytes, last_len, tail_room}
+use Rattle.pl_segments.specs.Slots.{total, AllSolid, drop_bytes, last_len, tail_room}
+use Rattle.pl_ring.specs.Ring.{place_size}
 use Rattle.pl_ring.specs.Merging.{lens, AreTight, AreMerged, joins, joining, merges, merges_onto}
-use Rattle.pl_ring.proofs.Fronting.{drop-whole, drop-part}
-use Rattle.pl_ring.proofs.SlotLemmas.{solid-append, solid-left, solid-right, lens-append, length-lens, last-len, last-some, room-last}
+use Rattle.pl_segments.proofs.Fronting.{drop-whole, drop-part}
+use Rattle.pl_segments.proofs.Together.{all-together, is-last}
+use Rattle.pl_segments.proofs.SlotLemmas.{solid-append, solid-left, solid-right, last-len, last-some, room-last}
 use Rattle.pl_ring.proofs.Merging.{sum_of, AreSome, merged, merged-stays, merged-yes, merged-no, merges-yes, merges-no, joins-long, slots-bound, merged-drop, merged-gone}
+
+-- the lengths of slots
+pub lens-append : (xs ys : List Slice) → lens (xs ++ ys) ≡ lens xs ++ lens ys
+lens-append [] ys = refl
+lens-append (x ∷ xs) ys = ap (λ ns. x.len ∷ ns) (lens-append xs ys)
+
+pub length-lens : (xs : List Slice) → length (lens xs) ≡ length xs
+length-lens [] = refl
+length-lens (x ∷ xs) = ap suc (length-lens xs)
 
 sum-lens : (xs : List Slice) → sum_of (lens xs) ≡ total xs
 sum-lens [] = refl
@@ -33,32 +44,6 @@ places-enough xs places m s even l =
 -- a ring that isn't over-full keeps all
 pub keep-all : (zs : List Slice) (places : ℕ) → length zs ≤ places → drop (length zs - places) zs ≡ zs
 keep-all zs places l = ap (λ k. drop k zs) (let e : length zs - places ≡ 0 = omega arith in e)
-
--- the last slot
-pub last-split : (xs : List Slice) (x : Slice) → 0 < length xs → slice_get xs (length xs - 1) ≡ Some x → xs ≡ take (length xs - 1) xs ++ x ∷ []
-last-split xs x l e =
-    let k : length xs - 1 + 1 ≡ length xs = omega arith in
-    sym (take_all (length xs) xs (omega arith)) ∙ ap (λ n. take n xs) (sym k) ∙ take_more xs (length xs - 1) x (omega arith)
-    ∙ ap (λ y. take (length xs - 1) xs ++ y ∷ []) (get_or_from_slice_get xs (length xs - 1) x x e)
-
-pub last-got : (xs : List Slice) (x : Slice) → slice_get xs (length xs - 1) ≡ Some x → last_len xs ≡ x.len
-last-got [] x e = absurd (cc)
-last-got (y ∷ r) x e = ap last_len (last-split (y ∷ r) x (omega arith) e) ∙ last-len (take (length (y ∷ r) - 1) (y ∷ r)) x
-
-pub none-last : (xs : List Slice) → slice_get xs (length xs - 1) ≡ None → xs ≡ []
-none-last [] e = refl
-none-last (y ∷ r) e = let s = slice_get-get_or (y ∷ r) (length (y ∷ r) - 1) y (omega arith) in absurd (cc)
-
-pub last-lies : (m : Map) (xs : List Slice) (x : Slice) → slice_get xs (length xs - 1) ≡ Some x → AllLie m xs → Lies m x
-last-lies m [] x e lie = absurd (cc)
-last-lies m (y ∷ r) x e lie = (lie-right m (take (length (y ∷ r) - 1) (y ∷ r)) (x ∷ []) (subst (AllLie m) (last-split (y ∷ r) x (omega arith) e) lie)).0
-
-pub room-got : (m : Map) (xs : List Slice) (x : Slice) → slice_get xs (length xs - 1) ≡ Some x → tail_room m xs ≡ room_after m x
-room-got m [] x e = absurd (cc)
-room-got m (y ∷ r) x e = ap (tail_room m) (last-split (y ∷ r) x (omega arith) e) ∙ room-last m (take (length (y ∷ r) - 1) (y ∷ r)) x
-
-pub holds-left : (m : Map) (xs ys : List Slice) → Holds m (xs ++ ys) → Holds m xs
-holds-left m xs ys h = record { lie = lie-left m xs ys h.lie; few = λ key. let a = h.few key in let b = naming-append xs ys key in omega (arith, a, b) }
 
 -- a slot of a whole segment stands alone
 pub full-alone : (xs : List Slice) (s : Slice) → AllSolid xs → segment_size ≤ s.len → joining xs s ≡ 0
@@ -81,10 +66,10 @@ module _ (xs : List Slice) (s : Slice) (apart : joins (length xs) (last_len xs) 
 
 module _ (m n : Map) (xs front : List Slice) (x y s : Slice) (shape : xs ≡ front ++ x ∷ []) where
   together : xs ++ s ∷ [] ≡ front ++ (x ∷ s ∷ [])
-  together = ap (λ zs. zs ++ s ∷ []) shape ∙ append_assoc front (x ∷ []) (s ∷ [])
+  together = all-together m n xs front x y s shape
 
-  pub last-is : last_len xs ≡ x.len
-  last-is = ap last_len shape ∙ last-len front x
+  last-is : last_len xs ≡ x.len
+  last-is = is-last m n xs front x y s shape
 
   count : length (lens front) + 1 ≡ length xs
   count = (let a = length-lens front in let b = length_push front x in let c = ap length shape in omega (arith, a, b, c))
@@ -117,39 +102,6 @@ module _ (m n : Map) (xs front : List Slice) (x y s : Slice) (shape : xs ≡ fro
         let f : merges_onto xs (s.len ∷ rest) ≡ 1 + merges (length xs) (last_len xs + s.len) rest = merges-yes (length xs) (last_len xs) s.len rest fit in
         let o : joining xs s ≡ 1 = ap one_if fit in
         omega (arith, e, f, o)
-
-  pub one-solid : AllSolid (xs ++ s ∷ []) → y.len ≡ x.len + s.len → AllSolid (front ++ y ∷ [])
-  one-solid h len =
-      let parts = subst AllSolid together h in
-      let l = (solid-right front (x ∷ s ∷ []) parts).0 in
-      solid-append front (y ∷ []) (solid-left front (x ∷ s ∷ []) parts) (omega (arith, l, len), tt)
-
-  pub one-some : AllSolid (xs ++ s ∷ []) → 1 ≤ s.len
-  one-some h = (solid-right front (x ∷ s ∷ []) (subst AllSolid together h)).1.0
-
-  pub all-together : xs ++ s ∷ [] ≡ front ++ (x ∷ s ∷ [])
-  all-together = together
-
-  module _ (held : Holds m (xs ++ s ∷ [])) where
-    all_held : Holds m (front ++ (x ∷ s ∷ []))
-    all_held = subst (Holds m) together held
-
-    pub both-held : Holds m (x ∷ s ∷ [])
-    both-held = record {
-      lie = lie-right m front (x ∷ s ∷ []) all_held.lie;
-      few = λ key. let a = all_held.few key in let b = naming-append front (x ∷ s ∷ []) key in omega (arith, a, b);
-    }
-
-    module _ (t : Turns m (x ∷ s ∷ []) n (y ∷ [])) where
-      pub one-turns : Turns m (xs ++ s ∷ []) n (front ++ y ∷ [])
-      one-turns = subst (λ zs. Turns m zs n (front ++ y ∷ [])) (sym together) (turns-behind m n front (x ∷ s ∷ []) (y ∷ []) all_held t)
-
-      pub one-read : reads n y ≡ reads m x ++ reads m s → all_read n (front ++ y ∷ []) ≡ all_read m (xs ++ s ∷ [])
-      one-read r =
-          read-behind m n front (x ∷ s ∷ []) (y ∷ []) all_held t
-          ∙ ap (λ bs. all_read m front ++ bs) (append-nil (reads n y) ∙ r ∙ ap (λ bs. reads m x ++ bs) (sym (append-nil (reads m s))))
-          ∙ sym (read-append m front (x ∷ s ∷ []))
-          ∙ ap (all_read m) (sym together)
 
 -- a slot that is pushed alone leaves the slots merged
 pub push-merged : (xs : List Slice) (s : Slice) → AreMerged (lens xs) → joins (length xs) (last_len xs) s.len ≡ false → AreMerged (lens (xs ++ s ∷ []))

@@ -8,11 +8,11 @@ use Rattle.pl_segments.specs.Segments.{Map, Segments, segment_at, live_count}
 use Rattle.pl_segments.specs.Slices.{all_read, one_if}
 use Rattle.pl_segments.specs.Turns.{Holds, Turns}
 use Rattle.pl_segments.proofs.Turning.{read-append, turns-then, turns-same, holds-turned, turns-before, read-before}
-use Rattle.pl_ring.specs.Slots.{total, AllSolid, solid_of, last_len}
+use Rattle.pl_segments.specs.Slots.{total, AllSolid, solid_of, last_len}
 use Rattle.pl_ring.specs.Merging.{lens, AreMerged, joins, joining, merges, merges_onto}
 use Rattle.pl_ring.specs.Parts.{strange}
-use Rattle.pl_ring.proofs.SlotLemmas.{no_slice, solid-append, solid-left, solid-right, total-append, total-read}
-use Rattle.pl_ring.proofs.Placing.{holds-left}
+use Rattle.pl_segments.proofs.SlotLemmas.{no_slice, solid-append, solid-left, solid-right, total-append, total-read}
+use Rattle.pl_segments.proofs.Together.{holds-left}
 use Rattle.pl_ring.proofs.Lying.{strange-append}
 
 -- Slots xs0 with slices ds0 became slots xs with slices ds, and the merges that are left were all counted.

@@ -1,4 +1,3 @@
-pub mod Slots
 pub mod Merging
 pub mod Parts
 pub mod Ring

@@ -3,7 +3,7 @@ use Rattle.std.specs.Prelude.{◌≡◌, ◌<◌, ℕ, ◌+◌, nat_le, Bool, �
 use Rattle.pl_segments.specs.declared.slice.Slice.{Slice}
 use Rattle.pl_segments.specs.Segments.{segment_size}
 use Rattle.pl_segments.specs.Slices.{one_if}
-use Rattle.pl_ring.specs.Slots.{AllSolid, front_of, last_len}
+use Rattle.pl_segments.specs.Slots.{AllSolid, front_of, last_len}
 
 -- the lengths of slices
 abbrev pub lens : List Slice → List ℕ

@@ -10,6 +10,10 @@ pub record Ring : Type 0 where
   pub slots : List Slice
   pub capacity : ℕ
 
+-- the bytes of capacity for each place: two places for a segment
+abbrev pub place_size : ℕ
+place_size = 2048
+
 -- Our own: the most bytes that a pipe may hold.
 abbrev pub most_capacity : ℕ
 most_capacity = 1048576

@@ -1,8 +1,8 @@
 -- The fields of a ring, as its slots.
 use Rattle.std.specs.Prelude.{◌≡◌, ◌≤◌, ◌*◌}
 use Rattle.pl_ring.specs.declared.ring.Ring.TheInside.{Inside}
-use Rattle.pl_ring.specs.Ring.{Ring, IsCapacity, IsBeside}
-use Rattle.pl_ring.specs.Slots.{place_size, total, AllSolid}
+use Rattle.pl_ring.specs.Ring.{place_size, Ring, IsCapacity, IsBeside}
+use Rattle.pl_segments.specs.Slots.{total, AllSolid}
 use Rattle.pl_ring.specs.Merging.{lens, AreMerged}
 
 -- the slots, and the capacity that their places are made for

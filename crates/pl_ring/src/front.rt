@@ -3,7 +3,7 @@ ghost use Rattle.std.specs.Prelude.{◌≡◌, ◌+◌, ◌-◌, ◌≤◌, ◌+
 ghost use Rattle.pl_segments.specs.Segments.{segment_at};
 ghost use Rattle.pl_segments.specs.Slices.{AllLie, all_read};
 ghost use Rattle.pl_segments.specs.Turns.{Holds, Turns};
-ghost use Rattle.pl_ring.specs.Slots.{total, AllSolid, drop_bytes, front_of};
+ghost use Rattle.pl_segments.specs.Slots.{total, AllSolid, drop_bytes, front_of};
 
 use crate::places::{put_first, take_first};
 use circular_buffer::HeapCircularBuffer;

@@ -5,7 +5,8 @@ ghost use Rattle.pl_segments.specs.declared.slice.Slice.{Slice as Part};
 ghost use Rattle.pl_segments.specs.Segments.{segment_at, live_count};
 ghost use Rattle.pl_segments.specs.Slices.{all_read};
 ghost use Rattle.pl_segments.specs.Turns.{Holds, Turns};
-ghost use Rattle.pl_ring.specs.Slots.{place_size, total, AllSolid, last_len};
+ghost use Rattle.pl_segments.specs.Slots.{total, AllSolid, last_len};
+ghost use Rattle.pl_ring.specs.Ring.{place_size};
 ghost use Rattle.pl_ring.specs.Merging.{lens, AreMerged, joining, merges_onto};
 ghost use Rattle.pl_ring.specs.Parts.{strange};
 

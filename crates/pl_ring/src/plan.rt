@@ -1,6 +1,6 @@
 //! What becomes one slot.
 ghost use Rattle.std.specs.Prelude.{◌≡◌, ◌+◌, ◌*◌, ◌<◌, ◌^◌};
-ghost use Rattle.pl_ring.specs.Slots.{total, solid_of};
+ghost use Rattle.pl_segments.specs.Slots.{total, solid_of};
 ghost use Rattle.pl_ring.specs.Merging.{lens, merges, joins};
 
 use pl_segments::{SEGMENT_SIZE, Slice};

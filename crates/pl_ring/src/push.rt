@@ -4,7 +4,8 @@ ghost use Rattle.pl_segments.specs.declared.slice.Slice.{Slice as Part};
 ghost use Rattle.pl_segments.specs.Segments.{segment_size, segment_at, holders, live_count};
 ghost use Rattle.pl_segments.specs.Slices.{AllLie, all_read};
 ghost use Rattle.pl_segments.specs.Turns.{Holds, Turns};
-ghost use Rattle.pl_ring.specs.Slots.{place_size, total, AllSolid, solid_of, tail_room};
+ghost use Rattle.pl_segments.specs.Slots.{total, AllSolid, solid_of, tail_room};
+ghost use Rattle.pl_ring.specs.Ring.{place_size};
 ghost use Rattle.pl_ring.specs.Merging.{lens, AreMerged, merges_onto};
 ghost use Rattle.pl_ring.specs.Parts.{strange};
 

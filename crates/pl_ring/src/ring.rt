@@ -4,7 +4,7 @@ ghost use Rattle.pl_model.specs.Numbers.{first_capacity};
 ghost use Rattle.pl_segments.specs.Segments.{segment_size, segment_at, holders, live_count};
 ghost use Rattle.pl_segments.specs.Slices.{AllLie, all_read};
 ghost use Rattle.pl_segments.specs.Turns.{Holds, Turns};
-ghost use Rattle.pl_ring.specs.Slots.{total, AllSolid, solid_of, drop_bytes, front_of};
+ghost use Rattle.pl_segments.specs.Slots.{total, AllSolid, solid_of, drop_bytes, front_of};
 ghost use Rattle.pl_ring.specs.Merging.{lens, AreMerged, merges_onto, IsFront};
 ghost use Rattle.pl_ring.specs.Parts.{strange};
 ghost use Rattle.pl_ring.specs.Ring.{most_capacity, IsCapacity, IsBeside};
@@ -14,7 +14,7 @@ use crate::front::{copy_front, drop_front, front_slices};
 use crate::push::{push_bytes, push_slices};
 use circular_buffer::HeapCircularBuffer;
 use pl_model::numbers::FIRST_CAPACITY;
-use pl_segments::{NoMemory, Slice, SliceList, Store};
+use pl_segments::{NoMemory, Slice, SliceList, Store, len_of};
 use std::alloc::{Allocator, Global};
 use std::marker::Model;
 
@@ -230,16 +230,4 @@ fn places_beside<A: Allocator + Copy>(
     }
     let first = HeapCircularBuffer::with_capacity(alloc, FIRST_CAPACITY / PLACE_SIZE)?;
     Ok(Some(first))
-}
-
-/// How many bytes slices have, whose sum fits.
-fn len_of(slices: &[Slice]) -> usize
-    requires { total slices.now ≤ most_capacity }
-    ensures { result ≡ total slices.now }
-{
-    let mut sum = 0;
-    for i in 0..slices.len() {
-        sum += slices[i].len as usize;
-    }
-    sum
 }

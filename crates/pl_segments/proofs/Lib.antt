@@ -2,5 +2,10 @@ pub mod Changing
 pub mod Storing
 pub mod Turning
 pub mod Shared
+pub mod SlotLemmas
+pub mod LastSlot
+pub mod Pushing
+pub mod Fronting
+pub mod Together
 pub mod Appending
 pub mod Making

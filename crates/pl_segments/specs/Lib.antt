@@ -1,5 +1,6 @@
 pub mod Segments
 pub mod Slices
 pub mod Turns
+pub mod Slots
 pub mod Sharing
 pub mod StoreView

@@ -11,5 +11,5 @@ mod store;
 pub use block::SEGMENT_SIZE;
 pub use fault::{AppendFault, NoMemory};
 pub use sharing::lists_over_one_store;
-pub use slice::{Slice, SliceList};
+pub use slice::{Slice, SliceList, len_of};
 pub use store::Store;

@@ -4,10 +4,10 @@ use Rattle.std.proofs.lemmas.List.{drop_more, append_assoc}
 use Rattle.pl_segments.specs.Segments.{segment_at}
 use Rattle.pl_segments.specs.Slices.{all_read, reads, Lies}
 use Rattle.pl_segments.proofs.Changing.{length-reads}
-use Rattle.pl_ring.specs.Slots.{cut_end}
-use Rattle.pl_ring.proofs.SlotLemmas.{no_slice, reads-cut_end, lies-cut_end}
-use Rattle.pl_ring.proofs.Pushing.{lie-at}
-use Rattle.pl_ring.proofs.Fronting.{take-parts}
+use Rattle.pl_segments.specs.Slots.{cut_end}
+use Rattle.pl_segments.proofs.SlotLemmas.{no_slice, reads-cut_end, lies-cut_end}
+use Rattle.pl_segments.proofs.Pushing.{lie-at}
+use Rattle.pl_segments.proofs.Fronting.{take-parts}
 use Rattle.pl_ring.proofs.front.add_bytes.Goals as goal
 
 pub bytes-requires : goal.bytes-requires

@@ -1,6 +1,6 @@
 use Rattle.std.proofs.Common.{length, ◌+◌, ◌-◌, ◌≡◌, ◌≤◌, ◌++◌, drop}
 use Rattle.std.specs.Prelude.{vec_capacity, vec_len}
-use Rattle.pl_ring.specs.Slots.{total, front_of}
+use Rattle.pl_segments.specs.Slots.{total, front_of}
 use Rattle.pl_ring.proofs.front.add_slices.Given as goal
 
 -- the slices so far, and those that are still to come, give what was asked

@@ -3,7 +3,7 @@ use Rattle.std.specs.Prelude.{vec_len}
 use Rattle.pl_segments.specs.Segments.{segment_at}
 use Rattle.pl_segments.specs.Slices.{AllLie, all_read}
 use Rattle.pl_segments.proofs.Turning.{lie-left, lie-right, read-append}
-use Rattle.pl_ring.proofs.Fronting.{take-both}
+use Rattle.pl_segments.proofs.Fronting.{take-both}
 use Rattle.pl_ring.proofs.front.copy_front.Goals as goal
 
 pub add_bytes-requires-clause-lie : goal.add_bytes-requires-clause-lie

@@ -3,8 +3,8 @@ use Rattle.pl_segments.specs.Segments.{segment_at}
 use Rattle.pl_segments.specs.Slices.{AllLie, all_read}
 use Rattle.pl_segments.specs.Turns.{Turns, Holds}
 use Rattle.pl_segments.proofs.Turning.{turns-then, holds-turned}
-use Rattle.pl_ring.specs.Slots.{total, AllSolid, cut_front, drop_bytes}
-use Rattle.pl_ring.proofs.Fronting.{gone-turns, gone-read, drop-whole, drop-none, part-read}
+use Rattle.pl_segments.specs.Slots.{total, AllSolid, cut_front, drop_bytes}
+use Rattle.pl_segments.proofs.Fronting.{gone-turns, gone-read, drop-whole, drop-none, part-read}
 use Rattle.pl_ring.proofs.front.drop_front.Goals as goal
 
 pub returns-then-rest-first-clause-read : goal.returns-then-rest-first-clause-read

@@ -2,7 +2,7 @@ use Rattle.std.proofs.Common.{◌≡◌, ◌≤◌, drop}
 use Rattle.pl_segments.specs.Segments.{segment_at}
 use Rattle.pl_segments.specs.Slices.{all_read}
 use Rattle.pl_segments.specs.Turns.{Turns}
-use Rattle.pl_ring.specs.Slots.{total, AllSolid, drop_bytes}
+use Rattle.pl_segments.specs.Slots.{total, AllSolid, drop_bytes}
 use Rattle.pl_ring.proofs.front.drop_front.Given as goal
 
 -- what is left to go of the slots that are left gives what was asked

@@ -1,6 +1,6 @@
 use Rattle.std.proofs.Common.{◌≡◌, ◌∙◌, ◌++◌, ap, sym}
-use Rattle.pl_ring.specs.Slots.{front_of}
-use Rattle.pl_ring.proofs.Fronting.{front-append}
+use Rattle.pl_segments.specs.Slots.{front_of}
+use Rattle.pl_segments.proofs.Fronting.{front-append}
 use Rattle.pl_ring.proofs.front.front_slices.Goals as goal
 
 pub returns : goal.returns

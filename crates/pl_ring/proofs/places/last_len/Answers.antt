@@ -1,6 +1,6 @@
 use Rattle.std.proofs.Common.{◌≡◌, ◌-◌, ap, sym, length, Some, None, slice_get}
-use Rattle.pl_ring.specs.Slots.{last_len}
-use Rattle.pl_ring.proofs.Placing.{last-got, none-last}
+use Rattle.pl_segments.specs.Slots.{last_len}
+use Rattle.pl_segments.proofs.LastSlot.{last-got, none-last}
 use Rattle.pl_ring.proofs.places.last_len.Goals as goal
 
 pub returns-in-Some : goal.returns-in-Some

@@ -3,12 +3,13 @@ use Rattle.std.proofs.lemmas.List.{length_push}
 use Rattle.pl_segments.specs.Segments.{segment_at}
 use Rattle.pl_segments.specs.Slices.{all_read, one_if}
 use Rattle.pl_segments.specs.Turns.{Turns}
-use Rattle.pl_ring.specs.Slots.{AllSolid, last_len}
+use Rattle.pl_segments.specs.Slots.{AllSolid, last_len}
 use Rattle.pl_ring.specs.Merging.{lens, AreMerged, joins, joining, merges_onto}
 use Rattle.pl_ring.specs.Parts.{strange}
-use Rattle.pl_ring.proofs.SlotLemmas.{total-append}
+use Rattle.pl_segments.proofs.SlotLemmas.{total-append}
 use Rattle.pl_ring.proofs.Merging.{joins-fit}
-use Rattle.pl_ring.proofs.Placing.{places-enough, push-merged, alone-plan, last-is, one-merged, one-plan, one-solid, one-some, both-held, one-turns, one-read, all-together}
+use Rattle.pl_segments.proofs.Together.{is-last, one-solid, one-some, both-held, one-turns, one-read, all-together}
+use Rattle.pl_ring.proofs.Placing.{places-enough, push-merged, alone-plan, one-merged, one-plan}
 use Rattle.pl_ring.proofs.Lying.{strange-joined}
 use Rattle.pl_ring.proofs.places.push_slot.Given.{Over}
 use Rattle.pl_ring.proofs.places.push_slot.Goals.{After-joins}
@@ -33,7 +34,7 @@ join_reserved-joined-requires-clause-most g c =
     let m = segment_at c.args.store.now in
     let xs = c.args.slots.now.items in
     let fit = joins-fit (length xs) (last_len xs) c.args.slot.len (sym (asked g (goal.at.join_reserved-joined-requires-clause-most g c).After-joins) ∙ c.if-joins.true) in
-    let last = last-is m m xs c.take_last-last.new.slots.items c.take_last-last.result c.take_last-last.result c.args.slot c.take_last-last.ensures.items in
+    let last = is-last m m xs c.take_last-last.new.slots.items c.take_last-last.result c.take_last-last.result c.args.slot c.take_last-last.ensures.items in
     omega (arith, fit, last)
 
 pub returns-then-joins-clause-turns : goal.returns-then-joins-clause-turns

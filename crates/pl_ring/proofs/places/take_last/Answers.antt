@@ -1,5 +1,5 @@
 use Rattle.std.proofs.Common.{◌∙◌, ◌++◌, ◌∷◌, [], ap, sym}
-use Rattle.pl_ring.proofs.Placing.{last-split}
+use Rattle.pl_segments.proofs.LastSlot.{last-split}
 use Rattle.pl_ring.proofs.places.take_last.Goals as goal
 
 pub returns-clause-items : goal.returns-clause-items

@@ -1,5 +1,5 @@
 use Rattle.std.proofs.Common.{◌≡◌, ◌+◌, ◌*◌, ◌≤◌, drop}
-use Rattle.pl_ring.specs.Slots.{total, solid_of}
+use Rattle.pl_segments.specs.Slots.{total, solid_of}
 use Rattle.pl_ring.specs.Merging.{lens, merges}
 use Rattle.pl_ring.proofs.plan.merges_of.Given as goal
 

@@ -5,9 +5,9 @@ use Rattle.pl_segments.specs.declared.slice.Slice.{Slice}
 use Rattle.pl_segments.specs.Segments.{segment_at}
 use Rattle.pl_segments.specs.Slices.{reads, all_read}
 use Rattle.pl_segments.specs.Turns.{Turns}
-use Rattle.pl_ring.specs.Slots.{AllSolid}
+use Rattle.pl_segments.specs.Slots.{AllSolid}
 use Rattle.pl_ring.specs.Merging.{lens, AreMerged}
-use Rattle.pl_ring.proofs.Pushing.{tail-lies, tail-fits, tail-turns, tail-read, tail-solid}
+use Rattle.pl_segments.proofs.Pushing.{tail-lies, tail-fits, tail-turns, tail-read, tail-solid}
 use Rattle.pl_ring.proofs.Placing.{longer-merged}
 use Rattle.pl_ring.proofs.push.grow_tail.Given.{Over}
 use Rattle.pl_ring.proofs.push.grow_tail.Goals.{After-unwrap-longer}

@@ -3,9 +3,9 @@ use Rattle.std.proofs.lemmas.List.{take_all, length-take}
 use Rattle.pl_segments.specs.Segments.{Segments, segment_at, live_count}
 use Rattle.pl_segments.specs.Slices.{all_read}
 use Rattle.pl_segments.specs.Turns.{Turns}
-use Rattle.pl_ring.specs.Slots.{solid_of}
-use Rattle.pl_ring.proofs.SlotLemmas.{no_slice}
-use Rattle.pl_ring.proofs.Pushing.{lie-at, lies-still, holders-le, held-turns, held-read, passed-turns, passed-read}
+use Rattle.pl_segments.specs.Slots.{solid_of}
+use Rattle.pl_segments.proofs.SlotLemmas.{no_slice}
+use Rattle.pl_segments.proofs.Pushing.{lie-at, lies-still, holders-le, held-turns, held-read, passed-turns, passed-read}
 use Rattle.pl_ring.proofs.push.hold_all.Goals.{then-slice-ne0, else-slice-ne0}
 use Rattle.pl_ring.proofs.push.hold_all.Goals as goal
 

@@ -2,7 +2,7 @@ use Rattle.std.proofs.Common.{◌≡◌, take, []}
 use Rattle.pl_segments.specs.Segments.{segment_at, live_count}
 use Rattle.pl_segments.specs.Slices.{all_read}
 use Rattle.pl_segments.specs.Turns.{Turns}
-use Rattle.pl_ring.specs.Slots.{solid_of}
+use Rattle.pl_segments.specs.Slots.{solid_of}
 use Rattle.pl_ring.proofs.push.hold_all.Given as goal
 
 -- the slices so far are held

@@ -2,8 +2,8 @@ use Rattle.std.proofs.Common.{◌≡◌, ◌∙◌, ap, sym, subst, length, take
 use Rattle.std.proofs.lemmas.List.{length-take, length-drop}
 use Rattle.pl_segments.specs.Segments.{Segments, segment_at}
 use Rattle.pl_segments.specs.Slices.{AllLie}
-use Rattle.pl_ring.specs.Slots.{total}
-use Rattle.pl_ring.proofs.Pushing.{total-pushed}
+use Rattle.pl_segments.specs.Slots.{total}
+use Rattle.pl_segments.proofs.Pushing.{total-pushed}
 use Rattle.pl_ring.proofs.push.push_bytes.Goals.{then-rest-gt0+in_ok-reserve, else-rest-gt0, then-grown-ne0, else-grown-ne0}
 use Rattle.pl_ring.proofs.push.push_bytes.Goals as goal
 

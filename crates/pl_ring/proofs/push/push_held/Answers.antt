@@ -1,8 +1,8 @@
 use Rattle.std.proofs.Common.{◌∙◌, refl, arith}
 use Rattle.pl_segments.specs.Segments.{segment_at, live_count}
-use Rattle.pl_ring.specs.Slots.{solid_of}
-use Rattle.pl_ring.proofs.SlotLemmas.{solid-append, total-append, total-solid}
-use Rattle.pl_ring.proofs.Pushing.{solid-solid_of}
+use Rattle.pl_segments.specs.Slots.{solid_of}
+use Rattle.pl_segments.proofs.SlotLemmas.{solid-append, total-append, total-solid}
+use Rattle.pl_segments.proofs.Pushing.{solid-solid_of}
 use Rattle.pl_ring.proofs.Underway.{underway-as, underway-first, underway-at, underway-past, underway-end, next-held, next-solid, next-total, next-room, underway-next, last-turns, last-read, last-solid, last-in_use, last-parts}
 use Rattle.pl_ring.proofs.push.push_held.Goals.{then-slice-ne0, else-slice-ne0}
 use Rattle.pl_ring.proofs.push.push_held.Goals as goal

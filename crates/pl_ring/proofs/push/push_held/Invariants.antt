@@ -1,6 +1,6 @@
 use Rattle.std.proofs.Common.{◌≡◌, drop}
 use Rattle.pl_segments.specs.Segments.{segment_at, live_count}
-use Rattle.pl_ring.specs.Slots.{solid_of}
+use Rattle.pl_segments.specs.Slots.{solid_of}
 use Rattle.pl_ring.proofs.Underway.{Underway}
 use Rattle.pl_ring.proofs.push.push_held.Given as goal
 

@@ -5,8 +5,8 @@ use Rattle.pl_segments.specs.Segments.{segment_at}
 use Rattle.pl_segments.specs.Slices.{all_read}
 use Rattle.pl_segments.specs.Turns.{Turns, Holds}
 use Rattle.pl_segments.proofs.Turning.{turns-then, holds-turned}
-use Rattle.pl_ring.proofs.SlotLemmas.{solid-append}
-use Rattle.pl_ring.proofs.Pushing.{push-turns, push-read, total-pushed}
+use Rattle.pl_segments.proofs.SlotLemmas.{solid-append}
+use Rattle.pl_segments.proofs.Pushing.{push-turns, push-read, total-pushed}
 use Rattle.pl_ring.proofs.Placing.{full-alone}
 use Rattle.pl_ring.proofs.push.push_new.Given.{Over}
 use Rattle.pl_ring.proofs.push.push_new.Goals.{After-make_reserved-slice}

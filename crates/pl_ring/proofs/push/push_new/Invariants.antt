@@ -2,7 +2,8 @@ use Rattle.std.proofs.Common.{length, ◌+◌, ◌*◌, ◌≡◌, ◌≤◌, �
 use Rattle.pl_segments.specs.Segments.{segment_size, segment_at}
 use Rattle.pl_segments.specs.Slices.{all_read}
 use Rattle.pl_segments.specs.Turns.{Turns}
-use Rattle.pl_ring.specs.Slots.{place_size, total, AllSolid}
+use Rattle.pl_segments.specs.Slots.{total, AllSolid}
+use Rattle.pl_ring.specs.Ring.{place_size}
 use Rattle.pl_ring.specs.Merging.{lens, AreMerged}
 use Rattle.pl_ring.proofs.push.push_new.Given as goal
 

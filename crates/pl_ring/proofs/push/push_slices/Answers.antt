@@ -3,9 +3,9 @@ use Rattle.pl_segments.specs.Segments.{Map, Segments, segment_at}
 use Rattle.pl_segments.specs.Slices.{all_read}
 use Rattle.pl_segments.specs.Turns.{Turns}
 use Rattle.pl_segments.proofs.Turning.{turns-then, holds-turned}
-use Rattle.pl_ring.specs.Slots.{solid_of}
-use Rattle.pl_ring.proofs.SlotLemmas.{last-total}
-use Rattle.pl_ring.proofs.Pushing.{pushes-turns, pushes-read}
+use Rattle.pl_segments.specs.Slots.{solid_of}
+use Rattle.pl_segments.proofs.SlotLemmas.{last-total}
+use Rattle.pl_segments.proofs.Pushing.{pushes-turns, pushes-read}
 use Rattle.pl_ring.proofs.Lying.{strange-first}
 use Rattle.pl_ring.proofs.push.push_slices.Given.{Over}
 use Rattle.pl_ring.proofs.push.push_slices.Goals.{After-hold_all}

@@ -1,7 +1,7 @@
 use Rattle.std.proofs.Common.{◌≡◌, ◌-◌, ◌∙◌, ap, sym, length, Some, None, slice_get}
 use Rattle.pl_segments.specs.Segments.{segment_at}
-use Rattle.pl_ring.specs.Slots.{tail_room}
-use Rattle.pl_ring.proofs.Placing.{last-lies, room-got, none-last}
+use Rattle.pl_segments.specs.Slots.{tail_room}
+use Rattle.pl_segments.proofs.LastSlot.{last-lies, room-got, none-last}
 use Rattle.pl_ring.proofs.push.tail_room.Goals as goal
 
 pub room_after-requires : goal.room_after-requires

@@ -1,8 +1,8 @@
 use Rattle.std.proofs.Common.{◌≡◌, ◌*◌, ap, sym, subst, arith}
-use Rattle.pl_ring.specs.Ring.{Ring, IsCapacity, IsBeside}
-use Rattle.pl_ring.specs.Slots.{place_size, total, AllSolid}
+use Rattle.pl_ring.specs.Ring.{place_size, Ring, IsCapacity, IsBeside}
+use Rattle.pl_segments.specs.Slots.{total, AllSolid}
 use Rattle.pl_ring.specs.Merging.{lens, AreMerged}
-use Rattle.pl_ring.proofs.Fronting.{solid-drop, total-drop}
+use Rattle.pl_segments.proofs.Fronting.{solid-drop, total-drop}
 use Rattle.pl_ring.proofs.Placing.{merged-dropped}
 use Rattle.pl_ring.proofs.ring.Ring.drop_front.Goals as goal
 

@@ -1,9 +1,9 @@
 use Rattle.std.proofs.Common.{◌≡◌, ◌+◌, ◌*◌, ap, sym, subst, length, arith}
 use Rattle.pl_segments.specs.Segments.{segment_at}
 use Rattle.pl_segments.specs.Turns.{Holds}
-use Rattle.pl_ring.specs.Ring.{Ring, IsCapacity, IsBeside}
-use Rattle.pl_ring.specs.Slots.{place_size, total}
-use Rattle.pl_ring.proofs.Pushing.{total-pushed}
+use Rattle.pl_ring.specs.Ring.{place_size, Ring, IsCapacity, IsBeside}
+use Rattle.pl_segments.specs.Slots.{total}
+use Rattle.pl_segments.proofs.Pushing.{total-pushed}
 use Rattle.pl_ring.proofs.ring.Ring.push_bytes.Goals as goal
 
 pub invariant_of-self-2 : goal.invariant_of-self-2

@@ -2,13 +2,13 @@ use Rattle.std.proofs.Common.{◌≡◌, ◌+◌, ◌*◌, ◌++◌, ◌∙◌, 
 use Rattle.pl_segments.specs.Segments.{segment_at}
 use Rattle.pl_segments.specs.Slices.{all_read}
 use Rattle.pl_segments.specs.Turns.{Holds}
-use Rattle.pl_ring.specs.Ring.{Ring, IsCapacity, IsBeside}
-use Rattle.pl_ring.specs.Slots.{place_size, total}
+use Rattle.pl_ring.specs.Ring.{place_size, Ring, IsCapacity, IsBeside}
+use Rattle.pl_segments.specs.Slots.{total}
 use Rattle.pl_ring.specs.Merging.{IsFront}
 use Rattle.pl_ring.specs.Parts.{strange}
-use Rattle.pl_ring.proofs.SlotLemmas.{total-read}
+use Rattle.pl_segments.proofs.SlotLemmas.{total-read}
 use Rattle.pl_ring.proofs.Merging.{front-merges}
-use Rattle.pl_ring.proofs.Pushing.{total-pushed}
+use Rattle.pl_segments.proofs.Pushing.{total-pushed}
 use Rattle.pl_ring.proofs.ring.Ring.push_slices.Goals as goal
 
 pub invariant_of-self-2 : goal.invariant_of-self-2

@@ -4,10 +4,10 @@ use Rattle.pl_model.specs.Numbers.{first_capacity}
 use Rattle.pl_segments.specs.declared.slice.Slice.{Slice}
 use Rattle.pl_segments.specs.Segments.{segment_at}
 use Rattle.pl_segments.specs.Turns.{Turns}
-use Rattle.pl_ring.specs.Ring.{Ring, IsCapacity, IsBeside}
-use Rattle.pl_ring.specs.Slots.{place_size, total, AllSolid, drop_bytes}
+use Rattle.pl_ring.specs.Ring.{place_size, Ring, IsCapacity, IsBeside}
+use Rattle.pl_segments.specs.Slots.{total, AllSolid, drop_bytes}
 use Rattle.pl_ring.specs.Merging.{lens, AreMerged}
-use Rattle.pl_ring.proofs.Fronting.{drop-all}
+use Rattle.pl_segments.proofs.Fronting.{drop-all}
 use Rattle.pl_ring.proofs.ring.Ring.reset.Goals.{in-Some, in_default}
 use Rattle.pl_ring.proofs.ring.Ring.reset.Goals as goal
 

@@ -1,5 +1,5 @@
 use Rattle.std.proofs.Common.{◌≡◌, ◌*◌, ◌/◌, arith}
-use Rattle.pl_ring.specs.Slots.{place_size}
+use Rattle.pl_ring.specs.Ring.{place_size}
 use Rattle.pl_ring.proofs.Placing.{places-enough}
 use Rattle.pl_ring.proofs.ring.Ring.set_capacity.Goals as goal
 

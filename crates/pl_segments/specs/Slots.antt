@@ -4,10 +4,6 @@ use Rattle.pl_segments.specs.declared.slice.Slice.{Slice}
 use Rattle.pl_segments.specs.Segments.{Map}
 use Rattle.pl_segments.specs.Slices.{room_after}
 
--- the bytes of capacity for each place: two places for a segment
-abbrev pub place_size : ℕ
-place_size = 2048
-
 -- how many bytes slots have
 abbrev pub total : List Slice → ℕ
 total [] = 0

@@ -10,8 +10,8 @@ use Rattle.pl_segments.specs.Slices.{Lies, reads, all_read, AllLie, naming, one_
 use Rattle.pl_segments.specs.Turns.{Holds, Turns}
 use Rattle.pl_segments.proofs.Changing.{reads-begun, lies-begun, appended-fits}
 use Rattle.pl_segments.proofs.Turning.{lie-right, read-append, turns-then, holds-turned, turns-behind, read-behind}
-use Rattle.pl_ring.specs.Slots.{total, AllSolid, solid_of, tail_room}
-use Rattle.pl_ring.proofs.SlotLemmas.{solid-append, solid-left, room-last, total-read}
+use Rattle.pl_segments.specs.Slots.{total, AllSolid, solid_of, tail_room}
+use Rattle.pl_segments.proofs.SlotLemmas.{solid-append, solid-left, room-last, total-read}
 
 -- one of some slices
 pub lie-at : (m : Map) (xs : List Slice) (i : ℕ) (d : Slice) → i < length xs → AllLie m xs → Lies m (get_or xs i d)

@@ -1,5 +1,5 @@
 -- Slots as bytes: what they read, whole and in parts.
-use Rattle.std.proofs.Common.{◌≡◌, ℕ, suc, ◌+◌, ◌-◌, ◌≤◌, List, [], ◌∷◌, ◌++◌, refl, sym, ◌∙◌, ap, inl, inr, length, take, drop, arith}
+use Rattle.std.proofs.Common.{◌≡◌, ℕ, ◌+◌, ◌-◌, ◌≤◌, List, [], ◌∷◌, ◌++◌, refl, sym, ◌∙◌, ap, inl, inr, length, take, drop, arith}
 use Rattle.std.specs.Prelude.{if◌then◌else◌}
 use Rattle.std.proofs.lemmas.Bool.Decides.{eqb_tells}
 use Rattle.std.proofs.lemmas.List.{length-append, take-take, drop-take, drop-drop}
@@ -7,8 +7,7 @@ use Rattle.pl_segments.specs.declared.slice.Slice.{Slice}
 use Rattle.pl_segments.specs.Segments.{Map, filled}
 use Rattle.pl_segments.specs.Slices.{Lies, reads, all_read, AllLie, room_after}
 use Rattle.pl_segments.proofs.Changing.{length-reads}
-use Rattle.pl_ring.specs.Slots.{total, AllSolid, solid_of, cut_front, cut_end, last_from, last_len, room_last, tail_room}
-use Rattle.pl_ring.specs.Merging.{lens}
+use Rattle.pl_segments.specs.Slots.{total, AllSolid, solid_of, cut_front, cut_end, last_from, last_len, room_last, tail_room}
 
 pub total-read : (m : Map) (xs : List Slice) → AllLie m xs → length (all_read m xs) ≡ total xs
 total-read m [] lie = refl
@@ -77,15 +76,6 @@ last-total (x ∷ xs) = by xs x
 pub last-some : (x : Slice) (xs : List Slice) → AllSolid (x ∷ xs) → 1 ≤ last_len (x ∷ xs)
 last-some x [] s = s.0
 last-some x (y ∷ ys) s = last-some y ys s.1
-
--- the lengths of slots
-pub lens-append : (xs ys : List Slice) → lens (xs ++ ys) ≡ lens xs ++ lens ys
-lens-append [] ys = refl
-lens-append (x ∷ xs) ys = ap (λ ns. x.len ∷ ns) (lens-append xs ys)
-
-pub length-lens : (xs : List Slice) → length (lens xs) ≡ length xs
-length-lens [] = refl
-length-lens (x ∷ xs) = ap suc (length-lens xs)
 
 -- slices that aren't empty have all bytes
 pub total-solid : (xs : List Slice) → total (solid_of xs) ≡ total xs

@@ -11,8 +11,8 @@ use Rattle.pl_segments.specs.Slices.{reads, all_read, AllLie}
 use Rattle.pl_segments.specs.Turns.{Holds, Turns}
 use Rattle.pl_segments.proofs.Changing.{length-reads, begins-same}
 use Rattle.pl_segments.proofs.Turning.{turns-before, read-before}
-use Rattle.pl_ring.specs.Slots.{total, AllSolid, cut_front, cut_end, drop_bytes, front_of}
-use Rattle.pl_ring.proofs.SlotLemmas.{reads-cut_front, reads-cut_end, lies-cut_front, lies-cut_end}
+use Rattle.pl_segments.specs.Slots.{total, AllSolid, cut_front, cut_end, drop_bytes, front_of}
+use Rattle.pl_segments.proofs.SlotLemmas.{reads-cut_front, reads-cut_end, lies-cut_front, lies-cut_end}
 
 -- bytes past the first part
 pub drop-past : (n : ℕ) (p q : List ℕ) → length p ≤ n → drop n (p ++ q) ≡ drop (n - length p) q
