@@ -1,0 +1,4 @@
+pub mod Rows
+pub mod RowView
+pub mod File
+pub mod FileView
