@@ -61,41 +61,67 @@ fn outcomes_without(
     Ok(outcomes)
 }
 
-/// Refuses each request for memory of the steps in turn. Up to a step that finds none the steps come to what the rows say;
-/// from there on, to what `behind` says beside the step's place. Each of these places is met, and no other.
-fn each_is_passed_over(rt: &impl Abort, alloc: Global, steps: &Steps) -> Result<(), Fail> {
-    let (name, rows, behind) = (steps.name, steps.rows, steps.behind);
-    let heap = Refusing::new(alloc);
-    let mut are_met = Vec::from_elem(alloc, false, behind.len())?;
-    for n in 1..MOST_REQUESTS {
-        let outcomes = outcomes_without(alloc, &heap, rows, n)?;
-        let passed = outcomes
-            .iter()
-            .position(|outcome| *outcome == Outcome::NoMemory);
-        let mut wanted = Vec::new(alloc);
-        for (_, want) in rows.iter().take(passed.unwrap_or(rows.len())) {
-            wanted.push(want.outcome(alloc)?)?;
-        }
-        for ((place, wants), is_met) in behind.iter().zip(are_met.iter_mut()) {
-            if passed == Some(*place) {
-                wanted.push(Outcome::NoMemory)?;
-                for want in *wants {
-                    wanted.push(want.outcome(alloc)?)?;
-                }
-                *is_met = true;
+/// What is wanted where the step at a place finds no memory, or none does: up to it what the rows say, and from there on what
+/// `behind` says beside the place.
+fn outcomes_wanted(
+    alloc: Global,
+    steps: &Steps,
+    passed: Option<usize>,
+) -> Result<Vec<Outcome>, Fail> {
+    let mut wanted = Vec::new(alloc);
+    for (_, want) in steps.rows.iter().take(passed.unwrap_or(steps.rows.len())) {
+        wanted.push(want.outcome(alloc)?)?;
+    }
+    for (place, wants) in steps.behind {
+        if passed == Some(*place) {
+            wanted.push(Outcome::NoMemory)?;
+            for want in *wants {
+                wanted.push(want.outcome(alloc)?)?;
             }
         }
+    }
+    Ok(wanted)
+}
+
+/// Makes the steps where the `n`th request is refused, and answers the place of the one that found no memory.
+fn passed_over(
+    rt: &impl Abort,
+    alloc: Global,
+    heap: &Refusing<Global>,
+    steps: &Steps,
+    n: u64,
+) -> Result<Option<usize>, Fail> {
+    let (name, rows) = (steps.name, steps.rows);
+    let outcomes = outcomes_without(alloc, heap, rows, n)?;
+    let passed = outcomes
+        .iter()
+        .position(|outcome| *outcome == Outcome::NoMemory);
+    let wanted = outcomes_wanted(alloc, steps, passed)?;
+    assert_eq!(rt;
+        wanted.len(),
+        rows.len(),
+        "what is wanted of {name} where step {passed:?} finds no memory, and request {n} is refused"
+    );
+    for (outcome, (wanted, (ask, _))) in outcomes.iter().zip(wanted.iter().zip(rows)) {
         assert_eq!(rt;
-            wanted.len(),
-            rows.len(),
-            "what is wanted of {name} where step {passed:?} finds no memory, and request {n} is refused"
+            outcome,
+            wanted,
+            "{ask:?} of {name}, where step {passed:?} finds no memory, and request {n} is refused"
         );
-        for (outcome, (wanted, (ask, _))) in outcomes.iter().zip(wanted.iter().zip(rows)) {
-            assert_eq!(rt;
-                outcome,
-                wanted,
-                "{ask:?} of {name}, where step {passed:?} finds no memory, and request {n} is refused"
-            );
+    }
+    Ok(passed)
+}
+
+/// Refuses each request for memory of the steps in turn. Each of the places that `behind` names is met, and no other.
+fn each_is_passed_over(rt: &impl Abort, alloc: Global, steps: &Steps) -> Result<(), Fail> {
+    let heap = Refusing::new(alloc);
+    let mut are_met = Vec::from_elem(alloc, false, steps.behind.len())?;
+    for n in 1..MOST_REQUESTS {
+        let passed = passed_over(rt, alloc, &heap, steps, n)?;
+        for ((place, _), is_met) in steps.behind.iter().zip(are_met.iter_mut()) {
+            if passed == Some(*place) {
+                *is_met = true;
+            }
         }
         if !heap.refused() {
             break;
@@ -103,11 +129,16 @@ fn each_is_passed_over(rt: &impl Abort, alloc: Global, steps: &Steps) -> Result<
     }
     assert!(rt;
         heap.requests() > 0 && !heap.refused(),
-        "the steps of {name} make {} requests",
+        "the steps of {} make {} requests",
+        steps.name,
         heap.requests()
     );
-    for ((place, _), is_met) in behind.iter().zip(are_met.iter()) {
-        assert!(rt; *is_met, "step {place} of {name} always finds memory");
+    for ((place, _), is_met) in steps.behind.iter().zip(are_met.iter()) {
+        assert!(rt;
+            *is_met,
+            "step {place} of {} always finds memory",
+            steps.name
+        );
     }
     Ok(())
 }
