@@ -1,19 +1,18 @@
 -- A file's slots as some of them are replaced: what is made beforehand leaves them alone, and what goes afterwards leaves the rest.
-use Rattle.std.proofs.Common.{◌≡◌, ℕ, zero, suc, ◌+◌, ◌-◌, ◌*◌, ◌<◌, ◌≤◌, ◌^◌, List, [], ◌∷◌, ◌++◌, refl, sym, ◌∙◌, ap, subst, inl, inr, length, take, drop, arith}
-use Rattle.std.specs.Prelude.{replicate, if◌then◌else◌, max, Option, None, Some}
-use Rattle.std.proofs.lemmas.Bool.{ne_eqb}
+use Rattle.std.proofs.Common.{◌≡◌, ℕ, zero, suc, ◌+◌, ◌-◌, ◌<◌, ◌≤◌, List, [], ◌∷◌, ◌++◌, refl, sym, ◌∙◌, ap, subst, inl, inr, length, take, drop, arith}
+use Rattle.std.specs.Prelude.{replicate, max, Option, None, Some}
 use Rattle.std.proofs.lemmas.Bool.Decides.{leb_tells}
 use Rattle.std.proofs.lemmas.List.{append-nil, append_assoc, take-append-drop, take-take, take_all, length-append, length-take, length-drop, length-replicate}
 use Rattle.pl_segments.specs.declared.slice.Slice.{Slice}
 use Rattle.pl_segments.specs.Segments.{segment_size, Segment, Map, at, bytes_in, holders, IsGood, AreGood}
 use Rattle.pl_segments.specs.Slices.{Lies, reads, all_read, AllLie, naming}
 use Rattle.pl_segments.specs.Turns.{Holds, Turns}
-use Rattle.pl_segments.specs.Slots.{total, AllSolid, solid_of, drop_bytes, front_of}
+use Rattle.pl_segments.specs.Slots.{total, AllSolid, solid_of, drop_bytes}
 use Rattle.pl_segments.proofs.Changing.{length-reads}
 use Rattle.pl_segments.proofs.Turning.{naming-append, read-append, lie-append, lie-left, lie-right, turns-then, holds-turned, others-lie, others-read}
 use Rattle.pl_segments.proofs.SlotLemmas.{total-read, total-append, total-solid, solid-append, solid-left, solid-right}
 use Rattle.pl_segments.proofs.Fronting.{drop-past, drop-whole, drop-part, part-read, part-turns, total-drop}
-use Rattle.pl_segments.proofs.Pushing.{pushes-turns, lies-still, reads-still}
+use Rattle.pl_segments.proofs.Pushing.{pushes-turns, lies-still}
 use Rattle.pl_segments.proofs.Together.{holds-left, holds-right}
 use Rattle.pl_file.specs.Rows.{AllWithin}
 use Rattle.pl_file.specs.File.{written}

@@ -1,14 +1,13 @@
 -- A change begins: what stays of the slot before the place, and the zeros of a gap.
-use Rattle.std.proofs.Common.{◌≡◌, ℕ, ◌+◌, ◌-◌, ◌<◌, ◌≤◌, List, [], ◌∷◌, ◌++◌, refl, sym, ◌∙◌, ap, subst, inl, inr, length, take, arith}
+use Rattle.std.proofs.Common.{◌≡◌, ℕ, ◌+◌, ◌-◌, ◌≤◌, List, [], ◌∷◌, ◌++◌, sym, ◌∙◌, ap, subst, inl, inr, take, arith}
 use Rattle.std.specs.Prelude.{replicate}
 use Rattle.std.proofs.lemmas.Bool.{cases_lt}
-use Rattle.std.proofs.lemmas.List.{append-nil, append_assoc}
+use Rattle.std.proofs.lemmas.List.{append_assoc}
 use Rattle.pl_segments.specs.declared.slice.Slice.{Slice}
 use Rattle.pl_segments.specs.Segments.{Map}
 use Rattle.pl_segments.specs.Slices.{Lies, all_read, AllLie}
-use Rattle.pl_segments.specs.Turns.{Holds, Turns}
 use Rattle.pl_segments.specs.Slots.{total, AllSolid, solid_of, front_of}
-use Rattle.pl_segments.proofs.Turning.{read-append, lie-right, turns-then, holds-turned}
+use Rattle.pl_segments.proofs.Turning.{read-append, lie-right}
 use Rattle.pl_segments.proofs.SlotLemmas.{total-append, total-solid}
 use Rattle.pl_segments.proofs.Fronting.{front-lie, front-read, front-total}
 use Rattle.pl_file.proofs.Cutting.{front-all}

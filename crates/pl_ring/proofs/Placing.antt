@@ -1,20 +1,16 @@
 -- A slot that is pushed into fixed places: alone, or as one with the last.
-use Rattle.std.proofs.Common.{◌≡◌, ℕ, suc, ◌+◌, ◌-◌, ◌*◌, ◌/◌, ◌%◌, ◌<◌, ◌≤◌, true, false, List, [], ◌∷◌, ◌++◌, Some, None, refl, sym, ◌∙◌, ap, subst, length, take, drop, arith, inl, inr}
-use Rattle.std.specs.Prelude.{slice_get}
-use Rattle.std.proofs.lemmas.List.{append-nil, append_assoc, length_push, take_all, take_more}
-use Rattle.std.proofs.lemmas.Option.{get_or_from_slice_get, slice_get-get_or}
+use Rattle.std.proofs.Common.{◌≡◌, ℕ, suc, ◌+◌, ◌-◌, ◌*◌, ◌/◌, ◌%◌, ◌≤◌, true, false, List, [], ◌∷◌, ◌++◌, None, refl, sym, ◌∙◌, ap, subst, length, drop, arith, inl, inr}
+use Rattle.std.proofs.lemmas.List.{length_push}
 use Rattle.pl_segments.specs.declared.slice.Slice.{Slice}
 use Rattle.pl_segments.specs.Segments.{segment_size, Map}
-use Rattle.pl_segments.specs.Slices.{Lies, AllLie, reads, all_read, one_if, room_after}
-use Rattle.pl_segments.specs.Turns.{Holds, Turns}
-use Rattle.pl_segments.proofs.Turning.{naming-append, read-append, lie-left, lie-right, turns-behind, read-behind}
+use Rattle.pl_segments.specs.Slices.{one_if}
 use Rattle.std.proofs.lemmas.Bool.Decides.{leb_tells}
-use Rattle.pl_segments.specs.Slots.{total, AllSolid, drop_bytes, last_len, tail_room}
+use Rattle.pl_segments.specs.Slots.{total, AllSolid, drop_bytes, last_len}
 use Rattle.pl_ring.specs.Ring.{place_size}
 use Rattle.pl_ring.specs.Merging.{lens, AreTight, AreMerged, joins, joining, merges, merges_onto}
 use Rattle.pl_segments.proofs.Fronting.{drop-whole, drop-part}
 use Rattle.pl_segments.proofs.Together.{all-together, is-last}
-use Rattle.pl_segments.proofs.SlotLemmas.{solid-append, solid-left, solid-right, last-len, last-some, room-last}
+use Rattle.pl_segments.proofs.SlotLemmas.{last-len, last-some}
 use Rattle.pl_ring.proofs.Merging.{sum_of, AreSome, merged, merged-stays, merged-yes, merged-no, merges-yes, merges-no, joins-long, slots-bound, merged-drop, merged-gone}
 
 -- the lengths of slots

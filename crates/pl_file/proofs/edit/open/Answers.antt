@@ -4,7 +4,7 @@ use Rattle.std.proofs.lemmas.Bool.{cases_lt}
 use Rattle.pl_segments.specs.Segments.{segment_at}
 use Rattle.pl_segments.specs.Slices.{Lies, all_read}
 use Rattle.pl_segments.specs.Slots.{total, solid_of}
-use Rattle.pl_segments.proofs.SlotLemmas.{total-append, total-solid}
+use Rattle.pl_segments.proofs.SlotLemmas.{total-solid}
 use Rattle.pl_file.proofs.Editing.{total-take}
 use Rattle.pl_file.proofs.Opening.{front-sum, front-part-lies, open-read}
 use Rattle.pl_file.proofs.edit.open.Given.{Over}

@@ -1,4 +1,4 @@
-use Rattle.std.proofs.Common.{◌≡◌, ◌∙◌, ◌+◌, ◌-◌, ◌<◌, ◌≤◌, [], ◌∷◌, ◌++◌, ap, sym, subst, length, take, drop, arith}
+use Rattle.std.proofs.Common.{◌≡◌, ◌∙◌, ◌+◌, ◌-◌, ◌<◌, [], ◌∷◌, ◌++◌, ap, sym, subst, length, take, drop, arith}
 use Rattle.std.specs.Prelude.{replicate}
 use Rattle.pl_model.specs.Numbers.{most_file_bytes}
 use Rattle.pl_segments.specs.Segments.{segment_at}

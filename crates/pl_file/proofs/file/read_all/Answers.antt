@@ -1,6 +1,5 @@
-use Rattle.std.proofs.Common.{◌≡◌, ◌∙◌, ◌++◌, ap, sym, take, slice_index_or}
+use Rattle.std.proofs.Common.{◌∙◌, ◌++◌, sym, slice_index_or}
 use Rattle.pl_segments.specs.Segments.{segment_at}
-use Rattle.pl_segments.specs.Slices.{reads, all_read}
 use Rattle.pl_segments.proofs.SlotLemmas.{no_slice}
 use Rattle.pl_segments.proofs.Pushing.{lie-at, read-more}
 use Rattle.pl_file.proofs.file.read_all.Goals as goal

@@ -4,9 +4,8 @@ use Rattle.pl_segments.specs.Segments.{segment_at}
 use Rattle.pl_segments.specs.Slices.{all_read}
 use Rattle.pl_segments.specs.Slots.{total}
 use Rattle.pl_segments.proofs.SlotLemmas.{total-read}
-use Rattle.pl_file.specs.File.{written, fitting}
+use Rattle.pl_file.specs.File.{written}
 use Rattle.pl_file.proofs.Editing.{written-none}
-use Rattle.pl_file.proofs.file.File.put_slices_at.Given.{Over}
 use Rattle.pl_file.proofs.file.File.put_slices_at.Goals as goal
 
 pub returns-then-count-eq0-clause-read : goal.returns-then-count-eq0-clause-read
