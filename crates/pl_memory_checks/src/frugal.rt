@@ -161,6 +161,20 @@ const NO_PLACE: &[(Ask, Want)] = &[
     (Pipe(17), Fault(Errno::ENFILE)),
 ];
 
+/// Makes a step, which comes to what is wanted.
+fn makes<'a>(
+    rt: &impl Abort,
+    alloc: Global,
+    heap: &'a Refusing<Global>,
+    kernel: &mut Kernel<&'a Refusing<Global>>,
+    ask: Ask,
+    want: Want,
+) -> Result<(), Fail> {
+    let outcome = outcome_of(kernel.step(ask.step(heap)?));
+    assert_eq!(rt; moved(alloc, outcome)?, want.outcome(alloc)?, "{ask:?}");
+    Ok(())
+}
+
 /// They are refused as ever where no memory can be had.
 #[test]
 fn full_tables_take_no_memory(rt: HostRuntime) -> Result<(), Fail> {
@@ -168,23 +182,24 @@ fn full_tables_take_no_memory(rt: HostRuntime) -> Result<(), Fail> {
     let heap = Refusing::new(alloc);
     let mut kernel = Kernel::new(&heap, LIMITS);
     for pid in 1..1_025u32 {
-        let outcome = outcome_of(kernel.step(Start.step(&heap)?));
-        assert_eq!(rt; moved(alloc, outcome)?, Pid(pid).outcome(alloc)?);
+        makes(&rt, alloc, &heap, &mut kernel, Start, Pid(pid))?;
     }
     for pid in 1..17u32 {
         for i in 0..128u8 {
             let first = 2 * i32::from(i);
-            let outcome = outcome_of(kernel.step(Pipe(pid).step(&heap)?));
-            assert_eq!(rt;
-                moved(alloc, outcome)?,
-                Fds(first, first + 1).outcome(alloc)?
-            );
+            makes(
+                &rt,
+                alloc,
+                &heap,
+                &mut kernel,
+                Pipe(pid),
+                Fds(first, first + 1),
+            )?;
         }
     }
     heap.refuse(1);
     for (ask, want) in NO_PLACE {
-        let outcome = outcome_of(kernel.step(ask.step(&heap)?));
-        assert_eq!(rt; moved(alloc, outcome)?, want.outcome(alloc)?, "{ask:?}");
+        makes(&rt, alloc, &heap, &mut kernel, *ask, *want)?;
     }
     assert_eq!(rt; heap.requests(), 0);
     Ok(())
