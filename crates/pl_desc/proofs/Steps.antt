@@ -1,6 +1,6 @@
 -- What each change leaves, on the fields.
 use Rattle.std.proofs.Common.{◌≡◌, ◌≢◌, ℕ, zero, suc, ◌+◌, ◌-◌, ◌^◌, ◌<◌, ◌≤◌, Bool, true, false, List, Option, Some, None, refl, sym, ◌∙◌, ap, subst, inl, inr, nat_eq, length, arith, replicate}
-use Rattle.std.specs.Prelude.{if◌then◌else◌, ◌&&◌, is_some, slice_set, count_by, IfSome, option_map, Result, Ok, Err, is_err, OnOk}
+use Rattle.std.specs.Prelude.{if◌then◌else◌, ◌&&◌, is_some, slice_set, count_by, IfSome, option_map, Result, Ok, Err, is_err, OnOk, OnErr}
 use Rattle.std.proofs.Math.Path.{fun_ext}
 use Rattle.std.proofs.lemmas.Bool.{eq-eqb, ne_eqb, false≢true}
 use Rattle.std.proofs.lemmas.Bool.Decides.{eqb_tells}
@@ -277,6 +277,11 @@ at-free (suc n) (suc k) = at-free n k
 pub ok_part : {T E P : Type 0} (r : Result T E) → is_err r ≡ false → OnOk r P → P
 ok_part (Ok x) h p = p
 ok_part (Err e) h p = absurd (false≢true (sym h))
+
+-- what holds after an error
+pub err_part : {T E P : Type 0} (r : Result T E) → is_err r ≡ true → OnErr r P → P
+err_part (Ok x) h p = absurd (false≢true h)
+err_part (Err e) h p = p
 
 -- a process starts
 module _ (m : Known) (s : Starts m) where

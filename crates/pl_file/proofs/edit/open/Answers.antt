@@ -4,6 +4,8 @@ use Rattle.std.proofs.lemmas.Bool.{cases_lt}
 use Rattle.pl_segments.specs.Segments.{segment_at}
 use Rattle.pl_segments.specs.Slices.{Lies, all_read}
 use Rattle.pl_segments.specs.Slots.{total, solid_of}
+use Rattle.pl_segments.specs.Turns.{Turns}
+use Rattle.pl_segments.proofs.Turning.{turns-then}
 use Rattle.pl_segments.proofs.SlotLemmas.{total-solid}
 use Rattle.pl_file.proofs.Editing.{total-take}
 use Rattle.pl_file.proofs.Opening.{front-sum, front-part-lies, open-read}
@@ -32,6 +34,15 @@ module _ (g : Over) (c : After-put_zeros g) where
       let s = front-sum c.args.row.now.slots c.front_cut-front.result.place c.args.place c.front_cut-front.result.part c.requires.solid c.front_cut-front.ensures.front in
       let e = gap in
       omega (arith, s, e)
+
+pub returns-clause-turns : goal.returns-clause-turns
+returns-clause-turns g c =
+    let after = segment_at c.hold_part.new.store in
+    let slots = c.hold_part.new.patch.slots in
+    let held = subst (λ xs. Turns (segment_at c.reserve-2.new.self) xs after slots) c.in_ok-patch.ensures.slots c.hold_part.ensures.turns in
+    turns-then (segment_at c.args.store.now) after (segment_at c.put_zeros.new.store) [] slots c.put_zeros.new.patch.slots
+    (subst (λ s. Turns (segment_at s) [] after slots) c.in_ok-reserve-2.ensures.kept held)
+    c.put_zeros.ensures.turns
 
 pub returns-clause-read : goal.returns-clause-read
 returns-clause-read g c =

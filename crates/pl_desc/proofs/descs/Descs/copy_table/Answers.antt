@@ -10,7 +10,7 @@ use Rattle.pl_desc.specs.Slots.{opened_in, loose_from, held_all, IsSound}
 use Rattle.pl_desc.proofs.RowLemmas.{pid-found, rows-length}
 use Rattle.pl_desc.proofs.SlotLemmas.{slot_of, all-opened}
 use Rattle.pl_desc.proofs.Sound.{is_named, tidy}
-use Rattle.pl_desc.proofs.Steps.{ok_part, holders-few, sound-copied, rows-copied, loose-copied, pids-started}
+use Rattle.pl_desc.proofs.Steps.{ok_part, err_part, holders-few, sound-copied, rows-copied, loose-copied, pids-started}
 use Rattle.pl_desc.proofs.ViewLemmas.{len-same}
 use Rattle.pl_desc.proofs.Known.{Known, Starts, known}
 use Rattle.pl_desc.proofs.descs.Descs.copy_table.Given.{Over}
@@ -100,3 +100,6 @@ returns-clause-rest g c =
 
 pub returns-clause-tidy : goal.returns-clause-tidy
 returns-clause-tidy g c = tidy _ _ _ (invariant_of-self-2 g c) _
+
+pub invariant_of-self : goal.invariant_of-self
+invariant_of-self g c = subst (λ ts. IsSound ts c.self.inside.descriptions.slots (ends_at c.self.inside.counts)) (sym (err_part c.reserve_place.result (sym c.is_err.ensures.value ∙ c.if-is_err.true) c.reserve_place.ensures.err)) c.self.invariant

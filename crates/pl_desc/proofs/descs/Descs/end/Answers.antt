@@ -1,5 +1,6 @@
-use Rattle.std.proofs.Common.{◌≡◌, ℕ, ap, ◌∙◌, true, false, None, nat_eq}
+use Rattle.std.proofs.Common.{◌≡◌, ℕ, ap, ◌∙◌, true, false, None, nat_eq, arith}
 use Rattle.pl_model.specs.Map.{set_at}
+use Rattle.pl_desc.proofs.RowLemmas.{pid_in}
 use Rattle.pl_desc.specs.Rows.{is_pid, row_at, with_table}
 use Rattle.pl_desc.specs.Descs.{Descs}
 use Rattle.pl_desc.specs.Slots.{opened_in}
@@ -41,3 +42,8 @@ returns-clause-rest g c =
 
 pub returns-clause-tidy : goal.returns-clause-tidy
 returns-clause-tidy g c = tidy _ _ _ (invariant_of-self g c) _
+
+pub index_mut-requires : goal.index_mut-requires
+index_mut-requires g c =
+    let r = pid_in c.self.inside.tables.items c.args.pid (ap (λ d. is_pid d.tables c.args.pid) c.self.view_is ∙ c.requires.process) in
+    omega (arith, r.0, r.1)

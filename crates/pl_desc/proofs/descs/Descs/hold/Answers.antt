@@ -1,8 +1,8 @@
-use Rattle.std.proofs.Common.{◌<◌, ◌+◌, ◌^◌, ap, ◌∙◌, sym, subst, refl, arith, Some, slice_set}
-use Rattle.pl_desc.specs.Rows.{count_at, change_count, one_more}
+use Rattle.std.proofs.Common.{◌<◌, ◌+◌, ◌^◌, ap, ◌∙◌, sym, subst, refl, arith, Some, slice_set, IsSome}
+use Rattle.pl_desc.specs.Rows.{count_at, change_count, one_more, at}
 use Rattle.pl_desc.specs.Descs.{Descs}
 use Rattle.pl_desc.specs.Slots.{loose_from}
-use Rattle.pl_desc.proofs.SlotLemmas.{opened-lent}
+use Rattle.pl_desc.proofs.SlotLemmas.{opened-lent, slot_of}
 use Rattle.pl_desc.proofs.Sound.{tidy}
 use Rattle.pl_desc.proofs.Steps.{fits-lent, sound-more, loose-more}
 use Rattle.pl_desc.proofs.ViewLemmas.{view-held}
@@ -39,3 +39,6 @@ returns-clause-rest g c =
 
 pub returns-clause-tidy : goal.returns-clause-tidy
 returns-clause-tidy g c = tidy _ _ _ (invariant_of-self g c) _
+
+pub index_mut-held-requires : goal.index_mut-held-requires
+index_mut-held-requires g c = slot_of c.self.inside.descriptions.slots c.args.key (subst (λ d. IsSome (at d.opened c.args.key)) (sym c.self.view_is) c.requires.here)

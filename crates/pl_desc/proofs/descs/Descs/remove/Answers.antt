@@ -1,8 +1,11 @@
-use Rattle.std.proofs.Common.{◌≡◌, Some, ap, ◌∙◌, sym, subst, None, w32, to_z, of_z}
+use Rattle.std.proofs.Common.{◌≡◌, Some, ap, ◌∙◌, sym, subst, None, true, ◌<◌, arith, w32, to_z, of_z}
 use Rattle.std.proofs.lemmas.Int.{to_z-of_z}
-use Rattle.std.specs.Prelude.{ℤ}
+use Rattle.std.specs.Prelude.{ℤ, pos}
 use lib.IntN.{nat_abs}
+use lib.Dec.{T}
+use lib.Signed.{non_neg}
 use Rattle.std.proofs.Math.Path.{fun_ext}
+use Rattle.pl_model.specs.Numbers.{open_max}
 use Rattle.pl_desc.specs.Descs.{holders}
 use Rattle.pl_desc.proofs.Sound.{holders-are, tidy}
 use Rattle.pl_desc.specs.Rows.{is_pid, row_at, row_of, with_row, without_row, count_at, change_count, one_more}
@@ -11,8 +14,14 @@ use Rattle.pl_desc.proofs.RowLemmas.{row_of-some}
 use Rattle.pl_desc.proofs.Steps.{sound-closed, loose-closed, pids-put, rows-put}
 use Rattle.pl_desc.proofs.Known.{Known, known}
 use Rattle.pl_desc.proofs.descs.Descs.remove.Given.{Over}
-use Rattle.pl_desc.proofs.descs.Descs.remove.Goals.{After-clear_row}
+use Rattle.pl_desc.proofs.descs.Descs.remove.Goals.{After-clear_row-arg-1, After-clear_row}
 use Rattle.pl_desc.proofs.descs.Descs.remove.Goals as goal
+
+-- an open descriptor has a place
+found : (g : Over) (c : After-clear_row-arg-1 g) → (nat_abs (to_z w32 (of_z w32 c.args.fd)) < open_max) × (row_at c.self.inside.tables.items c.args.pid (nat_abs (to_z w32 (of_z w32 c.args.fd))) ≡ Some c.in_ok-key.key) × (to_z w32 (of_z w32 c.args.fd) ≡ pos (nat_abs (to_z w32 (of_z w32 c.args.fd)))) × (is_pid c.self.inside.tables.items c.args.pid ≡ true)
+found g c =
+    let z = to_z w32 (of_z w32 c.args.fd) in
+    row_of-some c.self.inside.tables.items c.args.pid c.in_ok-key.key z (ap (λ d. row_of d.tables c.args.pid z) c.self.view_is ∙ sym c.in_ok-key.ensures)
 
 -- an open descriptor is closed
 module _ (g : Over) (c : After-clear_row g) where
@@ -61,3 +70,11 @@ returns-clause-holders g c =
 
 pub returns-clause-tidy : goal.returns-clause-tidy
 returns-clause-tidy g c = tidy _ _ _ (invariant_of-self g c) _
+
+pub clear_row-requires-clause-place : goal.clear_row-requires-clause-place
+clear_row-requires-clause-place g c = (found g c).0
+
+pub overflow_cast-fd : goal.overflow_cast-fd
+overflow_cast-fd g c =
+    let i = (found g c).2 in
+    (subst (λ z. T (non_neg z)) (sym i) tt, omega (arith, (found g c).0))

@@ -1,10 +1,10 @@
-use Rattle.std.proofs.Common.{◌≡◌, ap, ◌∙◌, refl, Some, slice_set}
+use Rattle.std.proofs.Common.{◌≡◌, ap, ◌∙◌, refl, Some, slice_set, subst, sym, IsSome}
 use Rattle.pl_model.specs.Modes.{reads, writes}
 use Rattle.pl_desc.specs.declared.description.Description.{Description}
 use Rattle.pl_desc.specs.Rows.{at}
 use Rattle.pl_desc.specs.Descs.{Descs, change_at, live_count, ends_on}
 use Rattle.pl_desc.specs.Slots.{opened_in}
-use Rattle.pl_desc.proofs.SlotLemmas.{opened-change}
+use Rattle.pl_desc.proofs.SlotLemmas.{opened-change, slot_of}
 use Rattle.pl_desc.proofs.Sound.{tidy}
 use Rattle.pl_desc.proofs.Steps.{sound-said, said-live, said-ends, said-loose}
 use Rattle.pl_desc.proofs.ViewLemmas.{view-said}
@@ -55,3 +55,6 @@ returns-clause-rest g c =
 
 pub returns-clause-tidy : goal.returns-clause-tidy
 returns-clause-tidy g c = tidy _ _ _ (invariant_of-self g c) _
+
+pub index_mut-description-requires : goal.index_mut-description-requires
+index_mut-description-requires g c = slot_of c.self.inside.descriptions.slots c.args.key (subst (λ d. IsSome (at d.opened c.args.key)) (sym c.self.view_is) c.requires)

@@ -1,15 +1,16 @@
-use Rattle.std.proofs.Common.{◌≡◌, ◌≤◌, ℕ, Option, length, ap, ◌∙◌, sym, Some, None, true, nat_eq, arith, ⊎_elim}
+use Rattle.std.proofs.Common.{◌≡◌, ◌≤◌, ℕ, Option, length, ap, ◌∙◌, sym, subst, Some, None, true, nat_eq, arith, ⊎_elim}
 use Rattle.std.proofs.lemmas.List.{length-replicate}
 use Rattle.std.proofs.lemmas.Bool.{cases_lt}
 use Rattle.pl_model.specs.Numbers.{most_processes, open_max}
 use Rattle.pl_model.specs.Map.{set_at}
 use Rattle.pl_desc.specs.Rows.{Tables, is_pid, row_at, free_pid, with_table}
 use Rattle.pl_desc.specs.Descs.{Descs}
-use Rattle.pl_desc.specs.Slots.{opened_in}
+use Rattle.pl_desc.specs.Slots.{opened_in, IsSound}
+use Rattle.pl_desc.specs.Ends.{ends_at}
 use Rattle.pl_desc.specs.DescsView.{view_of}
 use Rattle.pl_desc.proofs.RowLemmas.{pid-found}
 use Rattle.pl_desc.proofs.Sound.{tidy}
-use Rattle.pl_desc.proofs.Steps.{ok_part, sound-empty, rows-empty, loose-empty, pids-started}
+use Rattle.pl_desc.proofs.Steps.{ok_part, err_part, sound-empty, rows-empty, loose-empty, pids-started}
 use Rattle.pl_desc.proofs.Known.{Known, Starts, known}
 use Rattle.pl_desc.proofs.descs.Descs.start.Given.{Over}
 use Rattle.pl_desc.proofs.descs.Descs.start.Goals.{Joined-index_mut}
@@ -59,3 +60,6 @@ returns-clause-rest g c =
 
 pub returns-clause-tidy : goal.returns-clause-tidy
 returns-clause-tidy g c = tidy _ _ _ (invariant_of-self-2 g c) _
+
+pub invariant_of-self : goal.invariant_of-self
+invariant_of-self g c = subst (λ ts. IsSound ts c.self.inside.descriptions.slots (ends_at c.self.inside.counts)) (sym (err_part c.reserve_place.result (sym c.is_err.ensures.value ∙ c.if-is_err.true) c.reserve_place.ensures.err)) c.self.invariant
