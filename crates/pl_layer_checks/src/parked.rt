@@ -3,6 +3,7 @@ use pl_model::{Bytes8, Call, KeyList};
 use pl_parked::{ParkFault, Parked, ParkedCall};
 use pl_testing::refusing::Refusing;
 use std::alloc::{Allocator, Global};
+use std::process::Abort;
 use std::test::Fail;
 
 /// The greatest number that a call gets.
@@ -38,207 +39,333 @@ fn write(alloc: Global, pid: u32, taken: u32) -> Result<ParkedCall, Fail> {
     })
 }
 
+/// What is asked of the parked calls. A call is named by its number, and a read that is parked has a process and its most bytes.
+#[derive(Clone, Copy, Debug)]
+enum Ask {
+    Spent,
+    Park(u32, u32),
+    /// A read is parked, stands, and is taken back.
+    TakeBack(u32, u32),
+    Get(u64),
+    Take(u64),
+    /// The least number of a call of the process, from a number on.
+    NextOf(u32, u64),
+}
+
+/// What is answered.
+#[derive(Clone, Copy, Debug, PartialEq)]
+enum Answer {
+    Is(bool),
+    Number(u64),
+    /// The read of a process, with its most bytes, whole as it was parked.
+    Read(u32, u32),
+    Changed,
+    Nothing,
+    Fault(ParkFault),
+}
+
+use Answer::{Changed, Fault, Is, Nothing, Number};
+use Ask::{Get, NextOf, Park, Spent, Take, TakeBack};
+
+/// What a call is, if it is there.
+fn told<A: Allocator>(call: Option<&ParkedCall<A>>) -> Answer {
+    let Some(call) = call else {
+        return Nothing;
+    };
+    match &call.call {
+        Call::Read { fd, n }
+            if *fd == 0
+                && call.kept.as_slice() == READ_KEPT
+                && call.fifo.is_none()
+                && call.taken == 0
+                && !call.met => { Answer::Read(call.pid, *n) }
+        _ => Changed,
+    }
+}
+
+/// Parks a read, where the `refused`th request for memory is refused, if that isn't 0.
+fn park<'a>(
+    heap: &'a Refusing<Global>,
+    parked: &mut Parked<&'a Refusing<Global>>,
+    pid: u32,
+    n: u32,
+    refused: u64,
+) -> Result<Answer, Fail> {
+    let call = read(heap, pid, n)?;
+    heap.refuse(refused);
+    Ok(match parked.park(call) {
+        Ok(number) => Number(number),
+        Err(fault) => Fault(fault),
+    })
+}
+
+/// Parks a read, and takes it back.
+fn take_back<'a>(
+    heap: &'a Refusing<Global>,
+    parked: &mut Parked<&'a Refusing<Global>>,
+    pid: u32,
+    n: u32,
+) -> Result<Answer, Fail> {
+    let number = parked.park(read(heap, pid, n)?).map_err(|_| "not parked")?;
+    if parked.get(number).is_none() {
+        return Ok(Nothing);
+    }
+    Ok(told(Some(&parked.unpark(number))))
+}
+
+fn answer_of<'a>(
+    heap: &'a Refusing<Global>,
+    parked: &mut Parked<&'a Refusing<Global>>,
+    ask: Ask,
+) -> Result<Answer, Fail> {
+    Ok(match ask {
+        Spent => Is(parked.spent()),
+        Park(pid, n) => park(heap, parked, pid, n, 0)?,
+        TakeBack(pid, n) => take_back(heap, parked, pid, n)?,
+        Get(number) => told(parked.get(number)),
+        Take(number) => told(parked.take(number).as_ref()),
+        NextOf(pid, from) => match parked.next_of_process(pid, from) {
+            Some(number) => Number(number),
+            None => Nothing,
+        },
+    })
+}
+
+/// It fails where something else is answered than what is wanted.
+fn answers<'a>(
+    rt: &impl Abort,
+    heap: &'a Refusing<Global>,
+    parked: &mut Parked<&'a Refusing<Global>>,
+    ask: Ask,
+    want: Answer,
+) -> Result<(), Fail> {
+    let answer = answer_of(heap, parked, ask)?;
+    assert_eq!(rt; answer, want, "{ask:?}");
+    Ok(())
+}
+
+/// The number of the first call, and what is asked in turn, with what is wanted.
+type Session = (u64, &'static [(Ask, Answer)]);
+
+const SESSIONS: &[Session] = &[
+    // The last number is given, and no number is given again.
+    (
+        LAST,
+        &[
+            (Spent, Is(false)),
+            (Park(1, 10), Number(LAST)),
+            (Spent, Is(true)),
+            (Park(1, 11), Fault(ParkFault::CallsSpent)),
+            (Take(LAST), Answer::Read(1, 10)),
+            (Take(LAST), Nothing),
+            (Park(1, 12), Fault(ParkFault::CallsSpent)),
+        ],
+    ),
+    // A call that is taken back gives up its number.
+    (
+        1,
+        &[
+            (Park(1, 10), Number(1)),
+            (TakeBack(2, 20), Answer::Read(2, 20)),
+            (Get(2), Nothing),
+            (Park(3, 30), Number(2)),
+            (Get(1), Answer::Read(1, 10)),
+        ],
+    ),
+    // The calls of a process come in order.
+    (
+        1,
+        &[
+            (NextOf(1, 0), Nothing),
+            (Park(2, 10), Number(1)),
+            (Park(1, 10), Number(2)),
+            (Park(2, 10), Number(3)),
+            (Park(1, 10), Number(4)),
+            (NextOf(1, 0), Number(2)),
+            (NextOf(2, 0), Number(1)),
+            (NextOf(3, 0), Nothing),
+            (NextOf(2, 1), Number(1)),
+            (NextOf(2, 2), Number(3)),
+            (NextOf(2, 4), Nothing),
+            (NextOf(2, u64::MAX), Nothing),
+            (Take(2), Answer::Read(1, 10)),
+            (NextOf(1, 0), Number(4)),
+            (Take(4), Answer::Read(1, 10)),
+            (NextOf(1, 0), Nothing),
+        ],
+    ),
+    // Any pid has calls: those of pids that are 1,024 apart are counted together.
+    (
+        1,
+        &[
+            (Park(3, 10), Number(1)),
+            (Park(1_027, 10), Number(2)),
+            (Park(3, 10), Number(3)),
+            (Park(u32::MAX, 10), Number(4)),
+            (NextOf(3, 2), Number(3)),
+            (NextOf(1_027, 0), Number(2)),
+            (NextOf(2_051, 0), Nothing),
+            (NextOf(u32::MAX, 0), Number(4)),
+            (Take(2), Answer::Read(1_027, 10)),
+            (NextOf(1_027, 0), Nothing),
+            (NextOf(3, 0), Number(1)),
+        ],
+    ),
+];
+
 #[test]
-fn the_last_number_is_given(rt: HostRuntime) -> Result<(), Fail> {
-    let alloc = rt.alloc();
-    let mut parked = Parked::new(alloc, LAST);
-    assert!(rt; !parked.spent());
-    assert_eq!(rt; parked.park(read(alloc, 1, 10)?), Ok(LAST));
-    assert!(rt; parked.spent());
-    assert_eq!(rt;
-        parked.park(read(alloc, 1, 11)?),
-        Err(ParkFault::CallsSpent)
-    );
-    assert_eq!(rt; parked.take(LAST), Some(read(alloc, 1, 10)?));
-    assert_eq!(rt; parked.take(LAST), None);
-    assert_eq!(rt;
-        parked.park(read(alloc, 1, 12)?),
-        Err(ParkFault::CallsSpent),
-        "a number isn't given again"
-    );
+fn each_session_is_answered(rt: HostRuntime) -> Result<(), Fail> {
+    let heap = Refusing::new(rt.alloc());
+    for (first, rows) in SESSIONS {
+        let mut parked = Parked::new(&heap, *first);
+        for (ask, want) in *rows {
+            answers(&rt, &heap, &mut parked, *ask, *want)?;
+        }
+    }
     Ok(())
 }
 
 #[test]
 fn no_number_at_all(rt: HostRuntime) -> Result<(), Fail> {
-    let alloc = rt.alloc();
-    let heap = Refusing::new(alloc);
-    let call = read(&heap, 1, 10)?;
-    heap.refuse(1);
+    let heap = Refusing::new(rt.alloc());
     let mut parked = Parked::new(&heap, LAST + 1);
-    assert!(rt; parked.spent());
-    assert_eq!(rt; parked.park(call), Err(ParkFault::CallsSpent));
+    answers(&rt, &heap, &mut parked, Spent, Is(true))?;
+    let answer = park(&heap, &mut parked, 1, 10, 1)?;
+    assert_eq!(rt; answer, Fault(ParkFault::CallsSpent));
     assert_eq!(rt; heap.requests(), 0);
     Ok(())
 }
 
 /// The calls of the tests that take them: each has its number as the bytes that it reads, and one of three pids.
-const CALLS: u64 = 12;
+const CALLS: u32 = 12;
 
-fn pid_of(number: u64) -> u32 {
-    (number % 3) as u32 + 1
+fn pid_of(number: u32) -> u32 {
+    number % 3 + 1
 }
 
-/// The calls 1 to 12, parked.
-fn park_all(alloc: Global) -> Result<Parked, Fail> {
-    let mut parked = Parked::new(alloc, 1);
+/// The calls 1 to 12 are parked.
+fn park_all<'a>(
+    rt: &impl Abort,
+    heap: &'a Refusing<Global>,
+    parked: &mut Parked<&'a Refusing<Global>>,
+) -> Result<(), Fail> {
     for number in 1..CALLS + 1 {
-        let call = read(alloc, pid_of(number), number as u32)?;
-        parked.park(call).map_err(|_| "not parked")?;
+        let ask = Park(pid_of(number), number);
+        answers(rt, heap, parked, ask, Number(u64::from(number)))?;
     }
-    Ok(parked)
+    Ok(())
 }
 
-/// The numbers under which the call stands that was parked under it.
-fn numbers_left(alloc: Global, parked: &Parked) -> Result<Vec<u64>, Fail> {
-    let mut left = Vec::new(alloc);
+/// Just the calls of these numbers are there, each under its own.
+fn are_left<'a>(
+    rt: &impl Abort,
+    heap: &'a Refusing<Global>,
+    parked: &mut Parked<&'a Refusing<Global>>,
+    left: &[u32],
+) -> Result<(), Fail> {
     for number in 0..CALLS + 2 {
-        let call = read(alloc, pid_of(number), number as u32)?;
-        if parked.get(number) == Some(&call) {
-            left.push(number)?;
-        }
+        let want = if left.contains(&number) {
+            Answer::Read(pid_of(number), number)
+        } else {
+            Nothing
+        };
+        answers(rt, heap, parked, Get(u64::from(number)), want)?;
     }
-    Ok(left)
+    Ok(())
 }
 
-/// What `next_of_process` answers for each of the pids, from each number on.
-fn next_numbers(alloc: Global, parked: &Parked) -> Result<Vec<Option<u64>>, Fail> {
-    let mut next = Vec::new(alloc);
-    for pid in 0..5u32 {
-        for from in 0..CALLS + 2 {
-            next.push(parked.next_of_process(pid, from))?;
-        }
+/// The least of the numbers, from one on, that is one of the process.
+fn least_of(left: &[u32], pid: u32, from: u32) -> Answer {
+    let least = left
+        .iter()
+        .find(|number| **number >= from && pid_of(**number) == pid);
+    match least {
+        Some(number) => Number(u64::from(*number)),
+        None => Nothing,
     }
-    Ok(next)
 }
 
-/// What it is to answer where these numbers are left.
-fn next_wanted(alloc: Global, left: &[u64]) -> Result<Vec<Option<u64>>, Fail> {
-    let mut next = Vec::new(alloc);
+/// The calls of each process are just those of the numbers, which stand in order.
+fn are_of_their_process<'a>(
+    rt: &impl Abort,
+    heap: &'a Refusing<Global>,
+    parked: &mut Parked<&'a Refusing<Global>>,
+    left: &[u32],
+) -> Result<(), Fail> {
     for pid in 0..5u32 {
         for from in 0..CALLS + 2 {
-            let least = left
-                .iter()
-                .copied()
-                .find(|number| *number >= from && pid_of(*number) == pid);
-            next.push(least)?;
+            let want = least_of(left, pid, from);
+            answers(rt, heap, parked, NextOf(pid, u64::from(from)), want)?;
         }
     }
-    Ok(next)
+    Ok(())
 }
 
 /// Orders in which the calls are taken: from the front, from the back, and scattered. In each, the calls that are left move
 /// together twice and more.
-const ORDERS: &[&[u64]] = &[
+const ORDERS: &[&[u32]] = &[
     &[1, 2, 3, 4, 5, 6, 7, 8, 9, 10, 11, 12],
     &[12, 11, 10, 9, 8, 7, 6, 5, 4, 3, 2, 1],
     &[7, 2, 12, 9, 4, 1, 10, 6, 3, 11, 8, 5],
 ];
 
-#[test]
-fn calls_are_taken_in_any_order(rt: HostRuntime) -> Result<(), Fail> {
-    let alloc = rt.alloc();
-    for order in ORDERS {
-        let mut parked = park_all(alloc)?;
-        let mut left = numbers_left(alloc, &parked)?;
-        assert_eq!(rt; left.len(), 12);
-        for number in *order {
-            let number = *number;
-            let call = read(alloc, pid_of(number), number as u32)?;
-            assert_eq!(rt; parked.take(number), Some(call));
-            assert_eq!(rt; parked.take(number), None, "a call ends once");
-            left.retain(|other| *other != number);
-            assert_eq!(rt; numbers_left(alloc, &parked)?, left, "after {number}");
-            assert_eq!(rt;
-                next_numbers(alloc, &parked)?,
-                next_wanted(alloc, &left)?,
-                "after {number}"
-            );
-        }
-        assert_eq!(rt; parked.park(read(alloc, 1, 13)?), Ok(13));
+/// The calls are taken in the order. Answers the numbers that are left.
+fn take_all<'a>(
+    rt: &impl Abort,
+    alloc: Global,
+    heap: &'a Refusing<Global>,
+    parked: &mut Parked<&'a Refusing<Global>>,
+    order: &[u32],
+) -> Result<Vec<u32>, Fail> {
+    let mut left = Vec::from_slice(alloc, ORDERS[0])?;
+    for number in order {
+        let number = *number;
+        let call = Answer::Read(pid_of(number), number);
+        answers(rt, heap, parked, Take(u64::from(number)), call)?;
+        answers(rt, heap, parked, Take(u64::from(number)), Nothing)?;
+        left.retain(|other| *other != number);
+        are_left(rt, heap, parked, left.as_slice())?;
+        are_of_their_process(rt, heap, parked, left.as_slice())?;
     }
-    Ok(())
+    Ok(left)
 }
 
 #[test]
-fn a_call_that_is_taken_back_gives_up_its_number(rt: HostRuntime) -> Result<(), Fail> {
-    let alloc = rt.alloc();
-    let mut parked = Parked::new(alloc, 1);
-    assert_eq!(rt; parked.park(read(alloc, 1, 10)?), Ok(1));
-    let number = parked.park(read(alloc, 2, 20)?).map_err(|_| "not parked")?;
-    assert_eq!(rt; parked.unpark(number), read(alloc, 2, 20)?);
-    assert_eq!(rt; parked.get(2), None);
-    assert_eq!(rt; parked.park(read(alloc, 3, 30)?), Ok(2));
-    assert_eq!(rt; parked.get(1), Some(&read(alloc, 1, 10)?));
+fn calls_are_taken_in_any_order(rt: HostRuntime) -> Result<(), Fail> {
+    let heap = Refusing::new(rt.alloc());
+    for order in ORDERS {
+        let mut parked = Parked::new(&heap, 1);
+        park_all(&rt, &heap, &mut parked)?;
+        let left = take_all(&rt, rt.alloc(), &heap, &mut parked, order)?;
+        assert!(rt; left.is_empty());
+        answers(&rt, &heap, &mut parked, Park(1, 13), Number(13))?;
+    }
     Ok(())
 }
 
 /// Calls that end before the last one is taken back: the two before it, and enough that the others move together.
-const ENDED: &[&[u64]] = &[&[12, 11], &[1, 2, 3, 4, 5, 6, 7, 8]];
+const ENDED: &[&[u32]] = &[&[12, 11], &[1, 2, 3, 4, 5, 6, 7, 8]];
 
 #[test]
 fn a_call_is_taken_back_after_others_ended(rt: HostRuntime) -> Result<(), Fail> {
-    let alloc = rt.alloc();
+    let heap = Refusing::new(rt.alloc());
     for ended in ENDED {
-        let mut parked = park_all(alloc)?;
-        for number in *ended {
-            assert!(rt; parked.take(*number).is_some());
-        }
-        let mut left = numbers_left(alloc, &parked)?;
-        let number = parked.park(read(alloc, 2, 20)?).map_err(|_| "not parked")?;
-        assert!(rt; parked.get(number).is_some());
-        assert_eq!(rt; parked.unpark(number), read(alloc, 2, 20)?);
-        assert_eq!(rt; numbers_left(alloc, &parked)?, left);
-        assert_eq!(rt; next_numbers(alloc, &parked)?, next_wanted(alloc, &left)?);
-        assert_eq!(rt; parked.park(read(alloc, 2, 13)?), Ok(13));
+        let mut parked = Parked::new(&heap, 1);
+        park_all(&rt, &heap, &mut parked)?;
+        let mut left = take_all(&rt, rt.alloc(), &heap, &mut parked, ended)?;
+        answers(
+            &rt,
+            &heap,
+            &mut parked,
+            TakeBack(2, 20),
+            Answer::Read(2, 20),
+        )?;
+        are_left(&rt, &heap, &mut parked, left.as_slice())?;
+        are_of_their_process(&rt, &heap, &mut parked, left.as_slice())?;
+        answers(&rt, &heap, &mut parked, Park(2, 13), Number(13))?;
         left.push(13)?;
-        assert_eq!(rt; next_numbers(alloc, &parked)?, next_wanted(alloc, &left)?);
+        are_of_their_process(&rt, &heap, &mut parked, left.as_slice())?;
     }
-    Ok(())
-}
-
-const PIDS: &[u32] = &[2, 1, 2, 1];
-
-#[test]
-fn the_calls_of_a_process_come_in_order(rt: HostRuntime) -> Result<(), Fail> {
-    let alloc = rt.alloc();
-    let mut parked = Parked::new(alloc, 1);
-    assert_eq!(rt; parked.next_of_process(1, 0), None);
-    for pid in PIDS {
-        assert!(rt; parked.park(read(alloc, *pid, 10)?).is_ok());
-    }
-    assert_eq!(rt; parked.next_of_process(1, 0), Some(2));
-    assert_eq!(rt; parked.next_of_process(2, 0), Some(1));
-    assert_eq!(rt; parked.next_of_process(3, 0), None);
-    assert_eq!(rt; parked.next_of_process(2, 1), Some(1));
-    assert_eq!(rt; parked.next_of_process(2, 2), Some(3));
-    assert_eq!(rt; parked.next_of_process(2, 4), None);
-    assert_eq!(rt; parked.next_of_process(2, u64::MAX), None);
-    assert!(rt; parked.take(2).is_some());
-    assert_eq!(rt; parked.next_of_process(1, 0), Some(4));
-    assert!(rt; parked.take(4).is_some());
-    assert_eq!(rt; parked.next_of_process(1, 0), None);
-    Ok(())
-}
-
-/// Pids that are 1,024 apart: their calls are counted together.
-const SHARING: &[u32] = &[3, 1_027, 3];
-
-#[test]
-fn any_pid_has_calls(rt: HostRuntime) -> Result<(), Fail> {
-    let alloc = rt.alloc();
-    let mut parked = Parked::new(alloc, 1);
-    for pid in SHARING {
-        assert!(rt; parked.park(read(alloc, *pid, 10)?).is_ok());
-    }
-    assert!(rt; parked.park(read(alloc, u32::MAX, 10)?).is_ok());
-    assert_eq!(rt; parked.next_of_process(3, 2), Some(3));
-    assert_eq!(rt; parked.next_of_process(1_027, 0), Some(2));
-    assert_eq!(rt; parked.next_of_process(2_051, 0), None);
-    assert_eq!(rt; parked.next_of_process(u32::MAX, 0), Some(4));
-    assert!(rt; parked.take(2).is_some());
-    assert_eq!(rt; parked.next_of_process(1_027, 0), None);
-    assert_eq!(rt; parked.next_of_process(3, 0), Some(1));
     Ok(())
 }
 
@@ -257,32 +384,42 @@ fn a_write_takes_more(rt: HostRuntime) -> Result<(), Fail> {
 /// The requests for memory that a call may make: each is refused in turn.
 const REQUESTS: &[u64] = &[1, 2];
 
+/// Parks the only call of a process, whose number is the process's, where a request for memory is refused. Answers whether it was refused: then
+/// all is as it was, and once there is memory the call is parked under the same number.
+fn is_refused<'a>(
+    rt: &impl Abort,
+    heap: &'a Refusing<Global>,
+    parked: &mut Parked<&'a Refusing<Global>>,
+    pid: u32,
+    request: u64,
+) -> Result<bool, Fail> {
+    let number = u64::from(pid);
+    let answer = park(heap, parked, pid, 10, request)?;
+    let is_refused = heap.refused();
+    heap.refuse(0);
+    if is_refused {
+        assert_eq!(rt; answer, Fault(ParkFault::NoMemory));
+        assert_eq!(rt; parked.next_number(), number);
+        answers(rt, heap, parked, Get(number), Nothing)?;
+        answers(rt, heap, parked, NextOf(pid, 0), Nothing)?;
+        answers(rt, heap, parked, Park(pid, 10), Number(number))?;
+    } else {
+        assert_eq!(rt; answer, Number(number));
+    }
+    answers(rt, heap, parked, Get(number), Answer::Read(pid, 10))?;
+    Ok(is_refused)
+}
+
 #[test]
 fn a_want_of_memory_changes_nothing(rt: HostRuntime) -> Result<(), Fail> {
+    let heap = Refusing::new(rt.alloc());
     for request in REQUESTS {
-        let heap = Refusing::new(rt.alloc());
         let mut parked = Parked::new(&heap, 1);
         let mut has_wanted = false;
-        for number in 1..20u64 {
-            let pid = number as u32;
-            let call = read(&heap, pid, 10)?;
-            let same_call = read(&heap, pid, 10)?;
-            heap.refuse(*request);
-            match parked.park(call) {
-                Ok(given) => assert_eq!(rt; given, number),
-                Err(fault) => {
-                    has_wanted = true;
-                    assert_eq!(rt; fault, ParkFault::NoMemory);
-                    assert!(rt; heap.refused());
-                    assert_eq!(rt; parked.next_number(), number);
-                    assert!(rt; parked.get(number).is_none());
-                    assert_eq!(rt; parked.next_of_process(pid, 0), None);
-                    heap.refuse(0);
-                    assert_eq!(rt; parked.park(same_call), Ok(number), "once there is memory");
-                }
+        for pid in 1..20u32 {
+            if is_refused(&rt, &heap, &mut parked, pid, *request)? {
+                has_wanted = true;
             }
-            assert_eq!(rt; parked.get(number).map(|call| call.pid), Some(pid));
-            heap.refuse(0);
         }
         assert!(rt; has_wanted, "the first call needs memory twice");
     }
@@ -293,16 +430,18 @@ fn a_want_of_memory_changes_nothing(rt: HostRuntime) -> Result<(), Fail> {
 fn a_call_that_ends_takes_no_memory(rt: HostRuntime) -> Result<(), Fail> {
     let heap = Refusing::new(rt.alloc());
     let mut parked = Parked::new(&heap, 1);
-    for number in 1..20u64 {
-        let call = read(&heap, number as u32, 10)?;
-        assert_eq!(rt; parked.park(call), Ok(number));
-    }
+    park_all(&rt, &heap, &mut parked)?;
     heap.refuse(1);
-    for number in 1..20u64 {
-        let pid = number as u32;
-        assert_eq!(rt; parked.next_of_process(pid, 0), Some(number));
-        assert!(rt; parked.take(number).is_some());
-        assert_eq!(rt; parked.next_of_process(pid, 0), None);
+    for number in 1..CALLS + 1 {
+        let call = Answer::Read(pid_of(number), number);
+        answers(
+            &rt,
+            &heap,
+            &mut parked,
+            NextOf(pid_of(number), 0),
+            Number(u64::from(number)),
+        )?;
+        answers(&rt, &heap, &mut parked, Take(u64::from(number)), call)?;
     }
     assert_eq!(rt; heap.requests(), 0);
     Ok(())
