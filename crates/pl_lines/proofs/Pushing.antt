@@ -1,28 +1,47 @@
--- What `push_str` leaves in front.
-use Rattle.std.proofs.Common.{◌≡◌, ℕ, ◌≤◌, Bool, true, false, cond, List, ◌++◌, length, Result, Ok, Err, ap, ◌∙◌, append_assoc, arith}
-use Rattle.std.specs.Prelude.{OnOk, is_ok}
+-- What is put behind a text, a piece at a time.
+use Rattle.std.proofs.Common.{◌≡◌, ℕ, cond, List, [], ◌++◌, length, take, Result, Ok, Err, sym, ap, ◌∙◌, refl, append_assoc, arith}
+use Rattle.std.specs.Prelude.{is_ok}
 use Rattle.std.specs.Str.{IsUtf8, IsCharBoundary}
 use Rattle.std.proofs.lemmas.Str.{IsCharBoundary-from_take}
-use Rattle.std.proofs.lemmas.List.{length-take, take-append-le}
-use Rattle.std.proofs.Math.Seq.{take-length}
-use Rattle.pl_lines.specs.Pushed.{IsFront}
+use Rattle.std.proofs.lemmas.List.{append-nil, length-append}
+use Rattle.std.proofs.lemmas.Result.{on_ok_weaker}
+use Rattle.std.proofs.Math.Seq.{take-append_seam}
+use Rattle.pl_lines.specs.Pushed.{Pushes}
 
-pub front_self : (text : List ℕ) → IsFront text text
-front_self text = take-length text
+-- by one `push_str`
+pub pushed : {X E : Type 0} (result : Result X E) (before after more : List ℕ) → after ≡ cond (is_ok result) (before ++ more) before → Pushes result before after more
+pushed (Ok x) before after more e = record { put = more; added = e; whole = refl }
+pushed (Err d) before after more e = record { put = []; added = e ∙ sym (append-nil before); whole = tt }
 
-pub front_kept : (b : Bool) (before now after more : List ℕ) → IsFront before now → after ≡ cond b (now ++ more) now → IsFront before after
-front_kept true before now after more front e =
-    let within : length before ≤ length now = omega (arith, length-take (length before) now, ap length front) in
-    rw (e, take-append-le (length before) now more within) front
-front_kept false before now after more front e = rw e front
+-- a front, where a piece didn't go in
+pub front : {X Y E : Type 0} (e : E) {tried : Result X E} {before after first : List ℕ} {result : Result Y E} (more : List ℕ) → result ≡ Err e → Pushes tried before after first → Pushes result before after more
+front e more is one = record { put = one.put; added = one.added; whole = rw is tt }
 
--- the text may be cut where it ended before
-pub may_cut : (before after : List ℕ) → IsUtf8 before → IsUtf8 after → IsFront before after → IsCharBoundary after (length before)
-may_cut before after text now front =
-    let within : length before ≤ length after = omega (arith, length-take (length before) after, ap length front) in
-    IsCharBoundary-from_take after (length before) now within (rw front text)
+-- one piece behind another
+pub behind : {X E : Type 0} {one-is : Result X E} {result : Result X E} {before now after first second : List ℕ} (more : List ℕ) (x : X) → one-is ≡ Ok x
+    → Pushes one-is before now first → Pushes result now after second → first ++ second ≡ more → Pushes result before after more
+behind {result = result} {before = before} more x is one two both =
+    let whole = rw is at one.whole in
+    record {
+      put = one.put ++ two.put;
+      added = two.added ∙ ap (λ t. t ++ two.put) one.added ∙ append_assoc before one.put two.put;
+      whole = on_ok_weaker result (λ rest. (λ i. whole i ++ rest i) ∙ both) two.whole;
+    }
 
--- one push behind another
-pub pushed_behind : {X E : Type 0} (result : Result X E) (before now after first second : List ℕ) → now ≡ before ++ first → after ≡ cond (is_ok result) (now ++ second) now → OnOk result (after ≡ before ++ (first ++ second))
-pushed_behind (Ok x) before now after first second one two = two ∙ ap (λ t. t ++ second) one ∙ append_assoc before first second
-pushed_behind (Err e) before now after first second one two = tt
+-- the same, where the first is of two parts
+pub behind_both : {X E : Type 0} {one-is : Result X E} {result : Result X E} {before now after second : List ℕ} (first part : List ℕ) (x : X) → one-is ≡ Ok x
+    → Pushes one-is before now (first ++ part) → Pushes result now after second → Pushes result before after (first ++ (part ++ second))
+behind_both {second = second} first part x is one two = behind _ x is one two (append_assoc first part second)
+
+module _ {X E : Type 0} {result : Result X E} {before after more : List ℕ} (one : Pushes result before after more) where
+  pub cut : take (length before) after ≡ before
+  cut = rw one.added (take-append_seam before one.put)
+
+  -- the text may be cut where it ended before
+  pub may_cut : IsUtf8 before → IsUtf8 after → IsCharBoundary after (length before)
+  may_cut text now =
+      IsCharBoundary-from_take after (length before) now (omega (arith, ap length one.added, length-append before one.put)) (rw cut text)
+
+-- nothing, where nothing was tried
+pub nothing : {X E : Type 0} {e : E} {result : Result X E} (before more : List ℕ) → result ≡ Err e → Pushes result before before more
+nothing before more is = record { put = []; added = sym (append-nil before); whole = rw is tt }

@@ -1,12 +1,25 @@
 //! The text of replies.
-ghost use Rattle.std.specs.Prelude.{◌≡◌, [], ◌∷◌, ◌++◌, OnOk, OnErr, IfOk, string_bytes};
+ghost use Rattle.std.specs.Prelude.{◌≡◌, [], ◌∷◌, ◌++◌, OnOk, OnErr, IfOk, codes, string_bytes};
+ghost use Rattle.std.specs.Fmt.{decimal, signed_decimal};
 ghost use Rattle.pl_model.specs.Shown.{bytes_text, errno_text, mode_text, flags_text, reply_text, outcome_text};
-ghost use Rattle.pl_lines.specs.Pushed.{IsFront};
+ghost use Rattle.pl_lines.specs.Pushed.{Pushes};
 
 use bitflags::Flags;
 use itoa::{Buffer, Integer};
 use pl_model::{Errno, Mode, OpenFlags, Outcome, Reply};
 use std::alloc::{AllocError, Allocator};
+
+/// Adds one text behind another.
+fn push_two<A: Allocator + Copy>(
+    text: &mut String<A>,
+    first: &str,
+    second: &str,
+) -> Result<(), AllocError>
+    ensures { Pushes result (string_bytes text.old) (string_bytes text.new) (first.now ++ second.now) }
+{
+    text.push_str(first)?;
+    text.push_str(second)
+}
 
 /// Adds a number behind its name.
 fn push_number<A: Allocator + Copy, I: Integer>(
@@ -14,28 +27,24 @@ fn push_number<A: Allocator + Copy, I: Integer>(
     name: &str,
     number: I,
 ) -> Result<(), AllocError>
-    ensures all { OnOk result (string_bytes text.new ≡ string_bytes text.old ++ (name.now ++ I.text number)) }
-    ensures front { IsFront (string_bytes text.old) (string_bytes text.new) }
+    ensures { Pushes result (string_bytes text.old) (string_bytes text.new) (name.now ++ I.text number) }
 {
-    text.push_str(name)?;
-    text.push_str(Buffer::new().format(number))
+    push_two(text, name, Buffer::new().format(number))
 }
 
 /// Adds the bytes as hexadecimal digits in lower case, or `-` for none.
-#[tactic(auto, unfolding(pl_model::specs::Shown::bytes_text), using(crate::proofs::HexText::hex_text_is))]
 fn push_bytes<A: Allocator + Copy>(
     alloc: A,
     text: &mut String<A>,
     bytes: &[u8],
 ) -> Result<(), AllocError>
-    ensures all { OnOk result (string_bytes text.new ≡ string_bytes text.old ++ bytes_text bytes.now) }
-    ensures front { IsFront (string_bytes text.old) (string_bytes text.new) }
+    ensures { Pushes result (string_bytes text.old) (string_bytes text.new) (codes "data " ++ bytes_text bytes.now) }
 {
     if bytes.is_empty() {
-        return text.push_str("-");
+        return text.push_str("data -");
     }
     let digits = hex::encode(alloc, bytes)?;
-    text.push_str(digits.as_str())
+    push_two(text, "data ", digits.as_str())
 }
 
 fn errno_text(errno: Errno) -> &'static str
@@ -87,37 +96,52 @@ fn flags_text(flags: OpenFlags) -> &'static str
     }
 }
 
-#[tactic(auto, unfolding(pl_model::specs::Shown::reply_text))]
+fn push_fds<A: Allocator + Copy>(
+    text: &mut String<A>,
+    reader: i32,
+    writer: i32,
+) -> Result<(), AllocError>
+    ensures { Pushes result (string_bytes text.old) (string_bytes text.new)
+        (codes "fds " ++ (signed_decimal reader ++ (codes " " ++ signed_decimal writer))) }
+{
+    push_number(text, "fds ", reader)?;
+    push_number(text, " ", writer)
+}
+
+fn push_broken_count<A: Allocator + Copy>(text: &mut String<A>, n: u32) -> Result<(), AllocError>
+    ensures { Pushes result (string_bytes text.old) (string_bytes text.new) (codes "count " ++ (decimal n ++ codes " sigpipe")) }
+{
+    push_number(text, "count ", n)?;
+    text.push_str(" sigpipe")
+}
+
+fn push_flags<A: Allocator + Copy>(
+    text: &mut String<A>,
+    mode: Mode,
+    flags: OpenFlags,
+) -> Result<(), AllocError>
+    ensures { Pushes result (string_bytes text.old) (string_bytes text.new)
+        (codes "flags " ++ (mode_text mode ++ (codes " " ++ flags_text flags))) }
+{
+    push_two(text, "flags ", mode_text(mode))?;
+    push_two(text, " ", flags_text(flags))
+}
+
 fn push_reply<A: Allocator + Copy>(
     alloc: A,
     text: &mut String<A>,
     reply: &Reply<A>,
 ) -> Result<(), AllocError>
-    ensures all { OnOk result (string_bytes text.new ≡ string_bytes text.old ++ reply_text reply.now) }
-    ensures front { IsFront (string_bytes text.old) (string_bytes text.new) }
+    ensures { Pushes result (string_bytes text.old) (string_bytes text.new) (reply_text reply.now) }
 {
     match reply {
         Reply::Pid(pid) => push_number(text, "pid ", *pid),
         Reply::Fd(fd) => push_number(text, "fd ", *fd),
-        Reply::Fds(reader, writer) => {
-            push_number(text, "fds ", *reader)?;
-            push_number(text, " ", *writer)
-        }
+        Reply::Fds(reader, writer) => push_fds(text, *reader, *writer),
         Reply::Count { n, sigpipe: false } => push_number(text, "count ", *n),
-        Reply::Count { n, sigpipe: true } => {
-            push_number(text, "count ", *n)?;
-            text.push_str(" sigpipe")
-        }
-        Reply::Bytes(bytes) => {
-            text.push_str("data ")?;
-            push_bytes(alloc, text, bytes.as_slice())
-        }
-        Reply::Flags { mode, flags } => {
-            text.push_str("flags ")?;
-            text.push_str(mode_text(*mode))?;
-            text.push_str(" ")?;
-            text.push_str(flags_text(*flags))
-        }
+        Reply::Count { n, sigpipe: true } => push_broken_count(text, *n),
+        Reply::Bytes(bytes) => push_bytes(alloc, text, bytes.as_slice()),
+        Reply::Flags { mode, flags } => push_flags(text, *mode, *flags),
         Reply::Unit => text.push_str("ok"),
         Reply::Fault(errno) => text.push_str(errno_text(*errno)),
         Reply::Parked(call) => push_number(text, "parked ", *call),
@@ -134,8 +158,7 @@ fn push_outcome<A: Allocator + Copy>(
     text: &mut String<A>,
     outcome: &Outcome<A>,
 ) -> Result<(), AllocError>
-    ensures all { OnOk result (string_bytes text.new ≡ string_bytes text.old ++ outcome_text outcome.now) }
-    ensures front { IsFront (string_bytes text.old) (string_bytes text.new) }
+    ensures { Pushes result (string_bytes text.old) (string_bytes text.new) (outcome_text outcome.now) }
 {
     match outcome {
         Outcome::Replied(reply) => push_reply(alloc, text, reply),
@@ -149,8 +172,7 @@ fn push_front_of_line<A: Allocator + Copy>(
     text: &mut String<A>,
     outcome: &Outcome<A>,
 ) -> Result<(), AllocError>
-    ensures all { OnOk result (string_bytes text.new ≡ string_bytes text.old ++ (outcome_text outcome.now ++ 10 ∷ [])) }
-    ensures front { IsFront (string_bytes text.old) (string_bytes text.new) }
+    ensures { Pushes result (string_bytes text.old) (string_bytes text.new) (outcome_text outcome.now ++ 10 ∷ []) }
 {
     push_outcome(alloc, text, outcome)?;
     text.push_str("\n")

@@ -4,5 +4,5 @@ use Rattle.pl_lines.proofs.text.push_line.Goals as goal
 pub truncate-requires : goal.truncate-requires
 truncate-requires g c =
     λ within.
-    let place = may_cut _ _ (rw c.as_str-len.ensures.value at c.as_str-len.utf8) (rw c.as_str.ensures.value at c.as_str.utf8) c.push_front_of_line-pushed.ensures.front in
+    let place = may_cut c.push_front_of_line-pushed.ensures (rw c.as_str-len.ensures.value at c.as_str-len.utf8) (rw c.as_str.ensures.value at c.as_str.utf8) in
     rw c.as_str-len.ensures.value (place.0, λ _. place.1)
