@@ -6,8 +6,8 @@ ghost use Rattle.pl_lines.specs.Parsed.{Gives, GivesTaking, CallTakes};
 use crate::bytes::parse_bytes;
 use crate::fault::LineFault;
 use crate::flags::parse_flags_or_none;
-use crate::numbers::{parse_i32, parse_u32};
-use crate::words::{end, next_word, word};
+use crate::numbers::{fd_and_word, only_i32, parse_i32, parse_u32};
+use crate::words::{end, next_word};
 use pl_model::Call;
 use std::alloc::Allocator;
 
@@ -32,11 +32,9 @@ fn pipe_call<A: Allocator + Copy>(rest: &[u8]) -> Result<Call<A>, LineFault>
 fn read_call<A: Allocator + Copy>(rest: &[u8]) -> Result<Call<A>, LineFault>
     ensures { Gives result (read_of (words rest.now)) }
 {
-    let (fd, rest) = word(rest)?;
-    let (n, rest) = word(rest)?;
-    end(rest)?;
+    let (fd, n) = fd_and_word(rest)?;
     Ok(Call::Read {
-        fd: parse_i32(fd)?,
+        fd,
         n: parse_u32(n)?,
     })
 }
@@ -45,11 +43,9 @@ fn read_call<A: Allocator + Copy>(rest: &[u8]) -> Result<Call<A>, LineFault>
 fn write_call<A: Allocator + Copy>(alloc: A, rest: &[u8]) -> Result<Call<A>, LineFault>
     ensures { GivesTaking CallTakes result (write_of (words rest.now)) }
 {
-    let (fd, rest) = word(rest)?;
-    let (bytes, rest) = word(rest)?;
-    end(rest)?;
+    let (fd, bytes) = fd_and_word(rest)?;
     Ok(Call::Write {
-        fd: parse_i32(fd)?,
+        fd,
         bytes: parse_bytes(alloc, bytes)?,
     })
 }
@@ -58,20 +54,18 @@ fn write_call<A: Allocator + Copy>(alloc: A, rest: &[u8]) -> Result<Call<A>, Lin
 fn dup_call<A: Allocator + Copy>(rest: &[u8]) -> Result<Call<A>, LineFault>
     ensures { Gives result (dup_of (words rest.now)) }
 {
-    let (fd, rest) = word(rest)?;
-    end(rest)?;
-    Ok(Call::Dup { fd: parse_i32(fd)? })
+    Ok(Call::Dup {
+        fd: only_i32(rest)?,
+    })
 }
 
 #[tactic(auto, unfolding(pl_model::specs::Lines::dup2_of))]
 fn dup2_call<A: Allocator + Copy>(rest: &[u8]) -> Result<Call<A>, LineFault>
     ensures { Gives result (dup2_of (words rest.now)) }
 {
-    let (fd, rest) = word(rest)?;
-    let (target, rest) = word(rest)?;
-    end(rest)?;
+    let (fd, target) = fd_and_word(rest)?;
     Ok(Call::Dup2 {
-        fd: parse_i32(fd)?,
+        fd,
         target: parse_i32(target)?,
     })
 }
@@ -80,11 +74,9 @@ fn dup2_call<A: Allocator + Copy>(rest: &[u8]) -> Result<Call<A>, LineFault>
 fn dup_fd_call<A: Allocator + Copy>(rest: &[u8]) -> Result<Call<A>, LineFault>
     ensures { Gives result (dup_fd_of (words rest.now)) }
 {
-    let (fd, rest) = word(rest)?;
-    let (least, rest) = word(rest)?;
-    end(rest)?;
+    let (fd, least) = fd_and_word(rest)?;
     Ok(Call::DupFd {
-        fd: parse_i32(fd)?,
+        fd,
         least: parse_i32(least)?,
     })
 }
@@ -93,29 +85,27 @@ fn dup_fd_call<A: Allocator + Copy>(rest: &[u8]) -> Result<Call<A>, LineFault>
 fn close_call<A: Allocator + Copy>(rest: &[u8]) -> Result<Call<A>, LineFault>
     ensures { Gives result (close_of (words rest.now)) }
 {
-    let (fd, rest) = word(rest)?;
-    end(rest)?;
-    Ok(Call::Close { fd: parse_i32(fd)? })
+    Ok(Call::Close {
+        fd: only_i32(rest)?,
+    })
 }
 
 #[tactic(auto, unfolding(pl_model::specs::Lines::get_fl_of))]
 fn get_fl_call<A: Allocator + Copy>(rest: &[u8]) -> Result<Call<A>, LineFault>
     ensures { Gives result (get_fl_of (words rest.now)) }
 {
-    let (fd, rest) = word(rest)?;
-    end(rest)?;
-    Ok(Call::GetFl { fd: parse_i32(fd)? })
+    Ok(Call::GetFl {
+        fd: only_i32(rest)?,
+    })
 }
 
 #[tactic(auto, unfolding(pl_model::specs::Lines::set_fl_of))]
 fn set_fl_call<A: Allocator + Copy>(rest: &[u8]) -> Result<Call<A>, LineFault>
     ensures { Gives result (set_fl_of (words rest.now)) }
 {
-    let (fd, rest) = word(rest)?;
-    let (flags, rest) = word(rest)?;
-    end(rest)?;
+    let (fd, flags) = fd_and_word(rest)?;
     Ok(Call::SetFl {
-        fd: parse_i32(fd)?,
+        fd,
         flags: parse_flags_or_none(flags)?,
     })
 }

@@ -3,10 +3,11 @@ ghost use Rattle.std.specs.Prelude.{◌≡◌, ◌<◌, ◌≤◌, ◌+◌, ◌^
 ghost use Rattle.std.specs.List.{list_all};
 ghost use Rattle.std.specs.Str.Parse.{digits_value};
 ghost use Rattle.pl_model.specs.Numbers.{most_bytes};
-ghost use Rattle.pl_model.specs.Words.{is_digit, number, signed};
-ghost use Rattle.pl_lines.specs.Parsed.{Gives};
+ghost use Rattle.pl_model.specs.Words.{is_digit, number, signed, words};
+ghost use Rattle.pl_lines.specs.Parsed.{Gives, GivesAs, only_number, only_signed, fd_and_word};
 
 use crate::fault::LineFault;
+use crate::words::{only_word, word};
 use pl_model::numbers::MAX_BYTES;
 
 /// The most digits of a number.
@@ -48,7 +49,7 @@ pub(crate) fn parse_u32(word: &[u8]) -> Result<u32, LineFault>
     Ok(number(1 << 32, word)? as u32)
 }
 
-pub(crate) fn parse_u64(word: &[u8]) -> Result<u64, LineFault>
+fn parse_u64(word: &[u8]) -> Result<u64, LineFault>
     ensures { Gives result (number (2 ^ 64) word.now) }
 {
     Ok(number(1 << 64, word)? as u64)
@@ -68,6 +69,29 @@ pub(crate) fn parse_i32(word: &[u8]) -> Result<i32, LineFault>
     } else {
         Ok(number(1 << 31, word)? as i32)
     }
+}
+
+/// The number that stands alone.
+pub(crate) fn only_u64(rest: &[u8]) -> Result<u64, LineFault>
+    ensures { Gives result (only_number (words rest.now)) }
+{
+    parse_u64(only_word(rest)?)
+}
+
+/// The number, with or without one `-` in front, that stands alone.
+pub(crate) fn only_i32(rest: &[u8]) -> Result<i32, LineFault>
+    ensures { Gives result (only_signed (words rest.now)) }
+{
+    parse_i32(only_word(rest)?)
+}
+
+/// A descriptor and the word behind it, which stand alone.
+pub(crate) fn fd_and_word(rest: &[u8]) -> Result<(i32, &[u8]), LineFault>
+    ensures { GivesAs (λ p. (p.0, p.1.now)) result (fd_and_word (words rest.now)) }
+{
+    let (fd, rest) = word(rest)?;
+    let second = only_word(rest)?;
+    Ok((parse_i32(fd)?, second))
 }
 
 /// A count of bytes of one write.

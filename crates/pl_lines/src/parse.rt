@@ -6,7 +6,7 @@ ghost use Rattle.pl_lines.specs.Parsed.{Gives, GivesTaking, LineTakes, LineAsked
 
 use crate::calls::parse_call;
 use crate::fault::LineFault;
-use crate::numbers::{parse_u32, parse_u64};
+use crate::numbers::{only_u64, parse_u32};
 use crate::words::{end, next_word, without_return, word};
 use pl_model::{Line, Step};
 use std::alloc::Allocator;
@@ -23,18 +23,14 @@ fn start_line<A: Allocator + Copy>(rest: &[u8]) -> Result<Line<A>, LineFault>
 fn resume_line<A: Allocator + Copy>(rest: &[u8]) -> Result<Line<A>, LineFault>
     ensures { Gives result (resume_of (words rest.now)) }
 {
-    let (number, rest) = word(rest)?;
-    end(rest)?;
-    Ok(Line::Do(Step::Resume(parse_u64(number)?)))
+    Ok(Line::Do(Step::Resume(only_u64(rest)?)))
 }
 
 #[tactic(auto, unfolding(pl_model::specs::Lines::interrupt_of))]
 fn interrupt_line<A: Allocator + Copy>(rest: &[u8]) -> Result<Line<A>, LineFault>
     ensures { Gives result (interrupt_of (words rest.now)) }
 {
-    let (number, rest) = word(rest)?;
-    end(rest)?;
-    Ok(Line::Do(Step::Interrupt(parse_u64(number)?)))
+    Ok(Line::Do(Step::Interrupt(only_u64(rest)?)))
 }
 
 #[tactic(auto, unfolding(pl_model::specs::Lines::begin_of))]

@@ -1,6 +1,7 @@
 //! The words of a line.
 ghost use Rattle.std.specs.Prelude.{◌≡◌, ◌<◌, not, ℕ, List, [], ◌∷◌, length, position, IfSome, MatchOption, MatchResult};
 ghost use Rattle.pl_model.specs.Words.{is_blank, words, without_return};
+ghost use Rattle.pl_lines.specs.Parsed.{GivesAs, only};
 ghost use Rattle.pl_lines.specs.declared.fault.LineFault.TheVariants.{Bad};
 
 use crate::fault::LineFault;
@@ -43,6 +44,15 @@ pub(crate) fn end(rest: &[u8]) -> Result<(), LineFault>
         Some(_) => Err(LineFault::Bad),
         None => Ok(()),
     }
+}
+
+/// The word that stands alone.
+pub(crate) fn only_word(rest: &[u8]) -> Result<&[u8], LineFault>
+    ensures { GivesAs (λ w. w.now) result (only (words rest.now)) }
+{
+    let (only, rest) = word(rest)?;
+    end(rest)?;
+    Ok(only)
 }
 
 /// The line without the carriage return that ends it, if one does.
