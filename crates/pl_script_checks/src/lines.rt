@@ -5,6 +5,8 @@ use pl_testing::asked::Ask::{
     self, Close, Interrupt, Pipe, PipeNonblock, Read, Resume, Start, Write,
 };
 use pl_testing::asked::Data::{Many, Text};
+use std::alloc::Global;
+use std::process::Abort;
 use std::test::Fail;
 
 const GOOD: &[(&str, Ask)] = &[
@@ -190,41 +192,50 @@ const BAD: &[&str] = &[
     "start\0",
 ];
 
-#[test]
-fn good_lines(rt: HostRuntime) -> Result<(), Fail> {
-    const TABLES: &[&[(&str, Ask)]] = &[GOOD, shared_lines::GOOD, shared_lines::FLAGS];
-    let alloc = rt.alloc();
-    for rows in TABLES {
-        for (text, ask) in *rows {
-            let asked = Line::Do(ask.step(alloc)?);
-            let is_asked = parse_line(alloc, text.as_bytes()) == Ok(Some(asked));
-            assert!(rt; is_asked, "{text:?} asks for {ask:?}");
-        }
+/// Whether the line asks for this.
+fn asks(alloc: Global, text: &str, ask: Ask) -> Result<bool, Fail> {
+    let asked = Line::Do(ask.step(alloc)?);
+    Ok(parse_line(alloc, text.as_bytes()) == Ok(Some(asked)))
+}
+
+fn asks_nothing(alloc: Global, text: &str) -> bool {
+    parse_line(alloc, text.as_bytes()) == Ok(None)
+}
+
+fn is_bad(alloc: Global, text: &str) -> bool {
+    parse_line(alloc, text.as_bytes()) == Err(LineFault::Bad)
+}
+
+fn each_asks(rt: &impl Abort, alloc: Global, rows: &[(&str, Ask)]) -> Result<(), Fail> {
+    for (text, ask) in rows {
+        let is_asked = asks(alloc, text, *ask)?;
+        assert!(rt; is_asked, "{text:?} asks for {ask:?}");
     }
     Ok(())
+}
+
+fn each_is_bad(rt: &impl Abort, alloc: Global, texts: &[&str]) {
+    for text in texts {
+        assert!(rt; is_bad(alloc, text), "{text:?} is bad");
+    }
+}
+
+#[test]
+fn good_lines(rt: HostRuntime) -> Result<(), Fail> {
+    each_asks(&rt, rt.alloc(), GOOD)?;
+    each_asks(&rt, rt.alloc(), shared_lines::GOOD)?;
+    each_asks(&rt, rt.alloc(), shared_lines::FLAGS)
 }
 
 #[test]
 fn lines_that_ask_nothing(rt: HostRuntime) {
     for text in ASK_NOTHING {
-        assert_eq!(rt;
-            parse_line(rt.alloc(), text.as_bytes()),
-            Ok(None),
-            "{text:?}"
-        );
+        assert!(rt; asks_nothing(rt.alloc(), text), "{text:?} asks nothing");
     }
 }
 
 #[test]
 fn bad_lines(rt: HostRuntime) {
-    const TABLES: &[&[&str]] = &[BAD, shared_lines::BAD];
-    for texts in TABLES {
-        for text in *texts {
-            assert_eq!(rt;
-                parse_line(rt.alloc(), text.as_bytes()),
-                Err(LineFault::Bad),
-                "{text:?}"
-            );
-        }
-    }
+    each_is_bad(&rt, rt.alloc(), BAD);
+    each_is_bad(&rt, rt.alloc(), shared_lines::BAD);
 }

@@ -50,135 +50,162 @@ const A_WRITE_WAITS: Run = Run {
     outputs_before_writes: &["pid 1\nfds 0 1\n"],
 };
 
-/// What a refused request makes of a run.
-#[derive(Clone, Copy)]
-enum Ending {
-    Whole,
-    Nomem,
-    Stopped,
-}
-
-/// Runs the script, and refuses the `n`th request for memory. Answers how the run ended, and what it printed till then.
-fn run_without(
-    alloc: Global,
-    heap: &Refusing<Global>,
-    script: &str,
-    n: u64,
-) -> (Result<Totals, ScriptFault>, Vec<u8>) {
-    heap.refuse(n);
-    let mut reader = Reads::new(script.as_bytes(), MAX_READS);
-    let mut written = Vec::new(alloc);
-    let mut writer = Writes::new(&mut written);
-    let ended = run_script(heap, &mut reader, &mut writer, LIMITS);
-    drop(writer);
-    (ended, written)
-}
-
-/// The run printed what it prints without a refusal, or what one step without memory makes of it, or found no memory to go
-/// on, and printed the lines till then, each of them whole.
-fn ending_of(
-    rt: &impl Abort,
-    run: Run,
-    n: u64,
+/// Which request of a run is refused, and what the run printed.
+#[derive(Clone, Copy, Debug)]
+struct At<'a> {
+    request: u64,
     is_refused: bool,
-    ended: Result<Totals, ScriptFault>,
-    output: &str,
-) -> Ending {
-    let totals = match ended {
-        Ok(totals) => totals,
-        Err(fault) => {
-            assert_eq!(rt;
-                fault,
-                ScriptFault::NoMemory,
-                "where request {n} is refused"
-            );
-            assert!(rt; is_refused, "no request is refused");
-            assert!(rt;
-                run.output.starts_with(output) && (output.is_empty() || output.ends_with('\n')),
-                "{output:?}, where request {n} is refused"
-            );
-            return Ending::Stopped;
-        }
-    };
-    let is_nomem = output != run.output;
+    output: &'a str,
+}
+
+/// The run found no memory to go on, and printed the lines till then, each of them whole.
+fn is_stopped(rt: &impl Abort, run: Run, at: At<'_>, fault: ScriptFault) {
+    assert_eq!(rt;
+        (fault, at.is_refused),
+        (ScriptFault::NoMemory, true),
+        "{at:?}"
+    );
+    let is_whole = at.output.is_empty() || at.output.ends_with('\n');
+    assert!(rt; is_whole && run.output.starts_with(at.output), "{at:?}");
+}
+
+/// The run printed what it prints without a refusal, or what one step without memory makes of it. Answers whether a step
+/// found none.
+fn is_ended(rt: &impl Abort, run: Run, at: At<'_>, totals: Totals) -> bool {
+    let is_nomem = at.output != run.output;
     let wanted = Totals {
         lines: 7,
         steps: 7,
         nomem: u32::from(is_nomem),
     };
-    assert_eq!(rt; totals, wanted, "{output:?}, where request {n} is refused");
-    if !is_nomem {
-        return Ending::Whole;
-    }
-    assert!(rt; is_refused, "{output:?}, where no request is refused");
-    assert!(rt;
-        run.outputs_with_nomem.contains(&output),
-        "{output:?}, where request {n} is refused"
-    );
-    Ending::Nomem
+    assert_eq!(rt; totals, wanted, "{at:?}");
+    let is_known = at.is_refused && run.outputs_with_nomem.contains(&at.output);
+    assert!(rt; !is_nomem || is_known, "{at:?}");
+    is_nomem
 }
 
-/// Where the `n`th request is refused and the first write fails too, the run ends by the write.
-fn fail_the_write_too(
-    rt: &impl Abort,
+/// What the runs came to, each with a later request refused than the one before.
+#[derive(Clone, Copy)]
+struct Seen {
+    /// A run made fewer requests than the number of the one to refuse.
+    has_ended: bool,
+    has_printed_nomem: bool,
+    /// How many of the outputs before a write were printed by runs that found no memory to go on.
+    before_writes: usize,
+}
+
+impl Seen {
+    fn stopped(self, run: Run, output: &str) -> Self {
+        match run.outputs_before_writes.get(self.before_writes) {
+            Some(next) if *next == output => Seen {
+                before_writes: self.before_writes.saturating_add(1),
+                ..self
+            },
+            _ => self,
+        }
+    }
+}
+
+/// A run in memory that can be refused.
+#[derive(Drop)]
+struct Subject {
     alloc: Global,
-    heap: &Refusing<Global>,
-    script: &str,
-    n: u64,
-) {
-    heap.refuse(n);
-    let mut reader = Reads::new(script.as_bytes(), MAX_READS);
-    let mut writer = Writes::new(Drip::failing(alloc, usize::MAX, 1, Failure::Nothing));
-    let ended = run_script(heap, &mut reader, &mut writer, LIMITS);
-    assert_eq!(rt;
-        ended,
-        Err(ScriptFault::Write),
-        "where request {n} is refused, and the first write fails"
-    );
+    heap: Refusing<Global>,
+    run: Run,
 }
 
-/// Refuses each request of the run in turn. Answers what was printed by the runs that found no memory to go on.
-fn refuse_each(rt: &impl Abort, alloc: Global, run: Run) -> Result<Vec<String>, Fail> {
-    let heap = Refusing::new(alloc);
-    let mut stopped = Vec::new(alloc);
-    let mut has_ended = false;
-    let mut has_printed_nomem = false;
-    for n in 1..MOST_REQUESTS {
-        let (ended, written) = run_without(alloc, &heap, run.script, n);
-        let is_refused = heap.refused();
-        let output = String::from_utf8(written)?;
-        match ending_of(rt, run, n, is_refused, ended, output.as_str()) {
-            Ending::Whole => {}
-            Ending::Nomem => has_printed_nomem = true,
-            Ending::Stopped => {
-                if !output.is_empty() {
-                    fail_the_write_too(rt, alloc, &heap, run.script, n);
-                }
-                stopped.push(output)?;
-            }
-        }
-        if !is_refused {
-            has_ended = true;
-            break;
+impl Subject {
+    fn new(alloc: Global, run: Run) -> Self {
+        Subject {
+            alloc,
+            heap: Refusing::new(alloc),
+            run,
         }
     }
-    assert!(rt;
-        has_ended && heap.requests() > 0,
-        "the script makes {} requests",
-        heap.requests()
-    );
-    assert!(rt; has_printed_nomem, "no run printed nomem");
-    Ok(stopped)
-}
 
-/// Where a line that writes finds no memory for its bytes, the lines before it are printed.
-fn print_what_was_answered(rt: &impl Abort, run: Run, stopped: &[String]) {
-    for output in run.outputs_before_writes {
-        assert!(rt;
-            stopped.iter().any(|printed| printed.as_str() == *output),
-            "{output:?} is printed by no run that found no memory"
+    /// Runs the script, and refuses the `n`th request for memory.
+    fn run_without(&self, n: u64, writer: &mut Drip) -> Result<Totals, ScriptFault> {
+        self.heap.refuse(n);
+        let mut reader = Reads::new(self.run.script.as_bytes(), MAX_READS);
+        run_script(&self.heap, &mut reader, &mut Writes::new(writer), LIMITS)
+    }
+
+    /// Where the `n`th request is refused and the first write fails too, the run ends by the write.
+    fn fail_the_write_too(&self, rt: &impl Abort, n: u64) {
+        let mut writer = Drip::failing(self.alloc, usize::MAX, 1, Failure::Nothing);
+        let ended = self.run_without(n, &mut writer);
+        assert_eq!(rt;
+            ended,
+            Err(ScriptFault::Write),
+            "where request {n} is refused"
         );
     }
+
+    fn see(
+        &self,
+        rt: &impl Abort,
+        seen: Seen,
+        at: At<'_>,
+        ended: Result<Totals, ScriptFault>,
+    ) -> Seen {
+        match ended {
+            Ok(totals) => Seen {
+                has_ended: !at.is_refused,
+                has_printed_nomem: is_ended(rt, self.run, at, totals) || seen.has_printed_nomem,
+                ..seen
+            },
+            Err(fault) => {
+                is_stopped(rt, self.run, at, fault);
+                if !at.output.is_empty() {
+                    self.fail_the_write_too(rt, at.request);
+                }
+                seen.stopped(self.run, at.output)
+            }
+        }
+    }
+
+    /// Refuses the `n`th request of the run.
+    fn refuse(&self, rt: &impl Abort, seen: Seen, n: u64) -> Result<Seen, Fail> {
+        let mut writer = Drip::new(self.alloc, usize::MAX);
+        let ended = self.run_without(n, &mut writer);
+        let at = At {
+            request: n,
+            is_refused: self.heap.refused(),
+            output: str::from_utf8(writer.taken())?,
+        };
+        Ok(self.see(rt, seen, at, ended))
+    }
+
+    /// Refuses each request of the run in turn.
+    fn refuse_each(&self, rt: &impl Abort) -> Result<Seen, Fail> {
+        let mut seen = Seen {
+            has_ended: false,
+            has_printed_nomem: false,
+            before_writes: 0,
+        };
+        for n in 1..MOST_REQUESTS {
+            seen = self.refuse(rt, seen, n)?;
+            if seen.has_ended {
+                break;
+            }
+        }
+        Ok(seen)
+    }
+}
+
+/// Each request is refused. Where a line that writes finds no memory for its bytes, the lines before it are printed.
+fn each_is_refused(rt: &impl Abort, alloc: Global, run: Run) -> Result<(), Fail> {
+    let subject = Subject::new(alloc, run);
+    let seen = subject.refuse_each(rt)?;
+    let requests = subject.heap.requests();
+    assert!(rt;
+        seen.has_ended && requests > 0,
+        "the script makes {requests} requests"
+    );
+    assert!(rt; seen.has_printed_nomem, "no run printed nomem");
+    let missing = run.outputs_before_writes.get(seen.before_writes);
+    assert_eq!(rt; missing, None, "no run that found no memory printed that");
+    Ok(())
 }
 
 const RUNS: &[Run] = &[NOTHING_WAITS, A_WRITE_WAITS];
@@ -186,8 +213,7 @@ const RUNS: &[Run] = &[NOTHING_WAITS, A_WRITE_WAITS];
 #[test]
 fn each_request_is_refused(rt: HostRuntime) -> Result<(), Fail> {
     for run in RUNS {
-        let stopped = refuse_each(&rt, rt.alloc(), *run)?;
-        print_what_was_answered(&rt, *run, stopped.as_slice());
+        each_is_refused(&rt, rt.alloc(), *run)?;
     }
     Ok(())
 }

@@ -6,6 +6,8 @@ use pl_testing::asked::Want::{
     self, Bytes, CallsSpent, Count, CountSigpipe, Fault, Fd, Fds, Flags, NoCall, NoProcess, Parked,
     Pid, Unit,
 };
+use std::alloc::Global;
+use std::process::Abort;
 use std::test::Fail;
 
 const REPLIES: &[(Want, &str)] = &[
@@ -64,14 +66,21 @@ const REPLIES: &[(Want, &str)] = &[
     (Fault(Errno::ESPIPE), "ESPIPE"),
 ];
 
+fn shows(rt: &impl Abort, alloc: Global, outcome: &Outcome, text: &str) -> Result<(), Fail> {
+    let shown = show(alloc, outcome)?;
+    assert_eq!(rt; shown.as_str(), text);
+    Ok(())
+}
+
+fn shows_reply(rt: &impl Abort, alloc: Global, want: Want, text: &str) -> Result<(), Fail> {
+    let outcome = want.outcome(alloc)?;
+    shows(rt, alloc, &outcome, text)
+}
+
 #[test]
 fn each_reply_is_shown(rt: HostRuntime) -> Result<(), Fail> {
-    let alloc = rt.alloc();
     for (want, text) in REPLIES {
-        let shown = show(alloc, &want.outcome(alloc)?)?;
-        assert_eq!(rt; shown.as_str(), *text, "{want:?}");
+        shows_reply(&rt, rt.alloc(), *want, text)?;
     }
-    let shown = show(alloc, &Outcome::NoMemory)?;
-    assert_eq!(rt; shown.as_str(), "nomem");
-    Ok(())
+    shows(&rt, rt.alloc(), &Outcome::NoMemory, "nomem")
 }

@@ -1,5 +1,5 @@
 //! Scripts and what they print.
-use super::trickling::run_between;
+use super::trickling::{Coming, Script, prints};
 use pl_model::Totals;
 use pl_script::ScriptFault;
 use std::alloc::Global;
@@ -54,12 +54,30 @@ const SMALL_SCRIPTS: &[(&str, &str, End)] = &[
     ),
 ];
 
-/// How scripts begin that are filled up with bytes `#`, their lengths, what they print, and how their runs end.
-const LONG_SCRIPTS: &[(&str, usize, &str, End)] = &[
-    ("", 16_777_216, "", Ok((1, 0))),
-    ("start\n", 16_777_216, "pid 1\n", Ok((2, 1))),
-    ("", 16_777_217, "", Err(ScriptFault::TooLong)),
-    ("start\n", 16_777_217, "", Err(ScriptFault::TooLong)),
+/// Names of scripts, how these begin that are filled up with bytes `#`, their lengths, what they print, and how their runs end.
+const LONG_SCRIPTS: &[(&str, &str, usize, &str, End)] = &[
+    ("the longest comment", "", 16_777_216, "", Ok((1, 0))),
+    (
+        "the longest script",
+        "start\n",
+        16_777_216,
+        "pid 1\n",
+        Ok((2, 1)),
+    ),
+    (
+        "a comment too long",
+        "",
+        16_777_217,
+        "",
+        Err(ScriptFault::TooLong),
+    ),
+    (
+        "a script too long",
+        "start\n",
+        16_777_217,
+        "",
+        Err(ScriptFault::TooLong),
+    ),
 ];
 
 fn totals_of(end: End) -> Result<Totals, ScriptFault> {
@@ -71,39 +89,36 @@ fn totals_of(end: End) -> Result<Totals, ScriptFault> {
     })
 }
 
-/// The script prints this, and its run ends so.
-fn prints(rt: &impl Abort, alloc: Global, name: &str, script: &[u8], output: &str, end: End) {
-    let mut written = Vec::new(alloc);
-    let result = run_between(alloc, script, &mut written);
-    assert_eq!(rt; result, totals_of(end), "the end of {name:?}");
-    assert_eq!(rt;
-        str::from_utf8(written.as_slice()),
-        Ok(output),
-        "the output of {name:?}"
-    );
+fn prints_so(rt: &impl Abort, alloc: Global, name: &str, bytes: &[u8], output: &str, end: End) {
+    let script = Script {
+        name,
+        first_call: 1,
+        bytes,
+        output,
+        end: totals_of(end),
+    };
+    prints(rt, alloc, script, Coming::Whole);
 }
 
 #[test]
 fn small_scripts(rt: HostRuntime) {
     for (script, output, end) in SMALL_SCRIPTS {
-        prints(&rt, rt.alloc(), script, script.as_bytes(), output, *end);
+        prints_so(&rt, rt.alloc(), script, script.as_bytes(), output, *end);
     }
+}
+
+/// The bytes at the front, filled up with `#`.
+fn filled(alloc: Global, front: &str, len: usize) -> Result<Vec<u8>, Fail> {
+    let mut script = Vec::from_slice(alloc, front.as_bytes())?;
+    script.resize(len, b'#')?;
+    Ok(script)
 }
 
 #[test]
 fn the_longest_scripts(rt: HostRuntime) -> Result<(), Fail> {
-    for (front, len, output, end) in LONG_SCRIPTS {
-        let mut script = Vec::from_slice(rt.alloc(), front.as_bytes())?;
-        script.resize(*len, b'#')?;
-        let name = format!(in rt.alloc(); "{len} bytes that begin with {front:?}")?;
-        prints(
-            &rt,
-            rt.alloc(),
-            name.as_str(),
-            script.as_slice(),
-            output,
-            *end,
-        );
+    for (name, front, len, output, end) in LONG_SCRIPTS {
+        let script = filled(rt.alloc(), front, *len)?;
+        prints_so(&rt, rt.alloc(), name, script.as_slice(), output, *end);
     }
     Ok(())
 }

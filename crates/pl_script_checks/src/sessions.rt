@@ -1,8 +1,9 @@
 //! Sessions: scripts of calls that wait and of descriptors that share, line by line with what each prints.
-use super::trickling::run_from;
+use super::trickling::{Coming, Script, prints};
 use pl_model::Totals;
 use pl_testing::asked::NEVER_GIVEN;
 use std::alloc::Global;
+use std::process::Abort;
 use std::test::Fail;
 
 const PARTIAL_AND_WHOLE_NOT_WAITING: &str = "\
@@ -223,48 +224,74 @@ const SESSIONS: &[(&str, u64, &str)] = &[
     ("outside_the_table", 1, OUTSIDE_THE_TABLE),
 ];
 
-/// The script of a session, and what it prints. The session writes `N*hh` for N times the byte hh, whose digits are all
-/// printed.
-fn script_and_output(alloc: Global, session: &str) -> Result<(String, String), Fail> {
-    let mut script = String::new(alloc);
-    let mut output = String::new(alloc);
-    for line in session.lines() {
-        let (asked, printed) = line.split_once(" => ").ok_or("a line prints nothing")?;
-        script.push_str(asked)?;
-        script.push('\n')?;
-        match printed.split_once('*') {
-            Some((front, byte)) => {
-                let count = front.strip_prefix("data ").ok_or("no bytes")?;
-                let digits = byte.repeat(alloc, count.parse::<usize>()?)?;
-                output.push_str("data ")?;
-                output.push_str(digits.as_str())?;
-            }
-            None => output.push_str(printed)?,
+/// Adds what a line prints. The session writes `N*hh` for N times the byte hh, whose digits are all printed.
+fn push_printed(alloc: Global, output: &mut String, printed: &str) -> Result<(), Fail> {
+    match printed.split_once('*') {
+        Some((front, byte)) => {
+            let count = front.strip_prefix("data ").ok_or("no bytes")?;
+            output.push_str("data ")?;
+            output.push_str(byte.repeat(alloc, count.parse::<usize>()?)?.as_str())?;
         }
-        output.push('\n')?;
+        None => output.push_str(printed)?,
     }
-    Ok((script, output))
+    Ok(output.push('\n')?)
+}
+
+/// The scripts of sessions, what they print, and how many lines they have.
+#[derive(Drop)]
+struct Session {
+    alloc: Global,
+    script: String,
+    output: String,
+    lines: u32,
+}
+
+impl Session {
+    fn new(alloc: Global) -> Self {
+        Session {
+            alloc,
+            script: String::new(alloc),
+            output: String::new(alloc),
+            lines: 0,
+        }
+    }
+
+    fn push_line(&mut self, line: &str) -> Result<(), Fail> {
+        let (asked, printed) = line.split_once(" => ").ok_or("a line prints nothing")?;
+        self.script.push_str(asked)?;
+        self.script.push('\n')?;
+        self.lines = self.lines.saturating_add(1);
+        push_printed(self.alloc, &mut self.output, printed)
+    }
+
+    fn of(alloc: Global, lines: &str) -> Result<Session, Fail> {
+        let mut session = Session::new(alloc);
+        for line in lines.lines() {
+            session.push_line(line)?;
+        }
+        Ok(session)
+    }
+
+    fn is_printed(&self, rt: &impl Abort, name: &str, first_call: u64) {
+        let script = Script {
+            name,
+            first_call,
+            bytes: self.script.as_bytes(),
+            output: self.output.as_str(),
+            end: Ok(Totals {
+                lines: self.lines,
+                steps: self.lines,
+                nomem: 0,
+            }),
+        };
+        prints(rt, self.alloc, script, Coming::Whole);
+    }
 }
 
 #[test]
 fn each_session_is_printed(rt: HostRuntime) -> Result<(), Fail> {
-    let alloc = rt.alloc();
-    for (name, first_call, session) in SESSIONS {
-        let (script, output) = script_and_output(alloc, session)?;
-        let mut written = Vec::new(alloc);
-        let result = run_from(alloc, *first_call, script.as_bytes(), &mut written);
-        let lines = u32::try_from(session.lines().count())?;
-        let totals = Totals {
-            lines,
-            steps: lines,
-            nomem: 0,
-        };
-        assert_eq!(rt; result, Ok(totals), "the end of {name}");
-        assert_eq!(rt;
-            str::from_utf8(written.as_slice()),
-            Ok(output.as_str()),
-            "the output of {name}"
-        );
+    for (name, first_call, lines) in SESSIONS {
+        Session::of(rt.alloc(), lines)?.is_printed(&rt, name, *first_call);
     }
     Ok(())
 }

@@ -1,32 +1,35 @@
 //! Scripts that come, and output that goes, in pieces, and reads and writes that fail.
-use super::trickling::{Drip, Failure, Trickle, run_between};
+use super::trickling::{Coming, Drip, Failure, Script, Trickle, prints, run_from};
 use pl_model::Totals;
 use pl_script::ScriptFault;
 use std::alloc::Global;
-use std::io::{ErrorKind, Read};
+use std::io::ErrorKind;
 use std::process::Abort;
 use std::test::Fail;
 
-/// Scripts, what they print, and how their runs end.
-const SCRIPTS: &[(&str, &str, Result<Totals, ScriptFault>)] = &[GOOD, BAD];
+const SCRIPTS: &[Script<'static>] = &[GOOD, BAD];
 
 /// A script of good lines alone.
-const GOOD: (&str, &str, Result<Totals, ScriptFault>) = (
-    "start\n# a comment\n\n1 pipe\r\n\t1 write  1 68656c6c6f\n1 read 0 3\n1 close 1\n1 read 0 10",
-    "pid 1\nfds 0 1\ncount 5\ndata 68656c\nok\ndata 6c6f\n",
-    Ok(Totals {
+const GOOD: Script<'static> = Script {
+    name: "good lines",
+    first_call: 1,
+    bytes: b"start\n# a comment\n\n1 pipe\r\n\t1 write  1 68656c6c6f\n1 read 0 3\n1 close 1\n1 read 0 10",
+    output: "pid 1\nfds 0 1\ncount 5\ndata 68656c\nok\ndata 6c6f\n",
+    end: Ok(Totals {
         lines: 8,
         steps: 6,
         nomem: 0,
     }),
-);
+};
 
 /// A script with a bad line.
-const BAD: (&str, &str, Result<Totals, ScriptFault>) = (
-    "start\n# a comment\n\n1 pipe\r\n1 wrlte 1 61\nstart\n",
-    "pid 1\nfds 0 1\n",
-    Err(ScriptFault::BadLine(5)),
-);
+const BAD: Script<'static> = Script {
+    name: "a bad line",
+    first_call: 1,
+    bytes: b"start\n# a comment\n\n1 pipe\r\n1 wrlte 1 61\nstart\n",
+    output: "pid 1\nfds 0 1\n",
+    end: Err(ScriptFault::BadLine(5)),
+};
 
 const FAILURES: &[Failure] = &[
     Failure::Error(ErrorKind::BrokenPipe),
@@ -37,122 +40,151 @@ const FAILURES: &[Failure] = &[
 /// How many bytes a read gives.
 const PIECES: &[usize] = &[1, 2, 7];
 
+fn come_in_pieces(rt: &impl Abort, alloc: Global, script: Script<'_>) {
+    for most in PIECES {
+        prints(rt, alloc, script, Coming::InPieces(*most));
+    }
+}
+
+fn come_cut_anywhere(rt: &impl Abort, alloc: Global, script: Script<'_>) {
+    for cut in 0..=script.bytes.len() {
+        prints(rt, alloc, script, Coming::CutAt(cut));
+    }
+}
+
 #[test]
 fn a_script_in_pieces(rt: HostRuntime) {
-    let alloc = rt.alloc();
-    for (script, output, end) in SCRIPTS {
-        for most in PIECES {
-            let mut written = Vec::new(alloc);
-            let result = run_between(alloc, Trickle::new(script.as_bytes(), *most), &mut written);
-            assert_eq!(rt; result, *end, "with {most} bytes a read");
-            assert_eq!(rt;
-                str::from_utf8(written.as_slice()),
-                Ok(*output),
-                "with {most} bytes a read"
-            );
-        }
-        for cut in 0..script.len() + 1 {
-            let (front, back) = script.as_bytes().split_at(cut);
-            let mut written = Vec::new(alloc);
-            let result = run_between(alloc, front.chain(back), &mut written);
-            assert_eq!(rt; result, *end, "cut at {cut}");
-            assert_eq!(rt;
-                str::from_utf8(written.as_slice()),
-                Ok(*output),
-                "cut at {cut}"
-            );
-        }
+    for script in SCRIPTS {
+        come_in_pieces(&rt, rt.alloc(), *script);
+        come_cut_anywhere(&rt, rt.alloc(), *script);
     }
 }
 
 const ERRORS: &[ErrorKind] = &[ErrorKind::BrokenPipe, ErrorKind::Interrupted];
 
+/// The `n`th of reads of one byte fails, and nothing is run.
+fn fail_the_read(rt: &impl Abort, alloc: Global, script: Script<'_>, n: usize, kind: ErrorKind) {
+    let mut reader = Trickle::failing(script.bytes, 1, n, Failure::Error(kind));
+    let mut writer = Drip::new(alloc, usize::MAX);
+    let end = run_from(alloc, script.first_call, &mut reader, &mut writer);
+    let came = (end, writer.taken().len(), reader.calls());
+    assert_eq!(rt;
+        came,
+        (Err(ScriptFault::Read), 0, n),
+        "where read {n} has {kind:?}"
+    );
+}
+
+fn fail_the_read_by_each(rt: &impl Abort, alloc: Global, script: Script<'_>, n: usize) {
+    for kind in ERRORS {
+        fail_the_read(rt, alloc, script, n, *kind);
+    }
+}
+
+fn fail_reads(rt: &impl Abort, alloc: Global, script: Script<'_>) {
+    // Each read gives one byte, and the last finds the end.
+    for n in 1..script.bytes.len() + 2 {
+        fail_the_read_by_each(rt, alloc, script, n);
+    }
+}
+
 /// A script of which not all was read isn't run.
 #[test]
 fn each_read_fails(rt: HostRuntime) {
-    let alloc = rt.alloc();
-    for (script, _, _) in SCRIPTS {
-        // Each read gives one byte, and the last finds the end.
-        for n in 1..script.len() + 2 {
-            for kind in ERRORS {
-                let mut reader = Trickle::failing(script.as_bytes(), 1, n, Failure::Error(*kind));
-                let mut written = Vec::new(alloc);
-                let result = run_between(alloc, &mut reader, &mut written);
-                assert_eq!(rt;
-                    result,
-                    Err(ScriptFault::Read),
-                    "the end, where read {n} has {kind:?}"
-                );
-                assert!(rt; written.is_empty(), "output, where read {n} has {kind:?}");
-                assert_eq!(rt; reader.calls(), n, "the reads, where read {n} has {kind:?}");
-            }
-        }
+    for script in SCRIPTS {
+        fail_reads(&rt, rt.alloc(), *script);
     }
+}
+
+/// The `n`th of writes of so many bytes fails, and a front of the output was written.
+fn fail_the_write(
+    rt: &impl Abort,
+    alloc: Global,
+    most: usize,
+    script: Script<'_>,
+    n: usize,
+    failure: Failure,
+) {
+    let mut writer = Drip::failing(alloc, most, n, failure);
+    let end = run_from(alloc, script.first_call, script.bytes, &mut writer);
+    let is_front = script.output.as_bytes().starts_with(writer.taken());
+    let came = (end, writer.calls(), is_front);
+    assert_eq!(rt;
+        came,
+        (Err(ScriptFault::Write), n, true),
+        "where write {n} has {failure:?}"
+    );
+}
+
+fn fail_the_write_by_each(
+    rt: &impl Abort,
+    alloc: Global,
+    most: usize,
+    script: Script<'_>,
+    n: usize,
+) {
+    for failure in FAILURES {
+        fail_the_write(rt, alloc, most, script, n, *failure);
+    }
+}
+
+/// The number of writes of so many bytes, none of which fails.
+fn count_writes(rt: &impl Abort, alloc: Global, most: usize, script: Script<'_>) -> usize {
+    let mut writer = Drip::new(alloc, most);
+    let end = run_from(alloc, script.first_call, script.bytes, &mut writer);
+    let is_whole = writer.taken() == script.output.as_bytes();
+    assert_eq!(rt;
+        (end, is_whole),
+        (script.end, true),
+        "with {most} bytes a write"
+    );
+    writer.calls()
 }
 
 /// Runs the script by a writer that takes so many bytes a call, and then for each way in which each of these writes may
 /// fail. Answers the number of writes.
-fn fail_each_write(
-    rt: &impl Abort,
-    alloc: Global,
-    most: usize,
-    script: &str,
-    output: &str,
-    end: Result<Totals, ScriptFault>,
-) -> usize {
-    let mut writer = Drip::new(alloc, most);
-    let result = run_between(alloc, script.as_bytes(), &mut writer);
-    assert_eq!(rt; result, end, "the end, with {most} bytes a write");
-    assert!(rt;
-        writer.taken() == output.as_bytes(),
-        "the output, with {most} bytes a write"
-    );
-    let writes = writer.calls();
+fn fail_each_write(rt: &impl Abort, alloc: Global, most: usize, script: Script<'_>) -> usize {
+    let writes = count_writes(rt, alloc, most, script);
     for n in 1..=writes {
-        for failure in FAILURES {
-            let mut writer = Drip::failing(alloc, most, n, *failure);
-            let result = run_between(alloc, script.as_bytes(), &mut writer);
-            assert_eq!(rt;
-                result,
-                Err(ScriptFault::Write),
-                "the end, where write {n} has {failure:?}"
-            );
-            assert_eq!(rt;
-                writer.calls(),
-                n,
-                "the writes, where write {n} has {failure:?}"
-            );
-            assert!(rt;
-                output.as_bytes().starts_with(writer.taken()),
-                "the output, where write {n} has {failure:?}"
-            );
-        }
+        fail_the_write_by_each(rt, alloc, most, script, n);
     }
     writes
 }
 
 #[test]
-fn each_write_fails(rt: HostRuntime) -> Result<(), Fail> {
-    let alloc = rt.alloc();
-    for (script, output, end) in SCRIPTS {
-        let writes = fail_each_write(&rt, alloc, 1, script, output, *end);
-        assert_eq!(rt; writes, output.len(), "the writes of one byte");
+fn each_write_fails(rt: HostRuntime) {
+    for script in SCRIPTS {
+        let writes = fail_each_write(&rt, rt.alloc(), 1, *script);
+        assert_eq!(rt; writes, script.output.len(), "the writes of one byte");
     }
-    // An output that isn't held whole, and so is written in pieces.
-    let script =
-        "start\n1 pipe\n1 write 1 40000*61\n1 read 0 40000\n1 write 1 40000*62\n1 read 0 40000\n";
-    let output = format!(in alloc;
-        "pid 1\nfds 0 1\ncount 40000\ndata {}\ncount 40000\ndata {}\n",
-        "61".repeat(alloc, 40_000)?,
-        "62".repeat(alloc, 40_000)?
-    )?;
-    let end = Ok(Totals {
-        lines: 6,
-        steps: 6,
-        nomem: 0,
-    });
-    let writes = fail_each_write(&rt, alloc, usize::MAX, script, output.as_str(), end);
+}
+
+/// What the script of much output prints.
+fn much_output(alloc: Global) -> Result<String, Fail> {
+    let first = "61".repeat(alloc, 40_000)?;
+    let second = "62".repeat(alloc, 40_000)?;
+    Ok(format!(in alloc;
+        "pid 1\nfds 0 1\ncount 40000\ndata {first}\ncount 40000\ndata {second}\n"
+    )?)
+}
+
+/// An output that isn't held whole, and so is written in pieces.
+#[test]
+fn each_write_of_much_output_fails(rt: HostRuntime) -> Result<(), Fail> {
+    let output = much_output(rt.alloc())?;
+    let script = Script {
+        name: "much output",
+        first_call: 1,
+        bytes: b"start\n1 pipe\n1 write 1 40000*61\n1 read 0 40000\n1 write 1 40000*62\n1 read 0 40000\n",
+        output: output.as_str(),
+        end: Ok(Totals {
+            lines: 6,
+            steps: 6,
+            nomem: 0,
+        }),
+    };
+    let writes = fail_each_write(&rt, rt.alloc(), usize::MAX, script);
     assert!(rt; writes > 1, "the output is written at once");
-    fail_each_write(&rt, alloc, 40_000, script, output.as_str(), end);
+    fail_each_write(&rt, rt.alloc(), 40_000, script);
     Ok(())
 }

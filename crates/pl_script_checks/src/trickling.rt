@@ -4,6 +4,7 @@ use pl_run::LIMITS;
 use pl_script::{MAX_READS, Reads, ScriptFault, Writes, run_script};
 use std::alloc::Global;
 use std::io::{self, ErrorKind, Read, Write};
+use std::process::Abort;
 
 /// How a call fails.
 #[derive(Clone, Copy, Debug)]
@@ -136,21 +137,12 @@ impl Write for Drip {
     }
 }
 
-/// Runs the script that the reader gives, in memory that isn't refused, with calls numbered from 1.
-pub(crate) fn run_between<R: Read + Drop, W: Write + Drop>(
-    alloc: Global,
-    reader: R,
-    writer: W,
-) -> Result<Totals, ScriptFault> {
-    run_from(alloc, LIMITS.first_call, reader, writer)
-}
-
-/// Runs the script likewise, with calls numbered from `first_call`.
-pub(crate) fn run_from<R: Read + Drop, W: Write + Drop>(
+/// Runs the script that the reader gives, in memory that isn't refused, with calls numbered from `first_call`.
+pub(crate) fn run_from<R: Read + Drop>(
     alloc: Global,
     first_call: u64,
     reader: R,
-    writer: W,
+    writer: &mut Drip,
 ) -> Result<Totals, ScriptFault> {
     let mut source = Reads::new(reader, MAX_READS);
     let mut sink = Writes::new(writer);
@@ -159,4 +151,56 @@ pub(crate) fn run_from<R: Read + Drop, W: Write + Drop>(
         ..LIMITS
     };
     run_script(alloc, &mut source, &mut sink, limits)
+}
+
+/// A script, what it prints, and how its run ends.
+#[derive(Clone, Copy)]
+pub(crate) struct Script<'a> {
+    pub(crate) name: &'a str,
+    /// The number of its first call.
+    pub(crate) first_call: u64,
+    pub(crate) bytes: &'a [u8],
+    pub(crate) output: &'a str,
+    pub(crate) end: Result<Totals, ScriptFault>,
+}
+
+/// How a script comes.
+#[derive(Clone, Copy, Debug)]
+pub(crate) enum Coming {
+    Whole,
+    /// With so many bytes a read.
+    InPieces(usize),
+    /// From two readers, the first of so many bytes.
+    CutAt(usize),
+}
+
+fn run_coming(
+    alloc: Global,
+    first_call: u64,
+    bytes: &[u8],
+    coming: Coming,
+    writer: &mut Drip,
+) -> Result<Totals, ScriptFault> {
+    match coming {
+        Coming::Whole => run_from(alloc, first_call, bytes, writer),
+        Coming::InPieces(most) => run_from(alloc, first_call, Trickle::new(bytes, most), writer),
+        Coming::CutAt(cut) => {
+            let (front, back) = bytes.split_at(cut.min(bytes.len()));
+            run_from(alloc, first_call, front.chain(back), writer)
+        }
+    }
+}
+
+/// The script prints its output and its run ends as it is to, where it comes so.
+pub(crate) fn prints(rt: &impl Abort, alloc: Global, script: Script<'_>, coming: Coming) {
+    let mut writer = Drip::new(alloc, usize::MAX);
+    let name = script.name;
+    let end = run_coming(alloc, script.first_call, script.bytes, coming, &mut writer);
+    assert_eq!(rt; end, script.end, "the end of {name:?}, {coming:?}");
+    let output = str::from_utf8(writer.taken());
+    assert_eq!(rt;
+        output,
+        Ok(script.output),
+        "the output of {name:?}, {coming:?}"
+    );
 }
