@@ -1,5 +1,6 @@
 //! The line and the status of each fault.
 use super::trickling::{Drip, Failure};
+use pl_model::Totals;
 use pl_run::{Fault, end, run, status, write_fault};
 use pl_script::{MAX_READS, Reads, ScriptFault, Writes};
 use std::alloc::Global;
@@ -36,8 +37,8 @@ fn took_line(fault: &Fault, writer: &mut Drip) -> bool {
 fn writes_line(rt: &impl Abort, alloc: Global, most: usize, fault: &Fault, line: &str) -> usize {
     let mut writer = Drip::new(alloc, most);
     let told = took_line(fault, &mut writer);
-    let written = str::from_utf8(writer.taken());
-    assert_eq!(rt; (told, written), (true, Ok(line)), "{fault:?}");
+    let is_written = writer.taken() == line.as_bytes();
+    assert!(rt; told && is_written, "{fault:?}");
     writer.calls()
 }
 
@@ -79,9 +80,8 @@ fn fail_the_write(
     let mut writer = Drip::failing(alloc, 1, n, failure);
     let told = took_line(fault, &mut writer);
     let is_front = line.as_bytes().starts_with(writer.taken());
-    assert_eq!(rt;
-        (told, is_front),
-        (false, true),
+    assert!(rt;
+        !told && is_front,
         "{fault:?}, where write {n} has {failure:?}"
     );
 }
@@ -119,54 +119,65 @@ const PROGRAMS: &[(&str, &str, &str, u8)] = &[
     ),
 ];
 
-/// What the program prints, its line of a fault and its status.
-#[derive(Drop)]
-struct Ended {
-    printed: Drip,
-    told: Drip,
-    status: u8,
-}
-
-fn run_program(alloc: Global, words: &[String], script: &str) -> Ended {
-    let mut printed = Drip::new(alloc, usize::MAX);
-    let mut told = Drip::new(alloc, usize::MAX);
-    let mut reader = Reads::new(script.as_bytes(), MAX_READS);
-    let ended = run(alloc, words, &mut reader, &mut Writes::new(&mut printed));
-    let status = end(&mut Writes::new(&mut told), ended);
-    Ended {
-        printed,
-        told,
-        status,
-    }
-}
-
-fn program_prints(
-    rt: &impl Abort,
+fn run_words(
     alloc: Global,
     words: &[String],
     script: &str,
-    wanted: (&str, &str, u8),
-) {
-    let ended = run_program(alloc, words, script);
-    let printed = str::from_utf8(ended.printed.taken());
-    let told = str::from_utf8(ended.told.taken());
-    let (output, line, status) = wanted;
-    assert_eq!(rt; ended.status, status, "the status of {script:?}");
-    assert_eq!(rt; (printed, told), (Ok(output), Ok(line)), "{script:?}");
+    printed: &mut Drip,
+) -> Result<Totals, Fault> {
+    let mut reader = Reads::new(script.as_bytes(), MAX_READS);
+    let mut writer = Writes::new(printed);
+    run(alloc, words, &mut reader, &mut writer)
+}
+
+/// Writes the line of a fault, and answers the status.
+fn status_of_end(ended: Result<Totals, Fault>, told: &mut Drip) -> u8 {
+    let mut writer = Writes::new(told);
+    end(&mut writer, ended)
+}
+
+/// Whether the writer took this text.
+fn took(writer: &Drip, text: &str) -> bool {
+    writer.taken() == text.as_bytes()
+}
+
+/// Whether the program prints this output, this line of a fault, and ends with this status.
+fn program_prints(
+    alloc: Global,
+    words: &[String],
+    script: &str,
+    output: &str,
+    line: &str,
+    status: u8,
+) -> bool {
+    let mut printed = Drip::new(alloc, usize::MAX);
+    let mut told = Drip::new(alloc, usize::MAX);
+    let ended = run_words(alloc, words, script, &mut printed);
+    let ends_with = status_of_end(ended, &mut told);
+    let is_printed = took(&printed, output);
+    let is_told = took(&told, line);
+    is_printed && is_told && ends_with == status
 }
 
 #[test]
 fn the_program_without_words(rt: HostRuntime) {
     for (script, output, line, number) in PROGRAMS {
-        program_prints(&rt, rt.alloc(), &[], script, (output, line, *number));
+        let is_so = program_prints(rt.alloc(), &[], script, output, line, *number);
+        assert!(rt; is_so, "{script:?}");
     }
+}
+
+fn one_word(alloc: Global) -> Result<Vec<String>, Fail> {
+    let mut words = Vec::new(alloc);
+    words.push(String::new(alloc))?;
+    Ok(words)
 }
 
 #[test]
 fn the_program_with_a_word(rt: HostRuntime) -> Result<(), Fail> {
-    let mut words = Vec::new(rt.alloc());
-    words.push(String::new(rt.alloc()))?;
-    let wanted = ("", "piperun: bad command line\n", 2);
-    program_prints(&rt, rt.alloc(), words.as_slice(), "start\n", wanted);
+    let words = one_word(rt.alloc())?;
+    let line = "piperun: bad command line\n";
+    let is_so = program_prints(rt.alloc(), words.as_slice(), "start\n", "", line, 2);
+    assert!(rt; is_so);
     Ok(())
 }

@@ -58,15 +58,22 @@ struct At<'a> {
     output: &'a str,
 }
 
+/// Whether that is a front of what the run prints without a refusal, each line of it whole.
+fn is_front(run: Run, output: &str) -> bool {
+    let is_whole = output.is_empty() || output.ends_with('\n');
+    is_whole && run.output.starts_with(output)
+}
+
 /// The run found no memory to go on, and printed the lines till then, each of them whole.
 fn is_stopped(rt: &impl Abort, run: Run, at: At<'_>, fault: ScriptFault) {
-    assert_eq!(rt;
-        (fault, at.is_refused),
-        (ScriptFault::NoMemory, true),
-        "{at:?}"
-    );
-    let is_whole = at.output.is_empty() || at.output.ends_with('\n');
-    assert!(rt; is_whole && run.output.starts_with(at.output), "{at:?}");
+    assert!(rt; at.is_refused, "no request is refused");
+    assert!(rt; fault == ScriptFault::NoMemory, "{fault:?}, {at:?}");
+    assert!(rt; is_front(run, at.output), "{at:?}");
+}
+
+/// Whether that is what one step without memory makes of the run.
+fn has_nomem(run: Run, output: &str) -> bool {
+    run.outputs_with_nomem.contains(&output)
 }
 
 /// The run printed what it prints without a refusal, or what one step without memory makes of it. Answers whether a step
@@ -78,8 +85,8 @@ fn is_ended(rt: &impl Abort, run: Run, at: At<'_>, totals: Totals) -> bool {
         steps: 7,
         nomem: u32::from(is_nomem),
     };
-    assert_eq!(rt; totals, wanted, "{at:?}");
-    let is_known = at.is_refused && run.outputs_with_nomem.contains(&at.output);
+    assert!(rt; totals == wanted, "{totals:?}, {at:?}");
+    let is_known = at.is_refused && has_nomem(run, at.output);
     assert!(rt; !is_nomem || is_known, "{at:?}");
     is_nomem
 }
@@ -134,11 +141,8 @@ impl Subject {
     fn fail_the_write_too(&self, rt: &impl Abort, n: u64) {
         let mut writer = Drip::failing(self.alloc, usize::MAX, 1, Failure::Nothing);
         let ended = self.run_without(n, &mut writer);
-        assert_eq!(rt;
-            ended,
-            Err(ScriptFault::Write),
-            "where request {n} is refused"
-        );
+        let is_so = ended == Err(ScriptFault::Write);
+        assert!(rt; is_so, "where request {n} is refused: {ended:?}");
     }
 
     fn see(
@@ -193,6 +197,16 @@ impl Subject {
     }
 }
 
+/// A step found no memory in some run, and each output before a write was printed by some run that found none to go on.
+fn are_seen(rt: &impl Abort, run: Run, seen: Seen) {
+    assert!(rt; seen.has_printed_nomem, "no run printed nomem");
+    let printed = seen.before_writes;
+    assert!(rt;
+        printed == run.outputs_before_writes.len(),
+        "{printed} outputs before writes"
+    );
+}
+
 /// Each request is refused. Where a line that writes finds no memory for its bytes, the lines before it are printed.
 fn each_is_refused(rt: &impl Abort, alloc: Global, run: Run) -> Result<(), Fail> {
     let subject = Subject::new(alloc, run);
@@ -202,9 +216,7 @@ fn each_is_refused(rt: &impl Abort, alloc: Global, run: Run) -> Result<(), Fail>
         seen.has_ended && requests > 0,
         "the script makes {requests} requests"
     );
-    assert!(rt; seen.has_printed_nomem, "no run printed nomem");
-    let missing = run.outputs_before_writes.get(seen.before_writes);
-    assert_eq!(rt; missing, None, "no run that found no memory printed that");
+    are_seen(rt, run, seen);
     Ok(())
 }
 

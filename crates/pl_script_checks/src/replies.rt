@@ -68,7 +68,7 @@ const REPLIES: &[(Want, &str)] = &[
 
 fn shows(rt: &impl Abort, alloc: Global, outcome: &Outcome, text: &str) -> Result<(), Fail> {
     let shown = show(alloc, outcome)?;
-    assert_eq!(rt; shown.as_str(), text);
+    assert!(rt; shown.as_str() == text, "{text:?} is shown");
     Ok(())
 }
 

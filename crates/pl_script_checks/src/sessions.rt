@@ -224,17 +224,29 @@ const SESSIONS: &[(&str, u64, &str)] = &[
     ("outside_the_table", 1, OUTSIDE_THE_TABLE),
 ];
 
+/// The digits of a byte, so many times.
+fn repeated(alloc: Global, byte: &str, times: &str) -> Result<String, Fail> {
+    let times = times.parse::<usize>()?;
+    Ok(byte.repeat(alloc, times)?)
+}
+
+fn push_bytes(alloc: Global, output: &mut String, data: &str, byte: &str) -> Result<(), Fail> {
+    let times = data.strip_prefix("data ").ok_or("no bytes")?;
+    let digits = repeated(alloc, byte, times)?;
+    output.push_str("data ")?;
+    Ok(output.push_str(digits.as_str())?)
+}
+
 /// Adds what a line prints. The session writes `N*hh` for N times the byte hh, whose digits are all printed.
 fn push_printed(alloc: Global, output: &mut String, printed: &str) -> Result<(), Fail> {
     match printed.split_once('*') {
-        Some((front, byte)) => {
-            let count = front.strip_prefix("data ").ok_or("no bytes")?;
-            output.push_str("data ")?;
-            output.push_str(byte.repeat(alloc, count.parse::<usize>()?)?.as_str())?;
-        }
-        None => output.push_str(printed)?,
+        Some((data, byte)) => push_bytes(alloc, output, data, byte),
+        None => Ok(output.push_str(printed)?),
     }
-    Ok(output.push('\n')?)
+}
+
+fn push_line_feed(text: &mut String) -> Result<(), Fail> {
+    Ok(text.push('\n')?)
 }
 
 /// The scripts of sessions, what they print, and how many lines they have.
@@ -259,9 +271,10 @@ impl Session {
     fn push_line(&mut self, line: &str) -> Result<(), Fail> {
         let (asked, printed) = line.split_once(" => ").ok_or("a line prints nothing")?;
         self.script.push_str(asked)?;
-        self.script.push('\n')?;
+        push_line_feed(&mut self.script)?;
         self.lines = self.lines.saturating_add(1);
-        push_printed(self.alloc, &mut self.output, printed)
+        push_printed(self.alloc, &mut self.output, printed)?;
+        push_line_feed(&mut self.output)
     }
 
     fn of(alloc: Global, lines: &str) -> Result<Session, Fail> {

@@ -67,12 +67,8 @@ fn fail_the_read(rt: &impl Abort, alloc: Global, script: Script<'_>, n: usize, k
     let mut reader = Trickle::failing(script.bytes, 1, n, Failure::Error(kind));
     let mut writer = Drip::new(alloc, usize::MAX);
     let end = run_from(alloc, script.first_call, &mut reader, &mut writer);
-    let came = (end, writer.taken().len(), reader.calls());
-    assert_eq!(rt;
-        came,
-        (Err(ScriptFault::Read), 0, n),
-        "where read {n} has {kind:?}"
-    );
+    let is_so = end == Err(ScriptFault::Read) && writer.taken().is_empty() && reader.calls() == n;
+    assert!(rt; is_so, "where read {n} has {kind:?}: {end:?}");
 }
 
 fn fail_the_read_by_each(rt: &impl Abort, alloc: Global, script: Script<'_>, n: usize) {
@@ -108,12 +104,8 @@ fn fail_the_write(
     let mut writer = Drip::failing(alloc, most, n, failure);
     let end = run_from(alloc, script.first_call, script.bytes, &mut writer);
     let is_front = script.output.as_bytes().starts_with(writer.taken());
-    let came = (end, writer.calls(), is_front);
-    assert_eq!(rt;
-        came,
-        (Err(ScriptFault::Write), n, true),
-        "where write {n} has {failure:?}"
-    );
+    let is_so = end == Err(ScriptFault::Write) && writer.calls() == n && is_front;
+    assert!(rt; is_so, "where write {n} has {failure:?}: {end:?}");
 }
 
 fn fail_the_write_by_each(
@@ -133,10 +125,9 @@ fn count_writes(rt: &impl Abort, alloc: Global, most: usize, script: Script<'_>)
     let mut writer = Drip::new(alloc, most);
     let end = run_from(alloc, script.first_call, script.bytes, &mut writer);
     let is_whole = writer.taken() == script.output.as_bytes();
-    assert_eq!(rt;
-        (end, is_whole),
-        (script.end, true),
-        "with {most} bytes a write"
+    assert!(rt;
+        is_whole && end == script.end,
+        "with {most} bytes a write: {end:?}"
     );
     writer.calls()
 }
