@@ -5,7 +5,7 @@ ghost use Rattle.pl_model.specs.Script.{lines};
 use crate::search::place_of;
 
 /// The first line, without its line feed, and what stands behind it.
-#[tactic(auto, using(crate::proofs::LineLemmas::line_before_feed, crate::proofs::LineLemmas::line_to_end))]
+#[tactic(auto, using(crate::proofs::LineLemmas::line_to_end))]
 pub fn next_line(rest: &[u8]) -> (&[u8], &[u8])
     requires { 0 < length rest.now }
     ensures lines { lines rest.now ≡ result.0.now ∷ lines result.1.now }
