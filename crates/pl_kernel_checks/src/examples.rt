@@ -1,23 +1,36 @@
-//! The worked examples, as steps and as runs.
-use pl_kernel::Kernel;
+//! The worked examples, as steps and as a run.
+use pl_model::Reply;
 use pl_run::LIMITS;
 use pl_testing::asked::Ask::{self, Pipe, Start, Write};
 use pl_testing::asked::Data::Text;
 use pl_testing::asked::Want::{self, Count, Fds, Pid};
-use pl_testing::asked::all_answer;
+use pl_testing::asked::steps_of;
+use pl_testing::bench::Bench;
 use pl_testing::examples::{BYTES_BEFORE_END_OF_FILE, PARTIAL_AND_WHOLE_NOT_WAITING};
+use pl_testing::sessions::{NEW_KERNEL, Session};
+use std::alloc::Global;
 use std::test::Fail;
 
-#[test]
-fn bytes_before_end_of_file(rt: HostRuntime) -> Result<(), Fail> {
-    let mut kernel = Kernel::new(rt.alloc(), LIMITS);
-    all_answer(rt.alloc(), &mut kernel, &BYTES_BEFORE_END_OF_FILE)
-}
+pub(crate) const SESSIONS: &[Session] = &[
+    Session {
+        name: "bytes_before_end_of_file",
+        rows: &BYTES_BEFORE_END_OF_FILE,
+        ..NEW_KERNEL
+    },
+    Session {
+        name: "partial_and_whole_not_waiting",
+        rows: &PARTIAL_AND_WHOLE_NOT_WAITING,
+        ..NEW_KERNEL
+    },
+];
 
-#[test]
-fn partial_and_whole_not_waiting(rt: HostRuntime) -> Result<(), Fail> {
-    let mut kernel = Kernel::new(rt.alloc(), LIMITS);
-    all_answer(rt.alloc(), &mut kernel, &PARTIAL_AND_WHOLE_NOT_WAITING)
+/// What a run of the rows is to come to.
+fn replies_of(alloc: Global, rows: &[(Ask, Want)]) -> Result<Vec<Option<Reply>>, Fail> {
+    let mut replies = Vec::new(alloc);
+    for (_, want) in rows {
+        replies.push(Some(want.reply(alloc)?))?;
+    }
+    Ok(replies)
 }
 
 #[test]
@@ -28,13 +41,8 @@ fn a_run_answers_each_step(rt: HostRuntime) -> Result<(), Fail> {
         (Write(1, 1, Text("a")), Count(1)),
     ];
     let alloc = rt.alloc();
-    let mut kernel = Kernel::new(alloc, LIMITS);
-    let mut steps = Vec::new(alloc);
-    let mut wanted = Vec::new(alloc);
-    for (ask, want) in ROWS {
-        steps.push(ask.step(alloc)?)?;
-        wanted.push(want.outcome(alloc)?)?;
-    }
-    assert_eq!(rt; kernel.run(steps)?, wanted);
+    let mut bench = Bench::new("a run", alloc, alloc, LIMITS)?;
+    let replies = bench.run(steps_of(alloc, ROWS)?)?;
+    assert_eq!(rt; replies, Some(replies_of(alloc, ROWS)?));
     Ok(())
 }

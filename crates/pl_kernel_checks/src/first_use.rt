@@ -6,8 +6,10 @@ use std::alloc::Allocator;
 use std::test::Fail;
 
 /// Process 1 writes to a pipe, and reads the front of it back.
-fn there_and_back<A: Allocator + Copy>(alloc: A) -> Result<Reply<A>, NoMemory> {
-    let mut kernel = Kernel::new(alloc, LIMITS);
+fn there_and_back<A: Allocator + Copy>(
+    alloc: A,
+    kernel: &mut Kernel<A>,
+) -> Result<Reply<A>, NoMemory> {
     kernel.step(Step::Start)?; // Pid(1)
     kernel.step(Step::Begin(1, Call::Pipe { nonblock: false }))?; // Fds(0, 1)
     let bytes = Bytes8::from_vec(Vec::from_slice(alloc, b"hello")?).unwrap();
@@ -18,6 +20,8 @@ fn there_and_back<A: Allocator + Copy>(alloc: A) -> Result<Reply<A>, NoMemory> {
 #[test]
 fn bytes_come_back(rt: HostRuntime) -> Result<(), Fail> {
     let bytes = Bytes8::from_vec(Vec::from_slice(rt.alloc(), b"hel")?).unwrap();
-    assert_eq!(rt; there_and_back(rt.alloc()), Ok(Reply::Bytes(bytes)));
+    let mut kernel = Kernel::new(rt.alloc(), LIMITS);
+    let reply = there_and_back(rt.alloc(), &mut kernel);
+    assert_eq!(rt; reply, Ok(Reply::Bytes(bytes)));
     Ok(())
 }

@@ -1,13 +1,11 @@
 //! The refusals, in their order.
-use pl_kernel::Kernel;
 use pl_model::Errno;
 use pl_run::LIMITS;
 use pl_testing::asked::Ask::{self, Close, Pipe, Read, Start, Write};
 use pl_testing::asked::Data::Text;
 use pl_testing::asked::Want::{self, Fault, Fds, NoProcess, Pid, Unit};
-use pl_testing::asked::{all_answer, answers};
+use pl_testing::bench::Bench;
 use pl_testing::sessions::{NEW_KERNEL, Session};
-use std::alloc::Global;
 use std::test::Fail;
 
 const NOT_OPEN: Want = Fault(Errno::EBADF);
@@ -16,34 +14,34 @@ const NOT_OPEN: Want = Fault(Errno::EBADF);
 const A_PIPE: &[(Ask, Want)] = &[(Start, Pid(1)), (Pipe(1), Fds(0, 1))];
 
 /// Every call of the pid answers that there is no such process, also where there would be another reason to refuse it.
-fn has_no_process(alloc: Global, kernel: &mut Kernel, pid: u32) -> Result<(), Fail> {
-    answers(alloc, kernel, Pipe(pid), NoProcess)?;
-    answers(alloc, kernel, Read(pid, 0, 0), NoProcess)?;
-    answers(alloc, kernel, Read(pid, -1, 1), NoProcess)?;
-    answers(alloc, kernel, Write(pid, 1, Text("")), NoProcess)?;
-    answers(alloc, kernel, Write(pid, 256, Text("a")), NoProcess)?;
-    answers(alloc, kernel, Close(pid, 0), NoProcess)
+fn has_no_process(bench: &mut Bench, pid: u32) -> Result<(), Fail> {
+    bench.answers(Pipe(pid), NoProcess)?;
+    bench.answers(Read(pid, 0, 0), NoProcess)?;
+    bench.answers(Read(pid, -1, 1), NoProcess)?;
+    bench.answers(Write(pid, 1, Text("")), NoProcess)?;
+    bench.answers(Write(pid, 256, Text("a")), NoProcess)?;
+    bench.answers(Close(pid, 0), NoProcess)
 }
 
 #[test]
 fn no_process(rt: HostRuntime) -> Result<(), Fail> {
     const PIDS: &[u32] = &[0, 2, 1_025, u32::MAX];
-    let mut kernel = Kernel::new(rt.alloc(), LIMITS);
-    has_no_process(rt.alloc(), &mut kernel, 1)?;
-    all_answer(rt.alloc(), &mut kernel, A_PIPE)?;
+    let mut bench = Bench::new("no_process", rt.alloc(), rt.alloc(), LIMITS)?;
+    has_no_process(&mut bench, 1)?;
+    bench.all_answer(A_PIPE)?;
     for pid in PIDS {
-        has_no_process(rt.alloc(), &mut kernel, *pid)?;
+        has_no_process(&mut bench, *pid)?;
     }
     Ok(())
 }
 
 /// Every call of the first process on the descriptor answers that it isn't open, also one that moves no bytes.
-fn is_not_open(alloc: Global, kernel: &mut Kernel, fd: i32) -> Result<(), Fail> {
-    answers(alloc, kernel, Read(1, fd, 0), NOT_OPEN)?;
-    answers(alloc, kernel, Read(1, fd, 1), NOT_OPEN)?;
-    answers(alloc, kernel, Write(1, fd, Text("")), NOT_OPEN)?;
-    answers(alloc, kernel, Write(1, fd, Text("a")), NOT_OPEN)?;
-    answers(alloc, kernel, Close(1, fd), NOT_OPEN)
+fn is_not_open(bench: &mut Bench, fd: i32) -> Result<(), Fail> {
+    bench.answers(Read(1, fd, 0), NOT_OPEN)?;
+    bench.answers(Read(1, fd, 1), NOT_OPEN)?;
+    bench.answers(Write(1, fd, Text("")), NOT_OPEN)?;
+    bench.answers(Write(1, fd, Text("a")), NOT_OPEN)?;
+    bench.answers(Close(1, fd), NOT_OPEN)
 }
 
 #[test]
@@ -56,13 +54,13 @@ fn no_descriptor(rt: HostRuntime) -> Result<(), Fail> {
         (Write(1, 0, Text("a")), NOT_OPEN),
         (Close(1, 0), Unit),
     ];
-    let mut kernel = Kernel::new(rt.alloc(), LIMITS);
-    all_answer(rt.alloc(), &mut kernel, A_PIPE)?;
+    let mut bench = Bench::new("no_descriptor", rt.alloc(), rt.alloc(), LIMITS)?;
+    bench.all_answer(A_PIPE)?;
     for fd in DESCRIPTORS {
-        is_not_open(rt.alloc(), &mut kernel, *fd)?;
+        is_not_open(&mut bench, *fd)?;
     }
-    all_answer(rt.alloc(), &mut kernel, ENDS_FOR_THE_OTHER_WAY)?;
-    is_not_open(rt.alloc(), &mut kernel, 0)
+    bench.all_answer(ENDS_FOR_THE_OTHER_WAY)?;
+    is_not_open(&mut bench, 0)
 }
 
 /// Tables and limits that are full.

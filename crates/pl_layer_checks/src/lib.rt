@@ -5,3 +5,5 @@
 mod descs;
 #[cfg(test)]
 mod parked;
+#[cfg(test)]
+mod refusing;

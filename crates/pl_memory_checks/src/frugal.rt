@@ -1,5 +1,5 @@
 //! Steps that take no memory answer as ever where none can be had.
-use pl_kernel::Kernel;
+use crate::scarce::Scarce;
 use pl_model::{Errno, Limits, Mode, OpenFlags};
 use pl_run::LIMITS;
 use pl_testing::asked::Ask::{
@@ -7,15 +7,15 @@ use pl_testing::asked::Ask::{
     SetFl, Start, Write,
 };
 use pl_testing::asked::Data::{Many, Text};
+use pl_testing::asked::NEVER_GIVEN;
 use pl_testing::asked::Want::{
     self, CallsSpent, Count, Fault, Fd, Fds, Flags, NoCall, NoProcess, Parked, Pid, Unit,
 };
-use pl_testing::asked::{NEVER_GIVEN, outcome_of};
+use pl_testing::bench::Bench;
 use pl_testing::refusing::Refusing;
 use pl_testing::sessions::{NEW_KERNEL, Session};
-use pl_testing::wanting::{moved, steps_of, takes_no_memory};
+use pl_testing::wanting::takes_no_memory;
 use std::alloc::Global;
-use std::process::Abort;
 use std::test::Fail;
 
 const APPEND: &[OpenFlags] = &[OpenFlags::APPEND];
@@ -117,37 +117,38 @@ const SESSIONS: &[Session] = &[
     },
 ];
 
-/// The steps of the session come to what its rows say, and those that are to take no memory ask for none.
-fn some_take_no_memory(rt: &impl Abort, alloc: Global, session: &Session) -> Result<(), Fail> {
-    let heap = Refusing::new(alloc);
-    let steps = steps_of(&heap, session.rows)?;
+/// The steps come to what their rows say, and those that are to take no memory ask for none.
+fn make_each(
+    bench: &mut Scarce,
+    heap: &Refusing<Global>,
+    rows: &[(Ask, Want)],
+) -> Result<(), Fail> {
+    for (ask, want) in rows {
+        let is_frugal = takes_no_memory(*ask, *want);
+        heap.refuse(if is_frugal { 1 } else { 0 });
+        bench.answers(*ask, *want)?;
+        if is_frugal && heap.requests() != 0 {
+            return Err(bench.fault(*ask, "asks for memory"));
+        }
+    }
+    Ok(())
+}
+
+/// Makes the steps of the session.
+fn some_take_no_memory(alloc: Global, session: &Session) -> Result<(), Fail> {
     let limits = Limits {
         first_call: session.first_call,
         ..LIMITS
     };
-    let mut kernel = Kernel::new(&heap, limits);
-    for (step, (ask, want)) in steps.into_iter().zip(session.rows) {
-        let is_frugal = takes_no_memory(*ask, *want);
-        heap.refuse(if is_frugal { 1 } else { 0 });
-        assert_eq!(rt;
-            moved(alloc, outcome_of(kernel.step(step)))?,
-            want.outcome(alloc)?,
-            "{ask:?} of {}",
-            session.name
-        );
-        assert!(rt;
-            !is_frugal || heap.requests() == 0,
-            "{ask:?} of {} asks for memory",
-            session.name
-        );
-    }
-    Ok(())
+    let heap = Refusing::new(alloc);
+    let mut bench = Scarce::new(session.name, alloc, &heap, 0, limits)?;
+    make_each(&mut bench, &heap, session.rows)
 }
 
 #[test]
 fn each_session_takes_no_memory(rt: HostRuntime) -> Result<(), Fail> {
     for session in SESSIONS {
-        some_take_no_memory(&rt, rt.alloc(), session)?;
+        some_take_no_memory(rt.alloc(), session)?;
     }
     Ok(())
 }
@@ -161,46 +162,14 @@ const NO_PLACE: &[(Ask, Want)] = &[
     (Pipe(17), Fault(Errno::ENFILE)),
 ];
 
-/// Makes a step, which comes to what is wanted.
-fn makes<'a>(
-    rt: &impl Abort,
-    alloc: Global,
-    heap: &'a Refusing<Global>,
-    kernel: &mut Kernel<&'a Refusing<Global>>,
-    ask: Ask,
-    want: Want,
-) -> Result<(), Fail> {
-    let outcome = outcome_of(kernel.step(ask.step(heap)?));
-    assert_eq!(rt; moved(alloc, outcome)?, want.outcome(alloc)?, "{ask:?}");
-    Ok(())
-}
-
 /// They are refused as ever where no memory can be had.
 #[test]
 fn full_tables_take_no_memory(rt: HostRuntime) -> Result<(), Fail> {
-    let alloc = rt.alloc();
-    let heap = Refusing::new(alloc);
-    let mut kernel = Kernel::new(&heap, LIMITS);
-    for pid in 1..1_025u32 {
-        makes(&rt, alloc, &heap, &mut kernel, Start, Pid(pid))?;
-    }
-    for pid in 1..17u32 {
-        for i in 0..128u8 {
-            let first = 2 * i32::from(i);
-            makes(
-                &rt,
-                alloc,
-                &heap,
-                &mut kernel,
-                Pipe(pid),
-                Fds(first, first + 1),
-            )?;
-        }
-    }
+    let heap = Refusing::new(rt.alloc());
+    let mut bench = Bench::new("full tables", rt.alloc(), &heap, LIMITS)?;
+    bench.prepare(1_024, 16)?;
     heap.refuse(1);
-    for (ask, want) in NO_PLACE {
-        makes(&rt, alloc, &heap, &mut kernel, *ask, *want)?;
-    }
+    bench.all_answer(NO_PLACE)?;
     assert_eq!(rt; heap.requests(), 0);
     Ok(())
 }

@@ -7,3 +7,5 @@ mod frugal;
 mod memory;
 #[cfg(test)]
 mod passed_over;
+#[cfg(test)]
+mod scarce;

@@ -1,8 +1,9 @@
 //! Want of memory: a step that meets it changes nothing, and can be made again.
-use pl_kernel::{Kernel, NoMemory};
-use pl_model::Outcome;
+use crate::scarce::Scarce;
+use pl_model::Reply;
 use pl_run::LIMITS;
-use pl_testing::asked::{Ask, Want, outcome_of};
+use pl_testing::asked::{Ask, Want};
+use pl_testing::bench::Bench;
 use pl_testing::examples::{
     A_PARKED_CALL_KEEPS_ITS_END, A_SMALL_WRITE_AT_ITS_BOUNDARY, A_WAITING_WRITER_IS_A_WRITER,
     AN_EXIT_DROPS_PARKED_CALLS, AN_INTERRUPTED_LARGE_WRITE, BYTES_BEFORE_END_OF_FILE,
@@ -11,156 +12,142 @@ use pl_testing::examples::{
 };
 use pl_testing::refusing::Refusing;
 use pl_testing::sessions::{NEW_KERNEL, Session};
-use pl_testing::wanting::{MOST_REQUESTS, moved, steps_of, takes_no_memory};
+use pl_testing::wanting::{MOST_REQUESTS, all_were_refused, takes_no_memory};
 use std::alloc::Global;
-use std::process::Abort;
 use std::test::Fail;
 
-/// Makes the steps of the example, and refuses the `n`th request for memory. A step that wants for memory is made again at
-/// once, and then has its reply.
+/// Makes the steps. The first that wants for memory is made again at once, and then has its reply; no other may want for it.
+fn make_each(
+    bench: &mut Scarce,
+    heap: &Refusing<Global>,
+    rows: &[(Ask, Want)],
+) -> Result<(), Fail> {
+    let mut has_wanted = false;
+    for (ask, want) in rows {
+        if bench.makes(*ask, *want)? {
+            continue;
+        }
+        if takes_no_memory(*ask, *want) || !heap.refused() || has_wanted {
+            return Err(bench.fault(*ask, "wants for memory"));
+        }
+        has_wanted = true;
+        bench.answers(*ask, *want)?;
+    }
+    Ok(())
+}
+
+/// Makes the steps of the example, where the `n`th request for memory is refused.
 fn make_steps(
-    rt: &impl Abort,
     alloc: Global,
     heap: &Refusing<Global>,
     example: &Session,
     n: u64,
 ) -> Result<(), Fail> {
-    let (name, rows) = (example.name, example.rows);
-    let steps = steps_of(heap, rows)?;
-    let same_steps = steps_of(heap, rows)?;
-    heap.refuse(n);
-    let mut kernel = Kernel::new(heap, LIMITS);
-    let mut has_wanted = false;
-    for ((step, same_step), (ask, want)) in steps.into_iter().zip(same_steps).zip(rows) {
-        let outcome = match kernel.step(step) {
-            Ok(reply) => Outcome::Replied(reply),
-            Err(NoMemory) => {
-                assert!(rt;
-                    !takes_no_memory(*ask, *want),
-                    "{ask:?} of {name} takes memory, where request {n} is refused"
-                );
-                assert!(rt;
-                    heap.refused() && !has_wanted,
-                    "{ask:?} of {name} wants for memory, where request {n} is refused"
-                );
-                has_wanted = true;
-                outcome_of(kernel.step(same_step))
-            }
-        };
-        assert_eq!(rt;
-            moved(alloc, outcome)?,
-            want.outcome(alloc)?,
-            "{ask:?} of {name}, where request {n} is refused"
-        );
+    let mut bench = Scarce::new(example.name, alloc, heap, n, LIMITS)?;
+    make_each(&mut bench, heap, example.rows)
+}
+
+/// Refuses each request of the steps in turn, until they meet no refusal.
+fn refuse_each_step(alloc: Global, example: &Session) -> Result<(), Fail> {
+    let heap = Refusing::new(alloc);
+    for n in 1..MOST_REQUESTS {
+        make_steps(alloc, &heap, example, n)?;
+        if !heap.refused() {
+            break;
+        }
+    }
+    all_were_refused(&heap, example.name)
+}
+
+/// Whether the other kernel answers the step likewise.
+fn answers_likewise(
+    alloc: Global,
+    other: &mut Bench,
+    ask: Ask,
+    reply: &Option<Reply>,
+) -> Result<bool, Fail> {
+    let step = ask.step(alloc)?;
+    Ok(other.reply(step)? == *reply)
+}
+
+/// Whether the reply is the one that is wanted.
+fn is_wanted(alloc: Global, want: Want, reply: &Option<Reply>) -> Result<bool, Fail> {
+    Ok(*reply == Some(want.reply(alloc)?))
+}
+
+/// The replies up to the place are what the rows say, and those behind it what the other kernel answers, which passes over
+/// the step at the place and has all the memory that it wants.
+fn goes_on_without(
+    alloc: Global,
+    other: &mut Bench,
+    replies: &[Option<Reply>],
+    rows: &[(Ask, Want)],
+    place: usize,
+) -> Result<(), Fail> {
+    for (i, (reply, (ask, want))) in replies.iter().zip(rows).enumerate() {
+        if i == place {
+            continue;
+        }
+        if !answers_likewise(alloc, other, *ask, reply)? {
+            return Err(other.fault(*ask, "is answered otherwise in a run"));
+        }
+        if i < place && !is_wanted(alloc, *want, reply)? {
+            return Err(other.fault(*ask, "has another reply in a run"));
+        }
     }
     Ok(())
 }
 
-/// What the steps of the rows are to come to where the one at the place finds no memory, if one does. Those before it come to
-/// what their rows say, and those behind it to what they come to as they are made one by one, without it, with all the memory
-/// that they want.
-fn wanted_without(
-    alloc: Global,
-    rows: &[(Ask, Want)],
-    passed: Option<usize>,
-) -> Result<Vec<Outcome>, Fail> {
-    let place = passed.unwrap_or(rows.len());
-    let mut kernel = Kernel::new(alloc, LIMITS);
-    let mut wanted = Vec::new(alloc);
-    for (i, (ask, want)) in rows.iter().enumerate() {
-        if i == place {
-            wanted.push(Outcome::NoMemory)?;
-            continue;
-        }
-        let outcome = outcome_of(kernel.step(ask.step(alloc)?));
-        wanted.push(if i < place {
-            want.outcome(alloc)?
-        } else {
-            outcome
-        })?;
-    }
-    Ok(wanted)
-}
-
-/// What a run of the rows comes to where the `n`th request for memory is refused. A run that is refused itself is made again,
-/// and then answers all.
-fn outcomes_of_run(
+/// What a run of the example comes to, where the `n`th request for memory is refused.
+fn replies_of_run(
     alloc: Global,
     heap: &Refusing<Global>,
-    rows: &[(Ask, Want)],
+    example: &Session,
     n: u64,
-) -> Result<Vec<Outcome>, Fail> {
-    let steps = steps_of(heap, rows)?;
-    let same_steps = steps_of(heap, rows)?;
-    heap.refuse(n);
-    let mut kernel = Kernel::new(heap, LIMITS);
-    let outcomes = match kernel.run(steps) {
-        Ok(outcomes) => outcomes,
-        Err(NoMemory) => kernel.run(same_steps)?,
-    };
-    let mut all = Vec::new(alloc);
-    for outcome in outcomes {
-        all.push(moved(alloc, outcome)?)?;
+) -> Result<Vec<Option<Reply>>, Fail> {
+    let mut bench = Scarce::new(example.name, alloc, heap, n, LIMITS)?;
+    bench.run(example.rows)
+}
+
+/// The step that wants for memory, where the `n`th request is refused. One does just where a request is refused, but for the
+/// first, which is the run's own.
+fn passed_over(
+    heap: &Refusing<Global>,
+    example: &Session,
+    replies: &[Option<Reply>],
+    n: u64,
+) -> Result<Option<usize>, Fail> {
+    let passed = replies.iter().position(|reply| reply.is_none());
+    if replies.len() != example.rows.len() || passed.is_some() != (heap.refused() && n > 1) {
+        return Err(Fail::new(format_args!(
+            "of the run of {} step {passed:?} wants for memory; request {n} is refused",
+            example.name
+        )));
     }
-    Ok(all)
+    Ok(passed)
 }
 
 /// Runs the steps of the example, and refuses the `n`th request for memory. The steps have their replies up to one that wants
-/// for memory, and the rest of the run is the run without that step. One wants for memory just where a request is refused, but
-/// for the first, which is the run's own.
-fn make_run(
-    rt: &impl Abort,
-    alloc: Global,
-    heap: &Refusing<Global>,
-    example: &Session,
-    n: u64,
-) -> Result<(), Fail> {
-    let name = example.name;
-    let outcomes = outcomes_of_run(alloc, heap, example.rows, n)?;
-    let passed = outcomes
-        .iter()
-        .position(|outcome| *outcome == Outcome::NoMemory);
-    assert!(rt;
-        passed.is_some() == (heap.refused() && n > 1),
-        "step {passed:?} of {name} wants for memory, where request {n} is refused"
-    );
-    let wanted = wanted_without(alloc, example.rows, passed)?;
-    assert_eq!(rt;
-        outcomes,
-        wanted,
-        "the run of {name}, where step {passed:?} wants for memory, and request {n} is refused"
-    );
-    Ok(())
+/// for memory, and the rest of the run is the run without that step.
+fn make_run(alloc: Global, heap: &Refusing<Global>, example: &Session, n: u64) -> Result<(), Fail> {
+    let replies = replies_of_run(alloc, heap, example, n)?;
+    let passed = passed_over(heap, example, &replies, n)?;
+    let place = passed.unwrap_or(replies.len());
+    let mut other = Bench::new(example.name, alloc, alloc, LIMITS)?;
+    other.tell_refused(n);
+    goes_on_without(alloc, &mut other, &replies, example.rows, place)
 }
 
-/// Refuses each request of the example in turn, until a run meets no refusal.
-fn refuse_each(rt: &impl Abort, alloc: Global, example: &Session) -> Result<(), Fail> {
+/// Refuses each request of the run in turn, until it meets no refusal.
+fn refuse_each_of_run(alloc: Global, example: &Session) -> Result<(), Fail> {
     let heap = Refusing::new(alloc);
     for n in 1..MOST_REQUESTS {
-        make_steps(rt, alloc, &heap, example, n)?;
+        make_run(alloc, &heap, example, n)?;
         if !heap.refused() {
             break;
         }
     }
-    assert!(rt;
-        heap.requests() > 0 && !heap.refused(),
-        "the steps of {} make {} requests",
-        example.name,
-        heap.requests()
-    );
-    for n in 1..MOST_REQUESTS {
-        make_run(rt, alloc, &heap, example, n)?;
-        if !heap.refused() {
-            break;
-        }
-    }
-    assert!(rt;
-        heap.requests() > 0 && !heap.refused(),
-        "the run of {} makes {} requests",
-        example.name,
-        heap.requests()
-    );
-    Ok(())
+    all_were_refused(&heap, example.name)
 }
 
 /// The worked examples.
@@ -225,7 +212,8 @@ const EXAMPLES: &[Session] = &[
 #[test]
 fn each_example_survives_refusals(rt: HostRuntime) -> Result<(), Fail> {
     for example in EXAMPLES {
-        refuse_each(&rt, rt.alloc(), example)?;
+        refuse_each_step(rt.alloc(), example)?;
+        refuse_each_of_run(rt.alloc(), example)?;
     }
     Ok(())
 }

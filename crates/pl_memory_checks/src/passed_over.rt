@@ -1,7 +1,6 @@
 //! Steps that find no memory: each is passed over, and the run goes on as if it had not been asked.
-use pl_kernel::Kernel;
+use crate::scarce::Scarce;
 use pl_model::Errno::{EBADF, EINTR, EPIPE};
-use pl_model::Outcome;
 use pl_run::LIMITS;
 use pl_testing::asked::Ask::{
     self, Close, Exit, Fork, Interrupt, Pipe, Read, Resume, Start, Write,
@@ -10,15 +9,13 @@ use pl_testing::asked::Data::{Many, Text};
 use pl_testing::asked::Want::{
     self, Bytes, Count, Fault, Fds, NoCall, NoProcess, Parked, Pid, Unit,
 };
-use pl_testing::asked::outcome_of;
 use pl_testing::examples::{
     A_PARKED_CALL_KEEPS_ITS_END, A_SMALL_WRITE_AT_ITS_BOUNDARY, A_WAITING_WRITER_IS_A_WRITER,
     AN_INTERRUPTED_LARGE_WRITE, THE_LAST_READER_LEAVES,
 };
 use pl_testing::refusing::Refusing;
-use pl_testing::wanting::{MOST_REQUESTS, moved, steps_of};
+use pl_testing::wanting::{MOST_REQUESTS, all_were_refused};
 use std::alloc::Global;
-use std::process::Abort;
 use std::test::Fail;
 
 const NOT_OPEN: Want = Fault(EBADF);
@@ -43,104 +40,82 @@ struct Steps {
     behind: &'static [(usize, &'static [Want])],
 }
 
-/// What the steps come to where the `n`th request for memory is refused.
-fn outcomes_without(
-    alloc: Global,
-    heap: &Refusing<Global>,
-    rows: &[(Ask, Want)],
-    n: u64,
-) -> Result<Vec<Outcome>, Fail> {
-    let steps = steps_of(heap, rows)?;
-    heap.refuse(n);
-    let mut kernel = Kernel::new(heap, LIMITS);
-    let mut outcomes = Vec::new(alloc);
-    for step in steps {
-        let outcome = outcome_of(kernel.step(step));
-        outcomes.push(moved(alloc, outcome)?)?;
-    }
-    Ok(outcomes)
-}
-
-/// What is wanted where the step at a place finds no memory, or none does: up to it what the rows say, and from there on what
-/// `behind` says beside the place.
-fn outcomes_wanted(
-    alloc: Global,
-    steps: &Steps,
-    passed: Option<usize>,
-) -> Result<Vec<Outcome>, Fail> {
-    let mut wanted = Vec::new(alloc);
-    for (_, want) in steps.rows.iter().take(passed.unwrap_or(steps.rows.len())) {
-        wanted.push(want.outcome(alloc)?)?;
-    }
-    for (place, wants) in steps.behind {
-        if passed == Some(*place) {
-            wanted.push(Outcome::NoMemory)?;
-            for want in *wants {
-                wanted.push(want.outcome(alloc)?)?;
-            }
+/// Makes the steps up to the first that finds no memory, and answers its place.
+fn make_up_to_want(bench: &mut Scarce, rows: &[(Ask, Want)]) -> Result<Option<usize>, Fail> {
+    for (place, (ask, want)) in rows.iter().enumerate() {
+        if !bench.makes(*ask, *want)? {
+            return Ok(Some(place));
         }
     }
-    Ok(wanted)
+    Ok(None)
+}
+
+/// What the steps behind the place are to come to, where the one at the place finds no memory.
+fn wants_behind(steps: &Steps, place: usize) -> Result<&'static [Want], Fail> {
+    for (at, wants) in steps.behind {
+        if *at == place {
+            return Ok(*wants);
+        }
+    }
+    Err(Fail::new(format_args!("step {place} of {} finds no memory", steps.name)))
+}
+
+/// Makes the steps behind the place, each of which comes to what is wanted there.
+fn make_behind(bench: &mut Scarce, steps: &Steps, place: usize) -> Result<(), Fail> {
+    let wants = wants_behind(steps, place)?;
+    let rest = steps.rows.get(place..).ok_or("a place past the steps")?;
+    if rest.len() != wants.len().saturating_add(1) {
+        return Err(Fail::new(format_args!(
+            "what is wanted of {} behind step {place} has another length",
+            steps.name
+        )));
+    }
+    for ((ask, _), want) in rest.iter().skip(1).zip(wants) {
+        bench.answers(*ask, *want)?;
+    }
+    Ok(())
+}
+
+/// Makes the steps, and answers the place of the one that found no memory.
+fn make_all(bench: &mut Scarce, steps: &Steps) -> Result<Option<usize>, Fail> {
+    let passed = make_up_to_want(bench, steps.rows)?;
+    if let Some(place) = passed {
+        make_behind(bench, steps, place)?;
+    }
+    Ok(passed)
 }
 
 /// Makes the steps where the `n`th request is refused, and answers the place of the one that found no memory.
 fn passed_over(
-    rt: &impl Abort,
     alloc: Global,
     heap: &Refusing<Global>,
     steps: &Steps,
     n: u64,
 ) -> Result<Option<usize>, Fail> {
-    let (name, rows) = (steps.name, steps.rows);
-    let outcomes = outcomes_without(alloc, heap, rows, n)?;
-    let passed = outcomes
-        .iter()
-        .position(|outcome| *outcome == Outcome::NoMemory);
-    let wanted = outcomes_wanted(alloc, steps, passed)?;
-    assert_eq!(rt;
-        wanted.len(),
-        rows.len(),
-        "what is wanted of {name} where step {passed:?} finds no memory, and request {n} is refused"
-    );
-    for (outcome, (wanted, (ask, _))) in outcomes.iter().zip(wanted.iter().zip(rows)) {
-        assert_eq!(rt;
-            outcome,
-            wanted,
-            "{ask:?} of {name}, where step {passed:?} finds no memory, and request {n} is refused"
-        );
-    }
-    Ok(passed)
+    let mut bench = Scarce::new(steps.name, alloc, heap, n, LIMITS)?;
+    make_all(&mut bench, steps)
 }
 
-/// Refuses each request for memory of the steps in turn. Each of the places that `behind` names is met, and no other.
-fn each_is_passed_over(rt: &impl Abort, alloc: Global, steps: &Steps) -> Result<(), Fail> {
+/// Refuses each request for memory of the steps in turn. Each of the places that `behind` names is met, in their order, and no
+/// other.
+fn each_is_passed_over(alloc: Global, steps: &Steps) -> Result<(), Fail> {
     let heap = Refusing::new(alloc);
-    let mut are_met = Vec::from_elem(alloc, false, steps.behind.len())?;
+    let mut met = 0usize;
     for n in 1..MOST_REQUESTS {
-        let passed = passed_over(rt, alloc, &heap, steps, n)?;
-        for ((place, _), is_met) in steps.behind.iter().zip(are_met.iter_mut()) {
+        let passed = passed_over(alloc, &heap, steps, n)?;
+        if let Some((place, _)) = steps.behind.get(met) {
             if passed == Some(*place) {
-                *is_met = true;
+                met += 1;
             }
         }
         if !heap.refused() {
             break;
         }
     }
-    assert!(rt;
-        heap.requests() > 0 && !heap.refused(),
-        "the steps of {} make {} requests",
-        steps.name,
-        heap.requests()
-    );
-    for ((place, _), is_met) in steps.behind.iter().zip(are_met.iter()) {
-        assert!(rt;
-            *is_met,
-            "step {place} of {} always finds memory",
-            steps.name
-        );
+    if let Some((place, _)) = steps.behind.get(met) {
+        return Err(Fail::new(format_args!("step {place} of {} always finds memory", steps.name)));
     }
-    Ok(())
+    all_were_refused(&heap, steps.name)
 }
 
 /// Steps, each of which is refused memory in turn.
@@ -367,10 +342,15 @@ const EACH_PASSED_OVER: &[Steps] = &[
     },
 ];
 
+/// The table, of which a proof of the test then need not see the rows.
+fn each_passed_over() -> &'static [Steps] {
+    EACH_PASSED_OVER
+}
+
 #[test]
 fn each_step_is_passed_over(rt: HostRuntime) -> Result<(), Fail> {
-    for steps in EACH_PASSED_OVER {
-        each_is_passed_over(&rt, rt.alloc(), steps)?;
+    for steps in each_passed_over() {
+        each_is_passed_over(rt.alloc(), steps)?;
     }
     Ok(())
 }

@@ -1,11 +1,10 @@
 //! Descriptors that name what another names.
-use pl_kernel::Kernel;
 use pl_model::Errno;
 use pl_run::LIMITS;
 use pl_testing::asked::Ask::{self, Close, Dup, Dup2, DupFd, Pipe, Read, Resume, Start, Write};
 use pl_testing::asked::Data::Text;
 use pl_testing::asked::Want::{self, Bytes, Count, Fault, Fd, Fds, Parked, Pid, Unit};
-use pl_testing::asked::{all_answer, answers};
+use pl_testing::bench::Bench;
 use pl_testing::sessions::{NEW_KERNEL, Session};
 use std::test::Fail;
 
@@ -18,6 +17,14 @@ const NONE_FREE: Want = Fault(Errno::EMFILE);
 const BROKEN: Want = Fault(Errno::EPIPE);
 
 const NOTHING: Want = Bytes(Text(""));
+
+/// The descriptors from 2 to 254 come to name the read end too.
+fn fill_with_duplicates(bench: &mut Bench) -> Result<(), Fail> {
+    for fd in 2..255i32 {
+        bench.answers(Dup(1, 0), Fd(fd))?;
+    }
+    Ok(())
+}
 
 #[test]
 fn full_table(rt: HostRuntime) -> Result<(), Fail> {
@@ -32,12 +39,10 @@ fn full_table(rt: HostRuntime) -> Result<(), Fail> {
         (Dup2(1, 0, 0), Fd(0)),
         (DupFd(1, 0, 5), Fd(7)),
     ];
-    let mut kernel = Kernel::new(rt.alloc(), LIMITS);
-    all_answer(rt.alloc(), &mut kernel, A_PIPE)?;
-    for fd in 2..255i32 {
-        answers(rt.alloc(), &mut kernel, Dup(1, 0), Fd(fd))?;
-    }
-    all_answer(rt.alloc(), &mut kernel, FULL)
+    let mut bench = Bench::new("full_table", rt.alloc(), rt.alloc(), LIMITS)?;
+    bench.all_answer(A_PIPE)?;
+    fill_with_duplicates(&mut bench)?;
+    bench.all_answer(FULL)
 }
 
 /// What duplicates name, close and leave open.

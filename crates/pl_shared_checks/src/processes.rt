@@ -1,5 +1,4 @@
 //! How processes fork and exit, and calls that are refused.
-use pl_kernel::Kernel;
 use pl_model::{Errno, OpenFlags};
 use pl_run::LIMITS;
 use pl_testing::asked::Ask::{
@@ -10,9 +9,8 @@ use pl_testing::asked::Data::{Many, Text};
 use pl_testing::asked::Want::{
     self, Bytes, Count, Fault, Fd, Fds, NoCall, NoProcess, Parked, Pid, Unit,
 };
-use pl_testing::asked::{all_answer, answers};
+use pl_testing::bench::Bench;
 use pl_testing::sessions::{NEW_KERNEL, Session};
-use std::alloc::Global;
 use std::test::Fail;
 
 const BROKEN: Want = Fault(Errno::EPIPE);
@@ -24,26 +22,32 @@ const APPEND: &[OpenFlags] = &[OpenFlags::APPEND];
 const NOTHING: Want = Bytes(Text(""));
 
 /// Every call of the pid that duplicates the descriptor, or tells or sets its flags, comes to this.
-fn all_come_to(
-    alloc: Global,
-    kernel: &mut Kernel,
-    pid: u32,
-    fd: i32,
-    want: Want,
-) -> Result<(), Fail> {
-    answers(alloc, kernel, Dup(pid, fd), want)?;
-    answers(alloc, kernel, Dup2(pid, fd, 0), want)?;
-    answers(alloc, kernel, Dup2(pid, fd, 256), want)?;
-    answers(alloc, kernel, DupFd(pid, fd, 0), want)?;
-    answers(alloc, kernel, DupFd(pid, fd, -1), want)?;
-    answers(alloc, kernel, GetFl(pid, fd), want)?;
-    answers(alloc, kernel, SetFl(pid, fd, APPEND), want)
+fn all_come_to(bench: &mut Bench, pid: u32, fd: i32, want: Want) -> Result<(), Fail> {
+    bench.answers(Dup(pid, fd), want)?;
+    bench.answers(Dup2(pid, fd, 0), want)?;
+    bench.answers(Dup2(pid, fd, 256), want)?;
+    bench.answers(DupFd(pid, fd, 0), want)?;
+    bench.answers(DupFd(pid, fd, -1), want)?;
+    bench.answers(GetFl(pid, fd), want)?;
+    bench.answers(SetFl(pid, fd, APPEND), want)
+}
+
+/// All of them, of pids that no process has, and on descriptors that aren't open.
+fn none_come_through(bench: &mut Bench) -> Result<(), Fail> {
+    const PIDS: &[u32] = &[0, 2, 1_025, u32::MAX];
+    const DESCRIPTORS: &[i32] = &[-1, 2, 255, 256, i32::MIN, i32::MAX];
+    for pid in PIDS {
+        all_come_to(bench, *pid, 0, NoProcess)?;
+        all_come_to(bench, *pid, -1, NoProcess)?;
+    }
+    for fd in DESCRIPTORS {
+        all_come_to(bench, 1, *fd, Fault(Errno::EBADF))?;
+    }
+    Ok(())
 }
 
 #[test]
 fn no_process_and_no_descriptor(rt: HostRuntime) -> Result<(), Fail> {
-    const PIDS: &[u32] = &[0, 2, 1_025, u32::MAX];
-    const DESCRIPTORS: &[i32] = &[-1, 2, 255, 256, i32::MIN, i32::MAX];
     const BEGUN: &[(Ask, Want)] = &[
         (Fork(1), NoProcess),
         (Exit(1), NoProcess),
@@ -57,16 +61,9 @@ fn no_process_and_no_descriptor(rt: HostRuntime) -> Result<(), Fail> {
         (Exit(0), NoProcess),
         (Exit(1_025), NoProcess),
     ];
-    let mut kernel = Kernel::new(rt.alloc(), LIMITS);
-    all_answer(rt.alloc(), &mut kernel, BEGUN)?;
-    for pid in PIDS {
-        all_come_to(rt.alloc(), &mut kernel, *pid, 0, NoProcess)?;
-        all_come_to(rt.alloc(), &mut kernel, *pid, -1, NoProcess)?;
-    }
-    for fd in DESCRIPTORS {
-        all_come_to(rt.alloc(), &mut kernel, 1, *fd, Fault(Errno::EBADF))?;
-    }
-    Ok(())
+    let mut bench = Bench::new("no_process", rt.alloc(), rt.alloc(), LIMITS)?;
+    bench.all_answer(BEGUN)?;
+    none_come_through(&mut bench)
 }
 
 /// What forks share, and what exits let go.

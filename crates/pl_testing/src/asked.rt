@@ -1,9 +1,5 @@
 //! Tables of what is asked of a kernel, and what it is to answer.
-ghost use Rattle.std.specs.Prelude.{◌≡◌, IfOk, OnErr};
-ghost use Rattle.pl_testing.specs.Asked.{data_bytes, all_flags, asked, wanted};
-
 use bitflags::Flags;
-use pl_kernel::{Kernel, NoMemory};
 use pl_model::{Bytes8, Call, Errno, Mode, OpenFlags, Outcome, Reply, Step};
 use std::alloc::{Allocator, Global};
 use std::test::Fail;
@@ -65,9 +61,7 @@ pub enum Want {
 }
 
 impl Data {
-    fn bytes<A: Allocator>(self, alloc: A) -> Result<Bytes8<A>, Fail>
-        ensures { IfOk result (λ bytes. bytes ≡ data_bytes self) }
-    {
+    fn bytes<A: Allocator>(self, alloc: A) -> Result<Bytes8<A>, Fail> {
         let bytes = match self {
             Data::Text(text) => Vec::from_slice(alloc, text.as_bytes())?,
             Data::Many(byte, times) => Vec::from_elem(alloc, byte, times)?,
@@ -91,9 +85,7 @@ impl Data {
 }
 
 /// All flags of the list.
-fn all_of(flags: &[OpenFlags]) -> OpenFlags
-    ensures { result ≡ all_flags flags.now }
-{
+fn all_of(flags: &[OpenFlags]) -> OpenFlags {
     let mut all = OpenFlags::empty();
     for flag in flags {
         all = all.union(*flag);
@@ -103,9 +95,7 @@ fn all_of(flags: &[OpenFlags]) -> OpenFlags
 
 impl Ask {
     /// The step, with its bytes in memory of `alloc`. It fails where there is no memory, and at more than 16,777,216 bytes.
-    pub fn step<A: Allocator>(self, alloc: A) -> Result<Step<A>, Fail>
-        ensures { IfOk result (λ step. step ≡ asked self) }
-    {
+    pub fn step<A: Allocator>(self, alloc: A) -> Result<Step<A>, Fail> {
         Ok(match self {
             Ask::Start => Step::Start,
             Ask::Resume(call) => Step::Resume(call),
@@ -133,11 +123,9 @@ impl Ask {
 }
 
 impl Want {
-    /// What a step comes to that answers this. It fails where there is no memory, and at more than 16,777,216 bytes.
-    pub fn outcome(self, alloc: Global) -> Result<Outcome, Fail>
-        ensures { IfOk result (λ outcome. outcome ≡ Outcome.Replied (wanted self)) }
-    {
-        Ok(Outcome::Replied(match self {
+    /// The reply. It fails where there is no memory, and at more than 16,777,216 bytes.
+    pub fn reply(self, alloc: Global) -> Result<Reply, Fail> {
+        Ok(match self {
             Want::Pid(pid) => Reply::Pid(pid),
             Want::Fd(fd) => Reply::Fd(fd),
             Want::Fds(first, second) => Reply::Fds(first, second),
@@ -154,75 +142,24 @@ impl Want {
             Want::NoProcess => Reply::NoProcess,
             Want::NoCall => Reply::NoCall,
             Want::CallsSpent => Reply::CallsSpent,
-        }))
+        })
+    }
+
+    /// What a step comes to that answers this. It fails where there is no memory, and at more than 16,777,216 bytes.
+    pub fn outcome(self, alloc: Global) -> Result<Outcome, Fail> {
+        Ok(Outcome::Replied(self.reply(alloc)?))
     }
 }
 
-/// What a step came to.
-pub fn outcome_of<A: Allocator>(answer: Result<Reply<A>, NoMemory>) -> Outcome<A>
-    ensures ok { IfOk answer (λ reply. result ≡ Outcome.Replied reply) }
-    ensures err { OnErr answer (result ≡ Outcome.NoMemory) }
-{
-    match answer {
-        Ok(reply) => Outcome::Replied(reply),
-        Err(NoMemory) => Outcome::NoMemory,
-    }
-}
-
-/// Makes the step, and answers what it came to where that isn't what is wanted. It fails where there is no memory for the
-/// bytes of either.
-pub(crate) fn other_outcome(
-    alloc: Global,
-    kernel: &mut Kernel,
-    ask: Ask,
-    want: Want,
-) -> Result<Option<Outcome>, Fail> {
-    let outcome = outcome_of(kernel.step(ask.step(alloc)?));
-    if outcome == want.outcome(alloc)? {
-        Ok(None)
-    } else {
-        Ok(Some(outcome))
-    }
-}
-
-/// Makes the step, and fails where it doesn't come to what is wanted, or where there is no memory for the bytes of either.
-pub fn answers(alloc: Global, kernel: &mut Kernel, ask: Ask, want: Want) -> Result<(), Fail> {
-    if let Some(outcome) = other_outcome(alloc, kernel, ask, want)? {
-        return Err(Fail::new(format_args!(
-            "{ask:?} is to answer {want:?}, and comes to {outcome:?}"
-        )));
-    }
-    Ok(())
-}
-
-/// Makes the steps, in order, and fails at the first that doesn't come to what its row says, which it names. It fails too
-/// where there is no memory for the bytes of a row.
-pub fn all_answer(alloc: Global, kernel: &mut Kernel, rows: &[(Ask, Want)]) -> Result<(), Fail> {
-    all_answer_in(alloc, kernel, "the table", rows)
-}
-
-/// Makes the steps likewise. A failure names the table too.
-pub(crate) fn all_answer_in(
-    alloc: Global,
-    kernel: &mut Kernel,
-    table: &str,
+/// The steps of the table, with their bytes in memory of `alloc`. It fails where there is none, and at more than 16,777,216
+/// bytes.
+pub fn steps_of<A: Allocator + Copy>(
+    alloc: A,
     rows: &[(Ask, Want)],
-) -> Result<(), Fail> {
-    for (i, (ask, want)) in rows.iter().enumerate() {
-        if let Some(outcome) = other_outcome(alloc, kernel, *ask, *want)? {
-            return Err(Fail::new(format_args!(
-                "row {i} of {table}: {ask:?} is to answer {want:?}, and comes to {outcome:?}"
-            )));
-        }
+) -> Result<Vec<Step<A>, A>, Fail> {
+    let mut steps = Vec::new(alloc);
+    for (ask, _) in rows {
+        steps.push(ask.step(alloc)?)?;
     }
-    Ok(())
-}
-
-/// The process makes 128 pipes, which fill its table. It fails where one has other descriptors than the next two.
-pub fn fill_table(alloc: Global, kernel: &mut Kernel, pid: u32) -> Result<(), Fail> {
-    for i in 0..128u8 {
-        let first = 2 * i32::from(i);
-        answers(alloc, kernel, Ask::Pipe(pid), Want::Fds(first, first + 1))?;
-    }
-    Ok(())
+    Ok(steps)
 }

@@ -3,6 +3,7 @@
 #![tactic(auto)]
 
 pub mod asked;
+pub mod bench;
 pub mod examples;
 pub mod refusing;
 pub mod sessions;

@@ -2,6 +2,13 @@
 use std::alloc::{AllocError, Allocator};
 use std::cell::Cell;
 
+/// What an allocator counted, and which request it is to refuse.
+#[derive(Clone, Copy, Debug)]
+pub struct Counted {
+    made: u64,
+    refused: u64,
+}
+
 /// An allocator that counts the requests for memory, refuses the one that was chosen, and passes all others on to an
 /// inner allocator. Collections take a `&Refusing<B>`, so that the test can choose and look while they stand.
 #[derive(Drop)]
@@ -45,6 +52,22 @@ impl<B: Allocator> Refusing<B> {
         self.requests.refused.set(n);
     }
 
+    /// From now on no request is refused, until `go_on` with the answer.
+    pub fn pause(&self) -> Counted {
+        let counted = Counted {
+            made: self.requests.made.get(),
+            refused: self.requests.refused.get(),
+        };
+        self.refuse(0);
+        counted
+    }
+
+    /// Goes on as if no request had been made since `pause`.
+    pub fn go_on(&self, counted: Counted) {
+        self.requests.made.set(counted.made);
+        self.requests.refused.set(counted.refused);
+    }
+
     /// Whether a request was refused since the last call of `refuse`.
     pub fn refused(&self) -> bool {
         let chosen = self.requests.refused.get();
@@ -69,54 +92,5 @@ unsafe impl<B: Allocator> Allocator for Refusing<B> {
 
     unsafe fn deallocate(&self, ptr: *mut u8, size: usize, align: usize) {
         self.inner.deallocate(ptr, size, align);
-    }
-}
-
-#[cfg(test)]
-mod tests {
-    use super::*;
-    use std::test::Fail;
-
-    #[test]
-    fn one_request_is_refused(rt: HostRuntime) {
-        let heap = Refusing::new(rt.alloc());
-        for refused in 0..5u64 {
-            heap.refuse(refused);
-            assert!(rt; !heap.refused(), "{refused} is refused before any request");
-            for number in 1..5u64 {
-                let made = Vec::<u8, _>::with_capacity(&heap, 8);
-                assert_eq!(rt;
-                    made.is_err(),
-                    number == refused,
-                    "request {number} where {refused} is refused"
-                );
-                assert_eq!(rt; heap.requests(), number, "where {refused} is refused");
-                let told = refused != 0 && refused <= number;
-                assert_eq!(rt;
-                    heap.refused(),
-                    told,
-                    "after request {number} where {refused} is refused"
-                );
-            }
-        }
-    }
-
-    #[test]
-    fn a_refused_push_is_made_again(rt: HostRuntime) -> Result<(), Fail> {
-        let heap = Refusing::new(rt.alloc());
-        let mut bytes = Vec::with_capacity(&heap, 2)?;
-        bytes.push(1u8)?;
-        bytes.push(2)?;
-        assert_eq!(rt; heap.requests(), 1);
-
-        heap.refuse(1);
-        assert!(rt; bytes.push(3).is_err(), "a vector that is full has to grow");
-        assert!(rt; heap.refused());
-        assert_eq!(rt; bytes.as_slice(), [1, 2].as_slice());
-
-        bytes.push(3)?;
-        assert_eq!(rt; bytes.as_slice(), [1, 2, 3].as_slice());
-        assert_eq!(rt; heap.requests(), 2);
-        Ok(())
     }
 }

@@ -2,8 +2,8 @@
 ghost use Rattle.std.specs.Prelude.{◌≤◌};
 ghost use Rattle.pl_model.specs.Numbers.{most_file_bytes};
 
-use crate::asked::{Ask, Want, all_answer_in, answers, fill_table};
-use pl_kernel::Kernel;
+use crate::asked::{Ask, Want};
+use crate::bench::Bench;
 use pl_model::Limits;
 use std::alloc::Global;
 use std::test::Fail;
@@ -21,6 +21,8 @@ pub struct Session {
     pub full_tables: u32,
     /// At least one step, with what it comes to.
     pub rows: &'static [(Ask, Want)],
+    /// Steps behind those.
+    pub more: &'static [(Ask, Want)],
 }
 
 /// A session of a kernel without processes, whose calls are numbered from 1: it lacks its name and its rows.
@@ -30,6 +32,7 @@ pub const NEW_KERNEL: Session = Session {
     processes: 0,
     full_tables: 0,
     rows: &[],
+    more: &[],
 };
 
 /// Makes each session on a kernel of its own, within the limits but for its first call. It fails at the first row that isn't
@@ -44,6 +47,13 @@ pub fn each_answers(alloc: Global, limits: Limits, sessions: &[Session]) -> Resu
     Ok(())
 }
 
+/// Makes all of the session.
+fn make(bench: &mut Bench, session: &Session) -> Result<(), Fail> {
+    bench.prepare(session.processes, session.full_tables)?;
+    bench.all_answer(session.rows)?;
+    bench.all_answer(session.more)
+}
+
 fn session_answers(alloc: Global, limits: Limits, session: &Session) -> Result<(), Fail>
     requires { limits.file_max ≤ most_file_bytes }
 {
@@ -54,12 +64,6 @@ fn session_answers(alloc: Global, limits: Limits, session: &Session) -> Result<(
         first_call: session.first_call,
         ..limits
     };
-    let mut kernel = Kernel::new(alloc, limits);
-    for pid in 1..=session.processes {
-        answers(alloc, &mut kernel, Ask::Start, Want::Pid(pid))?;
-    }
-    for pid in 1..=session.full_tables {
-        fill_table(alloc, &mut kernel, pid)?;
-    }
-    all_answer_in(alloc, &mut kernel, session.name, session.rows)
+    let mut bench = Bench::new(session.name, alloc, alloc, limits)?;
+    make(&mut bench, session)
 }

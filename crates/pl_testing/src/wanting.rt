@@ -5,8 +5,7 @@ ghost use Rattle.pl_testing.specs.Frugal.{wants_refusal, asks_none};
 use crate::asked::Ask::{self, Close, Dup, Dup2, DupFd, Exit, GetFl, Interrupt, SetFl};
 use crate::asked::Want::{self, CallsSpent, Fault, NoCall, NoProcess};
 use crate::refusing::Refusing;
-use pl_model::{Bytes8, Outcome, Reply, Step};
-use std::alloc::{Allocator, Global};
+use std::alloc::Global;
 use std::test::Fail;
 
 /// More requests for memory than any example or script of the tests makes.
@@ -31,40 +30,11 @@ pub fn takes_no_memory(ask: Ask, want: Want) -> bool
         )
 }
 
-/// What a step came to, with its bytes in memory of `alloc`. It fails where that has none.
-pub fn moved<A: Allocator>(alloc: Global, outcome: Outcome<A>) -> Result<Outcome, Fail> {
-    let Outcome::Replied(reply) = outcome else {
-        return Ok(Outcome::NoMemory);
-    };
-    Ok(Outcome::Replied(match reply {
-        Reply::Pid(pid) => Reply::Pid(pid),
-        Reply::Fd(fd) => Reply::Fd(fd),
-        Reply::Fds(first, second) => Reply::Fds(first, second),
-        Reply::Count { n, sigpipe } => Reply::Count { n, sigpipe },
-        Reply::Bytes(bytes) => {
-            let copy = Vec::from_slice(alloc, bytes.as_slice())?;
-            Reply::Bytes(Bytes8::from_vec(copy).ok_or("more bytes than a call moves")?)
-        }
-        Reply::Flags { mode, flags } => Reply::Flags { mode, flags },
-        Reply::Unit => Reply::Unit,
-        Reply::Fault(errno) => Reply::Fault(errno),
-        Reply::Parked(call) => Reply::Parked(call),
-        Reply::NoProcess => Reply::NoProcess,
-        Reply::NoCall => Reply::NoCall,
-        Reply::CallsSpent => Reply::CallsSpent,
-    }))
-}
-
-/// The steps of the table, with their bytes in memory of `heap`, which from then on refuses nothing. It fails where there is
-/// no memory, and at more than 16,777,216 bytes.
-pub fn steps_of<'a>(
-    heap: &'a Refusing<Global>,
-    rows: &[(Ask, Want)],
-) -> Result<Vec<Step<&'a Refusing<Global>>, &'a Refusing<Global>>, Fail> {
-    heap.refuse(0);
-    let mut steps = Vec::new(heap);
-    for (ask, _) in rows {
-        steps.push(ask.step(heap)?)?;
+/// Fails unless each request of the steps was refused in turn: the last time that they were made, they made some, and met no
+/// refusal.
+pub fn all_were_refused(heap: &Refusing<Global>, name: &str) -> Result<(), Fail> {
+    if heap.requests() == 0 || heap.refused() {
+        return Err(Fail::new(format_args!("{name} makes {} requests", heap.requests())));
     }
-    Ok(steps)
+    Ok(())
 }

@@ -1,31 +1,25 @@
 //! Calls that wait keep the ends of pipes that they found open, whatever is closed meanwhile.
-use pl_kernel::Kernel;
 use pl_model::Errno;
-use pl_run::LIMITS;
 use pl_testing::asked::Ask::{self, Close, Interrupt, Pipe, Read, Resume, Start, Write};
 use pl_testing::asked::Data::{Many, Text};
 use pl_testing::asked::Want::{self, Bytes, Count, Fault, Fds, NoCall, Parked, Pid, Unit};
-use pl_testing::asked::{all_answer, answers};
 use pl_testing::examples::{A_PARKED_CALL_KEEPS_ITS_END, A_WAITING_WRITER_IS_A_WRITER};
 use pl_testing::sessions::{NEW_KERNEL, Session};
-use std::test::Fail;
-
-#[test]
-fn a_parked_call_keeps_its_end(rt: HostRuntime) -> Result<(), Fail> {
-    let mut kernel = Kernel::new(rt.alloc(), LIMITS);
-    all_answer(rt.alloc(), &mut kernel, &A_PARKED_CALL_KEEPS_ITS_END)
-}
-
-#[test]
-fn a_waiting_writer_is_a_writer(rt: HostRuntime) -> Result<(), Fail> {
-    let mut kernel = Kernel::new(rt.alloc(), LIMITS);
-    all_answer(rt.alloc(), &mut kernel, &A_WAITING_WRITER_IS_A_WRITER)?;
-    // With the write its end went.
-    answers(rt.alloc(), &mut kernel, Read(1, 0, 1), Bytes(Text("")))
-}
 
 /// Ends that calls keep, and ends that go with them.
 pub(crate) const SESSIONS: &[Session] = &[
+    Session {
+        name: "a_parked_call_keeps_its_end",
+        rows: &A_PARKED_CALL_KEEPS_ITS_END,
+        ..NEW_KERNEL
+    },
+    Session {
+        name: "a_waiting_writer_is_a_writer",
+        rows: &A_WAITING_WRITER_IS_A_WRITER,
+        // With the write its end went.
+        more: &[(Read(1, 0, 1), Bytes(Text("")))],
+        ..NEW_KERNEL
+    },
     // An end goes with the call that is interrupted, as with one that is answered.
     Session {
         name: "an_interrupt_lets_the_end_go",

@@ -1,10 +1,9 @@
 //! Large writes, turn by turn.
-use pl_kernel::Kernel;
 use pl_run::LIMITS;
 use pl_testing::asked::Ask::{self, Close, Interrupt, Pipe, Read, Resume, Start, Write};
 use pl_testing::asked::Data::{Many, Part, Text};
 use pl_testing::asked::Want::{self, Bytes, Count, Fds, NoCall, Parked, Pid, Unit};
-use pl_testing::asked::{all_answer, answers};
+use pl_testing::bench::Bench;
 use pl_testing::sessions::{NEW_KERNEL, Session};
 use std::test::Fail;
 
@@ -16,12 +15,8 @@ const A_LARGE_WRITE: &[(Ask, Want)] = &[
 
 const THE_END: &[(Ask, Want)] = &[(Close(1, 1), Unit), (Read(1, 0, 1), Bytes(Text("")))];
 
-/// A write of 200,000 bytes is read in twenty parts, and goes on after each. After the first 65,536 bytes each turn takes
-/// as many as were read, up to the fourteenth, which has room for the last 4,464.
-#[test]
-fn a_large_write_is_read_in_order(rt: HostRuntime) -> Result<(), Fail> {
-    let mut kernel = Kernel::new(rt.alloc(), LIMITS);
-    all_answer(rt.alloc(), &mut kernel, A_LARGE_WRITE)?;
+/// Each turn reads a part, and tries the write again.
+fn read_in_turns(bench: &mut Bench) -> Result<(), Fail> {
     for turn in 1..21u8 {
         let resumed = match turn {
             ..14 => Parked(1),
@@ -29,10 +24,20 @@ fn a_large_write_is_read_in_order(rt: HostRuntime) -> Result<(), Fail> {
             _ => NoCall,
         };
         let part = Part((usize::from(turn) - 1) * 10_000, 10_000);
-        answers(rt.alloc(), &mut kernel, Read(1, 0, 10_000), Bytes(part))?;
-        answers(rt.alloc(), &mut kernel, Resume(1), resumed)?;
+        bench.answers(Read(1, 0, 10_000), Bytes(part))?;
+        bench.answers(Resume(1), resumed)?;
     }
-    all_answer(rt.alloc(), &mut kernel, THE_END)
+    Ok(())
+}
+
+/// A write of 200,000 bytes is read in twenty parts, and goes on after each. After the first 65,536 bytes each turn takes
+/// as many as were read, up to the fourteenth, which has room for the last 4,464.
+#[test]
+fn a_large_write_is_read_in_order(rt: HostRuntime) -> Result<(), Fail> {
+    let mut bench = Bench::new("a_large_write", rt.alloc(), rt.alloc(), LIMITS)?;
+    bench.all_answer(A_LARGE_WRITE)?;
+    read_in_turns(&mut bench)?;
+    bench.all_answer(THE_END)
 }
 
 /// Writes in several turns.

@@ -1,7 +1,5 @@
 //! Reads and writes that wait: they are parked, tried again, and interrupted.
-use pl_kernel::Kernel;
 use pl_model::Errno;
-use pl_run::LIMITS;
 use pl_testing::asked::Ask::{
     self, Close, Interrupt, Pipe, PipeNonblock, Read, Resume, Start, Write,
 };
@@ -9,45 +7,38 @@ use pl_testing::asked::Data::{Many, Text};
 use pl_testing::asked::Want::{
     self, Bytes, Count, CountSigpipe, Fault, Fds, NoCall, Parked, Pid, Unit,
 };
-use pl_testing::asked::all_answer;
 use pl_testing::examples::{
     A_SMALL_WRITE_AT_ITS_BOUNDARY, AN_INTERRUPTED_LARGE_WRITE, THE_LAST_READER_LEAVES,
 };
 use pl_testing::sessions::{NEW_KERNEL, Session};
-use std::test::Fail;
-
-#[test]
-fn a_small_write_at_its_boundary(rt: HostRuntime) -> Result<(), Fail> {
-    // What was interrupted put nothing in.
-    const REST: &[(Ask, Want)] = &[
-        (Read(1, 0, 61_535), Bytes(Many(b'a', 61_535))),
-        (Read(1, 0, 9_000), Bytes(Many(b'b', 4_000))),
-        (Read(1, 0, 1), Parked(3)),
-    ];
-    let mut kernel = Kernel::new(rt.alloc(), LIMITS);
-    all_answer(rt.alloc(), &mut kernel, &A_SMALL_WRITE_AT_ITS_BOUNDARY)?;
-    all_answer(rt.alloc(), &mut kernel, REST)
-}
-
-#[test]
-fn an_interrupted_large_write(rt: HostRuntime) -> Result<(), Fail> {
-    const REST: &[(Ask, Want)] = &[
-        (Read(1, 0, 70_000), Bytes(Many(b'a', 65_536))),
-        (Read(1, 0, 1), Parked(2)),
-    ];
-    let mut kernel = Kernel::new(rt.alloc(), LIMITS);
-    all_answer(rt.alloc(), &mut kernel, &AN_INTERRUPTED_LARGE_WRITE)?;
-    all_answer(rt.alloc(), &mut kernel, REST)
-}
-
-#[test]
-fn the_last_reader_leaves(rt: HostRuntime) -> Result<(), Fail> {
-    let mut kernel = Kernel::new(rt.alloc(), LIMITS);
-    all_answer(rt.alloc(), &mut kernel, &THE_LAST_READER_LEAVES)
-}
 
 /// Calls that wait, and calls that don't.
 pub(crate) const SESSIONS: &[Session] = &[
+    Session {
+        name: "a_small_write_at_its_boundary",
+        rows: &A_SMALL_WRITE_AT_ITS_BOUNDARY,
+        // What was interrupted put nothing in.
+        more: &[
+            (Read(1, 0, 61_535), Bytes(Many(b'a', 61_535))),
+            (Read(1, 0, 9_000), Bytes(Many(b'b', 4_000))),
+            (Read(1, 0, 1), Parked(3)),
+        ],
+        ..NEW_KERNEL
+    },
+    Session {
+        name: "an_interrupted_large_write",
+        rows: &AN_INTERRUPTED_LARGE_WRITE,
+        more: &[
+            (Read(1, 0, 70_000), Bytes(Many(b'a', 65_536))),
+            (Read(1, 0, 1), Parked(2)),
+        ],
+        ..NEW_KERNEL
+    },
+    Session {
+        name: "the_last_reader_leaves",
+        rows: &THE_LAST_READER_LEAVES,
+        ..NEW_KERNEL
+    },
     // A read that waits is answered with the bytes that are there as it is tried again, and calls are tried in any order.
     Session {
         name: "reads_wait",

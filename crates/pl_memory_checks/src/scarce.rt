@@ -1,0 +1,88 @@
+//! A bench in memory of which a chosen request is refused.
+ghost use Rattle.std.specs.Prelude.{◌≤◌};
+ghost use Rattle.pl_model.specs.Numbers.{most_file_bytes};
+
+use pl_model::{Limits, Reply, Step};
+use pl_testing::asked::{Ask, Want, steps_of};
+use pl_testing::bench::Bench;
+use pl_testing::refusing::Refusing;
+use std::alloc::Global;
+use std::marker::Model;
+use std::test::Fail;
+
+/// Steps in that memory.
+type Steps<'a> = Vec<Step<&'a Refusing<Global>>, &'a Refusing<Global>>;
+
+/// A kernel in memory of `heap`. The bytes of what it is asked are in that memory too, and are no requests for it.
+#[derive(Drop)]
+pub(crate) struct Scarce<'a> {
+    heap: &'a Refusing<Global>,
+    bench: Bench<&'a Refusing<Global>>,
+}
+
+impl<'a> Model for Scarce<'a> {
+    ghost use Rattle.std.specs.Prelude.{ℕ};
+
+    ghost Value = { ℕ };
+
+    ghost view = { λ _. 0 };
+}
+
+impl<'a> Scarce<'a> {
+    /// A new kernel within the limits, where the `n`th request is refused.
+    pub(crate) fn new(
+        name: &'static str,
+        alloc: Global,
+        heap: &'a Refusing<Global>,
+        n: u64,
+        limits: Limits,
+    ) -> Result<Self, Fail>
+        requires { limits.file_max ≤ most_file_bytes }
+    {
+        heap.refuse(n);
+        let mut bench = Bench::new(name, alloc, heap, limits)?;
+        bench.tell_refused(n);
+        Ok(Scarce { heap, bench })
+    }
+
+    /// Makes the step, and answers whether it found memory. It fails where the step did, and doesn't answer what is wanted.
+    pub(crate) fn makes(&mut self, ask: Ask, want: Want) -> Result<bool, Fail> {
+        let counted = self.heap.pause();
+        let step = ask.step(self.heap)?;
+        self.heap.go_on(counted);
+        self.bench.makes(ask, step, want)
+    }
+
+    /// Makes the step, and fails where it doesn't answer what is wanted.
+    pub(crate) fn answers(&mut self, ask: Ask, want: Want) -> Result<(), Fail> {
+        if self.makes(ask, want)? {
+            Ok(())
+        } else {
+            Err(self.fault(ask, "finds no memory"))
+        }
+    }
+
+    /// What a test fails with at the last step.
+    pub(crate) fn fault(&self, ask: Ask, what: &str) -> Fail {
+        self.bench.fault(ask, what)
+    }
+
+    /// The steps of the rows.
+    fn steps(&self, rows: &[(Ask, Want)]) -> Result<Steps<'a>, Fail> {
+        let counted = self.heap.pause();
+        let steps = steps_of(self.heap, rows)?;
+        self.heap.go_on(counted);
+        Ok(steps)
+    }
+
+    /// Makes the steps as one run, and answers what each came to, `None` where it found no memory. A run that is refused itself
+    /// is made again.
+    pub(crate) fn run(&mut self, rows: &[(Ask, Want)]) -> Result<Vec<Option<Reply>>, Fail> {
+        let steps = self.steps(rows)?;
+        if let Some(replies) = self.bench.run(steps)? {
+            return Ok(replies);
+        }
+        let steps = self.steps(rows)?;
+        Ok(self.bench.run(steps)?.ok_or("a run is refused twice")?)
+    }
+}

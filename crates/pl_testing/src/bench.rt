@@ -1,0 +1,183 @@
+//! A kernel on which tests make their steps.
+ghost use Rattle.std.specs.Prelude.{◌≤◌};
+ghost use Rattle.pl_model.specs.Numbers.{most_file_bytes};
+
+use crate::asked::{Ask, Want};
+use pl_kernel::Kernel;
+use pl_model::{Bytes8, Limits, Outcome, Reply, Step};
+use std::alloc::{Allocator, Global};
+use std::marker::Model;
+use std::test::Fail;
+
+/// A kernel in memory of `heap`, and what a failure says of the steps that are made on it.
+///
+/// Contracts say nothing of it: what the kernel answers is compared as the tests run. It stands in a box, so that a test that
+/// makes one proves little of its end.
+#[derive(Drop)]
+pub struct Bench<A: Allocator = Global> {
+    name: &'static str,
+    alloc: Global,
+    heap: A,
+    kernel: Box<Kernel<A>>,
+    /// How many steps were made; a failure names the last.
+    made: u64,
+    /// The request for memory that is refused; 0 for none.
+    refused: u64,
+}
+
+impl<A: Allocator> Model for Bench<A> {
+    ghost use Rattle.std.specs.Prelude.{ℕ};
+
+    ghost Value = { ℕ };
+
+    ghost view = { λ _. 0 };
+}
+
+/// Makes the step, and answers its reply; `None` where it finds no memory.
+fn reply_to<A: Allocator + Copy>(kernel: &mut Kernel<A>, step: Step<A>) -> Option<Reply<A>> {
+    kernel.step(step).ok()
+}
+
+/// Makes the steps as one run, and answers what each came to; `None` where the run itself found no memory.
+fn outcomes_of<A: Allocator + Copy>(
+    kernel: &mut Kernel<A>,
+    steps: Vec<Step<A>, A>,
+) -> Option<Vec<Outcome<A>, A>> {
+    kernel.run(steps).ok()
+}
+
+/// The reply, with its bytes in memory of `alloc`. It fails where that has none.
+fn moved<A: Allocator>(alloc: Global, reply: Reply<A>) -> Result<Reply, Fail> {
+    Ok(match reply {
+        Reply::Pid(pid) => Reply::Pid(pid),
+        Reply::Fd(fd) => Reply::Fd(fd),
+        Reply::Fds(first, second) => Reply::Fds(first, second),
+        Reply::Count { n, sigpipe } => Reply::Count { n, sigpipe },
+        Reply::Bytes(bytes) => {
+            let copy = Vec::from_slice(alloc, bytes.as_slice())?;
+            Reply::Bytes(Bytes8::from_vec(copy).ok_or("more bytes than a call moves")?)
+        }
+        Reply::Flags { mode, flags } => Reply::Flags { mode, flags },
+        Reply::Unit => Reply::Unit,
+        Reply::Fault(errno) => Reply::Fault(errno),
+        Reply::Parked(call) => Reply::Parked(call),
+        Reply::NoProcess => Reply::NoProcess,
+        Reply::NoCall => Reply::NoCall,
+        Reply::CallsSpent => Reply::CallsSpent,
+    })
+}
+
+impl<A: Allocator + Copy> Bench<A> {
+    /// A new kernel within the limits, in memory of `heap`. What it is compared with is in memory of `alloc`.
+    pub fn new(name: &'static str, alloc: Global, heap: A, limits: Limits) -> Result<Self, Fail>
+        requires { limits.file_max ≤ most_file_bytes }
+    {
+        Ok(Bench {
+            name,
+            alloc,
+            heap,
+            kernel: Box::new(alloc, Kernel::new(heap, limits))?,
+            made: 0,
+            refused: 0,
+        })
+    }
+
+    /// A failure says from now on that this request for memory is refused.
+    pub fn tell_refused(&mut self, request: u64) {
+        self.refused = request;
+    }
+
+    /// What a test fails with at the last step.
+    pub fn fault(&self, ask: Ask, what: &str) -> Fail {
+        let (made, name, refused) = (self.made, self.name, self.refused);
+        Fail::new(format_args!(
+            "step {made} of {name}, {ask:?}, {what}; request {refused} (0: none) is refused"
+        ))
+    }
+
+    /// What a test fails with where the last step didn't come to what is wanted.
+    fn other_than(&self, ask: Ask, want: &Reply, reply: &Reply) -> Fail {
+        let (made, name, refused) = (self.made, self.name, self.refused);
+        Fail::new(format_args!(
+            "step {made} of {name}, {ask:?}, answers {reply:?} and not {want:?}; request {refused} (0: none) is refused"
+        ))
+    }
+
+    /// Makes the step, and answers its reply; `None` where it finds no memory.
+    pub fn reply(&mut self, step: Step<A>) -> Result<Option<Reply>, Fail> {
+        self.made = self.made.wrapping_add(1);
+        match reply_to(&mut self.kernel, step) {
+            Some(reply) => Ok(Some(moved(self.alloc, reply)?)),
+            None => Ok(None),
+        }
+    }
+
+    /// Makes the step, which is what is asked, and answers whether it found memory. It fails where the step did, and doesn't
+    /// answer what is wanted.
+    pub fn makes(&mut self, ask: Ask, step: Step<A>, want: Want) -> Result<bool, Fail> {
+        let Some(reply) = self.reply(step)? else {
+            return Ok(false);
+        };
+        let want = want.reply(self.alloc)?;
+        if reply == want {
+            Ok(true)
+        } else {
+            Err(self.other_than(ask, &want, &reply))
+        }
+    }
+
+    /// Makes the step, and fails where it doesn't answer what is wanted.
+    pub fn answers(&mut self, ask: Ask, want: Want) -> Result<(), Fail> {
+        let step = ask.step(self.heap)?;
+        if self.makes(ask, step, want)? {
+            Ok(())
+        } else {
+            Err(self.fault(ask, "finds no memory"))
+        }
+    }
+
+    /// Makes the steps, in order, and fails at the first that doesn't answer what its row says.
+    pub fn all_answer(&mut self, rows: &[(Ask, Want)]) -> Result<(), Fail> {
+        for (ask, want) in rows {
+            self.answers(*ask, *want)?;
+        }
+        Ok(())
+    }
+
+    /// The process makes 128 pipes, which fill its table. It fails where one has other descriptors than the next two.
+    pub fn fill_table(&mut self, pid: u32) -> Result<(), Fail> {
+        for i in 0..128u8 {
+            let first = 2 * i32::from(i);
+            self.answers(Ask::Pipe(pid), Want::Fds(first, first + 1))?;
+        }
+        Ok(())
+    }
+
+    /// So many processes start, at most 1,024, and the first `full_tables` of them fill their tables. These steps aren't counted.
+    pub fn prepare(&mut self, processes: u32, full_tables: u32) -> Result<(), Fail> {
+        for pid in 1..=processes {
+            self.answers(Ask::Start, Want::Pid(pid))?;
+        }
+        for pid in 1..=full_tables {
+            self.fill_table(pid)?;
+        }
+        self.made = 0;
+        Ok(())
+    }
+
+    /// Makes the steps as one run, and answers what each came to, `None` where it found no memory; `None` for all where the run
+    /// itself finds none.
+    pub fn run(&mut self, steps: Vec<Step<A>, A>) -> Result<Option<Vec<Option<Reply>>>, Fail> {
+        let Some(outcomes) = outcomes_of(&mut self.kernel, steps) else {
+            return Ok(None);
+        };
+        let mut replies = Vec::new(self.alloc);
+        for outcome in outcomes {
+            replies.push(match outcome {
+                Outcome::Replied(reply) => Some(moved(self.alloc, reply)?),
+                Outcome::NoMemory => None,
+            })?;
+        }
+        Ok(Some(replies))
+    }
+}
