@@ -1,12 +1,18 @@
--- The rows that take no memory.
-use Rattle.std.proofs.Common.{◌≡◌, ℕ, List, refl, false, ℤ, Bor}
+-- The bytes of a row, with one more of them, and the rows that take no memory.
+use Rattle.std.proofs.Common.{◌≡◌, ℕ, ◌+◌, ◌++◌, List, [], ◌∷◌, refl, false, ℤ, Bor}
+use native.Mathlib.Numerals.{unary_clauses}
 use Rattle.pl_model.specs.declared.flags.OpenFlags.{OpenFlags}
 use Rattle.pl_model.specs.declared.replies.Errno.{Errno}
 use Rattle.pl_testing.specs.declared.asked.Ask.{Ask}
 use Rattle.pl_testing.specs.declared.asked.Ask.TheVariants as ask
 use Rattle.pl_testing.specs.declared.asked.Want.{Want}
 use Rattle.pl_testing.specs.declared.asked.Want.TheVariants as want
+use Rattle.pl_testing.specs.Asked.{part_byte, part_bytes}
 use Rattle.pl_testing.specs.Frugal.{wants_refusal, asks_none}
+
+pub part_more : (from i : ℕ) → part_bytes from i ++ part_byte (from + i) ∷ [] ≡ part_bytes from (i + 1)
+unfolding part_bytes
+part_more from i = simp unary_clauses refl
 
 pub no_refusal : (w : Want) → ((e : Errno) → w ≡ want.Fault e → ⊥) → (w ≡ want.NoProcess → ⊥) → (w ≡ want.NoCall → ⊥) → (w ≡ want.CallsSpent → ⊥) → wants_refusal w ≡ false
 no_refusal (want.Fault e) fault process call spent = absurd (fault e refl)

@@ -1,4 +1,7 @@
 //! Tables of what is asked of a kernel, and what it is to answer.
+ghost use Rattle.std.specs.Prelude.{◌≡◌, IfOk};
+ghost use Rattle.pl_testing.specs.Asked.{data_bytes, all_flags, asked, wanted};
+
 use bitflags::Flags;
 use pl_model::{Bytes8, Call, Errno, Mode, OpenFlags, Outcome, Reply, Step};
 use std::alloc::{Allocator, Global};
@@ -61,7 +64,9 @@ pub enum Want {
 }
 
 impl Data {
-    fn bytes<A: Allocator>(self, alloc: A) -> Result<Bytes8<A>, Fail> {
+    fn bytes<A: Allocator>(self, alloc: A) -> Result<Bytes8<A>, Fail>
+        ensures { IfOk result (λ bytes. bytes ≡ data_bytes self) }
+    {
         let bytes = match self {
             Data::Text(text) => Vec::from_slice(alloc, text.as_bytes())?,
             Data::Many(byte, times) => Vec::from_elem(alloc, byte, times)?,
@@ -85,7 +90,9 @@ impl Data {
 }
 
 /// All flags of the list.
-fn all_of(flags: &[OpenFlags]) -> OpenFlags {
+fn all_of(flags: &[OpenFlags]) -> OpenFlags
+    ensures { result ≡ all_flags flags.now }
+{
     let mut all = OpenFlags::empty();
     for flag in flags {
         all = all.union(*flag);
@@ -95,7 +102,9 @@ fn all_of(flags: &[OpenFlags]) -> OpenFlags {
 
 impl Ask {
     /// The step, with its bytes in memory of `alloc`. It fails where there is no memory, and at more than 16,777,216 bytes.
-    pub fn step<A: Allocator>(self, alloc: A) -> Result<Step<A>, Fail> {
+    pub fn step<A: Allocator>(self, alloc: A) -> Result<Step<A>, Fail>
+        ensures { IfOk result (λ step. step ≡ asked self) }
+    {
         Ok(match self {
             Ask::Start => Step::Start,
             Ask::Resume(call) => Step::Resume(call),
@@ -124,7 +133,9 @@ impl Ask {
 
 impl Want {
     /// The reply. It fails where there is no memory, and at more than 16,777,216 bytes.
-    pub fn reply(self, alloc: Global) -> Result<Reply, Fail> {
+    pub fn reply(self, alloc: Global) -> Result<Reply, Fail>
+        ensures { IfOk result (λ reply. reply ≡ wanted self) }
+    {
         Ok(match self {
             Want::Pid(pid) => Reply::Pid(pid),
             Want::Fd(fd) => Reply::Fd(fd),
@@ -146,7 +157,9 @@ impl Want {
     }
 
     /// What a step comes to that answers this. It fails where there is no memory, and at more than 16,777,216 bytes.
-    pub fn outcome(self, alloc: Global) -> Result<Outcome, Fail> {
+    pub fn outcome(self, alloc: Global) -> Result<Outcome, Fail>
+        ensures { IfOk result (λ outcome. outcome ≡ Outcome.Replied (wanted self)) }
+    {
         Ok(Outcome::Replied(self.reply(alloc)?))
     }
 }

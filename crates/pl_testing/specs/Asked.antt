@@ -1,0 +1,73 @@
+-- What the rows of a table of steps ask, and what they want.
+use Rattle.std.specs.Prelude.{ℕ, zero, suc, ◌+◌, ◌%◌, ◌^◌, true, false, List, [], ◌∷◌, ◌++◌, replicate, bit_or}
+use Rattle.pl_model.specs.declared.calls.Call.{Call}
+use Rattle.pl_model.specs.declared.calls.Step.{Step}
+use Rattle.pl_model.specs.declared.calls.Step.TheVariants.{Start, Begin, Resume, Interrupt}
+use Rattle.pl_model.specs.declared.flags.OpenFlags.{OpenFlags}
+use Rattle.pl_model.specs.declared.replies.Reply.{Reply}
+use Rattle.pl_model.specs.declared.replies.Reply.TheVariants as reply
+use Rattle.pl_testing.specs.declared.asked.Data.{Data}
+use Rattle.pl_testing.specs.declared.asked.Data.TheVariants.{Text, Many, TwoRuns, Part}
+use Rattle.pl_testing.specs.declared.asked.Ask.{Ask}
+use Rattle.pl_testing.specs.declared.asked.Ask.TheVariants as ask
+use Rattle.pl_testing.specs.declared.asked.Want.{Want}
+use Rattle.pl_testing.specs.declared.asked.Want.TheVariants as want
+
+-- the byte at a place of the text without end
+abbrev pub part_byte : ℕ → ℕ
+part_byte place = place % 2 ^ 64 % 251
+
+-- so many bytes of it, from a place on
+unfoldable pub part_bytes : ℕ → ℕ → List ℕ
+part_bytes from zero = []
+part_bytes from (suc n) = part_bytes from n ++ part_byte (from + n) ∷ []
+
+abbrev pub data_bytes : Data → List ℕ
+data_bytes (Text text) = text.now
+data_bytes (Many byte times) = replicate times byte
+data_bytes (TwoRuns first times second more) = replicate times first ++ replicate more second
+data_bytes (Part from count) = part_bytes from count
+
+-- the flags, and those of the list
+unfoldable pub with_all : OpenFlags → List OpenFlags → OpenFlags
+with_all set [] = set
+with_all set (flag ∷ flags) = with_all (record { 0 = bit_or set.0 flag.0 }) flags
+
+-- all flags of the list
+abbrev pub all_flags : List OpenFlags → OpenFlags
+all_flags flags = with_all (record { 0 = 0 }) flags
+
+module _ {A : Type 0} where
+  -- the step of a row
+  abbrev pub asked : Ask → Step A
+  asked ask.Start = Start
+  asked (ask.Resume call) = Resume call
+  asked (ask.Interrupt call) = Interrupt call
+  asked (ask.Pipe pid) = Begin pid (Call.Pipe false)
+  asked (ask.PipeNonblock pid) = Begin pid (Call.Pipe true)
+  asked (ask.Read pid fd n) = Begin pid (Call.Read fd n)
+  asked (ask.Write pid fd bytes) = Begin pid (Call.Write fd (data_bytes bytes))
+  asked (ask.Dup pid fd) = Begin pid (Call.Dup fd)
+  asked (ask.Dup2 pid fd target) = Begin pid (Call.Dup2 fd target)
+  asked (ask.DupFd pid fd least) = Begin pid (Call.DupFd fd least)
+  asked (ask.Close pid fd) = Begin pid (Call.Close fd)
+  asked (ask.GetFl pid fd) = Begin pid (Call.GetFl fd)
+  asked (ask.SetFl pid fd flags) = Begin pid (Call.SetFl fd (all_flags flags.now))
+  asked (ask.Fork pid) = Begin pid Call.Fork
+  asked (ask.Exit pid) = Begin pid Call.Exit
+
+  -- the reply of a row
+  abbrev pub wanted : Want → Reply A
+  wanted (want.Pid pid) = reply.Pid pid
+  wanted (want.Fd fd) = reply.Fd fd
+  wanted (want.Fds first second) = reply.Fds first second
+  wanted (want.Count n) = reply.Count n false
+  wanted (want.CountSigpipe n) = reply.Count n true
+  wanted (want.Bytes bytes) = reply.Bytes (data_bytes bytes)
+  wanted (want.Flags mode flags) = reply.Flags mode (all_flags flags.now)
+  wanted want.Unit = reply.Unit
+  wanted (want.Fault errno) = reply.Fault errno
+  wanted (want.Parked call) = reply.Parked call
+  wanted want.NoProcess = reply.NoProcess
+  wanted want.NoCall = reply.NoCall
+  wanted want.CallsSpent = reply.CallsSpent
