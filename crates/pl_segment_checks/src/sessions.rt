@@ -1,31 +1,20 @@
-//! Sessions of two rings, with memory, and where each request for memory is refused in turn.
-use crate::two_rings::{RingFault, TwoRings};
-use crate::watched::Change::{self, Pop, Push, Reset, SetCapacity, Skip, Tee, Turn};
-use crate::watched::{Watched, part};
-use pl_testing::refusing::Refusing;
-use pl_testing::wanting::MOST_REQUESTS;
+//! Sessions of two rings and a file.
+use crate::fault::Fault;
+use crate::operation::Operation::{
+    Copy, EndsWith, Holds, InUse, Pop, Push, PushThese, Put, Read, Reset, SetCapacity, Skip, Take,
+    Tee, Truncate, Turn, Write, WriteThese,
+};
+use crate::operation::{MOST, Operation, Session};
+use crate::watched::Watched;
 use std::alloc::Global;
-use std::process::Abort;
 use std::test::Fail;
 
-/// Changes of two new rings.
-#[derive(Clone, Copy, Debug)]
-struct Session {
-    /// What a failure calls the session.
-    name: &'static str,
-    /// How many bytes the left ring may hold.
-    left: usize,
-    /// How many bytes the right ring may hold.
-    right: usize,
-    changes: &'static [Change],
-}
-
-const SESSIONS: &[Session] = &[
+pub(crate) const SESSIONS: &[Session] = &[
     Session {
         name: "a_front_is_copied",
-        left: 4_096,
-        right: 4_096,
-        changes: &[
+        capacities: (4_096, 4_096),
+        most: 0,
+        operations: &[
             Push(2),
             Pop(1),
             Tee(1),
@@ -41,9 +30,9 @@ const SESSIONS: &[Session] = &[
     // The list of the right ring names a segment several times, and its short slots become one.
     Session {
         name: "one_segment_several_times",
-        left: 8_192,
-        right: 16_384,
-        changes: &[
+        capacities: (8_192, 16_384),
+        most: 0,
+        operations: &[
             Push(1_000),
             Tee(1_000),
             Tee(1_000),
@@ -62,9 +51,9 @@ const SESSIONS: &[Session] = &[
     // After a copy of all, both rings end in the middle of one segment, and both go on.
     Session {
         name: "both_push_behind_one_tail",
-        left: 65_536,
-        right: 65_536,
-        changes: &[
+        capacities: (65_536, 65_536),
+        most: 0,
+        operations: &[
             Push(100),
             Tee(100),
             Push(10),
@@ -89,9 +78,9 @@ const SESSIONS: &[Session] = &[
     },
     Session {
         name: "segments_and_one_byte_more",
-        left: 1_048_576,
-        right: 65_536,
-        changes: &[
+        capacities: (1_048_576, 65_536),
+        most: 0,
+        operations: &[
             Push(4_095),
             Push(1),
             Push(4_097),
@@ -114,137 +103,156 @@ const SESSIONS: &[Session] = &[
             Reset,
         ],
     },
+    // What went with a pop isn't copied, and the pushed byte that stays is read from both rings.
+    Session {
+        name: "a_byte_in_both_rings",
+        capacities: (4_096, 4_096),
+        most: 0,
+        operations: &[
+            PushThese(b"ab"),
+            Pop(1),
+            Tee(1),
+            Holds(b"b"),
+            Turn,
+            Holds(b"b"),
+        ],
+    },
+    // A gap of two bytes, which reads as zeros, and a byte copied into it.
+    Session {
+        name: "a_byte_in_a_gap",
+        capacities: (4_096, 4_096),
+        most: MOST,
+        operations: &[
+            WriteThese(2, b"a"),
+            EndsWith(0, &[0, 0, 0x61]),
+            WriteThese(16_777_216, b"a"),
+            EndsWith(0, &[0, 0, 0x61]),
+            Copy(2, 1, 0),
+            EndsWith(0, &[0x61, 0, 0x61]),
+            Truncate,
+            InUse(0, 0),
+        ],
+    },
+    // A gap, bytes over others, a copy of bytes, more bytes behind the last one, and a copy behind a gap.
+    Session {
+        name: "a_file_of_gaps_and_copies",
+        capacities: (4_096, 4_096),
+        most: MOST,
+        operations: &[
+            Write(5_000, 3),
+            Write(3_000, 1_500),
+            Copy(4_000, 1_003, 100),
+            Write(5_003, 63),
+            Write(5_066, 5_000),
+            Copy(2_900, 4_096, 12_000),
+            Truncate,
+            Write(0, 1),
+        ],
+    },
+    // Of what would pass the greatest length only the first bytes go in, and none where the place is there already.
+    Session {
+        name: "a_file_that_is_full",
+        capacities: (65_536, 4_096),
+        most: 10_000,
+        operations: &[
+            Write(9_000, 1_000),
+            Write(9_999, 2),
+            Write(10_000, 1),
+            Write(10_000, 0),
+            Copy(0, 5_000, 6_000),
+            Copy(0, 5_000, 10_001),
+            Push(4_097),
+            Put(4_097, 9_999),
+            Put(4_097, 10_000),
+            Put(0, 10_000),
+            Read(9_990, 100),
+            Read(10_000, 1),
+        ],
+    },
+    // A ring goes on reading the bytes of a file that were put into it, whatever becomes of the file.
+    Session {
+        name: "a_file_goes_and_a_ring_keeps_its_bytes",
+        capacities: (65_536, 65_536),
+        most: MOST,
+        operations: &[
+            WriteThese(0, b"abc"),
+            Take(0, 2),
+            Write(0, 10_000),
+            Holds(b"ab"),
+            Take(1_000, 9_000),
+            Write(1_000, 4_096),
+            Tee(5_000),
+            Truncate,
+            InUse(1, 6),
+            Pop(63),
+            Write(0, 4_096),
+            Pop(4_096),
+            Turn,
+            Pop(5_000),
+            Turn,
+            Skip(4_843),
+            Holds(b""),
+            Truncate,
+            InUse(0, 0),
+        ],
+    },
+    // Bytes go from ring to file and back, by way of a gap, and are written over in each.
+    Session {
+        name: "bytes_go_round",
+        capacities: (65_536, 65_536),
+        most: MOST,
+        operations: &[
+            Push(4_095),
+            Put(4_095, 4_097),
+            Take(0, 8_192),
+            Push(1),
+            Put(12_288, 1),
+            Tee(12_000),
+            Write(63, 1),
+            Turn,
+            Put(63, 0),
+            Take(4_096, 4_097),
+            Copy(1, 8_192, 4_095),
+            Pop(4_097),
+            Reset,
+            Truncate,
+            Turn,
+            Skip(12_288),
+            InUse(0, 0),
+        ],
+    },
 ];
 
-/// Makes the changes of a session where there is memory, and looks at both rings after each.
-fn make_with_memory(rt: &impl Abort, alloc: Global, session: &Session) -> Result<(), Fail> {
-    let mut rings = Watched::new(alloc, alloc, session.left, session.right)?;
-    for change in session.changes {
-        rings.make(rt, *change)?;
-        rings.check(rt, session.name, *change)?;
-    }
-    Ok(())
-}
-
-#[test]
-fn rings_are_lists_of_bytes(rt: HostRuntime) -> Result<(), Fail> {
-    for session in SESSIONS {
-        make_with_memory(&rt, rt.alloc(), session)?;
-    }
-    Ok(())
-}
-
-const BOTH_BYTES: &[u8] = b"ab";
-
-const FIRST_BYTE: &[u8] = b"a";
-
-const SECOND_BYTE: &[u8] = b"b";
-
-/// Two rings that hold one byte each, the second of two that were pushed.
-fn with_a_copy(rt: &impl Abort, alloc: Global) -> Result<TwoRings, RingFault> {
-    let mut rings = TwoRings::new(alloc, 4_096, 4_096)?;
-    rings.push(BOTH_BYTES)?;
-    let popped = rings.pop(1)?;
-    assert_eq!(rt; popped.as_slice(), FIRST_BYTE);
-    rings.tee(1)?;
-    Ok(rings)
-}
-
-/// The left ring holds the second byte.
-fn holds_the_second(rt: &impl Abort, alloc: Global, rings: &TwoRings) -> Result<(), RingFault> {
-    let bytes = rings.contents(alloc)?;
-    assert_eq!(rt; bytes.as_slice(), SECOND_BYTE);
-    Ok(())
-}
-
-#[test]
-fn a_front_is_copied(rt: HostRuntime) -> Result<(), Fail> {
-    let mut rings = with_a_copy(&rt, rt.alloc())?;
-    holds_the_second(&rt, rt.alloc(), &rings)?;
-    rings.turn();
-    holds_the_second(&rt, rt.alloc(), &rings)?;
-    Ok(())
-}
-
-#[test]
-fn a_busy_ring_keeps_its_capacity(rt: HostRuntime) -> Result<(), Fail> {
-    let mut rings = with_a_copy(&rt, rt.alloc())?;
-    rings.set_capacity(8_192)?;
-    let bytes = part(rt.alloc(), 0, 5_000)?;
-    rings.push(&bytes)?;
-    let refused = rings.set_capacity(4_096);
-    assert_eq!(rt; refused, Err(RingFault::Busy));
-    assert_eq!(rt; rings.capacity(), 8_192);
-    assert_eq!(rt; rings.len(), 5_001);
-    Ok(())
-}
-
-/// Makes the change where a request for memory may be refused, and answers whether it was. A change that finds no memory leaves
-/// all as it was, and can be made again.
-fn make_again(
-    rt: &impl Abort,
-    heap: &Refusing<Global>,
-    rings: &mut Watched<&Refusing<Global>>,
-    name: &str,
-    change: Change,
-) -> Result<bool, Fail> {
-    let in_use = rings.in_use();
-    let requests = heap.requests();
-    let Err(fault) = rings.make(rt, change) else {
-        assert!(rt; !heap.refused(), "{change:?} of {name}");
-        let takes_none = matches!(change, Skip(_) | Reset | Turn);
-        assert!(rt;
-            !takes_none || heap.requests() == requests,
-            "{change:?} of {name} takes memory"
-        );
-        return Ok(false);
-    };
-    assert_eq!(rt; fault, RingFault::NoMemory, "{change:?} of {name}");
-    assert!(rt; heap.refused(), "{change:?} of {name}");
-    heap.refuse(0);
-    rings.check(rt, name, change)?;
-    assert_eq!(rt; rings.in_use(), in_use, "{change:?} of {name}");
-    rings.make(rt, change)?;
-    Ok(true)
-}
-
-/// Makes the changes of a session where the `n`th request for memory is refused, and answers whether one was.
-fn make_without(rt: &impl Abort, alloc: Global, session: &Session, n: u64) -> Result<bool, Fail> {
-    let heap = Refusing::new(alloc);
-    let mut rings = Watched::new(alloc, &heap, session.left, session.right)?;
-    heap.refuse(n);
-    let mut was_refused = false;
-    for change in session.changes {
-        if make_again(rt, &heap, &mut rings, session.name, *change)? {
-            was_refused = true;
+/// Makes the operations, and sees that all is as the lists say after each. It answers how many went well.
+fn steps(watched: &mut Watched, operations: &[Operation]) -> (usize, Option<Fault>) {
+    for row in 0..operations.len() {
+        if let Err(fault) = watched.step(operations[row]) {
+            return (row, Some(fault));
         }
     }
-    heap.refuse(0);
-    rings.check(rt, session.name, Turn)?;
-    Ok(was_refused)
+    (operations.len(), None)
 }
 
-/// Refuses each request for memory of the session in turn, until none is refused.
-fn refuse_each(rt: &impl Abort, alloc: Global, session: &Session) -> Result<(), Fail> {
-    let mut refusals = 0;
-    for n in 1..MOST_REQUESTS {
-        if !make_without(rt, alloc, session, n)? {
-            break;
-        }
-        refusals = n;
+/// Makes the operations of a session, and answers how many went well, and why the next one didn't.
+fn goes(alloc: Global, session: &Session) -> (usize, Option<Fault>) {
+    match Watched::new(alloc, alloc, session.capacities, session.most) {
+        Ok(mut watched) => steps(&mut watched, session.operations),
+        Err(fault) => (0, Some(fault)),
     }
-    assert!(rt;
-        0 < refusals && refusals < MOST_REQUESTS - 1,
-        "{} makes {refusals} requests",
-        session.name
-    );
+}
+
+/// Each session goes as the lists say.
+pub(crate) fn all_go(alloc: Global, sessions: &[Session]) -> Result<(), Fail> {
+    for session in sessions {
+        if let (row, Some(fault)) = goes(alloc, session) {
+            let name = session.name;
+            return Err(Fail::new(format_args!("{fault:?} at row {row} of {name}")));
+        }
+    }
     Ok(())
 }
 
 #[test]
-fn a_want_of_memory_changes_nothing(rt: HostRuntime) -> Result<(), Fail> {
-    for session in SESSIONS {
-        refuse_each(&rt, rt.alloc(), session)?;
-    }
-    Ok(())
+fn rings_and_files_are_lists_of_bytes(rt: HostRuntime) -> Result<(), Fail> {
+    all_go(rt.alloc(), SESSIONS)
 }

@@ -1,14 +1,16 @@
 //! Slices of a store.
-use pl_segments::{AppendFault, NoMemory, Slice, Store};
+use crate::fault::Fault;
+use crate::plain::{part, same_bytes};
+use pl_segments::AppendFault::{self, NoRoom, NotAtEnd};
+use pl_segments::{Slice, Store};
 use pl_testing::refusing::Refusing;
 use std::alloc::{Allocator, Global};
 use std::marker::Model;
-use std::process::Abort;
 use std::test::Fail;
 
 /// Two slices that hold segments of a store.
 #[derive(Drop)]
-struct TwoSlices<A: Allocator> {
+struct TwoSlices<A: Allocator = Global> {
     store: Store<A>,
     first: Slice,
     second: Slice,
@@ -26,15 +28,29 @@ impl<A: Allocator> Model for TwoSlices<A> {
     ghost invariant = { λ k. Holds (segment_at k.store) (k.first ∷ k.second ∷ []) };
 }
 
+const AB: &[u8] = b"ab";
+
 impl<A: Allocator + Copy> TwoSlices<A> {
-    /// The bytes of the first slice.
-    fn first(&self) -> &[u8] {
-        self.store.bytes(self.first)
+    /// Two slices of one segment, which is made of two bytes.
+    fn new(alloc: A) -> Result<TwoSlices<A>, Fault> {
+        let mut store = Store::new(alloc);
+        let slice = store.make(AB)?;
+        store.hold(slice);
+        Ok(TwoSlices {
+            store,
+            first: slice,
+            second: slice,
+        })
     }
 
-    /// The bytes of the second slice.
-    fn second(&self) -> &[u8] {
-        self.store.bytes(self.second)
+    /// They read these bytes, and one segment is held.
+    fn read(&self, first: &[u8], second: &[u8]) -> Result<(), Fault> {
+        same_bytes(self.store.bytes(self.first), first)?;
+        same_bytes(self.store.bytes(self.second), second)?;
+        if self.store.in_use() != 1 {
+            return Err(Fault::OtherSegments);
+        }
+        Ok(())
     }
 
     /// Appends bytes to the first slice.
@@ -51,13 +67,8 @@ impl<A: Allocator + Copy> TwoSlices<A> {
         Ok(())
     }
 
-    /// How many segments are held.
-    fn in_use(&self) -> usize {
-        self.store.in_use()
-    }
-
-    /// Gives up both slices, the second one first.
-    fn release_both(self) -> Store<A> {
+    /// Gives up both slices, the second one first, and answers how many segments are held.
+    fn release_both(self) -> usize {
         let TwoSlices {
             mut store,
             first,
@@ -65,60 +76,128 @@ impl<A: Allocator + Copy> TwoSlices<A> {
         } = self;
         store.release(second);
         store.release(first);
-        store
+        store.in_use()
     }
 }
 
-const AB: &[u8] = b"ab";
-
-const ABC: &[u8] = b"abc";
-
-const C: &[u8] = b"c";
-
-const D: &[u8] = b"d";
-
-/// Two slices of one segment, which is made of two bytes.
-fn held_twice(rt: &impl Abort, alloc: Global) -> Result<TwoSlices<Global>, NoMemory> {
-    let mut store = Store::new(alloc);
-    let slice = store.make(AB)?;
-    assert_eq!(rt; store.in_use(), 1);
-    store.hold(slice);
-    Ok(TwoSlices {
-        store,
-        first: slice,
-        second: slice,
-    })
+/// What is appended to one of two slices.
+#[derive(Clone, Copy)]
+enum Row {
+    /// So many bytes are appended to the first slice, or not.
+    First(usize, Result<(), AppendFault>),
+    /// So many bytes are appended to the second slice, or not.
+    Second(usize, Result<(), AppendFault>),
 }
 
-/// What one holder appends, the other doesn't see; and only the one that ends where the segment is filled to can append.
+/// What is appended to two slices of one segment of two bytes. What one holder appends, the other doesn't see; only the one that ends
+/// where the segment is filled to can append; and a segment has at most 4,096 bytes.
+const ROWS: &[&[Row]] = &[
+    &[Row::Second(1, Ok(())), Row::First(1, Err(NotAtEnd))],
+    &[
+        Row::Second(1, Ok(())),
+        Row::Second(4_094, Err(NoRoom)),
+        Row::Second(4_093, Ok(())),
+        Row::Second(1, Err(NoRoom)),
+        Row::First(1, Err(NotAtEnd)),
+    ],
+    &[
+        Row::First(4_094, Ok(())),
+        Row::Second(1, Err(NotAtEnd)),
+        Row::First(1, Err(NoRoom)),
+    ],
+];
+
+/// What two slices are to read.
+#[derive(Drop)]
+struct Lists {
+    first: Vec<u8>,
+    second: Vec<u8>,
+}
+
+/// Appends bytes to the list of a slice, where the slice's answer is that it has them. The answer is the wanted one.
+fn grow(
+    list: &mut Vec<u8>,
+    bytes: &[u8],
+    answer: Result<(), AppendFault>,
+    wanted: Result<(), AppendFault>,
+) -> Result<(), Fault> {
+    if answer != wanted {
+        return Err(Fault::OtherSizes);
+    }
+    if answer.is_ok() {
+        list.extend_from_slice(bytes)?;
+    }
+    Ok(())
+}
+
+/// Appends bytes to a slice, and looks at both.
+fn append(alloc: Global, slices: &mut TwoSlices, lists: &mut Lists, row: Row) -> Result<(), Fault> {
+    match row {
+        Row::First(count, wanted) => {
+            let bytes = part(alloc, 0, count)?;
+            let answer = slices.append_first(&bytes);
+            grow(&mut lists.first, &bytes, answer, wanted)?;
+        }
+        Row::Second(count, wanted) => {
+            let bytes = part(alloc, 0, count)?;
+            let answer = slices.append_second(&bytes);
+            grow(&mut lists.second, &bytes, answer, wanted)?;
+        }
+    }
+    slices.read(&lists.first, &lists.second)
+}
+
+/// Appends to both slices what the rows say.
+fn append_each(alloc: Global, slices: &mut TwoSlices, rows: &[Row]) -> Result<(), Fault> {
+    let mut lists = Lists {
+        first: Vec::from_slice(alloc, AB)?,
+        second: Vec::from_slice(alloc, AB)?,
+    };
+    slices.read(AB, AB)?;
+    for row in rows {
+        append(alloc, slices, &mut lists, *row)?;
+    }
+    Ok(())
+}
+
+/// Makes two slices, appends to them, and gives them up, so that no segment is left.
+fn goes(alloc: Global, rows: &[Row]) -> Result<(), Fault> {
+    let mut slices = TwoSlices::new(alloc)?;
+    append_each(alloc, &mut slices, rows)?;
+    if slices.release_both() != 0 {
+        return Err(Fault::OtherSegments);
+    }
+    Ok(())
+}
+
 #[test]
 fn a_segment_with_two_holders(rt: HostRuntime) -> Result<(), Fail> {
-    let mut slices = held_twice(&rt, rt.alloc())?;
-    slices.append_second(C)?;
-    assert_eq!(rt; slices.second(), ABC);
-    assert_eq!(rt; slices.first(), AB);
-    let refused = slices.append_first(D);
-    assert_eq!(rt; refused, Err(AppendFault::NotAtEnd));
-    assert_eq!(rt; slices.first(), AB);
-    assert_eq!(rt; slices.in_use(), 1);
-    assert_eq!(rt; slices.release_both().in_use(), 0);
+    for rows in ROWS {
+        goes(rt.alloc(), rows)?;
+    }
     Ok(())
 }
 
-#[test]
-fn a_segment_that_is_full(rt: HostRuntime) -> Result<(), Fail> {
-    let mut slices = held_twice(&rt, rt.alloc())?;
-    slices.append_second(C)?;
-    let one_too_many = Vec::from_elem(rt.alloc(), b'x', 4_094)?;
-    let refused = slices.append_second(&one_too_many);
-    assert_eq!(rt; refused, Err(AppendFault::NoRoom));
-    assert_eq!(rt; slices.second(), ABC);
-    let as_many_as_fit = Vec::from_elem(rt.alloc(), b'x', 4_093)?;
-    slices.append_second(&as_many_as_fit)?;
-    assert_eq!(rt; slices.second().len(), 4_096);
-    assert_eq!(rt; slices.first(), AB);
-    assert_eq!(rt; slices.release_both().in_use(), 0);
-    Ok(())
+/// Whether a segment can be made, and how many are held then.
+fn make<A: Allocator + Copy>(store: &mut Store<A>) -> (bool, usize) {
+    let is_made = store.make(AB).is_ok();
+    (is_made, store.in_use())
+}
+
+/// Makes a segment where the `n`th request for memory is refused, and answers whether it was. One that finds no memory can be made once
+/// there is some.
+fn make_without(heap: &Refusing<Global>, n: u64) -> Result<bool, Fault> {
+    let mut store = Store::new(heap);
+    heap.refuse(n);
+    let made = make(&mut store);
+    let was_refused = heap.refused();
+    if made != (!was_refused, usize::from(!was_refused)) {
+        return Err(Fault::OtherSegments);
+    }
+    if was_refused && make(&mut store) != (true, 1) {
+        return Err(Fault::OtherSegments);
+    }
+    Ok(was_refused)
 }
 
 /// More requests for memory than one segment takes.
@@ -129,18 +208,9 @@ fn a_want_of_memory_makes_no_segment(rt: HostRuntime) -> Result<(), Fail> {
     let heap = Refusing::new(rt.alloc());
     let mut refusals = 0u32;
     for n in 1..MOST_REQUESTS {
-        let mut store = Store::new(&heap);
-        heap.refuse(n);
-        let made = store.make(AB);
-        if !heap.refused() {
-            assert!(rt; made.is_ok());
-            assert_eq!(rt; store.in_use(), 1);
+        if !make_without(&heap, n)? {
             break;
         }
-        assert_eq!(rt; made, Err(NoMemory));
-        assert_eq!(rt; store.in_use(), 0);
-        assert!(rt; store.make(AB).is_ok(), "once there is memory");
-        assert_eq!(rt; store.in_use(), 1);
         refusals = refusals.saturating_add(1);
     }
     assert!(rt; 0 < refusals && !heap.refused());

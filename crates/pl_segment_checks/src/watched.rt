@@ -1,228 +1,309 @@
-//! Two rings over one store, beside plain lists of what they are to hold.
-use crate::two_rings::{RingFault, TwoRings};
+//! Two rings and a file over one store, beside plain lists of what they are to hold.
+use crate::fault::Fault;
+use crate::one_store::OneStore;
+use crate::operation::Operation;
+use crate::plain::{Place, Plain, after_write, part, range, same_bytes};
 use pl_model::numbers::FIRST_CAPACITY;
-use std::alloc::{AllocError, Allocator, Global};
+use std::alloc::{Allocator, Global};
 use std::mem;
-use std::process::Abort;
 
-/// What is done to the left ring.
-#[derive(Clone, Copy, Debug)]
-pub(crate) enum Change {
-    /// So many bytes are added.
-    Push(usize),
-    /// So many of the first bytes are added to the right ring.
-    Tee(usize),
-    /// So many of the first bytes are taken.
-    Pop(usize),
-    /// So many of the first bytes go.
-    Skip(usize),
-    /// It is as a new pipe's.
-    Reset,
-    /// It may hold so many bytes.
-    SetCapacity(usize),
-    /// It changes places with the right one.
-    Turn,
-}
-
-/// From a place on, so many bytes of a text without end, whose byte at each place is the place's remainder by 251.
-pub(crate) fn part(alloc: Global, from: usize, count: usize) -> Result<Vec<u8>, AllocError> {
-    let mut bytes = Vec::with_capacity(alloc, count)?;
-    for i in 0..count {
-        bytes.push((from.wrapping_add(i) % 251) as u8)?;
-    }
-    Ok(bytes)
-}
-
-/// What a ring is to hold, and may hold.
-#[derive(Drop)]
-struct Plain {
-    bytes: Vec<u8>,
-    capacity: usize,
-}
-
-impl Plain {
-    fn new(alloc: Global, capacity: usize) -> Plain {
-        Plain {
-            bytes: Vec::new(alloc),
-            capacity,
-        }
-    }
-
-    /// How many more bytes fit.
-    fn room(&self) -> usize {
-        self.capacity.saturating_sub(self.bytes.len())
-    }
-
-    /// Takes the first bytes.
-    fn take(&mut self, count: usize) -> Result<Vec<u8>, AllocError> {
-        let count = count.min(self.bytes.len());
-        let rest = self.bytes.split_off(count)?;
-        Ok(mem::replace(&mut self.bytes, rest))
-    }
-}
-
-/// Two rings, beside what they are to hold.
+/// Two rings and a file, beside what they are to hold.
 #[derive(Drop)]
 pub(crate) struct Watched<A: Allocator = Global> {
     alloc: Global,
-    rings: TwoRings<A>,
+    real: OneStore<A>,
     left: Plain,
     right: Plain,
-    /// How many bytes were pushed.
-    pushed: usize,
+    file: Vec<u8>,
+    /// How many bytes the file may have.
+    most: usize,
+    /// How many bytes were made to be added or written.
+    made: usize,
 }
 
 impl<A: Allocator + Copy> Watched<A> {
-    /// Two rings of these capacities, with memory of `heap`, and lists with memory of `alloc`.
+    /// Two rings of these capacities and a file, with memory of `heap`, and lists with memory of `alloc`.
     pub(crate) fn new(
         alloc: Global,
         heap: A,
-        left: usize,
-        right: usize,
-    ) -> Result<Watched<A>, RingFault> {
+        capacities: (usize, usize),
+        most: usize,
+    ) -> Result<Watched<A>, Fault> {
         Ok(Watched {
             alloc,
-            rings: TwoRings::new(heap, left, right)?,
-            left: Plain::new(alloc, left),
-            right: Plain::new(alloc, right),
-            pushed: 0,
+            real: OneStore::new(heap, capacities.0, capacities.1)?,
+            left: Plain::new(alloc, capacities.0),
+            right: Plain::new(alloc, capacities.1),
+            file: Vec::new(alloc),
+            most,
+            made: 0,
         })
     }
 
     /// How many segments the store holds.
     pub(crate) fn in_use(&self) -> usize {
-        self.rings.in_use()
+        self.real.in_use()
     }
 
-    /// The change, of no more bytes than there are, and than fit.
-    pub(crate) fn fitting(&self, change: Change) -> Change {
-        let held = self.left.bytes.len();
-        match change {
-            Change::Push(count) => Change::Push(count.min(self.left.room())),
-            Change::Tee(count) => Change::Tee(count.min(held).min(self.right.room())),
-            Change::Pop(count) => Change::Pop(count.min(held)),
-            Change::Skip(count) => Change::Skip(count.min(held)),
-            Change::Reset | Change::SetCapacity(_) | Change::Turn => change,
+    /// All is as the lists say.
+    pub(crate) fn check(&self) -> Result<(), Fault> {
+        if self.real.file_len() != self.file.len() {
+            return Err(Fault::OtherSizes);
+        }
+        self.real.read(0, usize::MAX, &self.file)?;
+        let mut keys = Vec::new(self.alloc);
+        self.real.agrees(&self.left, &self.right, &mut keys)
+    }
+
+    /// Makes the operation, and sees that all is as the lists say.
+    pub(crate) fn step(&mut self, operation: Operation) -> Result<(), Fault> {
+        self.make(operation)?;
+        self.check()
+    }
+
+    /// Makes the operation, to the lists too. Where there is no memory for it, they stay as they were.
+    pub(crate) fn make(&mut self, operation: Operation) -> Result<(), Fault> {
+        match operation {
+            Operation::Push(count) => self.push_made(count),
+            Operation::PushThese(bytes) => self.push(bytes),
+            Operation::Tee(count) => self.tee(count),
+            Operation::Pop(count) => self.pop(count),
+            Operation::Skip(count) => self.skip(count),
+            Operation::Reset => self.reset(),
+            Operation::SetCapacity(capacity) => self.set_capacity(capacity),
+            Operation::Turn => self.turn(),
+            Operation::Take(from, count) => self.take(from, count),
+            _ => self.make_in_file(operation),
         }
     }
 
-    /// Makes the change, to the lists too. Where it isn't made, they stay as they were.
-    pub(crate) fn make(&mut self, rt: &impl Abort, change: Change) -> Result<(), RingFault> {
-        match change {
-            Change::Push(count) => self.push(count),
-            Change::Tee(count) => self.tee(count),
-            Change::Pop(count) => self.pop(rt, count),
-            Change::Skip(count) => self.skip(count),
-            Change::Reset => {
-                self.reset();
-                Ok(())
+    /// An operation that isn't one of the rings alone.
+    fn make_in_file(&mut self, operation: Operation) -> Result<(), Fault> {
+        match operation {
+            Operation::Write(place, count) => self.write_made(place, count),
+            Operation::WriteThese(place, bytes) => self.write(place, bytes),
+            Operation::Read(place, count) => {
+                let wanted = range(&self.file, place, count);
+                self.real.read(place, count, wanted)
             }
-            Change::SetCapacity(capacity) => self.set_capacity(rt, capacity),
-            Change::Turn => {
-                self.turn();
-                Ok(())
-            }
+            Operation::Copy(from, count, place) => self.copy(from, count, place),
+            Operation::Put(count, place) => self.put(count, place),
+            Operation::Truncate => self.truncate(),
+            _ => self.make_long(operation),
         }
     }
 
-    fn push(&mut self, count: usize) -> Result<(), RingFault> {
-        let bytes = part(self.alloc, self.pushed, count)?;
-        self.rings.push(&bytes)?;
-        self.left.bytes.extend_from_slice(&bytes)?;
-        self.pushed = self.pushed.wrapping_add(count);
+    /// An operation of many steps, or what is wanted of all.
+    fn make_long(&mut self, operation: Operation) -> Result<(), Fault> {
+        match operation {
+            Operation::Fill(first, second) => self.fill(first, second),
+            Operation::IsFull => self.is_full(),
+            Operation::Drain(step) => self.drain(step),
+            Operation::Backwards(count) => self.write_backwards(count),
+            Operation::Holds(bytes) => same_bytes(self.left.bytes(), bytes),
+            Operation::EndsWith(place, bytes) => {
+                same_bytes(range(&self.file, place, usize::MAX), bytes)?;
+                self.real.read(place, usize::MAX, bytes)
+            }
+            Operation::InUse(least, most) => self.in_use_within(least, most),
+            Operation::IsDense => {
+                self.in_use_within(0, (self.file.len() / 2_048).saturating_add(3))
+            }
+            _ => Err(Fault::Unfit),
+        }
+    }
+
+    fn push(&mut self, bytes: &[u8]) -> Result<(), Fault> {
+        self.real.push(bytes)?;
+        self.left.push(bytes)?;
         Ok(())
     }
 
-    fn tee(&mut self, count: usize) -> Result<(), RingFault> {
-        let front = self.left.bytes.get(..count).ok_or(RingFault::Short)?;
-        self.rings.tee(count)?;
-        self.right.bytes.extend_from_slice(front)?;
+    fn push_made(&mut self, count: usize) -> Result<(), Fault> {
+        let bytes = part(self.alloc, self.made, count)?;
+        self.push(&bytes)?;
+        self.made = self.made.wrapping_add(count);
         Ok(())
     }
 
-    fn pop(&mut self, rt: &impl Abort, count: usize) -> Result<(), RingFault> {
-        let bytes = self.rings.pop(count)?;
-        let wanted = self.left.take(count)?;
-        assert_eq!(rt; bytes.as_slice(), wanted.as_slice());
+    /// A copy of the front makes at most three segments.
+    fn tee(&mut self, count: usize) -> Result<(), Fault> {
+        let most = self.real.in_use().saturating_add(3);
+        let front = self.left.bytes().get(..count).ok_or(Fault::Unfit)?;
+        self.real.tee(count)?;
+        self.right.push(front)?;
+        self.in_use_within(0, most)
+    }
+
+    fn take(&mut self, from: usize, count: usize) -> Result<(), Fault> {
+        self.real.take(from, count)?;
+        let taken = range(&self.file, from, count);
+        self.left.push(taken)?;
         Ok(())
     }
 
-    fn skip(&mut self, count: usize) -> Result<(), RingFault> {
-        self.rings.skip(count)?;
-        let _gone = self.left.take(count)?;
+    fn pop(&mut self, count: usize) -> Result<(), Fault> {
+        let front = self.left.bytes().get(..count).ok_or(Fault::Unfit)?;
+        self.real.pop(front)?;
+        self.left.skip(count);
         Ok(())
     }
 
-    fn reset(&mut self) {
-        self.rings.reset();
-        self.left.bytes.clear();
-        self.left.capacity = FIRST_CAPACITY;
+    fn skip(&mut self, count: usize) -> Result<(), Fault> {
+        self.real.skip(count)?;
+        self.left.skip(count);
+        Ok(())
+    }
+
+    fn reset(&mut self) -> Result<(), Fault> {
+        self.real.reset();
+        self.left = Plain::new(self.alloc, FIRST_CAPACITY);
+        Ok(())
     }
 
     /// A ring is busy exactly where it holds more bytes than are to fit.
-    fn set_capacity(&mut self, rt: &impl Abort, capacity: usize) -> Result<(), RingFault> {
-        let is_busy = capacity < self.left.bytes.len();
-        match self.rings.set_capacity(capacity) {
-            Ok(()) => {
-                assert!(rt; !is_busy, "it holds more than {capacity} bytes");
-                self.left.capacity = capacity;
-            }
-            Err(RingFault::Busy) => {
-                assert!(rt; is_busy, "it holds no more than {capacity} bytes");
-            }
-            Err(fault) => return Err(fault),
+    fn set_capacity(&mut self, capacity: usize) -> Result<(), Fault> {
+        let is_set = self.real.set_capacity(capacity)?;
+        if is_set != (self.left.len() <= capacity) {
+            return Err(Fault::OtherSizes);
+        }
+        if is_set {
+            self.left.capacity = capacity;
         }
         Ok(())
     }
 
-    fn turn(&mut self) {
-        self.rings.turn();
+    fn turn(&mut self) -> Result<(), Fault> {
+        self.real.turn();
         mem::swap(&mut self.left, &mut self.right);
-    }
-
-    /// The left ring holds what its list says, in no more slots than it may have: two for each 4,096 bytes that it may hold. It
-    /// answers how many it has.
-    fn check_left(&self, rt: &impl Abort, name: &str, change: Change) -> Result<usize, RingFault> {
-        let bytes = self.rings.contents(self.alloc)?;
-        assert_eq!(rt;
-            bytes.as_slice(),
-            self.left.bytes.as_slice(),
-            "{change:?} of {name}"
-        );
-        let sizes = (self.rings.len(), self.rings.capacity(), self.rings.room());
-        let wanted = (self.left.bytes.len(), self.left.capacity, self.left.room());
-        assert_eq!(rt; sizes, wanted, "{change:?} of {name}");
-        let slots = self.rings.slots();
-        assert!(rt;
-            slots <= self.left.capacity / 2_048,
-            "{slots} slots: {change:?} of {name}"
-        );
-        Ok(slots)
-    }
-
-    /// The rings hold what their lists say, and the store no more segments than they have slots, and none for no bytes. A
-    /// failure names the change and the session.
-    pub(crate) fn check(
-        &mut self,
-        rt: &impl Abort,
-        name: &str,
-        change: Change,
-    ) -> Result<(), RingFault> {
-        let slots = self.check_left(rt, name, change)?;
-        self.turn();
-        let others = self.check_left(rt, name, change)?;
-        self.turn();
-        let in_use = self.rings.in_use();
-        assert!(rt;
-            in_use <= slots.saturating_add(others),
-            "{in_use} segments for {slots} and {others} slots: {change:?} of {name}"
-        );
-        let is_empty = self.left.bytes.is_empty() && self.right.bytes.is_empty();
-        assert_eq!(rt;
-            in_use == 0,
-            is_empty,
-            "{in_use} segments: {change:?} of {name}"
-        );
         Ok(())
+    }
+
+    fn place(&self, at: usize) -> Place {
+        Place {
+            at,
+            most: self.most,
+        }
+    }
+
+    fn write(&mut self, place: usize, bytes: &[u8]) -> Result<(), Fault> {
+        let answer = self.real.write(place, bytes, self.most);
+        self.file = after_write(self.alloc, &self.file, self.place(place), bytes, answer)?;
+        Ok(())
+    }
+
+    fn write_made(&mut self, place: usize, count: usize) -> Result<(), Fault> {
+        let bytes = part(self.alloc, self.made, count)?;
+        self.write(place, &bytes)?;
+        self.made = self.made.wrapping_add(count);
+        Ok(())
+    }
+
+    fn copy(&mut self, from: usize, count: usize, place: usize) -> Result<(), Fault> {
+        let answer = self.real.copy(from, count, place, self.most);
+        let bytes = range(&self.file, from, count);
+        self.file = after_write(self.alloc, &self.file, self.place(place), bytes, answer)?;
+        Ok(())
+    }
+
+    fn put(&mut self, count: usize, place: usize) -> Result<(), Fault> {
+        let answer = self.real.put(count, place, self.most);
+        let bytes = range(self.left.bytes(), 0, count);
+        self.file = after_write(self.alloc, &self.file, self.place(place), bytes, answer)?;
+        Ok(())
+    }
+
+    fn truncate(&mut self) -> Result<(), Fault> {
+        self.real.truncate();
+        self.file.clear();
+        Ok(())
+    }
+
+    fn fill(&mut self, first: usize, second: usize) -> Result<(), Fault> {
+        for turn in 0..self.left.capacity {
+            let size = if turn % 2 == 0 { first } else { second };
+            let room = self.left.room();
+            self.push_made(size.min(room))?;
+            self.real.has_few_slots()?;
+            if room <= size {
+                break;
+            }
+        }
+        Ok(())
+    }
+
+    fn drain(&mut self, step: usize) -> Result<(), Fault> {
+        for _ in 0..self.left.len() {
+            let count = step.min(self.left.len());
+            if count == 0 {
+                break;
+            }
+            self.pop(count)?;
+        }
+        Ok(())
+    }
+
+    fn write_backwards(&mut self, count: usize) -> Result<(), Fault> {
+        for place in (0..count).rev() {
+            self.write_made(place, 1)?;
+        }
+        Ok(())
+    }
+
+    fn is_full(&self) -> Result<(), Fault> {
+        if self.left.room() != 0 {
+            return Err(Fault::OtherSizes);
+        }
+        Ok(())
+    }
+
+    fn in_use_within(&self, least: usize, most: usize) -> Result<(), Fault> {
+        let in_use = self.real.in_use();
+        if in_use < least || most < in_use {
+            return Err(Fault::OtherSegments);
+        }
+        Ok(())
+    }
+
+    /// The operation, of no more bytes than there are, and than fit the rings, and at places below those that it has.
+    pub(crate) fn fitting(&self, operation: Operation, draws: &mut Draws) -> Operation {
+        let held = self.left.len();
+        let room = self.left.room();
+        match operation {
+            Operation::Push(count) => Operation::Push(count.min(room)),
+            Operation::Tee(count) => Operation::Tee(count.min(held).min(self.right.room())),
+            Operation::Pop(count) => Operation::Pop(count.min(held)),
+            Operation::Skip(count) => Operation::Skip(count.min(held)),
+            Operation::Take(from, count) => Operation::Take(draws.below(from), count.min(room)),
+            Operation::Put(count, place) => Operation::Put(count.min(held), draws.below(place)),
+            Operation::Write(place, count) => Operation::Write(draws.below(place), count),
+            Operation::Read(place, count) => Operation::Read(draws.below(place), count),
+            Operation::Copy(from, count, place) => {
+                Operation::Copy(draws.below(from), count, draws.below(place))
+            }
+            _ => operation,
+        }
+    }
+}
+
+/// Numbers of a linear congruential generator, that of Knuth's MMIX.
+#[derive(Clone, Copy)]
+pub(crate) struct Draws {
+    drawn: u64,
+}
+
+impl Draws {
+    /// Always the same numbers.
+    pub(crate) fn new() -> Draws {
+        Draws { drawn: 1 }
+    }
+
+    /// The next number, below this one.
+    pub(crate) fn below(&mut self, most: usize) -> usize {
+        self.drawn = self
+            .drawn
+            .wrapping_mul(6_364_136_223_846_793_005)
+            .wrapping_add(1_442_695_040_888_963_407);
+        ((self.drawn >> 33) as usize).checked_rem(most).unwrap_or(0)
     }
 }

@@ -1,5 +1,5 @@
 use Rattle.pl_segments.specs.Segments.{segment_at}
-use Rattle.pl_segment_checks.proofs.Both.{second-turned}
+use Rattle.pl_segment_checks.proofs.Slices.{second-turned}
 use Rattle.pl_segment_checks.proofs.two_slices.TwoSlices.append_second.Goals as goal
 
 pub try_append-requires : goal.try_append-requires

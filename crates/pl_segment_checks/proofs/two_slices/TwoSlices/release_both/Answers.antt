@@ -1,5 +1,5 @@
 use Rattle.pl_segments.specs.Segments.{segment_at}
-use Rattle.pl_segment_checks.proofs.Both.{first-left}
+use Rattle.pl_segment_checks.proofs.Slices.{first-left}
 use Rattle.pl_segment_checks.proofs.two_slices.TwoSlices.release_both.Goals as goal
 
 pub release-requires : goal.release-requires

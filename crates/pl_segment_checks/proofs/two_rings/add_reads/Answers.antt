@@ -1,7 +1,0 @@
-use Rattle.pl_segments.specs.Segments.{segment_at}
-use Rattle.pl_segments.proofs.SlotLemmas.{no_slice}
-use Rattle.pl_segments.proofs.Pushing.{lie-at}
-use Rattle.pl_segment_checks.proofs.two_rings.add_reads.Goals as goal
-
-pub bytes-requires : goal.bytes-requires
-bytes-requires g c = lie-at (segment_at c.args.store.now) c.args.slices.now c.loop-i.i no_slice c.loop-i-test.true c.requires

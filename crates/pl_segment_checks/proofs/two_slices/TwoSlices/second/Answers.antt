@@ -1,4 +1,0 @@
-use Rattle.pl_segment_checks.proofs.two_slices.TwoSlices.second.Goals as goal
-
-pub bytes-requires : goal.bytes-requires
-bytes-requires g c = c.self.invariant.lie.1.0
