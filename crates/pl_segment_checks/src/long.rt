@@ -7,8 +7,8 @@ use crate::sessions::all_go;
 use std::alloc::Global;
 use std::test::Fail;
 
-const SESSIONS: &[Session] = &[
-    // A ring is filled, copied whole, and both are drained one after the other.
+/// A ring is filled, copied whole, and both are drained one after the other.
+const OF_RINGS: &[Session] = &[
     Session {
         name: "a_small_ring_byte_by_byte",
         capacities: (4_096, 4_096),
@@ -73,18 +73,23 @@ const SESSIONS: &[Session] = &[
             InUse(0, 0),
         ],
     },
-    // 5,000 bytes, from the last to the first.
-    Session {
-        name: "a_file_backwards",
-        capacities: (4_096, 4_096),
-        most: MOST,
-        operations: &[Backwards(5_000), InUse(1, 6), Truncate, InUse(0, 0)],
-    },
 ];
 
 #[test]
-fn rings_and_files_grow_long(rt: HostRuntime) -> Result<(), Fail> {
-    all_go(rt.alloc(), SESSIONS)
+fn rings_are_filled_and_drained(rt: HostRuntime) -> Result<(), Fail> {
+    all_go(rt.alloc(), OF_RINGS)
+}
+
+const OF_A_FILE: &[Session] = &[Session {
+    name: "bytes_from_the_last_to_the_first",
+    capacities: (4_096, 4_096),
+    most: MOST,
+    operations: &[Backwards(5_000), InUse(1, 6), Truncate, InUse(0, 0)],
+}];
+
+#[test]
+fn a_file_is_written_backwards(rt: HostRuntime) -> Result<(), Fail> {
+    all_go(rt.alloc(), OF_A_FILE)
 }
 
 const A: &[u8] = &[0x61];
@@ -93,8 +98,7 @@ const ZERO_AND_A: &[u8] = &[0, 0x61];
 
 /// Writes the last byte that a file may have, and answers how long it is, and how many segments it has.
 fn write_last(file: &mut OneStore) -> Result<(usize, usize), Fault> {
-    let written = file.write(16_777_215, A, MOST);
-    if written != Ok(1) {
+    if file.write(16_777_215, A, MOST) != Ok(1) {
         return Err(Fault::OtherSizes);
     }
     file.read(16_777_214, 10, ZERO_AND_A)?;

@@ -257,7 +257,8 @@ impl<A: Allocator + Copy> Watched<A> {
         Ok(())
     }
 
-    fn in_use_within(&self, least: usize, most: usize) -> Result<(), Fault> {
+    /// The store holds at least and at most so many segments.
+    pub(crate) fn in_use_within(&self, least: usize, most: usize) -> Result<(), Fault> {
         let in_use = self.real.in_use();
         if in_use < least || most < in_use {
             return Err(Fault::OtherSegments);

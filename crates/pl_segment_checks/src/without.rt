@@ -8,31 +8,47 @@ use pl_testing::wanting::MOST_REQUESTS;
 use std::alloc::{Allocator, Global};
 use std::test::Fail;
 
-/// Makes the operation in memory where a request may be refused, and answers whether it was. An operation that finds no memory
-/// leaves all as it was, and can be made again.
+/// Where an operation found memory, no request was refused; and one that is to take none made none since there were so many. It
+/// answers that none was refused.
+fn none_refused(
+    heap: &Refusing<Global>,
+    operation: Operation,
+    requests: u64,
+) -> Result<bool, Fault> {
+    if heap.refused() || operation.takes_none() && heap.requests() != requests {
+        return Err(Fault::OtherRequests);
+    }
+    Ok(false)
+}
+
+/// Where an operation found no memory all is as it was, with as many segments, and the operation can be made again.
+fn once_more<A: Allocator + Copy>(
+    watched: &mut Watched<A>,
+    operation: Operation,
+    in_use: usize,
+) -> Result<bool, Fault> {
+    watched.check()?;
+    watched.in_use_within(in_use, in_use)?;
+    watched.make(operation)?;
+    Ok(true)
+}
+
+/// Makes the operation in memory where a request may be refused, and answers whether it was.
 fn make_again<A: Allocator + Copy>(
     heap: &Refusing<Global>,
     watched: &mut Watched<A>,
     operation: Operation,
 ) -> Result<bool, Fault> {
-    let (in_use, requests) = (watched.in_use(), heap.requests());
-    let Err(fault) = watched.make(operation) else {
-        let takes_too_much = operation.takes_none() && heap.requests() != requests;
-        if heap.refused() || takes_too_much {
-            return Err(Fault::OtherRequests);
+    let in_use = watched.in_use();
+    let requests = heap.requests();
+    match watched.make(operation) {
+        Ok(()) => none_refused(heap, operation, requests),
+        Err(Fault::NoMemory) if heap.refused() => {
+            heap.refuse(0);
+            once_more(watched, operation, in_use)
         }
-        return Ok(false);
-    };
-    if !matches!(fault, Fault::NoMemory) || !heap.refused() {
-        return Err(fault);
+        Err(fault) => Err(fault),
     }
-    heap.refuse(0);
-    watched.check()?;
-    if watched.in_use() != in_use {
-        return Err(Fault::OtherSegments);
-    }
-    watched.make(operation)?;
-    Ok(true)
 }
 
 /// Makes the operations, and answers whether a request for memory was refused.
@@ -52,16 +68,15 @@ fn make_each<A: Allocator + Copy>(
     Ok(was_refused)
 }
 
-/// Makes two rings and a file and the operations of a session, where the `n`th request for memory is refused, and answers whether
-/// one was as the operations were made. It finds no memory where one was refused before.
-fn make_without(
+/// Makes two rings and a file in `memory`, and the operations of a session, where a request may be refused. It answers whether one was
+/// as the operations were made, and finds no memory where one was before.
+fn make_session<A: Allocator + Copy>(
     alloc: Global,
+    memory: A,
     heap: &Refusing<Global>,
     session: &Session,
-    n: u64,
 ) -> Result<bool, Fault> {
-    heap.refuse(n);
-    let mut watched = Watched::new(alloc, heap, session.capacities, session.most)?;
+    let mut watched = Watched::new(alloc, memory, session.capacities, session.most)?;
     make_each(heap, &mut watched, session.operations)
 }
 
@@ -73,9 +88,11 @@ fn refuse_one(
     session: &Session,
     n: u64,
 ) -> Result<bool, Fault> {
-    let made = make_without(alloc, heap, session, n);
+    heap.refuse(n);
+    let made = make_session(alloc, heap, heap, session);
     if matches!(made, Err(Fault::NoMemory)) && heap.refused() {
-        make_without(alloc, heap, session, 0)?;
+        heap.refuse(0);
+        make_session(alloc, heap, heap, session)?;
         return Ok(true);
     }
     made
