@@ -98,7 +98,7 @@ const ZERO_AND_A: &[u8] = &[0, 0x61];
 
 /// Writes the last byte that a file may have, and answers how long it is, and how many segments it has.
 fn write_last(file: &mut OneStore) -> Result<(usize, usize), Fault> {
-    if file.write(16_777_215, A, MOST) != Ok(1) {
+    if !matches!(file.write(16_777_215, A, MOST), Ok(1)) {
         return Err(Fault::OtherSizes);
     }
     file.read(16_777_214, 10, ZERO_AND_A)?;
