@@ -62,11 +62,6 @@ impl Plain {
         self.capacity.saturating_sub(self.len())
     }
 
-    /// How many bytes there are, may be, and fit yet.
-    pub(crate) fn sizes(&self) -> (usize, usize, usize) {
-        (self.len(), self.capacity, self.room())
-    }
-
     /// Adds bytes at the end.
     pub(crate) fn push(&mut self, bytes: &[u8]) -> Result<(), AllocError> {
         self.added.extend_from_slice(bytes)

@@ -81,7 +81,10 @@ pub(crate) fn ring_agrees<A: Allocator + Copy>(
 ) -> Result<(), Fault>
     requires { AllLie (segment_at store.now) ring.now.slots }
 {
-    if (ring.len(), ring.capacity(), ring.room()) != plain.sizes() {
+    if ring.len() != plain.len()
+        || ring.capacity() != plain.capacity
+        || ring.room() != plain.room()
+    {
         return Err(Fault::OtherSizes);
     }
     let list = front(ring, usize::MAX)?;

@@ -177,23 +177,24 @@ fn a_segment_with_two_holders(rt: HostRuntime) -> Result<(), Fail> {
     Ok(())
 }
 
-/// Whether a segment can be made, and how many are held then.
-fn make<A: Allocator + Copy>(store: &mut Store<A>) -> (bool, usize) {
+/// Makes a segment, or not, and the store holds no other. It answers whether it is made.
+fn make<A: Allocator + Copy>(store: &mut Store<A>) -> Result<bool, Fault> {
     let is_made = store.make(AB).is_ok();
-    (is_made, store.in_use())
-}
-
-/// Makes a segment where the `n`th request for memory is refused, and answers whether it was. One that finds no memory can be made once
-/// there is some.
-fn make_without(heap: &Refusing<Global>, n: u64) -> Result<bool, Fault> {
-    let mut store = Store::new(heap);
-    heap.refuse(n);
-    let made = make(&mut store);
-    let was_refused = heap.refused();
-    if made != (!was_refused, usize::from(!was_refused)) {
+    if store.in_use() != usize::from(is_made) {
         return Err(Fault::OtherSegments);
     }
-    if was_refused && make(&mut store) != (true, 1) {
+    Ok(is_made)
+}
+
+/// Makes a segment where a request for memory may be refused, and answers whether it was. One that finds no memory can be made once
+/// there is some.
+fn make_again<A: Allocator + Copy>(
+    heap: &Refusing<Global>,
+    store: &mut Store<A>,
+) -> Result<bool, Fault> {
+    let is_made = make(store)?;
+    let was_refused = heap.refused();
+    if is_made == was_refused || was_refused && !make(store)? {
         return Err(Fault::OtherSegments);
     }
     Ok(was_refused)
@@ -207,7 +208,8 @@ fn a_want_of_memory_makes_no_segment(rt: HostRuntime) -> Result<(), Fail> {
     let heap = Refusing::new(rt.alloc());
     let mut refusals = 0u32;
     for n in 1..MOST_REQUESTS {
-        if !make_without(&heap, n)? {
+        heap.refuse(n);
+        if !make_again(&heap, &mut Store::new(&heap))? {
             break;
         }
         refusals = refusals.saturating_add(1);
