@@ -71,6 +71,11 @@ fn add_keys(slices: &[Slice], keys: &mut Vec<usize>) -> Result<(), AllocError> {
     Ok(())
 }
 
+/// Whether a ring holds, may hold and has room for as many bytes as its list says.
+fn is_as_long<A: Allocator + Copy>(ring: &Ring<A>, plain: &Plain) -> bool {
+    ring.len() == plain.len() && ring.capacity() == plain.capacity && ring.room() == plain.room()
+}
+
 /// A ring holds what its list says, in no more slots than it may have: two for each 4,096 bytes that it may hold. The keys of its
 /// segments are added.
 pub(crate) fn ring_agrees<A: Allocator + Copy>(
@@ -81,10 +86,7 @@ pub(crate) fn ring_agrees<A: Allocator + Copy>(
 ) -> Result<(), Fault>
     requires { AllLie (segment_at store.now) ring.now.slots }
 {
-    if ring.len() != plain.len()
-        || ring.capacity() != plain.capacity
-        || ring.room() != plain.room()
-    {
+    if !is_as_long(ring, plain) {
         return Err(Fault::OtherSizes);
     }
     let list = front(ring, usize::MAX)?;
