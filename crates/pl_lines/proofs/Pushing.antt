@@ -33,6 +33,12 @@ pub behind_both : {X E : Type 0} {one-is : Result X E} {result : Result X E} {be
     → Pushes one-is before now (first ++ part) → Pushes result now after second → Pushes result before after (first ++ (part ++ second))
 behind_both {second = second} first part x is one two = behind _ x is one two (append_assoc first part second)
 
+-- all of it, where nothing stood there before
+pub alone : {X E : Type 0} {result : Result X E} {before after more : List ℕ} (x : X) → result ≡ Ok x → before ≡ [] → Pushes result before after more → after ≡ more
+alone x is empty one =
+    let whole = rw is at one.whole in
+    one.added ∙ ap (λ t. t ++ one.put) empty ∙ whole
+
 module _ {X E : Type 0} {result : Result X E} {before after more : List ℕ} (one : Pushes result before after more) where
   pub cut : take (length before) after ≡ before
   cut = rw one.added (take-append_seam before one.put)
