@@ -1,10 +1,12 @@
 -- What a parser answered, against what the words say.
-use Rattle.std.specs.Prelude.{◌≡◌, ◌<◌, ◌^◌, ℕ, ℤ, List, [], ◌∷◌, length, Option, Some, None, Result, Ok, Err, IsSomeAnd, if◌then◌else◌, nat_le}
+use Rattle.std.specs.Prelude.{◌≡◌, ◌<◌, ◌^◌, ℕ, ℤ, List, [], ◌∷◌, length, Option, Some, None, Result, Ok, Err, IsSomeAnd, if◌then◌else◌, nat_le, codes}
+use Rattle.std.specs.Str.{bytes_eq}
 use Rattle.pl_model.specs.declared.calls.Call.{Call}
 use Rattle.pl_model.specs.declared.calls.Call.TheVariants as call
 use Rattle.pl_model.specs.declared.calls.Step.TheVariants as step
 use Rattle.pl_model.specs.declared.script.Line.{Line}
 use Rattle.pl_model.specs.declared.script.Line.TheVariants.{Do}
+use Rattle.pl_model.specs.Lines.{dup2_of, dup_fd_of, close_of, get_fl_of, set_fl_of, fork_of, exit_of}
 use Rattle.pl_model.specs.Numbers.{most_bytes}
 use Rattle.pl_model.specs.Words.{◌>>=◌, number, signed}
 use Rattle.pl_lines.specs.declared.fault.LineFault.{LineFault}
@@ -66,3 +68,15 @@ only_number ws = only ws >>= number (2 ^ 64)
 abbrev pub fd_and_word : List (List ℕ) → Option (ℤ × List ℕ)
 fd_and_word (fd ∷ w ∷ []) = signed fd >>= λ f. Some (f, w)
 fd_and_word _ = None
+
+-- what `call_of` says from `dup2` on
+unfoldable pub later_call_of : {A : Type 0} → List ℕ → List (List ℕ) → Option (Call A)
+later_call_of name rest =
+    if bytes_eq name (codes "dup2") then dup2_of rest
+    else if bytes_eq name (codes "dupfd") then dup_fd_of rest
+    else if bytes_eq name (codes "close") then close_of rest
+    else if bytes_eq name (codes "getfl") then get_fl_of rest
+    else if bytes_eq name (codes "setfl") then set_fl_of rest
+    else if bytes_eq name (codes "fork") then fork_of rest
+    else if bytes_eq name (codes "exit") then exit_of rest
+    else None

@@ -1,7 +1,7 @@
 //! The calls in lines.
 ghost use Rattle.pl_model.specs.Words.{words};
 ghost use Rattle.pl_model.specs.Lines.{pipe_of, read_of, write_of, dup_of, dup2_of, dup_fd_of, close_of, get_fl_of, set_fl_of, fork_of, exit_of, call_of};
-ghost use Rattle.pl_lines.specs.Parsed.{Gives, GivesTaking, CallTakes};
+ghost use Rattle.pl_lines.specs.Parsed.{Gives, GivesTaking, CallTakes, later_call_of};
 
 use crate::bytes::parse_bytes;
 use crate::fault::LineFault;
@@ -126,24 +126,12 @@ fn exit_call<A: Allocator + Copy>(rest: &[u8]) -> Result<Call<A>, LineFault>
     Ok(Call::Exit)
 }
 
-/// The call of this name, with the words behind it.
-#[tactic(auto, unfolding(pl_model::specs::Lines::call_of))]
-pub(crate) fn parse_call<A: Allocator + Copy>(
-    alloc: A,
-    name: &[u8],
-    rest: &[u8],
-) -> Result<Call<A>, LineFault>
-    ensures { GivesTaking CallTakes result (call_of name.now (words rest.now)) }
+/// The call of this name, of those from `dup2` on.
+#[tactic(auto, unfolding(crate::specs::Parsed::later_call_of))]
+fn parse_later_call<A: Allocator + Copy>(name: &[u8], rest: &[u8]) -> Result<Call<A>, LineFault>
+    ensures { GivesTaking CallTakes result (later_call_of name.now (words rest.now)) }
 {
-    if name == b"pipe".as_slice() {
-        pipe_call(rest)
-    } else if name == b"read".as_slice() {
-        read_call(rest)
-    } else if name == b"write".as_slice() {
-        write_call(alloc, rest)
-    } else if name == b"dup".as_slice() {
-        dup_call(rest)
-    } else if name == b"dup2".as_slice() {
+    if name == b"dup2".as_slice() {
         dup2_call(rest)
     } else if name == b"dupfd".as_slice() {
         dup_fd_call(rest)
@@ -159,5 +147,27 @@ pub(crate) fn parse_call<A: Allocator + Copy>(
         exit_call(rest)
     } else {
         Err(LineFault::Bad)
+    }
+}
+
+/// The call of this name, with the words behind it.
+#[tactic(auto, unfolding(pl_model::specs::Lines::call_of, crate::specs::Parsed::later_call_of))]
+pub(crate) fn parse_call<A: Allocator + Copy>(
+    alloc: A,
+    name: &[u8],
+    rest: &[u8],
+) -> Result<Call<A>, LineFault>
+    ensures { GivesTaking CallTakes result (call_of name.now (words rest.now)) }
+{
+    if name == b"pipe".as_slice() {
+        pipe_call(rest)
+    } else if name == b"read".as_slice() {
+        read_call(rest)
+    } else if name == b"write".as_slice() {
+        write_call(alloc, rest)
+    } else if name == b"dup".as_slice() {
+        dup_call(rest)
+    } else {
+        parse_later_call(name, rest)
     }
 }
