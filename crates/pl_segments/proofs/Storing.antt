@@ -5,7 +5,9 @@ use Rattle.std.proofs.Math.Path.{fun_ext}
 use Rattle.std.proofs.lemmas.List.{get_or-set_same, get_or-set_other}
 use Rattle.std.proofs.lemmas.List.Sums.{sum_by-cons}
 use Rattle.std.proofs.lemmas.Bool.Decides.{eqb_tells}
-use Rattle.slab.specs.Slab.{Slab, Updates}
+use Rattle.slab.specs.Slab.{Slab, Updates, slab_len, with_value}
+use Rattle.pl_segments.specs.declared.store.Store.TheInside.{Inside}
+use Rattle.pl_segments.specs.StoreView.{IsSound}
 use Rattle.pl_segments.specs.Segments.{segment_size, Segment, Map, at, set_at, live_count, IsGood, AreGood}
 
 -- how many segments are held, as the slab counts them
@@ -63,6 +65,24 @@ lent-good slots key x y was lent same l =
         | inr e ↦ subst IsGood (sym (get_or-set_other slots key q (Some y) None e.1)) (was.good q)
       ];
     }
+
+-- so does the store
+pub sound-lent : {A : Type 0} (k : Inside A) (key : ℕ) (x y : Segment) → IsSound k → at k.segments.slots key ≡ Some x → y.holders ≡ x.holders → length y.filled ≤ segment_size → IsSound (record k { segments = with_value k.segments key y })
+sound-lent k key x y was lent same l = record {
+  good = lent-good k.segments.slots key x y was.good lent same l;
+  fits = subst (λ n. n + length k.spare.items ≤ k.segments.capacity) (sym (count-lent k.segments.slots key x y lent)) was.fits;
+}
+
+-- a store whose slab has more room, and else is as it was, stays sound
+pub sound-kept : {A : Type 0} (k : Inside A) (before after : Slab Segment) → k.segments ≡ after → after.slots ≡ before.slots → AreGood before.slots → slab_len after + length k.spare.items ≤ after.capacity → IsSound k
+sound-kept k before after same slots good fits = record {
+  good = subst AreGood (sym (ap (λ (s : Slab Segment). s.slots) same ∙ slots)) good;
+  fits = subst (λ (s : Slab Segment). slab_len s + length k.spare.items ≤ s.capacity) (sym same) fits;
+}
+
+-- a segment of a store has no more bytes than fit
+pub filled-fits : {A : Type 0} (k : Inside A) (key : ℕ) (x : Segment) → IsSound k → at k.segments.slots key ≡ Some x → length x.filled ≤ segment_size
+filled-fits k key x was lent = let old : (1 ≤ x.holders) × (length x.filled ≤ segment_size) = subst IsGood lent (was.good.good key) in old.1
 
 -- a segment that is good comes under a key
 pub updates-good : (old new : Slab Segment) (key : ℕ) (s : Segment) → AreGood old.slots → Updates old new key (Some s) → 1 ≤ s.holders → length s.filled ≤ segment_size → AreGood new.slots
