@@ -16,6 +16,7 @@ use pl_segments::{Slice, Store};
 use std::alloc::Allocator;
 
 /// Adds a slot behind the last, where there is a place for it: none is overwritten. It takes no memory.
+#[inline(always)]
 pub(crate) fn put_last<A: Allocator>(slots: &mut HeapCircularBuffer<Slice, A>, slot: Slice)
     requires { length slots.old.items < slots.old.capacity }
     ensures { slots.new ≡ buffer (slots.old.items ++ slot ∷ []) slots.old.capacity }
@@ -44,6 +45,7 @@ pub(crate) fn take_last<A: Allocator>(slots: &mut HeapCircularBuffer<Slice, A>) 
 }
 
 /// Takes the first slot out.
+#[inline(always)]
 pub(crate) fn take_first<A: Allocator>(slots: &mut HeapCircularBuffer<Slice, A>) -> Slice
     requires { 1 ≤ length slots.old.items }
     ensures items { slots.old.items ≡ result ∷ slots.new.items }
@@ -67,6 +69,7 @@ pub(crate) fn last_len<A: Allocator>(slots: &HeapCircularBuffer<Slice, A>) -> u3
 
 /// Adds a slot behind the last, with which it becomes one where they aren't the first pair and fit a segment; then there is room
 /// for one. It takes no memory, and overwrites no slot: there are places for merged slots of all bytes that fit.
+#[inline(always)]
 pub(crate) fn push_slot<A: Allocator + Copy>(
     store: &mut Store<A>,
     slots: &mut HeapCircularBuffer<Slice, A>,

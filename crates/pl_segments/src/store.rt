@@ -91,6 +91,7 @@ impl<A: Allocator + Copy> Store<A> {
 
     /// Makes a segment of these 1 to 4,096 bytes, for which there is room, and answers the slice of them, which holds it. It
     /// takes no memory.
+    #[inline(always)]
     pub fn make_reserved(&mut self, bytes: &[u8]) -> Slice
         requires room { 1 ≤ self.old.room }
         requires some { 1 ≤ length bytes.now }
@@ -129,6 +130,7 @@ impl<A: Allocator + Copy> Store<A> {
     }
 
     /// Gives up a hold of a slice's segment, which is gone where that was its last. It takes no memory.
+    #[inline(always)]
     pub fn release(&mut self, slice: Slice)
         requires { Lies (segment_at self.old) slice }
         ensures released { segment_at self.new ≡ set_at (segment_at self.old) slice.segment (less_held (segment_at self.old slice.segment)) }
