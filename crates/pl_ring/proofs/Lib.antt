@@ -2,3 +2,4 @@ pub mod Merging
 pub mod Placing
 pub mod Lying
 pub mod Underway
+pub mod Apart

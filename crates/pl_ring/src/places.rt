@@ -21,7 +21,20 @@ pub(crate) fn put_last<A: Allocator>(slots: &mut HeapCircularBuffer<Slice, A>, s
     requires { length slots.old.items < slots.old.capacity }
     ensures { slots.new ≡ buffer (slots.old.items ++ slot ∷ []) slots.old.capacity }
 {
-    slots.push_back(slot);
+    // Field by field: a slice that was just made would be waited for if it were moved as a whole.
+    slots.push_back(Slice {
+        segment: slot.segment,
+        from: slot.from,
+        len: slot.len,
+    });
+}
+
+/// Adds slots behind the last, where there are places for them: none is overwritten. It takes no memory.
+pub(crate) fn put_all<A: Allocator>(slots: &mut HeapCircularBuffer<Slice, A>, more: &[Slice])
+    requires { length slots.old.items + length more.now ≤ slots.old.capacity }
+    ensures { slots.new ≡ buffer (slots.old.items ++ more.now) slots.old.capacity }
+{
+    slots.extend_from_slice(more);
 }
 
 /// Adds a slot before the first, where there is a place for it. It takes no memory.

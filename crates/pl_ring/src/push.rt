@@ -1,5 +1,5 @@
 //! Slots that are pushed.
-ghost use Rattle.std.specs.Prelude.{◌≡◌, ℕ, ◌+◌, ◌*◌, ◌%◌, ◌<◌, ◌≤◌, ◌^◌, List, [], ◌∷◌, ◌++◌, length, OnOk, OnErr};
+ghost use Rattle.std.specs.Prelude.{◌≡◌, ℕ, ◌+◌, ◌*◌, ◌%◌, ◌<◌, ◌≤◌, ◌^◌, List, [], ◌∷◌, ◌++◌, length, IfOk, OnOk, OnErr};
 ghost use Rattle.pl_segments.specs.declared.slice.Slice.{Slice as Part};
 ghost use Rattle.pl_segments.specs.Segments.{segment_size, segment_at, holders, live_count};
 ghost use Rattle.pl_segments.specs.Slices.{AllLie, all_read};
@@ -9,8 +9,8 @@ ghost use Rattle.pl_ring.specs.Ring.{place_size};
 ghost use Rattle.pl_ring.specs.Merging.{lens, AreMerged, merges_onto};
 ghost use Rattle.pl_ring.specs.Parts.{strange};
 
-use crate::places::{last_len, push_slot, put_last, take_last};
-use crate::plan::merges_of;
+use crate::places::{last_len, push_slot, put_all, put_last, take_last};
+use crate::plan::plan_of;
 use circular_buffer::HeapCircularBuffer;
 use pl_segments::{NoMemory, SEGMENT_SIZE, Slice, Store};
 use std::alloc::Allocator;
@@ -42,6 +42,7 @@ fn grow_tail<A: Allocator + Copy>(
     ensures read { all_read (segment_at store.new) slots.new.items ≡ all_read (segment_at store.old) slots.old.items ++ bytes.now }
     ensures solid { AllSolid slots.new.items }
     ensures merged { AreMerged (lens slots.new.items) }
+    ensures in_use { live_count store.new.held ≡ live_count store.old.held }
     ensures room { store.new.room ≡ store.old.room }
     ensures capacity { slots.new.capacity ≡ slots.old.capacity }
 {
@@ -66,6 +67,7 @@ fn push_new<A: Allocator + Copy>(
     ensures read { all_read (segment_at store.new) slots.new.items ≡ all_read (segment_at store.old) slots.old.items ++ bytes.now }
     ensures solid { AllSolid slots.new.items }
     ensures merged { AreMerged (lens slots.new.items) }
+    ensures in_use { segment_size * live_count store.new.held ≤ segment_size * live_count store.old.held + length bytes.now + 2 * segment_size }
     ensures capacity { slots.new.capacity ≡ slots.old.capacity }
 {
     let mut rest = bytes;
@@ -78,8 +80,8 @@ fn push_new<A: Allocator + Copy>(
     }
 }
 
-/// Pushes bytes that fit: first into the last slot's segment, as many as it takes, and then into new segments. An error leaves
-/// all as it was.
+/// Pushes bytes that fit: first into the last slot's segment, as many as it takes, and then into new segments, at most two more
+/// than the bytes fill. An error leaves all as it was.
 pub(crate) fn push_bytes<A: Allocator + Copy>(
     store: &mut Store<A>,
     slots: &mut HeapCircularBuffer<Slice, A>,
@@ -94,6 +96,7 @@ pub(crate) fn push_bytes<A: Allocator + Copy>(
     ensures read { OnOk result (all_read (segment_at store.new) slots.new.items ≡ all_read (segment_at store.old) slots.old.items ++ bytes.now) }
     ensures solid { OnOk result (AllSolid slots.new.items) }
     ensures merged { OnOk result (AreMerged (lens slots.new.items)) }
+    ensures in_use { OnOk result (segment_size * live_count store.new.held ≤ segment_size * live_count store.old.held + length bytes.now + 2 * segment_size) }
     ensures capacity { OnOk result (slots.new.capacity ≡ slots.old.capacity) }
     ensures err { OnErr result (slots.new ≡ slots.old) }
     ensures store_err { OnErr result (store.new ≡ record store.old { room = store.new.room }) }
@@ -128,15 +131,17 @@ fn hold_all<A: Allocator + Copy>(store: &mut Store<A>, slices: &[Slice])
     }
 }
 
-/// Pushes slices that are held, but those of no bytes. There is room for those that become one with what stands before them.
-/// It takes no memory.
+/// Pushes slices that are held, but those of no bytes. There is room for those that become one with what stands before them;
+/// `many` is how many slots there are then. It takes no memory.
 fn push_held<A: Allocator + Copy>(
     store: &mut Store<A>,
     slots: &mut HeapCircularBuffer<Slice, A>,
     slices: &[Slice],
+    many: usize,
 )
     requires held { Holds (segment_at store.old) (slots.old.items ++ solid_of slices.now) }
     requires room { merges_onto slots.old.items (lens (solid_of slices.now)) ≤ store.old.room }
+    requires many { many + merges_onto slots.old.items (lens (solid_of slices.now)) ≡ length slots.old.items + length (solid_of slices.now) }
     requires solid { AllSolid slots.old.items }
     requires merged { AreMerged (lens slots.old.items) }
     requires even { slots.old.capacity % 2 ≡ 0 }
@@ -149,6 +154,11 @@ fn push_held<A: Allocator + Copy>(
     ensures in_use { live_count store.new.held ≤ live_count store.old.held + merges_onto slots.old.items (lens (solid_of slices.now)) }
     ensures parts { (parts : List Part) → strange parts slots.new.items ≤ strange parts (slots.old.items ++ solid_of slices.now) + merges_onto slots.old.items (lens (solid_of slices.now)) }
 {
+    if many == slots.len() + slices.len() {
+        // None is empty, and none becomes one with another.
+        put_all(slots, slices);
+        return;
+    }
     for i in 0..slices.len() {
         let slice = slices[i];
         if slice.len != 0 {
@@ -158,12 +168,13 @@ fn push_held<A: Allocator + Copy>(
 }
 
 /// Pushes slices whose bytes fit, but those of no bytes. All are held before the first two slots become one: a slot that
-/// goes then may be the last to hold a segment that a slice further on names. An error leaves all as it was.
+/// goes then may be the last to hold a segment that a slice further on names. Answers how many bytes were pushed. An error leaves
+/// all as it was.
 pub(crate) fn push_slices<A: Allocator + Copy>(
     store: &mut Store<A>,
     slots: &mut HeapCircularBuffer<Slice, A>,
     slices: &[Slice],
-) -> Result<(), NoMemory>
+) -> Result<usize, NoMemory>
     requires lie { AllLie (segment_at store.old) slices.now }
     requires held { Holds (segment_at store.old) slots.old.items }
     requires few { (key : ℕ) → holders (segment_at store.old) key < 2 ^ 100 }
@@ -172,6 +183,7 @@ pub(crate) fn push_slices<A: Allocator + Copy>(
     requires even { slots.old.capacity % 2 ≡ 0 }
     requires most { slots.old.capacity ≤ 512 }
     requires fits { total slots.old.items + total slices.now ≤ place_size * slots.old.capacity }
+    ensures bytes { IfOk result (λ bytes. bytes ≡ total slices.now) }
     ensures turns { OnOk result (Turns (segment_at store.old) slots.old.items (segment_at store.new) slots.new.items) }
     ensures read { OnOk result (all_read (segment_at store.new) slots.new.items ≡ all_read (segment_at store.old) slots.old.items ++ all_read (segment_at store.old) slices.now) }
     ensures solid { OnOk result (AllSolid slots.new.items) }
@@ -182,9 +194,9 @@ pub(crate) fn push_slices<A: Allocator + Copy>(
     ensures err { OnErr result (slots.new ≡ slots.old) }
     ensures store_err { OnErr result (store.new ≡ record store.old { room = store.new.room }) }
 {
-    let merges = merges_of(slots.len(), last_len(slots), slices);
-    store.reserve(merges)?;
+    let plan = plan_of(slots.len(), last_len(slots), slices);
+    store.reserve(plan.merges)?;
     hold_all(store, slices);
-    push_held(store, slots, slices);
-    Ok(())
+    push_held(store, slots, slices, plan.slots);
+    Ok(plan.bytes)
 }

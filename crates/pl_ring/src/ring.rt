@@ -14,7 +14,7 @@ use crate::front::{copy_front, drop_front, front_slices};
 use crate::push::{push_bytes, push_slices};
 use circular_buffer::HeapCircularBuffer;
 use pl_model::numbers::FIRST_CAPACITY;
-use pl_segments::{NoMemory, Slice, SliceList, Store, len_of};
+use pl_segments::{NoMemory, Slice, SliceList, Store};
 use std::alloc::{Allocator, Global};
 use std::marker::Model;
 
@@ -97,12 +97,13 @@ impl<A: Allocator + Copy> Ring<A> {
         self.slots.len()
     }
 
-    /// Adds bytes at the end, which fit. An error leaves all as it was.
+    /// Adds bytes at the end, which fit, in at most two segments more than they fill. An error leaves all as it was.
     pub fn push_bytes(&mut self, store: &mut Store<A>, bytes: &[u8]) -> Result<(), NoMemory>
         requires held { Holds (segment_at store.old) self.old.slots }
         requires fits { total self.old.slots + length bytes.now ≤ self.old.capacity }
         ensures turns { OnOk result (Turns (segment_at store.old) self.old.slots (segment_at store.new) self.new.slots) }
         ensures read { OnOk result (all_read (segment_at store.new) self.new.slots ≡ all_read (segment_at store.old) self.old.slots ++ bytes.now) }
+        ensures in_use { OnOk result (segment_size * live_count store.new.held ≤ segment_size * live_count store.old.held + length bytes.now + 2 * segment_size) }
         ensures capacity { self.new.capacity ≡ self.old.capacity }
         ensures err { OnErr result (self.new ≡ self.old) }
         ensures store_err { OnErr result (store.new ≡ record store.old { room = store.new.room }) }
@@ -134,9 +135,8 @@ impl<A: Allocator + Copy> Ring<A> {
         ensures err { OnErr result (self.new ≡ self.old) }
         ensures store_err { OnErr result (store.new ≡ record store.old { room = store.new.room }) }
     {
-        let slices = slices.as_slice();
-        push_slices(store, &mut self.slots, slices)?;
-        self.held += len_of(slices);
+        let bytes = push_slices(store, &mut self.slots, slices.as_slice())?;
+        self.held += bytes;
         Ok(())
     }
 

@@ -1,5 +1,5 @@
 -- The slots of the store's slab, before and after a change of one.
-use Rattle.std.proofs.Common.{◌≡◌, ◌≢◌, ℕ, zero, suc, ◌+◌, ◌<◌, ◌≤◌, cond, List, [], ◌∷◌, Option, Some, None, refl, sym, ◌∙◌, ap, subst, inl, inr, nat_eq, length, arith}
+use Rattle.std.proofs.Common.{◌≡◌, ◌≢◌, ℕ, zero, suc, ◌+◌, ◌<◌, ◌≤◌, Bool, true, false, cond, List, [], ◌∷◌, Option, Some, None, refl, sym, ◌∙◌, ap, subst, inl, inr, nat_eq, length, arith}
 use Rattle.std.specs.Prelude.{if◌then◌else◌, is_some, slice_set, count_by}
 use Rattle.std.proofs.Math.Path.{fun_ext}
 use Rattle.std.proofs.lemmas.List.{get_or-set_same, get_or-set_other}
@@ -84,7 +84,22 @@ sound-kept k before after same slots good fits = record {
 pub filled-fits : {A : Type 0} (k : Inside A) (key : ℕ) (x : Segment) → IsSound k → at k.segments.slots key ≡ Some x → length x.filled ≤ segment_size
 filled-fits k key x was lent = let old : (1 ≤ x.holders) × (length x.filled ≤ segment_size) = subst IsGood lent (was.good.good key) in old.1
 
+-- what is set at a key, and again
+pub set-again : (m : Map) (key : ℕ) (v w : Option Segment) → set_at (set_at m key v) key w ≡ set_at m key w
+set-again m key v w = λ i q. by q (nat_eq key q) i
+  where
+    by : (q : ℕ) (b : Bool) → (if b then w else (if b then v else m q)) ≡ (if b then w else m q)
+    by q true = refl
+    by q false = refl
+
 -- a segment that is good comes under a key
+pub set-good : (held slots : List (Option Segment)) (key : ℕ) (s : Segment) → AreGood held → at slots ≡ set_at (at held) key (Some s) → 1 ≤ s.holders → length s.filled ≤ segment_size → AreGood slots
+set-good held slots key s was is h l = record { good = λ q. subst IsGood (sym (λ i. is i q)) (by q (nat_eq key q)) }
+  where
+    by : (q : ℕ) (b : Bool) → IsGood (if b then Some s else at held q)
+    by q true = (h, l)
+    by q false = was.good q
+
 pub updates-good : (old new : Slab Segment) (key : ℕ) (s : Segment) → AreGood old.slots → Updates old new key (Some s) → 1 ≤ s.holders → length s.filled ≤ segment_size → AreGood new.slots
 updates-good old new key s was u h l = record {
   good = λ q. elim (eqb_tells q key) as (λ _. IsGood (at new.slots q)) [

@@ -59,6 +59,15 @@ impl<A: Allocator> Segment<A> {
         self.block.append(more);
     }
 
+    /// Has these bytes in place of those that it had, and takes no memory.
+    pub(crate) fn refill(&mut self, bytes: &[u8])
+        requires { length bytes.now ≤ segment_size }
+        ensures { self.new ≡ record self.old { filled = bytes.now } }
+    {
+        self.block.clear();
+        self.block.append(bytes);
+    }
+
     /// Adds a holder.
     pub(crate) fn hold(&mut self)
         requires { self.old.holders < 2 ^ 127 }

@@ -104,10 +104,11 @@ impl<A: Allocator + Copy> Store<A> {
         ensures turns { Turns (segment_at self.old) [] (segment_at self.new) (result ∷ []) }
         ensures reads { reads (segment_at self.new) result ≡ bytes.now }
     {
-        let mut block = self.spare.pop().unwrap();
-        block.clear();
-        block.append(bytes);
+        let block = self.spare.pop().unwrap();
         let segment = self.segments.insert_reserved(Segment::new(block));
+        // Filled where it stands: a length written just before the block is moved would be waited for.
+        let made = &mut self.segments[segment];
+        made.refill(bytes);
         Slice {
             segment,
             from: 0,

@@ -1,11 +1,60 @@
-use Rattle.std.proofs.Common.{◌∙◌, refl, arith}
+use Rattle.std.proofs.Common.{◌≡◌, ◌∙◌, ◌+◌, ◌++◌, List, length, refl, sym, ap, subst, arith}
+use Rattle.pl_segments.specs.declared.slice.Slice.{Slice}
 use Rattle.pl_segments.specs.Segments.{segment_at, live_count}
-use Rattle.pl_segments.specs.Slots.{solid_of}
+use Rattle.pl_segments.specs.Slices.{all_read}
+use Rattle.pl_segments.specs.Turns.{Turns}
+use Rattle.pl_segments.specs.Slots.{AllSolid, solid_of}
+use Rattle.pl_ring.specs.Merging.{lens, AreMerged}
+use Rattle.pl_ring.specs.Parts.{strange}
+use Rattle.pl_segments.proofs.Turning.{turns-same}
 use Rattle.pl_segments.proofs.SlotLemmas.{solid-append, total-append, total-solid}
 use Rattle.pl_segments.proofs.Pushing.{solid-solid_of}
+use Rattle.pl_ring.proofs.Apart.{whole, apart-tight, apart-solid, apart-places}
 use Rattle.pl_ring.proofs.Underway.{underway-as, underway-first, underway-at, underway-past, underway-end, next-held, next-solid, next-total, next-room, underway-next, last-turns, last-read, last-solid, last-in_use, last-parts}
-use Rattle.pl_ring.proofs.push.push_held.Goals.{then-slice-ne0, else-slice-ne0}
+use Rattle.pl_ring.proofs.push.push_held.Given.{Over}
+use Rattle.pl_ring.proofs.push.push_held.Goals.{After-put_all, then-slice-ne0, else-slice-ne0}
 use Rattle.pl_ring.proofs.push.push_held.Goals as goal
+
+-- the slices are slots of their own
+module _ (g : Over) (c : After-put_all g) where
+  abbrev slots : List Slice
+  slots = c.args.slots.now.items
+
+  many : c.args.many ≡ length slots + length c.args.slices.now
+  many = c.if-many-len.true ∙ ap (λ k. k + length c.args.slices.now) c.len.ensures.len
+
+  all : slots ++ solid_of c.args.slices.now ≡ c.put_all.new.slots.items
+  all = ap (λ zs. slots ++ zs) (whole slots c.args.slices.now c.args.many many c.requires.many) ∙ sym (λ i. (c.put_all.ensures i).items)
+
+pub put_all-requires : goal.put_all-requires
+put_all-requires g c =
+    let n = c.len.ensures.len in
+    apart-places c.args.slots.now.items c.args.slices.now c.args.many (c.if-many-len.true ∙ ap (λ k. k + length c.args.slices.now) n) c.requires.many
+    c.args.slots.now.capacity c.requires.merged c.requires.solid c.requires.even c.requires.fits
+
+pub returns-then-many-len-clause-turns : goal.returns-then-many-len-clause-turns
+returns-then-many-len-clause-turns g c =
+    let m = segment_at c.args.store.now in
+    let k = (goal.at.returns-then-many-len-clause-turns g c).After-put_all in
+    subst (Turns m (c.args.slots.now.items ++ solid_of c.args.slices.now) m) (all g k) (turns-same m (c.args.slots.now.items ++ solid_of c.args.slices.now) c.requires.held.lie)
+
+pub returns-then-many-len-clause-read : goal.returns-then-many-len-clause-read
+returns-then-many-len-clause-read g c = ap (all_read (segment_at c.args.store.now)) (sym (all g (goal.at.returns-then-many-len-clause-read g c).After-put_all))
+
+pub returns-then-many-len-clause-solid : goal.returns-then-many-len-clause-solid
+returns-then-many-len-clause-solid g c =
+    let k = (goal.at.returns-then-many-len-clause-solid g c).After-put_all in
+    subst AllSolid (sym (λ i. (c.put_all.ensures i).items)) (apart-solid c.args.slots.now.items c.args.slices.now c.args.many (many g k) c.requires.many c.requires.solid)
+
+pub returns-then-many-len-clause-merged : goal.returns-then-many-len-clause-merged
+returns-then-many-len-clause-merged g c =
+    let k = (goal.at.returns-then-many-len-clause-merged g c).After-put_all in
+    subst (λ zs. AreMerged (lens zs)) (sym (λ i. (c.put_all.ensures i).items)) (apart-tight c.args.slots.now.items c.args.slices.now c.args.many (many g k) c.requires.many c.requires.merged)
+
+pub returns-then-many-len-clause-parts : goal.returns-then-many-len-clause-parts
+returns-then-many-len-clause-parts g c = λ parts.
+    let same = ap (strange parts) (all g (goal.at.returns-then-many-len-clause-parts g c).After-put_all) in
+    omega (arith, same)
 
 pub loop-i-init : goal.loop-i-init
 loop-i-init g c = record {

@@ -1,5 +1,5 @@
 use Rattle.std.proofs.Common.{length, ◌+◌, ◌*◌, ◌≡◌, ◌≤◌, ◌++◌}
-use Rattle.pl_segments.specs.Segments.{segment_size, segment_at}
+use Rattle.pl_segments.specs.Segments.{segment_size, segment_at, live_count}
 use Rattle.pl_segments.specs.Slices.{all_read}
 use Rattle.pl_segments.specs.Turns.{Turns}
 use Rattle.pl_segments.specs.Slots.{total, AllSolid}
@@ -14,6 +14,8 @@ invariant-loop-rest g l = record {
   read : all_read (segment_at l.store) l.slots.items ++ l.rest ≡ all_read (segment_at l.fn.store) l.fn.slots.items ++ l.bytes;
   solid : AllSolid l.slots.items;
   merged : AreMerged (lens l.slots.items);
+  in_use : (1 ≤ length l.rest → segment_size * live_count l.store.held + length l.rest ≤ segment_size * live_count l.fn.store.held + length l.bytes)
+      × (segment_size * live_count l.store.held ≤ segment_size * live_count l.fn.store.held + length l.bytes + 2 * segment_size);
   capacity : l.slots.capacity ≡ l.fn.slots.capacity;
   fits : total l.slots.items + length l.rest ≤ place_size * l.fn.slots.capacity;
   room : 1 ≤ length l.rest → length l.rest + segment_size ≤ segment_size * l.store.room;

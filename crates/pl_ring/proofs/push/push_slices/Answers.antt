@@ -11,8 +11,8 @@ use Rattle.pl_ring.proofs.push.push_slices.Given.{Over}
 use Rattle.pl_ring.proofs.push.push_slices.Goals.{After-hold_all}
 use Rattle.pl_ring.proofs.push.push_slices.Goals as goal
 
-pub merges_of-merges-requires : goal.merges_of-merges-requires
-merges_of-merges-requires g c =
+pub plan_of-plan-requires : goal.plan_of-plan-requires
+plan_of-plan-requires g c =
     let last = last-total c.args.slots.now.items in
     omega (arith, last, c.len.ensures.len, c.len.ensures.within.0, c.last_len.ensures, c.requires.fits, c.requires.most)
 

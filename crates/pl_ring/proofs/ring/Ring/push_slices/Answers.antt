@@ -19,9 +19,9 @@ invariant_of-self-2 g c =
     let slots : k.slots.items ≡ c.args.self.now.slots = ap (λ (r : Ring). r.slots) c.self.view_is in
     let room : place_size * k.slots.capacity ≡ c.args.self.now.capacity = ap (λ (r : Ring). r.capacity) c.self.view_is in
     let held : Holds m k.slots.items = subst (Holds m) (sym slots) c.requires.held in
-    let is = c.as_slice-slices.ensures in
-    let done = c.in_ok-push_slices.ensures in
-    let sum : c.len_of.result ≡ total list = c.len_of.ensures ∙ ap total is in
+    let is = c.as_slice.ensures in
+    let done = c.in_ok-bytes.ensures in
+    let sum = done.bytes ∙ ap total is in
     let read = done.read ∙ ap (λ zs. all_read m k.slots.items ++ all_read m zs) is in
     let more : total c.push_slices.new.slots.items ≡ total k.slots.items + length (all_read m list) =
     total-pushed m (segment_at c.push_slices.new.store) k.slots.items c.push_slices.new.slots.items (all_read m list) held.lie done.turns.lie read in
@@ -40,16 +40,16 @@ invariant_of-self-2 g c =
 
 pub returns-clause-front_in_use : goal.returns-clause-front_in_use
 returns-clause-front_in_use g c = λ front.
-    let most = front-merges c.self.inside.slots.items c.as_slice-slices.result.now (subst IsFront (sym c.as_slice-slices.ensures) front) in
-    let made = c.in_ok-push_slices.ensures.in_use in
+    let most = front-merges c.self.inside.slots.items c.as_slice.result.now (subst IsFront (sym c.as_slice.ensures) front) in
+    let made = c.in_ok-bytes.ensures.in_use in
     omega (arith, most, made)
 
 pub returns-clause-front_parts : goal.returns-clause-front_parts
 returns-clause-front_parts g c = λ front.
     let slots = ap (λ (r : Ring). r.slots) c.self.view_is in
-    let is = c.as_slice-slices.ensures in
-    let most = front-merges c.self.inside.slots.items c.as_slice-slices.result.now (subst IsFront (sym is) front) in
-    let made = c.in_ok-push_slices.ensures.parts in
-    let same : strange (c.self.inside.slots.items ++ c.as_slice-slices.result.now) c.push_slices.new.slots.items ≡ strange (c.args.self.now.slots ++ c.args.slices.now) c.push_slices.new.slots.items =
+    let is = c.as_slice.ensures in
+    let most = front-merges c.self.inside.slots.items c.as_slice.result.now (subst IsFront (sym is) front) in
+    let made = c.in_ok-bytes.ensures.parts in
+    let same : strange (c.self.inside.slots.items ++ c.as_slice.result.now) c.push_slices.new.slots.items ≡ strange (c.args.self.now.slots ++ c.args.slices.now) c.push_slices.new.slots.items =
     (λ i. strange (slots i ++ is i) c.push_slices.new.slots.items) in
     omega (arith, most, made, same)
