@@ -4,6 +4,8 @@
 #[cfg(test)]
 mod descs;
 #[cfg(test)]
+mod equal;
+#[cfg(test)]
 mod parked;
 #[cfg(test)]
 mod refusing;

@@ -1,4 +1,7 @@
 //! Parked calls: their numbers, up to the last one, and what a want of memory leaves.
+ghost use Rattle.std.specs.Prelude.{◌≡◌, []};
+
+use crate::equal::is;
 use pl_model::{Bytes8, Call, KeyList};
 use pl_parked::{ParkFault, Parked, ParkedCall};
 use pl_testing::refusing::Refusing;
@@ -213,26 +216,29 @@ const SESSIONS: &[Session] = &[
     ),
 ];
 
-#[test]
-fn each_session_is_answered(rt: HostRuntime) -> Result<(), Fail> {
-    let heap = Refusing::new(rt.alloc());
-    for (first, rows) in SESSIONS {
-        let mut parked = Parked::new(&heap, *first);
-        for (ask, want) in *rows {
-            answers(&rt, &heap, &mut parked, *ask, *want)?;
-        }
+/// Each row is answered as it says.
+fn are_answered<'a>(
+    rt: &impl Abort,
+    heap: &'a Refusing<Global>,
+    parked: &mut Parked<&'a Refusing<Global>>,
+    rows: &[(Ask, Answer)],
+) -> Result<(), Fail> {
+    for (ask, want) in rows {
+        answers(rt, heap, parked, *ask, *want)?;
     }
     Ok(())
 }
 
-#[test]
-fn no_number_at_all(rt: HostRuntime) -> Result<(), Fail> {
-    let heap = Refusing::new(rt.alloc());
-    let mut parked = Parked::new(&heap, LAST + 1);
-    answers(&rt, &heap, &mut parked, Spent, Is(true))?;
-    let answer = park(&heap, &mut parked, 1, 10, 1)?;
-    assert_eq!(rt; answer, Fault(ParkFault::CallsSpent));
-    assert_eq!(rt; heap.requests(), 0);
+/// No number is left for a call, and it asks for no memory.
+fn is_spent<'a>(
+    rt: &impl Abort,
+    heap: &'a Refusing<Global>,
+    parked: &mut Parked<&'a Refusing<Global>>,
+) -> Result<(), Fail> {
+    answers(rt, heap, parked, Spent, Is(true))?;
+    let answer = park(heap, parked, 1, 10, 1)?;
+    is(rt, "parked", answer, Fault(ParkFault::CallsSpent));
+    is(rt, "requests", heap.requests(), 0);
     Ok(())
 }
 
@@ -330,55 +336,81 @@ fn take_all<'a>(
     Ok(left)
 }
 
-#[test]
-fn calls_are_taken_in_any_order(rt: HostRuntime) -> Result<(), Fail> {
-    let heap = Refusing::new(rt.alloc());
-    for order in ORDERS {
-        let mut parked = Parked::new(&heap, 1);
-        park_all(&rt, &heap, &mut parked)?;
-        let left = take_all(&rt, rt.alloc(), &heap, &mut parked, order)?;
-        assert!(rt; left.is_empty());
-        answers(&rt, &heap, &mut parked, Park(1, 13), Number(13))?;
-    }
-    Ok(())
+/// All calls are taken in the order, and the next one gets the next number.
+fn are_all_taken<'a>(
+    rt: &impl Abort,
+    alloc: Global,
+    heap: &'a Refusing<Global>,
+    parked: &mut Parked<&'a Refusing<Global>>,
+    order: &[u32],
+) -> Result<(), Fail> {
+    park_all(rt, heap, parked)?;
+    let left = take_all(rt, alloc, heap, parked, order)?;
+    is(rt, "calls that are left", left.len(), 0);
+    answers(rt, heap, parked, Park(1, 13), Number(13))
 }
 
 /// Calls that end before the last one is taken back: the two before it, and enough that the others move together.
 const ENDED: &[&[u32]] = &[&[12, 11], &[1, 2, 3, 4, 5, 6, 7, 8]];
 
-#[test]
-fn a_call_is_taken_back_after_others_ended(rt: HostRuntime) -> Result<(), Fail> {
-    let heap = Refusing::new(rt.alloc());
-    for ended in ENDED {
-        let mut parked = Parked::new(&heap, 1);
-        park_all(&rt, &heap, &mut parked)?;
-        let mut left = take_all(&rt, rt.alloc(), &heap, &mut parked, ended)?;
-        answers(
-            &rt,
-            &heap,
-            &mut parked,
-            TakeBack(2, 20),
-            Answer::Read(2, 20),
-        )?;
-        are_left(&rt, &heap, &mut parked, left.as_slice())?;
-        are_of_their_process(&rt, &heap, &mut parked, left.as_slice())?;
-        answers(&rt, &heap, &mut parked, Park(2, 13), Number(13))?;
-        left.push(13)?;
-        are_of_their_process(&rt, &heap, &mut parked, left.as_slice())?;
-    }
+/// A call is taken back, the calls of the numbers are there still, and the next one gets its number.
+fn is_taken_back<'a>(
+    rt: &impl Abort,
+    heap: &'a Refusing<Global>,
+    parked: &mut Parked<&'a Refusing<Global>>,
+    left: &[u32],
+) -> Result<(), Fail> {
+    answers(rt, heap, parked, TakeBack(2, 20), Answer::Read(2, 20))?;
+    are_left(rt, heap, parked, left)?;
+    are_of_their_process(rt, heap, parked, left)?;
+    answers(rt, heap, parked, Park(2, 13), Number(13))
+}
+
+/// A call is taken back after these ended.
+fn is_taken_back_after<'a>(
+    rt: &impl Abort,
+    alloc: Global,
+    heap: &'a Refusing<Global>,
+    parked: &mut Parked<&'a Refusing<Global>>,
+    ended: &[u32],
+) -> Result<(), Fail> {
+    park_all(rt, heap, parked)?;
+    let mut left = take_all(rt, alloc, heap, parked, ended)?;
+    is_taken_back(rt, heap, parked, left.as_slice())?;
+    left.push(13)?;
+    are_of_their_process(rt, heap, parked, left.as_slice())
+}
+
+/// The write of the number is there, whole, and took so many bytes.
+fn is_write(
+    rt: &impl Abort,
+    alloc: Global,
+    parked: &Parked,
+    number: u64,
+    taken: u32,
+) -> Result<(), Fail> {
+    let whole = write(alloc, 1, taken)?;
+    let is_whole = parked.get(number) == Some(&whole);
+    is(rt, "the write is whole", is_whole, true);
     Ok(())
+}
+
+/// Two writes are parked, and the second takes more.
+fn takes_more(rt: &impl Abort, alloc: Global, parked: &mut Parked) -> Result<(), Fail>
+    requires { parked.old ≡ record { calls = []; next = 1 } }
+{
+    let first = parked.park(write(alloc, 1, 0)?).map_err(|_| "not parked")?;
+    is(rt, "the first number", first, 1);
+    let number = parked.park(write(alloc, 1, 1)?).map_err(|_| "not parked")?;
+    parked.set_taken(number, 2);
+    is_write(rt, alloc, parked, 1, 0)?;
+    is_write(rt, alloc, parked, 2, 2)
 }
 
 #[test]
 fn a_write_takes_more(rt: HostRuntime) -> Result<(), Fail> {
-    let alloc = rt.alloc();
-    let mut parked = Parked::new(alloc, 1);
-    assert_eq!(rt; parked.park(write(alloc, 1, 0)?), Ok(1));
-    let number = parked.park(write(alloc, 1, 1)?).map_err(|_| "not parked")?;
-    parked.set_taken(number, 2);
-    assert_eq!(rt; parked.get(1), Some(&write(alloc, 1, 0)?));
-    assert_eq!(rt; parked.get(2), Some(&write(alloc, 1, 2)?));
-    Ok(())
+    let mut parked = Parked::new(rt.alloc(), 1);
+    takes_more(&rt, rt.alloc(), &mut parked)
 }
 
 /// The requests for memory that a call may make: each is refused in turn.
@@ -398,51 +430,126 @@ fn is_refused<'a>(
     let is_refused = heap.refused();
     heap.refuse(0);
     if is_refused {
-        assert_eq!(rt; answer, Fault(ParkFault::NoMemory));
-        assert_eq!(rt; parked.next_number(), number);
+        is(rt, "parked", answer, Fault(ParkFault::NoMemory));
+        is(rt, "the next number", parked.next_number(), number);
         answers(rt, heap, parked, Get(number), Nothing)?;
         answers(rt, heap, parked, NextOf(pid, 0), Nothing)?;
         answers(rt, heap, parked, Park(pid, 10), Number(number))?;
     } else {
-        assert_eq!(rt; answer, Number(number));
+        is(rt, "parked", answer, Number(number));
     }
     answers(rt, heap, parked, Get(number), Answer::Read(pid, 10))?;
     Ok(is_refused)
 }
 
+/// Some call is refused memory at the request, and all goes on.
+fn some_is_refused<'a>(
+    rt: &impl Abort,
+    heap: &'a Refusing<Global>,
+    parked: &mut Parked<&'a Refusing<Global>>,
+    request: u64,
+) -> Result<(), Fail> {
+    let mut has_wanted = false;
+    for pid in 1..20u32 {
+        if is_refused(rt, heap, parked, pid, request)? {
+            has_wanted = true;
+        }
+    }
+    is(rt, "the first call needs memory twice", has_wanted, true);
+    Ok(())
+}
+
+/// Each call is taken, the least of its process first, and none asks for memory.
+fn are_taken_without_memory<'a>(
+    rt: &impl Abort,
+    heap: &'a Refusing<Global>,
+    parked: &mut Parked<&'a Refusing<Global>>,
+) -> Result<(), Fail> {
+    park_all(rt, heap, parked)?;
+    heap.refuse(1);
+    for number in 1..CALLS + 1 {
+        let pid = pid_of(number);
+        let call = Answer::Read(pid, number);
+        answers(rt, heap, parked, NextOf(pid, 0), Number(u64::from(number)))?;
+        answers(rt, heap, parked, Take(u64::from(number)), call)?;
+    }
+    is(rt, "requests", heap.requests(), 0);
+    Ok(())
+}
+
+/// What is tried on parked calls that are new.
+#[derive(Clone, Copy)]
+enum Trial {
+    Answers(&'static [(Ask, Answer)]),
+    IsSpent,
+    AreAllTaken(&'static [u32]),
+    IsTakenBackAfter(&'static [u32]),
+    SomeIsRefused(u64),
+    AreTakenWithoutMemory,
+}
+
+fn is_met<'a>(
+    rt: &impl Abort,
+    alloc: Global,
+    heap: &'a Refusing<Global>,
+    parked: &mut Parked<&'a Refusing<Global>>,
+    trial: Trial,
+) -> Result<(), Fail> {
+    match trial {
+        Trial::Answers(rows) => are_answered(rt, heap, parked, rows),
+        Trial::IsSpent => is_spent(rt, heap, parked),
+        Trial::AreAllTaken(order) => are_all_taken(rt, alloc, heap, parked, order),
+        Trial::IsTakenBackAfter(ended) => is_taken_back_after(rt, alloc, heap, parked, ended),
+        Trial::SomeIsRefused(request) => some_is_refused(rt, heap, parked, request),
+        Trial::AreTakenWithoutMemory => are_taken_without_memory(rt, heap, parked),
+    }
+}
+
+/// Tries it on calls whose first gets the number. They stand here alone, so that the end of them is proved once.
+fn meets(rt: &impl Abort, alloc: Global, first: u64, trial: Trial) -> Result<(), Fail> {
+    let heap = Refusing::new(alloc);
+    let mut parked = Parked::new(&heap, first);
+    is_met(rt, alloc, &heap, &mut parked, trial)
+}
+
+#[test]
+fn each_session_is_answered(rt: HostRuntime) -> Result<(), Fail> {
+    for (first, rows) in SESSIONS {
+        meets(&rt, rt.alloc(), *first, Trial::Answers(*rows))?;
+    }
+    Ok(())
+}
+
+#[test]
+fn no_number_at_all(rt: HostRuntime) -> Result<(), Fail> {
+    meets(&rt, rt.alloc(), LAST + 1, Trial::IsSpent)
+}
+
+#[test]
+fn calls_are_taken_in_any_order(rt: HostRuntime) -> Result<(), Fail> {
+    for order in ORDERS {
+        meets(&rt, rt.alloc(), 1, Trial::AreAllTaken(*order))?;
+    }
+    Ok(())
+}
+
+#[test]
+fn a_call_is_taken_back_after_others_ended(rt: HostRuntime) -> Result<(), Fail> {
+    for ended in ENDED {
+        meets(&rt, rt.alloc(), 1, Trial::IsTakenBackAfter(*ended))?;
+    }
+    Ok(())
+}
+
 #[test]
 fn a_want_of_memory_changes_nothing(rt: HostRuntime) -> Result<(), Fail> {
-    let heap = Refusing::new(rt.alloc());
     for request in REQUESTS {
-        let mut parked = Parked::new(&heap, 1);
-        let mut has_wanted = false;
-        for pid in 1..20u32 {
-            if is_refused(&rt, &heap, &mut parked, pid, *request)? {
-                has_wanted = true;
-            }
-        }
-        assert!(rt; has_wanted, "the first call needs memory twice");
+        meets(&rt, rt.alloc(), 1, Trial::SomeIsRefused(*request))?;
     }
     Ok(())
 }
 
 #[test]
 fn a_call_that_ends_takes_no_memory(rt: HostRuntime) -> Result<(), Fail> {
-    let heap = Refusing::new(rt.alloc());
-    let mut parked = Parked::new(&heap, 1);
-    park_all(&rt, &heap, &mut parked)?;
-    heap.refuse(1);
-    for number in 1..CALLS + 1 {
-        let call = Answer::Read(pid_of(number), number);
-        answers(
-            &rt,
-            &heap,
-            &mut parked,
-            NextOf(pid_of(number), 0),
-            Number(u64::from(number)),
-        )?;
-        answers(&rt, &heap, &mut parked, Take(u64::from(number)), call)?;
-    }
-    assert_eq!(rt; heap.requests(), 0);
-    Ok(())
+    meets(&rt, rt.alloc(), 1, Trial::AreTakenWithoutMemory)
 }

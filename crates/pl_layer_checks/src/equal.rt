@@ -1,0 +1,8 @@
+//! What is told is compared with what is wanted in a function of its own, so that a proof of a test need not see how.
+use std::fmt::Debug;
+use std::process::Abort;
+
+/// It fails where something else is told than what is wanted.
+pub(crate) fn is<T: PartialEq + Debug + Copy>(rt: &impl Abort, what: &str, told: T, wanted: T) {
+    assert_eq!(rt; told, wanted, "{what}");
+}
