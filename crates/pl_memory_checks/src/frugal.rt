@@ -162,14 +162,22 @@ const NO_PLACE: &[(Ask, Want)] = &[
     (Pipe(17), Fault(Errno::ENFILE)),
 ];
 
+/// The tables are filled, and then no memory can be had.
+fn refuse_all<'a>(
+    heap: &'a Refusing<Global>,
+    bench: &mut Bench<&'a Refusing<Global>>,
+) -> Result<(), Fail> {
+    bench.prepare(1_024, 16)?;
+    heap.refuse(1);
+    bench.all_answer(NO_PLACE)
+}
+
 /// They are refused as ever where no memory can be had.
 #[test]
 fn full_tables_take_no_memory(rt: HostRuntime) -> Result<(), Fail> {
     let heap = Refusing::new(rt.alloc());
     let mut bench = Bench::new("full tables", rt.alloc(), &heap, LIMITS)?;
-    bench.prepare(1_024, 16)?;
-    heap.refuse(1);
-    bench.all_answer(NO_PLACE)?;
+    refuse_all(&heap, &mut bench)?;
     assert_eq!(rt; heap.requests(), 0);
     Ok(())
 }

@@ -75,6 +75,24 @@ fn is_wanted(alloc: Global, want: Want, reply: &Option<Reply>) -> Result<bool, F
     Ok(*reply == Some(want.reply(alloc)?))
 }
 
+/// The reply to a step of the run is what the other kernel answers, and before the passed over step what the row says.
+fn goes_on_at(
+    alloc: Global,
+    other: &mut Bench,
+    reply: &Option<Reply>,
+    row: (Ask, Want),
+    is_before: bool,
+) -> Result<(), Fail> {
+    let (ask, want) = row;
+    if !answers_likewise(alloc, other, ask, reply)? {
+        return Err(other.fault(ask, "is answered otherwise in a run"));
+    }
+    if is_before && !is_wanted(alloc, want, reply)? {
+        return Err(other.fault(ask, "has another reply in a run"));
+    }
+    Ok(())
+}
+
 /// The replies up to the place are what the rows say, and those behind it what the other kernel answers, which passes over
 /// the step at the place and has all the memory that it wants.
 fn goes_on_without(
@@ -84,15 +102,9 @@ fn goes_on_without(
     rows: &[(Ask, Want)],
     place: usize,
 ) -> Result<(), Fail> {
-    for (i, (reply, (ask, want))) in replies.iter().zip(rows).enumerate() {
-        if i == place {
-            continue;
-        }
-        if !answers_likewise(alloc, other, *ask, reply)? {
-            return Err(other.fault(*ask, "is answered otherwise in a run"));
-        }
-        if i < place && !is_wanted(alloc, *want, reply)? {
-            return Err(other.fault(*ask, "has another reply in a run"));
+    for (i, (reply, row)) in replies.iter().zip(rows).enumerate() {
+        if i != place {
+            goes_on_at(alloc, other, reply, *row, i < place)?;
         }
     }
     Ok(())

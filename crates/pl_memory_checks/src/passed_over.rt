@@ -60,20 +60,28 @@ fn wants_behind(steps: &Steps, place: usize) -> Result<&'static [Want], Fail> {
     Err(Fail::new(format_args!("step {place} of {} finds no memory", steps.name)))
 }
 
+/// Makes the steps of the rows, each of which comes to what is wanted in place of what its row says.
+fn make_instead(bench: &mut Scarce, rows: &[(Ask, Want)], wants: &[Want]) -> Result<(), Fail> {
+    for ((ask, _), want) in rows.iter().zip(wants) {
+        bench.answers(*ask, *want)?;
+    }
+    Ok(())
+}
+
 /// Makes the steps behind the place, each of which comes to what is wanted there.
 fn make_behind(bench: &mut Scarce, steps: &Steps, place: usize) -> Result<(), Fail> {
     let wants = wants_behind(steps, place)?;
-    let rest = steps.rows.get(place..).ok_or("a place past the steps")?;
-    if rest.len() != wants.len().saturating_add(1) {
+    let rest = steps
+        .rows
+        .get(place.saturating_add(1)..)
+        .ok_or("a place past the steps")?;
+    if rest.len() != wants.len() {
         return Err(Fail::new(format_args!(
             "what is wanted of {} behind step {place} has another length",
             steps.name
         )));
     }
-    for ((ask, _), want) in rest.iter().skip(1).zip(wants) {
-        bench.answers(*ask, *want)?;
-    }
-    Ok(())
+    make_instead(bench, rest, wants)
 }
 
 /// Makes the steps, and answers the place of the one that found no memory.

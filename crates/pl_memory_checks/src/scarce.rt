@@ -75,14 +75,19 @@ impl<'a> Scarce<'a> {
         Ok(steps)
     }
 
+    /// Makes the steps as one run, and answers what each came to, `None` where it found no memory; `None` where the run itself
+    /// found none.
+    fn run_once(&mut self, rows: &[(Ask, Want)]) -> Result<Option<Vec<Option<Reply>>>, Fail> {
+        let steps = self.steps(rows)?;
+        self.bench.run(steps)
+    }
+
     /// Makes the steps as one run, and answers what each came to, `None` where it found no memory. A run that is refused itself
     /// is made again.
     pub(crate) fn run(&mut self, rows: &[(Ask, Want)]) -> Result<Vec<Option<Reply>>, Fail> {
-        let steps = self.steps(rows)?;
-        if let Some(replies) = self.bench.run(steps)? {
+        if let Some(replies) = self.run_once(rows)? {
             return Ok(replies);
         }
-        let steps = self.steps(rows)?;
-        Ok(self.bench.run(steps)?.ok_or("a run is refused twice")?)
+        Ok(self.run_once(rows)?.ok_or("a run is refused twice")?)
     }
 }
