@@ -1,7 +1,8 @@
 //! Scripts, run line by line.
-ghost use Rattle.std.specs.Prelude.{◌≡◌, ◌+◌, ◌<◌, ◌≤◌, ◌++◌, ◌∷◌, ◌↔◌, ◌⊎◌, ℕ, List, length, true, false, string_bytes, OnErr, IfOk, IfSome, IsErrOf, MatchResult};
+ghost use Rattle.std.specs.Prelude.{◌≡◌, ◌+◌, ◌<◌, ◌≤◌, ◌++◌, ◌∷◌, ◌↔◌, ◌⊎◌, ℕ, List, [], length, true, false, string_bytes, OnErr, IfOk, IfSome, IsErrOf, MatchResult};
 ghost use Rattle.std.specs.Io.KnownBytes.{Appends};
 ghost use Rattle.pl_model.specs.declared.calls.Limits.{Limits};
+ghost use Rattle.pl_model.specs.Numbered.{opening};
 ghost use Rattle.pl_model.specs.Numbers.{most_file_bytes, most_script_bytes, most_reads};
 ghost use Rattle.pl_kernel.specs.Makes.{Stands};
 ghost use Rattle.pl_script.specs.LineByLine.{none_counted, IsAnswered, IsAt, Stops};
@@ -73,8 +74,48 @@ fn run_line<A: Allocator + Copy>(
     Ok(())
 }
 
-/// Runs a script that was read, and counts the lines that were run. Where it ends at a line, for which there was no memory or
-/// which is bad, the output of just the lines counted was written.
+/// Runs the lines of a script on a kernel and an output that are new, and counts those that were run. Where it ends at a line,
+/// for which there was no memory or which is bad, the output of just the lines counted was written.
+fn run_each<A: Allocator + Copy, T: Sink>(
+    alloc: A,
+    kernel: &mut Kernel<A>,
+    out: &mut String<A>,
+    totals: &mut Totals,
+    script: &[u8],
+    writer: &mut T,
+) -> Result<(), ScriptFault>
+    requires stands { (limits : Limits) × Stands kernel.old (opening {A = A} limits) }
+    requires nothing { string_bytes out.old ≡ [] }
+    requires none { totals.old ≡ none_counted }
+    requires short { length script.now ≤ most_script_bytes }
+    ensures run { (limits : Limits) → Stands kernel.old (opening {A = A} limits) →
+        (written : List ℕ) × Appends (T.contents writer.old) (T.contents writer.new) written
+        × IsCountedRun A script.now limits result totals.new written }
+    ensures ends { WritingEnds (T.has_stopped writer.old) (T.has_stopped writer.new) result }
+{
+    let mut rest = script;
+    while !rest.is_empty() {
+        let (line, after) = next_line(rest);
+        if let Err(fault) = run_line(alloc, kernel, out, totals, line) {
+            let answered = out.as_bytes();
+            write_whole(writer, answered)?;
+            return Err(match fault {
+                LineFault::Bad => ScriptFault::BadLine(totals.lines + 1),
+                LineFault::NoMemory => ScriptFault::NoMemory,
+            });
+        }
+        rest = after;
+        if out.len() >= WAITING {
+            write_whole(writer, out.as_bytes())?;
+            out.clear();
+        }
+    }
+    write_whole(writer, out.as_bytes())?;
+    Ok(())
+}
+
+/// Runs a script that was read, on a new kernel, and counts the lines that were run. Where it ends at a line, the output of
+/// just the lines counted was written.
 fn run_lines<A: Allocator + Copy, T: Sink>(
     alloc: A,
     script: &[u8],
@@ -91,25 +132,7 @@ fn run_lines<A: Allocator + Copy, T: Sink>(
 {
     let mut kernel = Kernel::new(alloc, limits);
     let mut out = String::new(alloc);
-    let mut rest = script;
-    while !rest.is_empty() {
-        let (line, after) = next_line(rest);
-        if let Err(fault) = run_line(alloc, &mut kernel, &mut out, totals, line) {
-            let answered = out.as_bytes();
-            write_whole(writer, answered)?;
-            return Err(match fault {
-                LineFault::Bad => ScriptFault::BadLine(totals.lines + 1),
-                LineFault::NoMemory => ScriptFault::NoMemory,
-            });
-        }
-        rest = after;
-        if out.len() >= WAITING {
-            write_whole(writer, out.as_bytes())?;
-            out.clear();
-        }
-    }
-    write_whole(writer, out.as_bytes())?;
-    Ok(())
+    run_each(alloc, &mut kernel, &mut out, totals, script, writer)
 }
 
 /// Reads a script to its end, runs it on a new kernel, and writes a line for each step before the first bad line. Answers

@@ -1,13 +1,15 @@
 use Rattle.std.proofs.Common.{◌≡◌, length}
 use Rattle.std.specs.Prelude.{string_bytes}
+use Rattle.pl_model.specs.declared.calls.Limits.{Limits}
+use Rattle.pl_model.specs.Numbered.{opening}
 use Rattle.pl_model.specs.Script.{lines}
 use Rattle.pl_kernel.specs.Makes.{Stands}
 use Rattle.pl_script.proofs.RunSteps.{IsUnderway}
-use Rattle.pl_script.proofs.running.run_lines.Given as goal
+use Rattle.pl_script.proofs.running.run_each.Given as goal
 
 abbrev pub invariant-loop-rest : goal.invariant-loop-rest
 invariant-loop-rest g l = record {
-  underway : IsUnderway {A = g.row.A.Denot} l.script l.fn.limits (Stands l.kernel) (string_bytes l.out) l.totals (lines l.rest) (g.T.Sink.contents l.initial.writer) (g.T.Sink.contents l.writer);
+  underway : (limits : Limits) → Stands l.initial.kernel (opening {A = g.row.A.Denot} limits) → IsUnderway {A = g.row.A.Denot} l.script limits (Stands l.kernel) (string_bytes l.out) l.totals (lines l.rest) (g.T.Sink.contents l.initial.writer) (g.T.Sink.contents l.writer);
   kept : g.T.Sink.has_stopped l.writer ≡ g.T.Sink.has_stopped l.initial.writer;
 }
 
