@@ -43,7 +43,8 @@ pub(crate) fn read_script<A: Allocator + Copy, S: Source>(
         if count == 0 {
             return Ok(script);
         }
-        if script.len() + count > MAX_SCRIPT_BYTES {
+        let grown = script.len() + count;
+        if grown > MAX_SCRIPT_BYTES {
             return Err(ScriptFault::TooLong);
         }
         script.extend_from_slice(&chunk[..count])?;
