@@ -8,10 +8,10 @@ use Rattle.std.proofs.lemmas.List.{get_or-set_same, get_or-set_other, length-map
 use Rattle.std.proofs.lemmas.List.Sums.{sum_by-cons}
 use Rattle.std.proofs.lemmas.Bool.Decides.{eqb_tells}
 use Rattle.slab.specs.Slab.{Slab, Updates}
-use Rattle.pl_model.specs.Map.{set_at}
+use Rattle.pl_model.specs.Map.{set_at, change_at}
 use Rattle.pl_desc.specs.declared.description.Description.{Description}
 use Rattle.pl_desc.specs.Rows.{at, Tables, naming, names, count_at, change_count}
-use Rattle.pl_desc.specs.Descs.{Opened, change_at}
+use Rattle.pl_desc.specs.Descs.{Opened}
 use Rattle.pl_desc.specs.Ends.{one_if}
 use Rattle.pl_desc.specs.Slots.{opened_of, opened_in, holders_of, loose_from, held_more, held_once, held_all}
 use Rattle.pl_desc.proofs.RowLemmas.{within}

@@ -1,5 +1,5 @@
 -- Open file descriptions and the tables that name them, as contracts see them.
-use Rattle.std.specs.Prelude.{◌≡◌, ◌≤◌, ◌<◌, ℕ, ◌+◌, nat_eq, Bool, false, ◌&&◌, List, length, Option, None, Some, IsSome, IfSome, is_some, option_map, if◌then◌else◌, count_by}
+use Rattle.std.specs.Prelude.{◌≡◌, ◌≤◌, ◌<◌, ℕ, ◌+◌, nat_eq, Bool, false, ◌&&◌, List, length, Option, None, Some, IsSome, IfSome, is_some, if◌then◌else◌, count_by}
 use Rattle.pl_model.specs.declared.calls.Mode.{Mode}
 use Rattle.pl_model.specs.declared.flags.OpenFlags.{OpenFlags}
 use Rattle.pl_model.specs.declared.node.Node.{Node}
@@ -30,10 +30,6 @@ pub record Descs : Type 0 where
   pub opened : List (Option Opened)
   pub loose : List ℕ
   pub room : Room
-
--- what a map has at a key changed
-abbrev pub change_at : {V : Type 0} → ℕ → (V → V) → (ℕ → Option V) → ℕ → Option V
-change_at key f m = λ q. if nat_eq key q then option_map f (m q) else m q
 
 -- whether two nodes are one
 abbrev pub same_node : Node → Node → Bool

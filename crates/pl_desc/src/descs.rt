@@ -4,10 +4,10 @@ mod described;
 ghost use Rattle.std.specs.Prelude.{◌≡◌, ℕ, ◌+◌, ◌-◌, ◌<◌, ◌≤◌, ◌^◌, ◌↔◌, [], length, IsTrue, IsOk, IfOk, OnErr, OnOk, IsSome, IfSome, OnSome, IfNone, Some, None, true, false, nat_eq, option_map, option_and_then, if◌then◌else◌};
 ghost use Rattle.std.specs.Option.{option_copied};
 ghost use Rattle.pl_model.specs.Numbers.{open_max, most_processes, most_descriptions};
-ghost use Rattle.pl_model.specs.Map.{set_at};
+ghost use Rattle.pl_model.specs.Map.{set_at, change_at};
 ghost use Rattle.pl_model.specs.Modes.{reads, writes};
 ghost use Rattle.pl_desc.specs.Rows.{at, table_of, rows_of, is_pid, row_at, row_of, lowest_of, first_open, free_pid, with_row, without_row, without_first, with_rows_of, count_at, change_count, one_more, one_less, more_if};
-ghost use Rattle.pl_desc.specs.Descs.{change_at, ends_on, live_count, HasRoom, IsNoLess, IsTidy, holders, last_hold, fresh, released};
+ghost use Rattle.pl_desc.specs.Descs.{ends_on, live_count, HasRoom, IsNoLess, IsTidy, holders, last_hold, fresh, released};
 
 use crate::description::{Description, hold_all};
 use crate::ends::Counts;

@@ -44,15 +44,15 @@ pub record Caller (A : Type 0) : Type 0 where
 module _ {A : Type 0} (k : Inside A) (invariant : IsSound A (view_of k) × AreCounted A k.descs k.parked.calls) where
   -- what is known of its fields
   abbrev pub known : Known A
-  known = record { descs = k.descs; nodes = pipes_alone k.pipes.pipes; calls = k.parked; limits = k.limits; sound = invariant.0; are = invariant.1 }
+  known = record { descs = k.descs; nodes = pipes_alone k.nodes.pipes; calls = k.parked; limits = k.limits; sound = invariant.0; are = invariant.1 }
 
   -- and of the process that calls
   abbrev pub caller : (self : Contents A) → view_of k ≡ self → (pid : ℕ) → is_pid self.tables pid ≡ true → Caller A
   caller self is pid process = record { kernel = known; pid = pid; process = ap (λ (z : Contents A). is_pid z.tables pid) is ∙ process }
 
   -- the same, where the descriptors are as they were
-  pub still_sound : (descs : Descs) → k.descs ≡ descs → (IsSound A (contents descs (pipes_alone k.pipes.pipes) k.parked k.limits)) × (AreCounted A descs k.parked.calls)
-  still_sound descs same = subst (λ (d : Descs). (IsSound A (contents d (pipes_alone k.pipes.pipes) k.parked k.limits)) × (AreCounted A d k.parked.calls)) same invariant
+  pub still_sound : (descs : Descs) → k.descs ≡ descs → (IsSound A (contents descs (pipes_alone k.nodes.pipes) k.parked k.limits)) × (AreCounted A descs k.parked.calls)
+  still_sound descs same = subst (λ (d : Descs). (IsSound A (contents d (pipes_alone k.nodes.pipes) k.parked k.limits)) × (AreCounted A d k.parked.calls)) same invariant
 
 -- A call is parked, and waits on a description that is open on a pipe.
 pub record CallOnPipe {A : Type 0} (k : Contents A) : Type 0 where

@@ -5,12 +5,11 @@
 #![tactic(auto)]
 
 mod access;
+mod fault;
 mod kernel;
 mod last_hold;
 mod opening;
 mod parking;
-mod pipes;
-mod queue;
 
+pub use fault::NoMemory;
 pub use kernel::Kernel;
-pub use pl_desc::NoMemory;

@@ -1,8 +1,9 @@
 //! What a description is open on and for, its flags and its offset.
 ghost use Rattle.std.specs.Prelude.{◌≡◌, IsSome, Some, option_map};
+ghost use Rattle.pl_model.specs.Map.{change_at};
 ghost use Rattle.pl_model.specs.Modes.{reads, writes};
 ghost use Rattle.pl_desc.specs.Rows.{at};
-ghost use Rattle.pl_desc.specs.Descs.{change_at, ends_on, live_count, IsTidy};
+ghost use Rattle.pl_desc.specs.Descs.{ends_on, live_count, IsTidy};
 
 use super::Descs;
 use pl_model::{Mode, Node, OpenFlags};

@@ -22,7 +22,7 @@ use Rattle.pl_kernel.specs.Contents.{Nodes, IsThere, has_name}
 use Rattle.pl_kernel.specs.LastHold.{is_kept, is_open_on, ended_pipe, pipes_left, files_left, Leaves, Releases}
 use Rattle.pl_kernel.specs.Sound.{AreThere}
 use Rattle.pl_kernel.proofs.holders.Holding.{some_counted}
-use Rattle.pl_kernel.proofs.Views.{within}
+use Rattle.pl_nodes.proofs.Keyed.{within}
 
 -- what settling left is settled
 pub settled_after : {A : Type 0} (c before u : Core A numbers) → c ≡ settle before u → IsSettled c

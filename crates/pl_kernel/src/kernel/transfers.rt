@@ -12,9 +12,9 @@ ghost use Rattle.pl_kernel.specs.Makes.{MakesAtKeys, MayWantAtKeys};
 
 use super::Kernel;
 use crate::access::{Access, OpenEnd};
+use crate::fault::NoMemory;
 use crate::opening::open_at;
 use bitflags::Flags;
-use pl_desc::NoMemory;
 use pl_model::numbers::MAX_DESCRIPTIONS;
 use pl_model::{Bytes8, Call, Errno, Mode, Node, OpenFlags, ReadCase, Reply, Step, WriteCase};
 use std::alloc::Allocator;
@@ -54,9 +54,9 @@ impl<A: Allocator + Copy> Kernel<A> {
             return Ok(Reply::Fault(Errno::ENFILE));
         }
         let flags = flags_of(nonblock);
-        let node = Node::Pipe(self.pipes.next_key());
+        let node = Node::Pipe(self.nodes.next_pipe());
         self.descs.reserve(node, 2)?;
-        self.pipes.make()?;
+        self.nodes.make_pipe()?;
         open_at(&mut self.descs, pid, first, node, Mode::Read, flags);
         open_at(&mut self.descs, pid, second, node, Mode::Write, flags);
         Ok(Reply::Fds(first as i32, second as i32))
@@ -94,7 +94,7 @@ impl<A: Allocator + Copy> Kernel<A> {
         requires { IsSome (at self.now.nodes.pipes pipe) }
         ensures { IfSome (at self.now.nodes.pipes pipe) (λ x. result ≡ read_case n (length x.bytes) (has_writer self.now.opened pipe)) }
     {
-        let held = self.pipes.held(pipe);
+        let held = self.nodes.held(pipe);
         let has_writer = self.descs.writers(Node::Pipe(pipe)) > 0;
         pl_decisions::case_of_read(n as usize, held, has_writer)
     }
@@ -112,7 +112,7 @@ impl<A: Allocator + Copy> Kernel<A> {
         ensures case { IfSome (at self.now.nodes.pipes pipe) (λ x. result ≡ write_case length taken (room x) (has_reader self.now.opened pipe) may_wait) }
         ensures fits { IfSome (at self.now.nodes.pipes pipe) (λ x. FitsRoom result length taken (room x)) }
     {
-        let room = self.pipes.room(pipe);
+        let room = self.nodes.room(pipe);
         let has_reader = self.descs.readers(Node::Pipe(pipe)) > 0;
         pl_decisions::case_of_write(length, taken, room, has_reader, may_wait)
     }
@@ -131,7 +131,7 @@ impl<A: Allocator + Copy> Kernel<A> {
         }
         match self.case_of_read(open.pipe, n) {
             ReadCase::Gives(count) => {
-                let bytes = self.pipes.take(open.pipe, count)?;
+                let bytes = self.nodes.read_pipe(open.pipe, count)?;
                 Ok(Reply::Bytes(Bytes8::from_vec(bytes).unwrap()))
             }
             ReadCase::EndOfFile => Ok(no_bytes(self.alloc)),
@@ -173,7 +173,8 @@ impl<A: Allocator + Copy> Kernel<A> {
                 sigpipe: true,
             }),
             WriteCase::Ends { from, to } => {
-                self.pipes.append(open.pipe, &bytes.as_slice()[from..to])?;
+                self.nodes
+                    .write_pipe(open.pipe, &bytes.as_slice()[from..to])?;
                 Ok(Reply::Count {
                     n: to as u32,
                     sigpipe: false,

@@ -15,9 +15,9 @@ ghost use Rattle.pl_kernel.specs.Makes.{MakesAtKeys, MayWantAtKeys};
 use super::Kernel;
 use super::transfers::no_bytes;
 use crate::access::OpenEnd;
+use crate::fault::NoMemory;
 use crate::last_hold::release_all;
 use crate::parking::park_call;
-use pl_desc::NoMemory;
 use pl_model::{Bytes8, Call, Errno, ReadCase, Reply, Step, WriteCase};
 use std::alloc::Allocator;
 
@@ -93,12 +93,12 @@ impl<A: Allocator + Copy> Kernel<A> {
         )?;
         let call = self.parked.get(number).unwrap();
         let bytes = bytes_of(&call.call);
-        match self.pipes.append(end.pipe, &bytes[..taken]) {
+        match self.nodes.write_pipe(end.pipe, &bytes[..taken]) {
             Ok(()) => {
                 self.descs.hold(end.key);
                 Ok(number)
             }
-            Err(NoMemory) => {
+            Err(pl_nodes::NoMemory) => {
                 self.parked.unpark(number);
                 Err(NoMemory)
             }
@@ -111,7 +111,7 @@ impl<A: Allocator + Copy> Kernel<A> {
         ensures { core_of self.new ≡ settle (core_of self.old) (without_call (core_of self.old) number) }
     {
         let call = self.parked.take(number).unwrap();
-        release_all(&mut self.descs, &mut self.pipes, call.kept.as_slice());
+        release_all(&mut self.descs, &mut self.nodes, call.kept.as_slice());
     }
 
     fn resume_read(&mut self, number: u64, key: usize, n: u32) -> Result<Reply<A>, NoMemory>
@@ -123,7 +123,7 @@ impl<A: Allocator + Copy> Kernel<A> {
         let pipe = self.pipe_of(key);
         match self.case_of_read(pipe, n) {
             ReadCase::Gives(count) => {
-                let bytes = self.pipes.take(pipe, count)?;
+                let bytes = self.nodes.read_pipe(pipe, count)?;
                 self.end_call(number);
                 Ok(Reply::Bytes(Bytes8::from_vec(bytes).unwrap()))
             }
@@ -162,7 +162,8 @@ impl<A: Allocator + Copy> Kernel<A> {
             }
             WriteCase::Ends { from, to } => {
                 let call = self.parked.get(number).unwrap();
-                self.pipes.append(pipe, &bytes_of(&call.call)[from..to])?;
+                self.nodes
+                    .write_pipe(pipe, &bytes_of(&call.call)[from..to])?;
                 self.end_call(number);
                 Ok(Reply::Count {
                     n: to as u32,
@@ -171,7 +172,8 @@ impl<A: Allocator + Copy> Kernel<A> {
             }
             WriteCase::Waits { from, to } => {
                 let call = self.parked.get(number).unwrap();
-                self.pipes.append(pipe, &bytes_of(&call.call)[from..to])?;
+                self.nodes
+                    .write_pipe(pipe, &bytes_of(&call.call)[from..to])?;
                 self.parked.set_taken(number, to as u32);
                 Ok(Reply::Parked(number))
             }

@@ -9,8 +9,8 @@ use Rattle.pl_kernel.proofs.last_hold.release_all.Given as goal
 -- the keys before this place are released, and each of the others is held
 abbrev pub invariant-loop-place : goal.invariant-loop-place
 invariant-loop-place g l = record {
-  released : ReleasesAll (take l.place l.keys) l.fn.descs l.descs (pipes_alone l.fn.pipes.pipes) (pipes_alone l.pipes.pipes);
+  released : ReleasesAll (take l.place l.keys) l.fn.descs l.descs (pipes_alone l.fn.nodes.pipes) (pipes_alone l.nodes.pipes);
   held : (key : ℕ) → times (drop l.place l.keys) key ≤ count_at l.descs.loose key;
-  there : AreThere (at l.descs.opened) (pipes_alone l.pipes.pipes);
+  there : AreThere (at l.descs.opened) (pipes_alone l.nodes.pipes);
   tidy : IsTidy l.descs;
 }

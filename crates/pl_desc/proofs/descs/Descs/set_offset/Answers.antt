@@ -1,8 +1,9 @@
 use Rattle.std.proofs.Common.{◌≡◌, ap, ◌∙◌, refl, Some, slice_set, subst, sym, IsSome}
+use Rattle.pl_model.specs.Map.{change_at}
 use Rattle.pl_model.specs.Modes.{reads, writes}
 use Rattle.pl_desc.specs.declared.description.Description.{Description}
 use Rattle.pl_desc.specs.Rows.{at}
-use Rattle.pl_desc.specs.Descs.{Descs, change_at, live_count, ends_on}
+use Rattle.pl_desc.specs.Descs.{Descs, live_count, ends_on}
 use Rattle.pl_desc.specs.Slots.{opened_in}
 use Rattle.pl_desc.proofs.SlotLemmas.{opened-change, slot_of}
 use Rattle.pl_desc.proofs.Sound.{tidy}

@@ -1,0 +1,55 @@
+-- Lists by key, and maps that change at one key.
+use Rattle.std.proofs.Common.{◌≡◌, ◌≢◌, ℕ, zero, suc, ◌<◌, List, [], ◌∷◌, Option, Some, None, refl, sym, ◌∙◌, ap, inl, inr, nat_eq, map, length, slice_set, arith}
+use Rattle.std.proofs.Math.Path.{fun_ext}
+use Rattle.std.proofs.Math.ListN.{get_or-map}
+use Rattle.std.specs.Prelude.{if◌then◌else◌, option_map, Result, Ok, Err, OnErr}
+use Rattle.std.proofs.lemmas.Bool.{eq-eqb, ne_eqb}
+use Rattle.std.proofs.lemmas.Bool.Decides.{eqb_tells}
+use Rattle.pl_model.specs.Map.{set_at, change_at}
+use Rattle.pl_segments.specs.Segments.{at}
+
+-- what holds anyway, of an `Err`
+pub on_err : {T E : Type 0} (r : Result T E) (P : Type 0) → P → OnErr r P
+on_err (Ok x) P h = tt
+on_err (Err e) P h = h
+
+pub at-map : {T V : Type 0} (f : T → V) (xs : List (Option T)) (q : ℕ) → at (map (option_map f) xs) q ≡ option_map f (at xs q)
+at-map f xs q = get_or-map (option_map f) xs q None
+
+-- a key with a value is within the list
+pub within : {V : Type 0} (xs : List (Option V)) (k : ℕ) (x : V) → at xs k ≡ Some x → k < length xs
+within [] k x e = absurd (cc)
+within (y ∷ ys) zero x e = omega arith
+within (y ∷ ys) (suc k) x e = let l : k < length ys = within ys k x e in omega arith
+
+-- what was there is put back
+pub put-back : {V : Type 0} (xs : List (Option V)) (k : ℕ) (x y : V) → at xs k ≡ Some x → y ≡ x → slice_set xs k (Some y) ≡ xs
+put-back [] k x y there e = refl
+put-back (z ∷ xs) zero x y there e = ap (λ o. o ∷ xs) (ap (λ v. Some v) e ∙ sym there)
+put-back (z ∷ xs) (suc k) x y there e = ap (λ zs. z ∷ zs) (put-back xs k x y there e)
+
+-- a map that has this at a key and agrees elsewhere
+pub is_set_at : {V : Type 0} (m n : ℕ → V) (k : ℕ) (v : V) → n k ≡ v → ((q : ℕ) → q ≢ k → n q ≡ m q) → n ≡ set_at nat_eq m k v
+is_set_at m n k v here there = fun_ext (λ q. at_q q)
+  where
+    at_q : (q : ℕ) → n q ≡ (if nat_eq k q then v else m q)
+    at_q q = elim (eqb_tells k q) as (λ _. n q ≡ (if nat_eq k q then v else m q)) [
+      | inl e ↦ ap n (sym e.1) ∙ here ∙ ap (λ b. if b then v else m q) (sym e.0)
+      | inr e ↦ there q (λ h. e.1 (sym h)) ∙ ap (λ b. if b then v else m q) (sym e.0)
+    ]
+
+-- a map that has the changed value at a key and agrees elsewhere
+pub is_change_at : {V : Type 0} (m n : ℕ → Option V) (k : ℕ) (f : V → V) → n k ≡ option_map f (m k) → ((q : ℕ) → q ≢ k → n q ≡ m q) → n ≡ change_at k f m
+is_change_at m n k f here there = fun_ext (λ q. at_q q)
+  where
+    at_q : (q : ℕ) → n q ≡ (if nat_eq k q then option_map f (m q) else m q)
+    at_q q = elim (eqb_tells k q) as (λ _. n q ≡ (if nat_eq k q then option_map f (m q) else m q)) [
+      | inl e ↦ ap n (sym e.1) ∙ here ∙ ap (λ j. option_map f (m j)) e.1 ∙ ap (λ b. if b then option_map f (m q) else m q) (sym e.0)
+      | inr e ↦ there q (λ h. e.1 (sym h)) ∙ ap (λ b. if b then option_map f (m q) else m q) (sym e.0)
+    ]
+
+-- a change at a key with a value
+pub change_at-is : {V : Type 0} (k : ℕ) (f : V → V) (m : ℕ → Option V) (x : V) → m k ≡ Some x → change_at k f m ≡ set_at nat_eq m k (Some (f x))
+change_at-is k f m x e = is_set_at m (change_at k f m) k (Some (f x))
+    (ap (λ b. if b then option_map f (m k) else m k) (eq-eqb k k refl) ∙ ap (option_map f) e)
+    (λ q n. ap (λ b. if b then option_map f (m q) else m q) (ne_eqb k q (λ h. n (sym h))))

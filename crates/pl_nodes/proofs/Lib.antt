@@ -1,0 +1,3 @@
+pub mod Keyed
+pub mod Lists
+pub mod OneChanged

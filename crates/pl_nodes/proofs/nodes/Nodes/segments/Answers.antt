@@ -1,0 +1,13 @@
+use Rattle.std.proofs.Common.{◌∙◌, ap}
+use Rattle.pl_segments.specs.Segments.{segment_at, at}
+use Rattle.pl_nodes.specs.Nodes.{Nodes}
+use Rattle.pl_nodes.specs.NodesView.{lists}
+use Rattle.pl_nodes.proofs.Lists.{no-segments, unseen-slots}
+use Rattle.pl_nodes.proofs.nodes.Nodes.segments.Goals as goal
+
+pub returns-clause-none : goal.returns-clause-none
+returns-clause-none g c = λ none.
+    let k = c.self.inside in
+    c.in_use.ensures.value
+    ∙ no-segments k.store.held (lists k.pipes.slots) c.in_use.ensures.good c.self.invariant
+    (unseen-slots (segment_at k.store) k.pipes.slots (λ q. ap (λ (v : Nodes). at v.pipes q) c.self.view_is ∙ none q))
