@@ -1,3 +1,4 @@
 pub mod Keyed
 pub mod Lists
 pub mod OneChanged
+pub mod AtKey

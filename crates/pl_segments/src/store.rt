@@ -70,6 +70,7 @@ impl<A: Allocator + Copy> Store<A> {
     }
 
     /// Makes room for `count` more segments, so that making them takes no memory. Nothing else changes.
+    #[inline(always)]
     pub fn reserve(&mut self, count: usize) -> Result<(), NoMemory>
         ensures room { OnOk result (count ≤ self.new.room) }
         ensures grows { self.old.room ≤ self.new.room }

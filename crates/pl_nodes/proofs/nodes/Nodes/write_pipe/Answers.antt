@@ -1,25 +1,15 @@
-use Rattle.std.proofs.Common.{◌≤◌, ◌∙◌, ◌++◌, refl, ap, sym, subst, length, arith}
+use Rattle.std.proofs.Common.{◌≤◌, ◌∙◌, ◌++◌, ap, length, arith}
 use Rattle.pl_model.specs.Map.{change_at}
-use Rattle.pl_model.specs.State.{Pipe}
 use Rattle.pl_model.specs.Transfer.{room}
-use Rattle.pl_segments.specs.Segments.{Segments, segment_at, at, live_count}
-use Rattle.pl_segments.specs.Turns.{Holds, Turns}
-use Rattle.pl_segments.proofs.Turning.{turns-same}
-use Rattle.pl_ring.specs.Ring.{Ring}
+use Rattle.pl_segments.specs.Segments.{Segments, segment_at, at}
 use Rattle.pl_nodes.specs.Nodes.{Nodes}
-use Rattle.pl_nodes.specs.NodesView.{seen}
-use Rattle.pl_nodes.proofs.Keyed.{on_err, put-back}
-use Rattle.pl_nodes.proofs.OneChanged.{node-held, node-total, node-told, changed-shared, changed-seen}
-use Rattle.pl_nodes.proofs.nodes.Nodes.write_pipe.Given.{Over}
-use Rattle.pl_nodes.proofs.nodes.Nodes.write_pipe.Goals.{After-index_mut-node}
+use Rattle.pl_nodes.proofs.Keyed.{on_err}
+use Rattle.pl_nodes.proofs.OneChanged.{node-total, node-told}
+use Rattle.pl_nodes.proofs.AtKey.{ring-held, refused-shared, refused-seen, done-shared, done-seen}
 use Rattle.pl_nodes.proofs.nodes.Nodes.write_pipe.Goals as goal
 
--- the slots of the pipe are held
-held : (g : Over) (c : After-index_mut-node g) → Holds (segment_at c.self.inside.store) c.index_mut-node.result.now.ring.slots
-held g c = node-held (segment_at c.self.inside.store) c.self.inside.pipes.slots c.args.key c.index_mut-node.result.now c.index_mut-node.ensures.value c.self.invariant
-
 pub push_bytes-requires-clause-held : goal.push_bytes-requires-clause-held
-push_bytes-requires-clause-held g c = held g (goal.at.push_bytes-requires-clause-held g c).After-index_mut-node
+push_bytes-requires-clause-held g c = ring-held c.self.inside c.args.key c.index_mut-node.result.now c.index_mut-node.ensures.value c.self.invariant
 
 pub push_bytes-requires-clause-fits : goal.push_bytes-requires-clause-fits
 push_bytes-requires-clause-fits g c =
@@ -33,37 +23,23 @@ push_bytes-requires-clause-fits g c =
 
 pub invariant_of-self : goal.invariant_of-self
 invariant_of-self g c =
-    let k = c.self.inside in
-    let node = c.index_mut-node.result.now in
-    let slots = node.ring.slots in
-    let lie = (held g (goal.at.invariant_of-self g c).After-index_mut-node).lie in
     let refused = c.in_err-push_bytes.ensures in
-    changed-shared (segment_at k.store) k.pipes.slots c.args.key node c.index_mut-node.ensures.value c.self.invariant (segment_at c.push_bytes.new.store) slots
-    (subst (λ n. Turns (segment_at k.store) slots n slots) (sym (ap (λ (s : Segments). segment_at s) refused.store_err)) (turns-same (segment_at k.store) slots lie))
-    (record node { ring = c.push_bytes.new.self }) (ap (λ (r : Ring). r.slots) refused.err)
+    refused-shared c.self.inside c.args.key c.index_mut-node.result.now c.index_mut-node.ensures.value c.self.invariant c.push_bytes.new.store c.push_bytes.new.self
+    (ap (λ (s : Segments). s.held) refused.store_err) refused.err
 
 pub returns-in_err-push_bytes-clause-err : goal.returns-in_err-push_bytes-clause-err
 returns-in_err-push_bytes-clause-err g c =
-    let k = c.self.inside in
-    let node = c.index_mut-node.result.now in
     let refused = c.in_err-push_bytes.ensures in
-    let kept = put-back k.pipes.slots c.args.key node (record node { ring = c.push_bytes.new.self }) c.index_mut-node.ensures.value (λ i. record node { ring = refused.err i }) in
     on_err c.from_residual.result _
-    ((λ i. record { pipes = seen (segment_at (refused.store_err i)) (kept i); next = k.pipes.vacant_key; segments = live_count (refused.store_err i).held })
-    ∙ c.self.view_is)
+    (refused-seen c.self.inside c.args.key c.index_mut-node.result.now c.index_mut-node.ensures.value c.self.invariant c.push_bytes.new.store c.push_bytes.new.self
+    (ap (λ (s : Segments). s.held) refused.store_err) refused.err ∙ c.self.view_is)
 
 pub invariant_of-self-2 : goal.invariant_of-self-2
 invariant_of-self-2 g c =
-    let k = c.self.inside in
-    let node = c.index_mut-node.result.now in
-    changed-shared (segment_at k.store) k.pipes.slots c.args.key node c.index_mut-node.ensures.value c.self.invariant (segment_at c.push_bytes.new.store) c.push_bytes.new.self.slots
-    c.in_ok-push_bytes.ensures.turns (record node { ring = c.push_bytes.new.self }) refl
+    done-shared c.self.inside c.args.key c.index_mut-node.result.now c.index_mut-node.ensures.value c.self.invariant c.push_bytes.new.store c.push_bytes.new.self c.in_ok-push_bytes.ensures.turns
 
 pub returns-clause-ok : goal.returns-clause-ok
 returns-clause-ok g c =
-    let k = c.self.inside in
-    let node = c.index_mut-node.result.now in
     let done = c.in_ok-push_bytes.ensures in
-    changed-seen (segment_at k.store) k.pipes.slots c.args.key node c.index_mut-node.ensures.value c.self.invariant (segment_at c.push_bytes.new.store) c.push_bytes.new.self.slots
-    done.turns (record node { ring = c.push_bytes.new.self }) refl (λ (x : Pipe). record x { bytes = x.bytes ++ c.args.bytes.now }) (λ i. record { bytes = done.read i; capacity = done.capacity i; hung = node.hung })
-    ∙ ap (λ (v : Nodes). change_at c.args.key (λ (x : Pipe). record x { bytes = x.bytes ++ c.args.bytes.now }) (at v.pipes)) c.self.view_is
+    done-seen c.self.inside c.args.key c.index_mut-node.result.now c.index_mut-node.ensures.value c.self.invariant c.push_bytes.new.store c.push_bytes.new.self done.turns (λ bs. bs ++ c.args.bytes.now) done.read done.capacity
+    ∙ ap (λ (v : Nodes). change_at c.args.key (λ x. record x { bytes = x.bytes ++ c.args.bytes.now }) (at v.pipes)) c.self.view_is
