@@ -1,49 +1,96 @@
--- A call on the ring of one pipe, with the store of all.
-use Rattle.std.proofs.Common.{◌≡◌, ℕ, List, Option, Some, refl, sym, ap, subst, slice_set}
-use Rattle.pl_model.specs.Map.{change_at}
-use Rattle.pl_segments.specs.Segments.{Segments, segment_at, at, live_count}
-use Rattle.pl_segments.specs.Slices.{all_read}
+-- A call on what is under one key, with the store of all.
+use Rattle.std.proofs.Common.{◌≡◌, ◌≤◌, ℕ, ◌<◌, ◌^◌, List, [], Option, Some, None, refl, sym, ◌∙◌, ap, subst, slice_set, length, map, inl, inr, arith}
+use Rattle.std.specs.Prelude.{option_map}
+use Rattle.std.proofs.lemmas.Bool.Decides.{eqb_tells}
+use Rattle.std.proofs.lemmas.List.{get_or-set_same, get_or-set_other}
+use Rattle.pl_model.specs.Numbers.{most_file_bytes}
+use Rattle.pl_segments.specs.declared.slice.Slice.{Slice}
+use Rattle.pl_segments.specs.Segments.{Segments, segment_at, at, holders, live_count}
 use Rattle.pl_segments.specs.Turns.{Holds, Turns}
-use Rattle.pl_segments.specs.Sharing.{AreShared}
-use Rattle.pl_segments.proofs.Turning.{turns-same}
-use Rattle.pl_ring.specs.Ring.{Ring}
-use Rattle.pl_nodes.specs.declared.nodes.PipeNode.{PipeNode}
+use Rattle.pl_segments.specs.Sharing.{slots_at, AreShared}
+use Rattle.pl_nodes.specs.declared.content.PipeNode.{PipeNode}
+use Rattle.pl_nodes.specs.declared.content.Content.{Content}
+use Rattle.pl_nodes.specs.declared.content.Content.TheVariants.{Pipe, File}
+use Rattle.pl_nodes.specs.Contents.{as_pipe, as_file}
 use Rattle.pl_nodes.specs.declared.nodes.Nodes.TheInside.{Inside}
-use Rattle.pl_nodes.specs.NodesView.{seen, view_of, lists, IsShared}
-use Rattle.pl_nodes.proofs.Keyed.{put-back}
-use Rattle.pl_nodes.proofs.OneChanged.{node-held, changed-shared, changed-seen}
+use Rattle.pl_nodes.specs.NodesView.{pipe_in, file_in, slots_in, lists, view_of, IsSound}
+use Rattle.pl_nodes.proofs.Keyed.{put-back, within}
+use Rattle.pl_nodes.proofs.Lists.{lists-at, lists-length, named-few}
+use Rattle.pl_nodes.proofs.OneChanged.{content-held, changed-shared}
 
-module _ {A : Type 0} (k : Inside A) (key : ℕ) (node : PipeNode A) (there : at k.pipes.slots key ≡ Some node) (shared : IsShared k) where
-  pub ring-held : Holds (segment_at k.store) node.ring.slots
-  ring-held = node-held (segment_at k.store) k.pipes.slots key node there shared
+-- what turned out to be a pipe, or a file, stands there as that
+pub pipe-there : {A : Type 0} (contents : List (Option (Content A))) (key : ℕ) (x : Content A) (p : PipeNode A) → at contents key ≡ Some x → Some p ≡ as_pipe x → at contents key ≡ Some (Pipe p)
+pipe-there contents key (Pipe y) p there is = there ∙ ap (λ o. option_map (λ z. Pipe z) o) (sym is)
+pipe-there contents key (File y) p there is = absurd (cc)
 
-  -- the pipes with another ring in its place
-  abbrev with_ring : Ring → List (Option (PipeNode A))
-  with_ring ring = slice_set k.pipes.slots key (Some (record node { ring = ring }))
+pub file-there : {A : Type 0} (contents : List (Option (Content A))) (key : ℕ) (x : Content A) (slots : List Slice) → at contents key ≡ Some x → Some slots ≡ as_file x → at contents key ≡ Some (File slots)
+file-there contents key (Pipe y) slots there is = absurd (cc)
+file-there contents key (File y) slots there is = there ∙ ap (λ o. option_map (λ z. File z) o) (sym is)
 
-  module _ (store : Segments) (ring : Ring) where
-    -- where it was refused the ring is as it was, and so are the segments
-    module _ (kept : store.held ≡ k.store.held) (same : ring ≡ node.ring) where
-      pub refused-shared : AreShared (segment_at store) (lists (with_ring ring))
-      refused-shared =
-          changed-shared (segment_at k.store) k.pipes.slots key node there shared (segment_at store) node.ring.slots
-          (subst (λ n. Turns (segment_at k.store) node.ring.slots n node.ring.slots) (sym (ap at kept)) (turns-same (segment_at k.store) node.ring.slots ring-held.lie))
-          (record node { ring = ring }) (ap (λ (r : Ring). r.slots) same)
+module _ {A : Type 0} (k : Inside A) (key : ℕ) (old : Content A) (there : at k.contents.slots key ≡ Some old) (sound : IsSound k) where
+  pub held : Holds (segment_at k.store) (slots_in (Some old))
+  held = content-held (segment_at k.store) k.contents.slots key old there sound.shared
 
-      pub refused-seen : record { pipes = seen (segment_at store) (with_ring ring); next = k.pipes.vacant_key; segments = live_count store.held } ≡ view_of k
-      refused-seen = (λ i. record {
-        pipes = seen (at (kept i)) (put-back k.pipes.slots key node (record node { ring = ring }) there (λ j. record node { ring = same j }) i);
-        next = k.pipes.vacant_key;
-        segments = live_count (kept i);
-      })
+  -- it has as few slots as it may
+  pub slots-short : length (slots_in (Some old)) ≤ most_file_bytes
+  slots-short = subst (λ (xs : List Slice). length xs ≤ most_file_bytes) (lists-at k.contents.slots key ∙ ap slots_in there) (sound.short key)
 
-    -- where it was done its bytes are others
-    module _ (turns : Turns (segment_at k.store) node.ring.slots (segment_at store) ring.slots) where
-      pub done-shared : AreShared (segment_at store) (lists (with_ring ring))
-      done-shared = changed-shared (segment_at k.store) k.pipes.slots key node there shared (segment_at store) ring.slots turns (record node { ring = ring }) refl
+  -- the nodes with another store, and other content under the key
+  abbrev pub with_content : Segments → Content A → Inside A
+  with_content store new = record k { store = store; contents = record k.contents { slots = slice_set k.contents.slots key (Some new) } }
 
-      pub done-seen : (f : List ℕ → List ℕ) → all_read (segment_at store) ring.slots ≡ f (all_read (segment_at k.store) node.ring.slots) → ring.capacity ≡ node.ring.capacity
-          → at (seen (segment_at store) (with_ring ring)) ≡ change_at key (λ x. record x { bytes = f x.bytes }) (at (view_of k).pipes)
-      done-seen f read capacity =
-          changed-seen (segment_at k.store) k.pipes.slots key node there shared (segment_at store) ring.slots turns (record node { ring = ring }) refl
-          (λ x. record x { bytes = f x.bytes }) (λ i. record { bytes = read i; capacity = capacity i; hung = node.hung })
+  module _ (store : Segments) (new : Content A) where
+    -- it has as few slots as it may
+    still-short : length (slots_in (Some new)) ≤ most_file_bytes → (q : ℕ) → length (slots_at (lists (slice_set k.contents.slots key (Some new))) q) ≤ most_file_bytes
+    still-short few q = elim (eqb_tells q key) as (λ _. length (slots_at (lists (slice_set k.contents.slots key (Some new))) q) ≤ most_file_bytes) [
+      | inl e ↦
+          let is = lists-at (slice_set k.contents.slots key (Some new)) q ∙ ap (λ j. slots_in (at (slice_set k.contents.slots key (Some new)) j)) e.1 ∙ ap slots_in (get_or-set_same k.contents.slots key (Some new) None (within k.contents.slots key old there)) in
+          subst (λ (xs : List Slice). length xs ≤ most_file_bytes) (sym is) few
+      | inr e ↦
+          let is = lists-at (slice_set k.contents.slots key (Some new)) q ∙ ap slots_in (get_or-set_other k.contents.slots key q (Some new) None e.1) ∙ sym (lists-at k.contents.slots q) in
+          subst (λ (xs : List Slice). length xs ≤ most_file_bytes) (sym is) (sound.short q)
+    ]
+
+    pub still-sound : Turns (segment_at k.store) (slots_in (Some old)) (segment_at store) (slots_in (Some new)) → length (slots_in (Some new)) ≤ most_file_bytes → IsSound (with_content store new)
+    still-sound turns few = record {
+      shared = changed-shared (segment_at k.store) k.contents.slots key old there sound.shared (segment_at store) (slots_in (Some new)) turns new refl;
+      short = still-short few;
+      most = sound.most;
+    }
+
+  -- where it was refused the content is as it was, and so are the segments
+  module _ (store : Segments) (kept : store.held ≡ k.store.held) (new : Content A) (same : new ≡ old) where
+    refused-contents : slice_set k.contents.slots key (Some new) ≡ k.contents.slots
+    refused-contents = put-back k.contents.slots key old new there same
+
+    pub refused-sound : IsSound (with_content store new)
+    refused-sound = record {
+      shared = subst (λ m. AreShared m (lists (slice_set k.contents.slots key (Some new)))) (sym (ap at kept)) (subst (λ cs. AreShared (segment_at k.store) (lists cs)) (sym refused-contents) sound.shared);
+      short = subst (λ cs. (q : ℕ) → length (slots_at (lists cs) q) ≤ most_file_bytes) (sym refused-contents) sound.short;
+      most = sound.most;
+    }
+
+    pub refused-seen : view_of (with_content store new) ≡ view_of k
+    refused-seen = (λ i. record {
+      pipes = map (pipe_in (at (kept i))) (refused-contents i);
+      files = map (file_in (at (kept i))) (refused-contents i);
+      next = k.contents.vacant_key;
+      segments = live_count (kept i);
+      file_max = k.file_max;
+    })
+
+-- no segment has more holders than the count can tell
+pub few-holders : {A : Type 0} (k : Inside A) → IsSound k → length k.contents.slots < 2 ^ 64 → (key : ℕ) → holders (segment_at k.store) key < 2 ^ 100
+few-holders k sound short key =
+    let named = named-few (lists k.contents.slots) most_file_bytes sound.short key in
+    let counted = sound.shared.counted key in
+    let len = lists-length k.contents.slots in
+    omega (arith, named, counted, len, short)
+
+-- where there is nothing all is well
+pub empty-sound : {A : Type 0} (k : Inside A) → k.store.held ≡ [] → k.contents.slots ≡ [] → k.file_max ≤ most_file_bytes → IsSound k
+empty-sound k none nothing most = record {
+  shared = subst (λ cs. AreShared (segment_at k.store) (lists cs)) (sym nothing) (record { counted = λ key. ap (λ held. holders (at held) key) none; lie = λ q. tt });
+  short = λ q. subst (λ cs. length (slots_at (lists cs) q) ≤ most_file_bytes) (sym nothing) (omega arith);
+  most = most;
+}

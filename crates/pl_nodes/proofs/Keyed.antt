@@ -1,8 +1,7 @@
 -- Lists by key, and maps that change at one key.
-use Rattle.std.proofs.Common.{◌≡◌, ◌≢◌, ℕ, zero, suc, ◌<◌, List, [], ◌∷◌, Option, Some, None, refl, sym, ◌∙◌, ap, inl, inr, nat_eq, map, length, slice_set, arith}
+use Rattle.std.proofs.Common.{◌≡◌, ◌≢◌, ℕ, zero, suc, ◌<◌, List, [], ◌∷◌, Option, Some, refl, sym, ◌∙◌, ap, inl, inr, nat_eq, length, slice_set, arith}
 use Rattle.std.proofs.Math.Path.{fun_ext}
-use Rattle.std.proofs.Math.ListN.{get_or-map}
-use Rattle.std.specs.Prelude.{if◌then◌else◌, option_map, Result, Ok, Err, OnErr}
+use Rattle.std.specs.Prelude.{if◌then◌else◌, option_map, Result, Ok, Err, IfOk, OnErr}
 use Rattle.std.proofs.lemmas.Bool.{eq-eqb, ne_eqb}
 use Rattle.std.proofs.lemmas.Bool.Decides.{eqb_tells}
 use Rattle.pl_model.specs.Map.{set_at, change_at}
@@ -12,9 +11,6 @@ use Rattle.pl_segments.specs.Segments.{at}
 pub on_err : {T E : Type 0} (r : Result T E) (P : Type 0) → P → OnErr r P
 on_err (Ok x) P h = tt
 on_err (Err e) P h = h
-
-pub at-map : {T V : Type 0} (f : T → V) (xs : List (Option T)) (q : ℕ) → at (map (option_map f) xs) q ≡ option_map f (at xs q)
-at-map f xs q = get_or-map (option_map f) xs q None
 
 -- a key with a value is within the list
 pub within : {V : Type 0} (xs : List (Option V)) (k : ℕ) (x : V) → at xs k ≡ Some x → k < length xs
@@ -53,3 +49,8 @@ pub change_at-is : {V : Type 0} (k : ℕ) (f : V → V) (m : ℕ → Option V) (
 change_at-is k f m x e = is_set_at m (change_at k f m) k (Some (f x))
     (ap (λ b. if b then option_map f (m k) else m k) (eq-eqb k k refl) ∙ ap (option_map f) e)
     (λ q n. ap (λ b. if b then option_map f (m q) else m q) (ne_eqb k q (λ h. n (sym h))))
+
+-- what follows from what holds of an `Ok`
+pub if_ok : {T E : Type 0} (r : Result T E) (P Q : T → Type 0) → IfOk r P → ((x : T) → P x → Q x) → IfOk r Q
+if_ok (Ok x) P Q h f = f x h
+if_ok (Err e) P Q h f = h

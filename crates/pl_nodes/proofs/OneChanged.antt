@@ -1,87 +1,114 @@
--- The slots of one pipe change, and with them the store.
-use Rattle.std.proofs.Common.{◌≡◌, ◌≢◌, ℕ, ◌<◌, List, [], Option, Some, None, refl, sym, ◌∙◌, ap, subst, inl, inr, nat_eq, length, set, slice_set, arith}
-use Rattle.std.specs.Prelude.{option_map, IfSome}
+-- The slots of one pipe or file change, and with them the store.
+use Rattle.std.proofs.Common.{◌≡◌, ◌≢◌, ℕ, ◌<◌, List, [], Option, Some, None, refl, sym, ◌∙◌, ap, subst, inl, inr, nat_eq, length, map, set, slice_set, arith}
+use Rattle.std.proofs.Math.Path.{fun_ext}
+use Rattle.std.proofs.Math.ListN.{get_or-map}
+use Rattle.std.specs.Prelude.{option_map, slice_index_or}
 use Rattle.std.proofs.lemmas.Bool.Decides.{eqb_tells}
 use Rattle.std.proofs.lemmas.List.{get_or-set_same, get_or-set_other}
 use Rattle.pl_model.specs.Map.{set_at, change_at}
-use Rattle.pl_model.specs.State.{Pipe}
+use Rattle.pl_model.specs.State.{Pipe as PipeState}
 use Rattle.pl_segments.specs.declared.slice.Slice.{Slice}
 use Rattle.pl_segments.specs.Segments.{Map, at}
 use Rattle.pl_segments.specs.Slices.{all_read}
 use Rattle.pl_segments.specs.Turns.{Holds, Turns}
 use Rattle.pl_segments.specs.Sharing.{slots_at, AreShared}
-use Rattle.pl_segments.specs.Slots.{total}
-use Rattle.pl_segments.proofs.SlotLemmas.{total-read}
 use Rattle.pl_segments.proofs.Shared.{one-held, shared-turned, others-same}
 use Rattle.slab.specs.Slab.{Slab, Updates}
-use Rattle.pl_nodes.specs.declared.nodes.PipeNode.{PipeNode}
-use Rattle.pl_nodes.specs.NodesView.{pipe_of, seen, slots_in, lists}
-use Rattle.pl_nodes.proofs.Keyed.{at-map, within, is_set_at, is_change_at}
+use Rattle.pl_nodes.specs.declared.content.Content.{Content}
+use Rattle.pl_nodes.specs.declared.content.Content.TheVariants.{Pipe, File}
+use Rattle.pl_nodes.specs.NodesView.{pipe_in, file_in, slots_in, lists}
+use Rattle.pl_nodes.proofs.Keyed.{within, is_set_at, is_change_at}
 use Rattle.pl_nodes.proofs.Lists.{lists-at, lists-length, lists-set, same-shared}
 
--- a pipe that reads the same from another store is the same
-same-pipe : {A : Type 0} (m n : Map) (o : Option (PipeNode A)) → all_read n (slots_in o) ≡ all_read m (slots_in o) → option_map (pipe_of n) o ≡ option_map (pipe_of m) o
+-- A sight of what is under a key: nothing of nothing, and the same where the slots read the same.
+pub record Sight (A V : Type 0) : Type 0 where
+  pub see : Map → Option (Content A) → Option V
+  pub nothing : (m : Map) → see m None ≡ None
+  pub same : (m n : Map) (o : Option (Content A)) → all_read n (slots_in o) ≡ all_read m (slots_in o) → see n o ≡ see m o
+
+pub same-pipe : {A : Type 0} (m n : Map) (o : Option (Content A)) → all_read n (slots_in o) ≡ all_read m (slots_in o) → pipe_in n o ≡ pipe_in m o
 same-pipe m n None e = refl
-same-pipe m n (Some p) e = ap (λ bs. Some (record { bytes = bs; capacity = p.ring.capacity; hung = p.hung })) e
+same-pipe m n (Some (Pipe p)) e = ap (λ bs. Some (record { bytes = bs; capacity = p.ring.capacity; hung = p.hung })) e
+same-pipe m n (Some (File slots)) e = refl
 
-module _ {A : Type 0} (m : Map) (pipes : List (Option (PipeNode A))) (key : ℕ) (old : PipeNode A) (there : at pipes key ≡ Some old) (shared : AreShared m (lists pipes)) where
-  here : slots_at (lists pipes) key ≡ old.ring.slots
-  here = lists-at pipes key ∙ ap slots_in there
+pub same-file : {A : Type 0} (m n : Map) (o : Option (Content A)) → all_read n (slots_in o) ≡ all_read m (slots_in o) → file_in n o ≡ file_in m o
+same-file m n None e = refl
+same-file m n (Some (Pipe p)) e = refl
+same-file m n (Some (File slots)) e = ap (λ bs. Some bs) e
 
-  within-lists : key < length (lists pipes)
-  within-lists = let l = within pipes key old there in let e = lists-length pipes in omega (arith, l, e)
+-- the pipes
+abbrev pub pipes_seen : {A : Type 0} → Sight A PipeState
+pipes_seen = record { see = pipe_in; nothing = λ m. refl; same = same-pipe }
+
+-- the bytes of the files
+abbrev pub files_seen : {A : Type 0} → Sight A (List ℕ)
+files_seen = record { see = file_in; nothing = λ m. refl; same = same-file }
+
+module _ {A V : Type 0} (s : Sight A V) where
+  -- what is seen under each key
+  abbrev pub seen : Map → List (Option (Content A)) → ℕ → Option V
+  seen m contents = at (map (s.see m) contents)
+
+  pub seen-at : (m : Map) (contents : List (Option (Content A))) (q : ℕ) → seen m contents q ≡ s.see m (at contents q)
+  seen-at m contents q = ap (λ d. slice_index_or (map (s.see m) contents) q d) (sym (s.nothing m)) ∙ get_or-map (s.see m) contents q None
+
+module _ {A : Type 0} (m : Map) (contents : List (Option (Content A))) (key : ℕ) (old : Content A) (there : at contents key ≡ Some old) (shared : AreShared m (lists contents)) where
+  here : slots_at (lists contents) key ≡ slots_in (Some old)
+  here = lists-at contents key ∙ ap slots_in there
+
+  pub within-lists : key < length (lists contents)
+  within-lists = let l = within contents key old there in let e = lists-length contents in omega (arith, l, e)
 
   -- its slots are held
-  pub node-held : Holds m old.ring.slots
-  node-held = subst (Holds m) here (one-held m m (lists pipes) key [] within-lists shared)
+  pub content-held : Holds m (slots_in (Some old))
+  content-held = subst (Holds m) here (one-held m m (lists contents) key [] within-lists shared)
 
-  -- the value of what is there
-  pub node-seen : at (seen m pipes) key ≡ Some (pipe_of m old)
-  node-seen = at-map (pipe_of m) pipes key ∙ ap (option_map (pipe_of m)) there
-
-  -- it has as many bytes as its slots
-  pub node-total : total old.ring.slots ≡ length (all_read m old.ring.slots)
-  node-total = sym (total-read m old.ring.slots node-held.lie)
-
-  -- what is said of it, where contracts see these pipes
-  module _ (flat : List (Option Pipe)) (is : seen m pipes ≡ flat) (P : Pipe → Type 0) where
-    flat-seen : at flat key ≡ Some (pipe_of m old)
-    flat-seen = ap (λ ps. at ps key) (sym is) ∙ node-seen
-
-    pub node-said : P (pipe_of m old) → IfSome (at flat key) P
-    node-said h = subst (λ o. IfSome o P) (sym flat-seen) h
-
-    pub node-told : IfSome (at flat key) P → P (pipe_of m old)
-    node-told h = subst (λ o. IfSome o P) flat-seen h
-
-  module _ (n : Map) (slots : List Slice) (turned : Turns m old.ring.slots n slots) where
-    t : Turns m (slots_at (lists pipes) key) n slots
+  module _ (n : Map) (slots : List Slice) (turned : Turns m (slots_in (Some old)) n slots) where
+    t : Turns m (slots_at (lists contents) key) n slots
     t = subst (λ xs. Turns m xs n slots) (sym here) turned
 
-    turned-shared : AreShared n (set (lists pipes) key slots)
-    turned-shared = shared-turned m n (lists pipes) key slots within-lists shared t
+    pub turned-shared : AreShared n (set (lists contents) key slots)
+    turned-shared = shared-turned m n (lists contents) key slots within-lists shared t
 
     -- all others read what they read
-    others : (q : ℕ) → q ≢ key → option_map (pipe_of n) (at pipes q) ≡ option_map (pipe_of m) (at pipes q)
-    others q d =
-        same-pipe m n (at pipes q)
-        (ap (all_read n) (sym (lists-at pipes q) ∙ sym (get_or-set_other (lists pipes) key q slots [] d)) ∙ others-same m n (lists pipes) key slots within-lists shared t q d ∙ ap (all_read m) (lists-at pipes q))
+    pub others : {V : Type 0} (s : Sight A V) (q : ℕ) → q ≢ key → s.see n (at contents q) ≡ s.see m (at contents q)
+    others s q d =
+        s.same m n (at contents q)
+        (ap (all_read n) (sym (lists-at contents q) ∙ sym (get_or-set_other (lists contents) key q slots [] d)) ∙ others-same m n (lists contents) key slots within-lists shared t q d ∙ ap (all_read m) (lists-at contents q))
 
     -- it stays under its key
-    module _ (new : PipeNode A) (is : new.ring.slots ≡ slots) where
-      pub changed-shared : AreShared n (lists (slice_set pipes key (Some new)))
-      changed-shared = subst (AreShared n) (ap (set (lists pipes) key) (sym is) ∙ sym (lists-set pipes key (Some new))) turned-shared
+    module _ (new : Content A) (is : slots_in (Some new) ≡ slots) where
+      pub changed-shared : AreShared n (lists (slice_set contents key (Some new)))
+      changed-shared = subst (AreShared n) (ap (set (lists contents) key) (sym is) ∙ sym (lists-set contents key (Some new))) turned-shared
 
-      pub changed-seen : (f : Pipe → Pipe) → pipe_of n new ≡ f (pipe_of m old) → at (seen n (slice_set pipes key (Some new))) ≡ change_at key f (at (seen m pipes))
-      changed-seen f e =
-          is_change_at (at (seen m pipes)) (at (seen n (slice_set pipes key (Some new)))) key f
-          (at-map (pipe_of n) (slice_set pipes key (Some new)) key ∙ ap (option_map (pipe_of n)) (get_or-set_same pipes key (Some new) None (within pipes key old there)) ∙ ap (λ x. Some x) e ∙ ap (option_map f) (sym node-seen))
-          (λ q d. at-map (pipe_of n) (slice_set pipes key (Some new)) q ∙ ap (option_map (pipe_of n)) (get_or-set_other pipes key q (Some new) None d) ∙ others q d ∙ sym (at-map (pipe_of m) pipes q))
+      module _ {V : Type 0} (s : Sight A V) where
+        after-here : seen s n (slice_set contents key (Some new)) key ≡ s.see n (Some new)
+        after-here = seen-at s n (slice_set contents key (Some new)) key ∙ ap (s.see n) (get_or-set_same contents key (Some new) None (within contents key old there))
 
--- a pipe goes, with its slots
-module _ {A : Type 0} (m n : Map) (before after : Slab (PipeNode A)) (key : ℕ) (old : PipeNode A) (there : at before.slots key ≡ Some old) (shared : AreShared m (lists before.slots))
-    (turned : Turns m old.ring.slots n []) (u : Updates before after key None) where
-  gone-lists : (q : ℕ) → slots_at (lists after.slots) q ≡ slots_at (set (lists before.slots) key []) q
+        after-other : (q : ℕ) → q ≢ key → seen s n (slice_set contents key (Some new)) q ≡ seen s m contents q
+        after-other q d = seen-at s n (slice_set contents key (Some new)) q ∙ ap (s.see n) (get_or-set_other contents key q (Some new) None d) ∙ others s q d ∙ sym (seen-at s m contents q)
+
+        before-here : seen s m contents key ≡ s.see m (Some old)
+        before-here = seen-at s m contents key ∙ ap (s.see m) there
+
+        -- with another value
+        pub changed-seen : (f : V → V) → s.see n (Some new) ≡ option_map f (s.see m (Some old)) → seen s n (slice_set contents key (Some new)) ≡ change_at key f (seen s m contents)
+        changed-seen f e =
+            is_change_at (seen s m contents) (seen s n (slice_set contents key (Some new))) key f
+            (after-here ∙ e ∙ ap (option_map f) (sym before-here))
+            after-other
+
+        -- or with the same
+        pub kept-seen : s.see n (Some new) ≡ s.see m (Some old) → seen s n (slice_set contents key (Some new)) ≡ seen s m contents
+        kept-seen e = fun_ext (λ q. elim (eqb_tells q key) as (λ _. seen s n (slice_set contents key (Some new)) q ≡ seen s m contents q) [
+          | inl d ↦ ap (seen s n (slice_set contents key (Some new))) d.1 ∙ after-here ∙ e ∙ sym before-here ∙ ap (seen s m contents) (sym d.1)
+          | inr d ↦ after-other q d.1
+        ])
+
+-- a content goes, with its slots
+module _ {A : Type 0} (m n : Map) (before after : Slab (Content A)) (key : ℕ) (old : Content A) (there : at before.slots key ≡ Some old) (shared : AreShared m (lists before.slots))
+    (turned : Turns m (slots_in (Some old)) n []) (u : Updates before after key None) where
+  pub gone-lists : (q : ℕ) → slots_at (lists after.slots) q ≡ slots_at (set (lists before.slots) key []) q
   gone-lists q = elim (eqb_tells q key) as (λ _. slots_at (lists after.slots) q ≡ slots_at (set (lists before.slots) key []) q) [
     | inl e ↦
         lists-at after.slots q ∙ ap (λ k. slots_in (at after.slots k)) e.1 ∙ ap slots_in u.changed
@@ -93,15 +120,20 @@ module _ {A : Type 0} (m n : Map) (before after : Slab (PipeNode A)) (key : ℕ)
   pub gone-shared : AreShared n (lists after.slots)
   gone-shared = same-shared n (set (lists before.slots) key []) (lists after.slots) gone-lists (turned-shared m before.slots key old there shared n [] turned)
 
-  pub gone-seen : at (seen n after.slots) ≡ set_at nat_eq (at (seen m before.slots)) key None
-  gone-seen = is_set_at (at (seen m before.slots)) (at (seen n after.slots)) key None
-      (at-map (pipe_of n) after.slots key ∙ ap (option_map (pipe_of n)) u.changed)
-      (λ q d. at-map (pipe_of n) after.slots q ∙ ap (option_map (pipe_of n)) (u.others q d) ∙ others m before.slots key old there shared n [] turned q d ∙ sym (at-map (pipe_of m) before.slots q))
+  module _ {V : Type 0} (s : Sight A V) where
+    pub gone-seen : seen s n after.slots ≡ set_at nat_eq (seen s m before.slots) key None
+    gone-seen = is_set_at (seen s m before.slots) (seen s n after.slots) key None
+        (seen-at s n after.slots key ∙ ap (s.see n) u.changed ∙ s.nothing n)
+        (λ q d. seen-at s n after.slots q ∙ ap (s.see n) (u.others q d) ∙ others m before.slots key old there shared n [] turned s q d ∙ sym (seen-at s m before.slots q))
 
--- a pipe without slots comes under a key that was free
-module _ {A : Type 0} (m : Map) (before after : Slab (PipeNode A)) (key : ℕ) (new : PipeNode A) (free : at before.slots key ≡ None) (shared : AreShared m (lists before.slots))
-    (empty : new.ring.slots ≡ []) (u : Updates before after key (Some new)) where
-  new-lists : (q : ℕ) → slots_at (lists after.slots) q ≡ slots_at (lists before.slots) q
+    -- where it wasn't seen nothing is missed
+    pub gone-unseen : s.see m (Some old) ≡ None → seen s n after.slots ≡ seen s m before.slots
+    gone-unseen e = gone-seen ∙ sym (is_set_at (seen s m before.slots) (seen s m before.slots) key None (seen-at s m before.slots key ∙ ap (s.see m) there ∙ e) (λ q d. refl))
+
+-- a content without slots comes under a key that was free
+module _ {A : Type 0} (m : Map) (before after : Slab (Content A)) (key : ℕ) (new : Content A) (free : at before.slots key ≡ None) (shared : AreShared m (lists before.slots))
+    (empty : slots_in (Some new) ≡ []) (u : Updates before after key (Some new)) where
+  pub new-lists : (q : ℕ) → slots_at (lists after.slots) q ≡ slots_at (lists before.slots) q
   new-lists q = elim (eqb_tells q key) as (λ _. slots_at (lists after.slots) q ≡ slots_at (lists before.slots) q) [
     | inl e ↦
         lists-at after.slots q ∙ ap (λ k. slots_in (at after.slots k)) e.1 ∙ ap slots_in u.changed ∙ empty
@@ -112,7 +144,14 @@ module _ {A : Type 0} (m : Map) (before after : Slab (PipeNode A)) (key : ℕ) (
   pub new-shared : AreShared m (lists after.slots)
   new-shared = same-shared m (lists before.slots) (lists after.slots) new-lists shared
 
-  pub new-seen : at (seen m after.slots) ≡ set_at nat_eq (at (seen m before.slots)) key (Some (pipe_of m new))
-  new-seen = is_set_at (at (seen m before.slots)) (at (seen m after.slots)) key (Some (pipe_of m new))
-      (at-map (pipe_of m) after.slots key ∙ ap (option_map (pipe_of m)) u.changed)
-      (λ q d. at-map (pipe_of m) after.slots q ∙ ap (option_map (pipe_of m)) (u.others q d) ∙ sym (at-map (pipe_of m) before.slots q))
+  module _ {V : Type 0} (s : Sight A V) where
+    pub new-seen : seen s m after.slots ≡ set_at nat_eq (seen s m before.slots) key (s.see m (Some new))
+    new-seen = is_set_at (seen s m before.slots) (seen s m after.slots) key (s.see m (Some new))
+        (seen-at s m after.slots key ∙ ap (s.see m) u.changed)
+        (λ q d. seen-at s m after.slots q ∙ ap (s.see m) (u.others q d) ∙ sym (seen-at s m before.slots q))
+
+    -- where it isn't seen nothing is new
+    pub new-unseen : s.see m (Some new) ≡ None → seen s m after.slots ≡ seen s m before.slots
+    new-unseen e =
+        new-seen ∙ ap (set_at nat_eq (seen s m before.slots) key) e
+        ∙ sym (is_set_at (seen s m before.slots) (seen s m before.slots) key None (seen-at s m before.slots key ∙ ap (s.see m) free ∙ s.nothing m) (λ q d. refl))

@@ -1,2 +1,4 @@
 pub mod Nodes
 pub mod NodesView
+pub mod Contents
+pub mod Lent

@@ -1,33 +1,56 @@
 -- The fields of the nodes, as what they hold.
-use Rattle.std.specs.Prelude.{List, [], map, Option, None, Some, option_map}
-use Rattle.pl_model.specs.State.{Pipe}
+use Rattle.std.specs.Prelude.{ℕ, ◌≤◌, List, [], length, map, Option, None, Some}
+use Rattle.pl_model.specs.Numbers.{most_file_bytes}
+use Rattle.pl_model.specs.State.{Pipe as PipeState}
 use Rattle.pl_segments.specs.declared.slice.Slice.{Slice}
 use Rattle.pl_segments.specs.Segments.{Map, segment_at, live_count}
 use Rattle.pl_segments.specs.Slices.{all_read}
-use Rattle.pl_segments.specs.Sharing.{AreShared}
-use Rattle.pl_nodes.specs.declared.nodes.PipeNode.{PipeNode}
+use Rattle.pl_segments.specs.Sharing.{AreShared, slots_at}
+use Rattle.pl_nodes.specs.declared.content.PipeNode.{PipeNode}
+use Rattle.pl_nodes.specs.declared.content.Content.{Content}
+use Rattle.pl_nodes.specs.declared.content.Content.TheVariants.{Pipe, File}
 use Rattle.pl_nodes.specs.declared.nodes.Nodes.TheInside.{Inside}
 use Rattle.pl_nodes.specs.Nodes.{Nodes}
 
 -- a pipe has the bytes that its slots read
-abbrev pub pipe_of : {A : Type 0} → Map → PipeNode A → Pipe
+abbrev pub pipe_of : {A : Type 0} → Map → PipeNode A → PipeState
 pipe_of m p = record { bytes = all_read m p.ring.slots; capacity = p.ring.capacity; hung = p.hung }
 
--- the pipes of a slab
-abbrev pub seen : {A : Type 0} → Map → List (Option (PipeNode A)) → List (Option Pipe)
-seen m slots = map (option_map (pipe_of m)) slots
+module _ {A : Type 0} where
+  -- the pipe under a key
+  abbrev pub pipe_in : Map → Option (Content A) → Option PipeState
+  pipe_in m None = None
+  pipe_in m (Some (Pipe p)) = Some (pipe_of m p)
+  pipe_in m (Some (File slots)) = None
 
-abbrev pub view_of : {A : Type 0} → Inside A → Nodes
-view_of k = record { pipes = seen (segment_at k.store) k.pipes.slots; next = k.pipes.vacant_key; segments = live_count k.store.held }
+  -- the bytes of the file under a key
+  abbrev pub file_in : Map → Option (Content A) → Option (List ℕ)
+  file_in m None = None
+  file_in m (Some (Pipe p)) = None
+  file_in m (Some (File slots)) = Some (all_read m slots)
 
--- the slots of a pipe, none where there is none
-abbrev pub slots_in : {A : Type 0} → Option (PipeNode A) → List Slice
-slots_in None = []
-slots_in (Some p) = p.ring.slots
+  -- the slots of what is under a key
+  abbrev pub slots_in : Option (Content A) → List Slice
+  slots_in None = []
+  slots_in (Some (Pipe p)) = p.ring.slots
+  slots_in (Some (File slots)) = slots
 
-abbrev pub lists : {A : Type 0} → List (Option (PipeNode A)) → List (List Slice)
-lists pipes = map slots_in pipes
+  abbrev pub lists : List (Option (Content A)) → List (List Slice)
+  lists contents = map slots_in contents
 
--- each segment has as many holders as slots name it
-abbrev pub IsShared : {A : Type 0} → Inside A → Type 0
-IsShared k = AreShared (segment_at k.store) (lists k.pipes.slots)
+  abbrev pub view_of : Inside A → Nodes
+  view_of k =
+      let m = segment_at k.store in
+      record {
+        pipes = map (pipe_in m) k.contents.slots;
+        files = map (file_in m) k.contents.slots;
+        next = k.contents.vacant_key;
+        segments = live_count k.store.held;
+        file_max = k.file_max;
+      }
+
+  -- each segment has as many holders as slots name it, and nothing has more slots than the longest file has bytes
+  pub record IsSound (k : Inside A) : Type 0 where
+    pub shared : AreShared (segment_at k.store) (lists k.contents.slots)
+    pub short : (q : ℕ) → length (slots_at (lists k.contents.slots) q) ≤ most_file_bytes
+    pub most : k.file_max ≤ most_file_bytes

@@ -73,7 +73,7 @@ module _ (m n : Map) (ys : List Slice) (t : Turns m [] n ys) where
   pub reads-still : (x : Slice) → Lies m x → reads n x ≡ reads m x
   reads-still x p = let h = p.here in reads-begun m n x (t.kept x.segment (omega arith)) p.within
 
-naming-le : (xs : List Slice) (key : ℕ) → naming xs key ≤ length xs
+pub naming-le : (xs : List Slice) (key : ℕ) → naming xs key ≤ length xs
 naming-le [] key = omega arith
 naming-le (x ∷ xs) key =
     let r = naming-le xs key in

@@ -54,7 +54,7 @@ impl<A: Allocator + Copy> Kernel<A> {
             return Ok(Reply::Fault(Errno::ENFILE));
         }
         let flags = flags_of(nonblock);
-        let node = Node::Pipe(self.nodes.next_pipe());
+        let node = Node::Pipe(self.nodes.next_key());
         self.descs.reserve(node, 2)?;
         self.nodes.make_pipe()?;
         open_at(&mut self.descs, pid, first, node, Mode::Read, flags);

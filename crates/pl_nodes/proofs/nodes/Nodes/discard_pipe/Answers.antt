@@ -1,23 +1,35 @@
-use Rattle.std.proofs.Common.{◌∙◌, None, ap, nat_eq}
+use Rattle.std.proofs.Common.{◌∙◌, Some, None, refl, ap, nat_eq}
 use Rattle.pl_model.specs.Map.{set_at}
 use Rattle.pl_segments.specs.Segments.{segment_at, at}
+use Rattle.pl_nodes.specs.declared.content.Content.TheVariants.{Pipe}
 use Rattle.pl_nodes.specs.Nodes.{Nodes}
-use Rattle.pl_nodes.proofs.OneChanged.{node-held, gone-shared, gone-seen}
+use Rattle.pl_nodes.proofs.AtKey.{held}
+use Rattle.pl_nodes.proofs.OneChanged.{pipes_seen, files_seen, gone-seen, gone-unseen}
+use Rattle.pl_nodes.proofs.Coming.{gone-sound}
 use Rattle.pl_nodes.proofs.nodes.Nodes.discard_pipe.Goals as goal
 
 pub let_go-requires : goal.let_go-requires
-let_go-requires g c =
-    node-held (segment_at c.self.inside.store) c.self.inside.pipes.slots c.args.key c.remove-gone.result c.remove-gone.ensures.value c.self.invariant
+let_go-requires g c = held c.self.inside c.args.key (Pipe c.in-Pipe.gone) (c.remove.ensures.value ∙ ap (λ x. Some x) c.in-Pipe.is) c.self.invariant
 
 pub invariant_of-self : goal.invariant_of-self
 invariant_of-self g c =
-    let k = c.self.inside in
-    gone-shared (segment_at k.store) (segment_at c.let_go.new.store) k.pipes c.remove-gone.new.self c.args.key c.remove-gone.result c.remove-gone.ensures.value c.self.invariant
-    c.let_go.ensures c.remove-gone.ensures.updates
+    gone-sound c.self.inside c.self.invariant c.let_go.new.store c.remove.new.self c.args.key (Pipe c.in-Pipe.gone) (c.remove.ensures.value ∙ ap (λ x. Some x) c.in-Pipe.is)
+    c.let_go.ensures c.remove.ensures.updates
 
-pub returns : goal.returns
-returns g c =
+pub returns-clause-ok : goal.returns-clause-ok
+returns-clause-ok g c =
     let k = c.self.inside in
-    gone-seen (segment_at k.store) (segment_at c.let_go.new.store) k.pipes c.remove-gone.new.self c.args.key c.remove-gone.result c.remove-gone.ensures.value c.self.invariant
-    c.let_go.ensures c.remove-gone.ensures.updates
+    gone-seen (segment_at k.store) (segment_at c.let_go.new.store) k.contents c.remove.new.self c.args.key (Pipe c.in-Pipe.gone) (c.remove.ensures.value ∙ ap (λ x. Some x) c.in-Pipe.is)
+    c.self.invariant.shared c.let_go.ensures c.remove.ensures.updates pipes_seen
     ∙ ap (λ (v : Nodes). set_at nat_eq (at v.pipes) c.args.key None) c.self.view_is
+
+pub returns-clause-files : goal.returns-clause-files
+returns-clause-files g c =
+    let k = c.self.inside in
+    record {
+      files =
+          gone-unseen (segment_at k.store) (segment_at c.let_go.new.store) k.contents c.remove.new.self c.args.key (Pipe c.in-Pipe.gone) (c.remove.ensures.value ∙ ap (λ x. Some x) c.in-Pipe.is)
+          c.self.invariant.shared c.let_go.ensures c.remove.ensures.updates files_seen refl
+          ∙ ap (λ (v : Nodes). at v.files) c.self.view_is;
+      file_max = ap (λ (v : Nodes). v.file_max) c.self.view_is;
+    }

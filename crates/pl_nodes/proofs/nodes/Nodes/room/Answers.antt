@@ -1,14 +1,11 @@
-use Rattle.std.proofs.Common.{◌≡◌, ◌-◌, ◌∙◌, ap}
+use Rattle.std.proofs.Common.{◌≡◌, ◌-◌, ◌∙◌, Some, ap}
 use Rattle.pl_model.specs.Transfer.{room}
-use Rattle.pl_segments.specs.Segments.{segment_at}
-use Rattle.pl_nodes.specs.Nodes.{Nodes}
-use Rattle.pl_nodes.proofs.OneChanged.{node-total, node-said}
+use Rattle.pl_nodes.proofs.Pipes.{pipe-total, pipe-said}
 use Rattle.pl_nodes.proofs.nodes.Nodes.room.Goals as goal
 
 pub returns-clause-value : goal.returns-clause-value
 returns-clause-value g c =
-    let k = c.self.inside in
-    let m = segment_at k.store in
-    let node = c.index-node.result.now in
-    node-said m k.pipes.slots c.args.key node c.index-node.ensures c.self.invariant c.args.self.now.pipes (ap (λ (v : Nodes). v.pipes) c.self.view_is) (λ x. c.room.result ≡ room x)
-    (c.room.ensures ∙ ap (λ n. node.ring.capacity - n) (node-total m k.pipes.slots c.args.key node c.index-node.ensures c.self.invariant))
+    let node = c.in-Pipe.node in
+    let there = c.index.ensures ∙ ap (λ x. Some x) c.in-Pipe.is in
+    pipe-said c.self.inside c.args.key node there c.self.invariant c.args.self.now c.self.view_is (λ x. c.room.result ≡ room x)
+    (c.room.ensures ∙ ap (λ n. node.ring.capacity - n) (pipe-total c.self.inside c.args.key node there c.self.invariant c.args.self.now c.self.view_is))

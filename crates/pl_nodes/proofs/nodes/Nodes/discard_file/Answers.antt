@@ -1,0 +1,35 @@
+use Rattle.std.proofs.Common.{◌∙◌, Some, None, refl, ap, nat_eq}
+use Rattle.pl_model.specs.Map.{set_at}
+use Rattle.pl_segments.specs.Segments.{segment_at, at}
+use Rattle.pl_nodes.specs.declared.content.Content.TheVariants.{File}
+use Rattle.pl_nodes.specs.Nodes.{Nodes}
+use Rattle.pl_nodes.proofs.AtKey.{held}
+use Rattle.pl_nodes.proofs.OneChanged.{pipes_seen, files_seen, gone-seen, gone-unseen}
+use Rattle.pl_nodes.proofs.Coming.{gone-sound}
+use Rattle.pl_nodes.proofs.nodes.Nodes.discard_file.Goals as goal
+
+pub let_go-requires : goal.let_go-requires
+let_go-requires g c = held c.self.inside c.args.key (File c.in-File.gone) (c.remove.ensures.value ∙ ap (λ x. Some x) c.in-File.is) c.self.invariant
+
+pub invariant_of-self : goal.invariant_of-self
+invariant_of-self g c =
+    gone-sound c.self.inside c.self.invariant c.let_go.new.store c.remove.new.self c.args.key (File c.in-File.gone) (c.remove.ensures.value ∙ ap (λ x. Some x) c.in-File.is)
+    c.let_go.ensures c.remove.ensures.updates
+
+pub returns-clause-ok : goal.returns-clause-ok
+returns-clause-ok g c =
+    let k = c.self.inside in
+    gone-seen (segment_at k.store) (segment_at c.let_go.new.store) k.contents c.remove.new.self c.args.key (File c.in-File.gone) (c.remove.ensures.value ∙ ap (λ x. Some x) c.in-File.is)
+    c.self.invariant.shared c.let_go.ensures c.remove.ensures.updates files_seen
+    ∙ ap (λ (v : Nodes). set_at nat_eq (at v.files) c.args.key None) c.self.view_is
+
+pub returns-clause-pipes : goal.returns-clause-pipes
+returns-clause-pipes g c =
+    let k = c.self.inside in
+    record {
+      pipes =
+          gone-unseen (segment_at k.store) (segment_at c.let_go.new.store) k.contents c.remove.new.self c.args.key (File c.in-File.gone) (c.remove.ensures.value ∙ ap (λ x. Some x) c.in-File.is)
+          c.self.invariant.shared c.let_go.ensures c.remove.ensures.updates pipes_seen refl
+          ∙ ap (λ (v : Nodes). at v.pipes) c.self.view_is;
+      file_max = ap (λ (v : Nodes). v.file_max) c.self.view_is;
+    }

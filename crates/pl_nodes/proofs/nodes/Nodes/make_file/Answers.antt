@@ -1,0 +1,56 @@
+use Rattle.std.proofs.Common.{◌≡◌, ◌∙◌, [], Some, refl, ap, sym, nat_eq}
+use Rattle.pl_model.specs.Map.{set_at}
+use Rattle.pl_segments.specs.Segments.{segment_at, at}
+use Rattle.pl_segments.specs.Slices.{all_read}
+use Rattle.slab.specs.Slab.{Slab}
+use Rattle.pl_nodes.specs.declared.content.Content.TheVariants.{File}
+use Rattle.pl_nodes.specs.Nodes.{Nodes}
+use Rattle.pl_nodes.proofs.OneChanged.{pipes_seen, files_seen, seen, seen-at, new-seen, new-unseen}
+use Rattle.pl_nodes.proofs.Coming.{came-shared, came-sound}
+use Rattle.pl_nodes.proofs.nodes.Nodes.make_file.Given.{Over}
+use Rattle.pl_nodes.proofs.nodes.Nodes.make_file.Goals.{After-insert_reserved}
+use Rattle.pl_nodes.proofs.nodes.Nodes.make_file.Goals as goal
+
+-- there is a place more, and all is as it was
+module _ (g : Over) (c : After-insert_reserved g) where
+  same : c.reserve.new.self.slots ≡ c.self.inside.contents.slots
+  same = ap (λ (s : Slab _). s.slots) c.in_ok-reserve.ensures.rest_kept
+
+pub returns-clause-vacant : goal.returns-clause-vacant
+returns-clause-vacant g c =
+    let k = c.self.inside in
+    ap (λ (v : Nodes). at v.files c.insert_reserved.result) (sym c.self.view_is)
+    ∙ seen-at files_seen (segment_at k.store) k.contents.slots c.insert_reserved.result
+    ∙ ap (files_seen.see (segment_at k.store)) (ap (λ cs. at cs c.insert_reserved.result) (sym (same g c)) ∙ c.insert_reserved.ensures.was_vacant)
+
+pub invariant_of-self-2 : goal.invariant_of-self-2
+invariant_of-self-2 g c =
+    came-sound c.self.inside c.self.invariant c.reserve.new.self c.insert_reserved.new.self (same g c) c.insert_reserved.result (File c.new.result)
+    c.insert_reserved.ensures.was_vacant c.new.ensures c.insert_reserved.ensures.updates
+
+pub returns-clause-ok : goal.returns-clause-ok
+returns-clause-ok g c =
+    let k = c.self.inside in
+    let m = segment_at k.store in
+    let new = File c.new.result in
+    let u = c.insert_reserved.ensures.updates in
+    new-seen m c.reserve.new.self c.insert_reserved.new.self c.insert_reserved.result new
+    c.insert_reserved.ensures.was_vacant (came-shared k c.self.invariant c.reserve.new.self c.insert_reserved.new.self (same g c) c.insert_reserved.result new c.insert_reserved.ensures.was_vacant c.new.ensures u) c.new.ensures u files_seen
+    ∙ ap (λ xs. set_at nat_eq (seen files_seen m c.reserve.new.self.slots) c.insert_reserved.result (Some (all_read m xs))) c.new.ensures
+    ∙ ap (λ cs. set_at nat_eq (seen files_seen m cs) c.insert_reserved.result (Some [])) (same g c)
+    ∙ ap (λ (v : Nodes). set_at nat_eq (at v.files) c.insert_reserved.result (Some [])) c.self.view_is
+
+pub returns-clause-pipes : goal.returns-clause-pipes
+returns-clause-pipes g c =
+    let k = c.self.inside in
+    let m = segment_at k.store in
+    let new = File c.new.result in
+    let u = c.insert_reserved.ensures.updates in
+    record {
+      pipes =
+          new-unseen m c.reserve.new.self c.insert_reserved.new.self c.insert_reserved.result new
+          c.insert_reserved.ensures.was_vacant (came-shared k c.self.invariant c.reserve.new.self c.insert_reserved.new.self (same g c) c.insert_reserved.result new c.insert_reserved.ensures.was_vacant c.new.ensures u) c.new.ensures u pipes_seen refl
+          ∙ ap (λ cs. seen pipes_seen m cs) (same g c)
+          ∙ ap (λ (v : Nodes). at v.pipes) c.self.view_is;
+      file_max = ap (λ (v : Nodes). v.file_max) c.self.view_is;
+    }

@@ -1,0 +1,115 @@
+//! Regular files.
+ghost use Rattle.std.specs.Prelude.{◌≡◌, ◌↔◌, ◌-◌, ◌≤◌, [], length, take, drop, IfOk, OnErr, OnOk, IsSome, IfSome, Some, None, Err, nat_eq};
+ghost use Rattle.pl_model.specs.Numbers.{most_file_bytes};
+ghost use Rattle.pl_model.specs.Map.{set_at, change_at};
+ghost use Rattle.pl_segments.specs.Segments.{segment_at, at};
+ghost use Rattle.pl_segments.specs.Turns.{Holds, Turns};
+ghost use Rattle.pl_file.specs.File.{written, fitting};
+ghost use Rattle.pl_nodes.specs.Nodes.{SamePipes};
+
+use super::Nodes;
+use crate::content::Content;
+use pl_file::{File, WriteFault};
+use pl_segments::{NoMemory, Store};
+use std::alloc::Allocator;
+
+// Lets the slots of a file go that nobody needs any more. It takes no memory.
+fn let_go<A: Allocator + Copy>(store: &mut Store<A>, file: File<A>)
+    requires { Holds (segment_at store.old) file }
+    ensures { Turns (segment_at store.old) file (segment_at store.new) [] }
+{
+    let mut file = file;
+    file.truncate(store);
+}
+
+impl<A: Allocator + Copy> Nodes<A> {
+    /// Makes an empty file, and answers its key. An error leaves all as it was.
+    pub fn make_file(&mut self) -> Result<usize, NoMemory>
+        ensures vacant { IfOk result (λ key. at self.old.files key ≡ None) }
+        ensures key { IfOk result (λ key. key ≡ self.old.next) }
+        ensures ok { IfOk result (λ key. at self.new.files ≡ set_at nat_eq (at self.old.files) key (Some [])) }
+        ensures pipes { SamePipes self.old self.new }
+        ensures segments { self.new.segments ≡ self.old.segments }
+        ensures err { OnErr result (self.new ≡ self.old) }
+    {
+        self.contents.reserve(1)?;
+        Ok(
+            self.contents
+                .insert_reserved(Content::File(File::new(self.alloc))),
+        )
+    }
+
+    /// How many bytes a file has.
+    pub fn file_len(&self, key: usize) -> usize
+        requires { IsSome (at self.now.files key) }
+        ensures value { IfSome (at self.now.files key) (λ bytes. result ≡ length bytes) }
+        ensures few { result ≤ most_file_bytes }
+    {
+        let Content::File(file) = &self.contents[key] else {
+            unreachable!()
+        };
+        file.len()
+    }
+
+    /// At most `count` bytes of a file from a place on, none past its end (POSIX.1-2017, read).
+    pub fn read_file(&self, key: usize, place: usize, count: usize) -> Result<Vec<u8, A>, NoMemory>
+        requires { IsSome (at self.now.files key) }
+        ensures { IfOk result (λ read. IfSome (at self.now.files key) (λ bytes. read.items ≡ take count (drop place bytes))) }
+    {
+        let Content::File(file) = &self.contents[key] else {
+            unreachable!()
+        };
+        file.read_at(&self.store, place, count)
+    }
+
+    /// Writes as many bytes at a place as stand below the greatest length of a file, and answers how many; what lies between the end
+    /// of the file and the place reads as zeros (POSIX.1-2017, write and lseek). It is `TooBig` where there are bytes and none of
+    /// them fits. An error leaves all as it was.
+    pub fn write_file(
+        &mut self,
+        key: usize,
+        place: usize,
+        bytes: &[u8],
+    ) -> Result<usize, WriteFault>
+        requires { IsSome (at self.old.files key) }
+        ensures count { IfOk result (λ count. count ≡ fitting (length bytes.now) place self.old.file_max) }
+        ensures big { (result ≡ Err WriteFault.TooBig) ↔ ((1 ≤ length bytes.now) × (self.old.file_max ≤ place)) }
+        ensures ok { OnOk result (at self.new.files ≡ change_at key (written place (take (self.old.file_max - place) bytes.now)) (at self.old.files)) }
+        ensures pipes { SamePipes self.old self.new }
+        ensures err { OnErr result (self.new ≡ self.old) }
+    {
+        // A proof learns here that there are fewer files and pipes than a segment can have holders.
+        let _most = self.contents.capacity();
+        let Some(file) = self.contents[key].as_file_mut() else {
+            unreachable!()
+        };
+        let written = file.write_at(&mut self.store, place, bytes, self.file_max)?;
+        // And here that the file has no more slots than it may have bytes.
+        let _len = file.len();
+        Ok(written)
+    }
+
+    /// Empties a file (POSIX.1-2017, open, O_TRUNC). It takes no memory.
+    pub fn empty_file(&mut self, key: usize)
+        requires { IsSome (at self.old.files key) }
+        ensures ok { at self.new.files ≡ change_at key (λ bytes. []) (at self.old.files) }
+        ensures pipes { SamePipes self.old self.new }
+    {
+        let Some(file) = self.contents[key].as_file_mut() else {
+            unreachable!()
+        };
+        file.truncate(&mut self.store);
+    }
+
+    /// Lets a file go, with its bytes. It takes no memory.
+    pub fn discard_file(&mut self, key: usize)
+        requires { IsSome (at self.old.files key) }
+        ensures ok { at self.new.files ≡ set_at nat_eq (at self.old.files) key None }
+        ensures pipes { SamePipes self.old self.new }
+    {
+        let Content::File(gone) = self.contents.remove(key) else {
+            unreachable!()
+        };
+        let_go(&mut self.store, gone);
+    }
+}

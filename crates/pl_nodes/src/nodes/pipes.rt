@@ -1,0 +1,170 @@
+//! Pipes.
+ghost use Rattle.std.specs.Prelude.{◌≡◌, ◌+◌, ◌-◌, ◌*◌, ◌/◌, ◌≤◌, ◌++◌, [], length, take, drop, IfOk, OnErr, OnOk, IsSome, IfSome, Some, None, nat_eq};
+ghost use Rattle.pl_model.specs.State.{empty_pipe};
+ghost use Rattle.pl_model.specs.Transfer.{room};
+ghost use Rattle.pl_model.specs.Map.{set_at, change_at};
+ghost use Rattle.pl_segments.specs.Segments.{segment_size, segment_at, at};
+ghost use Rattle.pl_segments.specs.Turns.{Holds, Turns};
+ghost use Rattle.pl_ring.specs.Ring.{most_capacity};
+ghost use Rattle.pl_nodes.specs.Nodes.{SameFiles};
+
+use super::Nodes;
+use crate::content::{Content, PipeNode};
+use pl_model::numbers::FIRST_CAPACITY;
+use pl_ring::Ring;
+use pl_segments::{NoMemory, Store};
+use std::alloc::Allocator;
+
+// Lets the slots of a ring go that nobody needs any more. It takes no memory.
+fn let_go<A: Allocator + Copy>(store: &mut Store<A>, ring: Ring<A>)
+    requires { Holds (segment_at store.old) ring.slots }
+    ensures { Turns (segment_at store.old) ring.slots (segment_at store.new) [] }
+{
+    let mut ring = ring;
+    ring.reset(store);
+}
+
+impl<A: Allocator + Copy> Nodes<A> {
+    /// Makes an empty pipe of 65,536 bytes of capacity (pipe(7), Pipe capacity), and answers its key. An error leaves all as it
+    /// was.
+    pub fn make_pipe(&mut self) -> Result<usize, NoMemory>
+        ensures vacant { IfOk result (λ key. at self.old.pipes key ≡ None) }
+        ensures key { IfOk result (λ key. key ≡ self.old.next) }
+        ensures ok { IfOk result (λ key. at self.new.pipes ≡ set_at nat_eq (at self.old.pipes) key (Some empty_pipe)) }
+        ensures files { SameFiles self.old self.new }
+        ensures segments { self.new.segments ≡ self.old.segments }
+        ensures err { OnErr result (self.new ≡ self.old) }
+    {
+        self.contents.reserve(1)?;
+        let ring = Ring::new(self.alloc, FIRST_CAPACITY)?;
+        Ok(
+            self.contents
+                .insert_reserved(Content::Pipe(PipeNode { ring, hung: false })),
+        )
+    }
+
+    /// How many bytes a pipe holds.
+    pub fn held(&self, key: usize) -> usize
+        requires { IsSome (at self.now.pipes key) }
+        ensures value { IfSome (at self.now.pipes key) (λ x. result ≡ length x.bytes) }
+        ensures few { result ≤ most_capacity }
+    {
+        let Content::Pipe(node) = &self.contents[key] else {
+            unreachable!()
+        };
+        // A proof learns here that a pipe has no greater capacity than a ring may have.
+        let _capacity = node.ring.capacity();
+        node.ring.len()
+    }
+
+    /// How many bytes a pipe can hold.
+    pub fn capacity(&self, key: usize) -> usize
+        requires { IsSome (at self.now.pipes key) }
+        ensures { IfSome (at self.now.pipes key) (λ x. result ≡ x.capacity) }
+    {
+        let Content::Pipe(node) = &self.contents[key] else {
+            unreachable!()
+        };
+        node.ring.capacity()
+    }
+
+    /// How many more bytes a pipe can hold.
+    pub fn room(&self, key: usize) -> usize
+        requires { IsSome (at self.now.pipes key) }
+        ensures value { IfSome (at self.now.pipes key) (λ x. result ≡ room x) }
+        ensures few { result ≤ most_capacity }
+    {
+        let Content::Pipe(node) = &self.contents[key] else {
+            unreachable!()
+        };
+        // A proof learns here that a pipe has no greater capacity than a ring may have.
+        let _capacity = node.ring.capacity();
+        node.ring.room()
+    }
+
+    /// Whether a pipe is hung.
+    pub fn is_hung(&self, key: usize) -> bool
+        requires { IsSome (at self.now.pipes key) }
+        ensures { IfSome (at self.now.pipes key) (λ x. result ≡ x.hung) }
+    {
+        matches!(&self.contents[key], Content::Pipe(node) if node.hung)
+    }
+
+    /// In how many slices the bytes of a pipe stand.
+    pub fn slots(&self, key: usize) -> usize
+        requires { IsSome (at self.now.pipes key) }
+        ensures { IfSome (at self.now.pipes key) (λ x. result ≤ 2 * x.capacity / segment_size) }
+    {
+        let Content::Pipe(node) = &self.contents[key] else {
+            unreachable!()
+        };
+        node.ring.slots()
+    }
+
+    /// Takes the first bytes out of a pipe, which holds so many. An error leaves all as it was.
+    pub fn read_pipe(&mut self, key: usize, count: usize) -> Result<Vec<u8, A>, NoMemory>
+        requires here { IsSome (at self.old.pipes key) }
+        requires held { IfSome (at self.old.pipes key) (λ x. count ≤ length x.bytes) }
+        ensures bytes { IfOk result (λ bytes. IfSome (at self.old.pipes key) (λ x. bytes.items ≡ take count x.bytes)) }
+        ensures few { IfOk result (λ bytes. length bytes.items ≤ most_capacity) }
+        ensures ok { OnOk result (at self.new.pipes ≡ change_at key (λ x. record x { bytes = drop count x.bytes }) (at self.old.pipes)) }
+        ensures files { SameFiles self.old self.new }
+        ensures err { OnErr result (self.new ≡ self.old) }
+    {
+        let Some(node) = self.contents[key].as_pipe_mut() else {
+            unreachable!()
+        };
+        // A proof learns here that a pipe holds no more than its capacity, and that this is what a ring may have.
+        let _capacity = node.ring.capacity();
+        let _held = node.ring.len();
+        let bytes = node.ring.pop_bytes(&mut self.store, count)?;
+        // And here that it has few slots.
+        let _slots = node.ring.slots();
+        Ok(bytes)
+    }
+
+    /// Adds bytes at the end of a pipe that has room for them. An error leaves all as it was.
+    pub fn write_pipe(&mut self, key: usize, bytes: &[u8]) -> Result<(), NoMemory>
+        requires here { IsSome (at self.old.pipes key) }
+        requires room { IfSome (at self.old.pipes key) (λ x. length bytes.now ≤ room x) }
+        ensures ok { OnOk result (at self.new.pipes ≡ change_at key (λ x. record x { bytes = x.bytes ++ bytes.now }) (at self.old.pipes)) }
+        ensures files { SameFiles self.old self.new }
+        ensures err { OnErr result (self.new ≡ self.old) }
+    {
+        let Some(node) = self.contents[key].as_pipe_mut() else {
+            unreachable!()
+        };
+        // A proof learns here that a pipe holds no more than its capacity.
+        let _held = node.ring.len();
+        node.ring.push_bytes(&mut self.store, bytes)?;
+        // And here that it has few slots.
+        let _capacity = node.ring.capacity();
+        let _slots = node.ring.slots();
+        Ok(())
+    }
+
+    /// Lets a pipe go, with its bytes. It takes no memory.
+    pub fn discard_pipe(&mut self, key: usize)
+        requires { IsSome (at self.old.pipes key) }
+        ensures ok { at self.new.pipes ≡ set_at nat_eq (at self.old.pipes) key None }
+        ensures files { SameFiles self.old self.new }
+    {
+        let Content::Pipe(gone) = self.contents.remove(key) else {
+            unreachable!()
+        };
+        let_go(&mut self.store, gone.ring);
+    }
+
+    /// Says whether a pipe is hung. It takes no memory.
+    pub fn set_hung(&mut self, key: usize, hung: bool)
+        requires { IsSome (at self.old.pipes key) }
+        ensures ok { at self.new.pipes ≡ change_at key (λ x. record x { hung = hung }) (at self.old.pipes) }
+        ensures files { SameFiles self.old self.new }
+        ensures segments { self.new.segments ≡ self.old.segments }
+    {
+        let Some(node) = self.contents[key].as_pipe_mut() else {
+            unreachable!()
+        };
+        node.hung = hung;
+    }
+}
