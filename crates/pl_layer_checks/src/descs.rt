@@ -1,123 +1,201 @@
 //! Descriptions and processes where there is memory, where a limit is met, and where the Nth request for memory is refused.
+ghost use Rattle.std.specs.Prelude.{◌≡◌, []};
+
 use crate::equal::is;
 use pl_desc::{Descs, NoMemory, OpenFault, Released, StartFault};
 use pl_model::{Mode, Node, OpenFlags};
 use pl_testing::refusing::Refusing;
+use std::alloc::Global;
+use std::process::Abort;
 use std::test::Fail;
 
-#[test]
-fn processes_start_in_order(rt: HostRuntime) -> Result<(), Fail> {
-    let mut descs = Descs::new(rt.alloc());
+fn start_in_order(rt: &impl Abort, descs: &mut Descs) {
     for pid in 1..1_025 {
-        is(&rt, "started", descs.start(), Ok(pid));
+        is(rt, "started", descs.start(), Ok(pid));
     }
-    is(&rt, "one more", descs.start(), Err(StartFault::Eagain));
-    is(&rt, "the last", descs.has(1_024), true);
-    is(&rt, "before the first", descs.has(0), false);
-    is(&rt, "past the last", descs.has(1_025), false);
-    is(&rt, "not open", descs.find(1_024, 255), None);
-    Ok(())
+    is(rt, "one more", descs.start(), Err(StartFault::Eagain));
+    is(rt, "the last", descs.has(1_024), true);
+    is(rt, "before the first", descs.has(0), false);
+    is(rt, "past the last", descs.has(1_025), false);
+    is(rt, "not open", descs.find(1_024, 255), None);
 }
 
-#[test]
-fn no_description_more_than_4096(rt: HostRuntime) -> Result<(), Fail> {
-    let mut descs = Descs::new(rt.alloc());
+fn open_the_most(rt: &impl Abort, descs: &mut Descs) {
     for _ in 0..4_096u32 {
         let opened = descs.open_desc(Node::Pipe(0), Mode::Both, OpenFlags::NONBLOCK);
-        is(&rt, "opened", opened.is_ok(), true);
+        is(rt, "opened", opened.is_ok(), true);
     }
-    is(&rt, "live", descs.live(), 4_096);
-    is(&rt, "readers", descs.readers(Node::Pipe(0)), 4_096);
-    is(&rt, "writers", descs.writers(Node::Pipe(0)), 4_096);
-    is(&rt, "readers of a file", descs.readers(Node::File(0)), 0);
+    is(rt, "live", descs.live(), 4_096);
+    is(rt, "readers", descs.readers(Node::Pipe(0)), 4_096);
+    is(rt, "writers", descs.writers(Node::Pipe(0)), 4_096);
+    is(rt, "readers of a file", descs.readers(Node::File(0)), 0);
     let opened = descs.open_desc(Node::Pipe(1), Mode::Read, OpenFlags::NONBLOCK);
-    is(&rt, "one more", opened, Err(OpenFault::Enfile));
-    Ok(())
+    is(rt, "one more", opened, Err(OpenFault::Enfile));
 }
 
-#[test]
-fn a_key_past_all_memory(rt: HostRuntime) -> Result<(), Fail> {
-    let mut descs = Descs::new(rt.alloc());
+fn open_past_all_memory(rt: &impl Abort, descs: &mut Descs) {
     let opened = descs.open_desc(Node::Pipe(usize::MAX), Mode::Read, OpenFlags::NONBLOCK);
-    is(&rt, "opened", opened, Err(OpenFault::NoMemory));
-    is(&rt, "live", descs.live(), 0);
-    is(&rt, "readers", descs.readers(Node::Pipe(usize::MAX)), 0);
-    Ok(())
+    is(rt, "opened", opened, Err(OpenFault::NoMemory));
+    is(rt, "live", descs.live(), 0);
+    is(rt, "readers", descs.readers(Node::Pipe(usize::MAX)), 0);
 }
 
-/// The requests for memory that a start makes, or an open: each is refused in turn.
-const REQUESTS: &[u64] = &[1, 2];
-
-#[test]
-fn a_want_of_memory_changes_nothing(rt: HostRuntime) -> Result<(), Fail> {
-    let heap = Refusing::new(rt.alloc());
-    let mut descs = Descs::new(&heap);
-    for request in REQUESTS {
-        heap.refuse(*request);
-        is(&rt, "started", descs.start(), Err(StartFault::NoMemory));
-        is(&rt, "a start is refused", heap.refused(), true);
-        is(&rt, "a process", descs.has(1), false);
-    }
-    heap.refuse(0);
-    is(&rt, "started", descs.start(), Ok(1));
-    for request in REQUESTS {
-        heap.refuse(*request);
-        let opened = descs.open_desc(Node::Pipe(0), Mode::Read, OpenFlags::NONBLOCK);
-        is(&rt, "opened", opened, Err(OpenFault::NoMemory));
-        is(&rt, "an open is refused", heap.refused(), true);
-        is(&rt, "live", descs.live(), 0);
-        is(&rt, "readers", descs.readers(Node::Pipe(0)), 0);
-    }
-    Ok(())
-}
-
-#[test]
-fn a_reserve_is_enough(rt: HostRuntime) -> Result<(), Fail> {
-    let heap = Refusing::new(rt.alloc());
-    let mut descs = Descs::new(&heap);
-    heap.refuse(1);
-    is(
-        &rt,
-        "refused",
-        descs.reserve(Node::Pipe(5), 2),
-        Err(NoMemory),
-    );
-    heap.refuse(0);
-    is(&rt, "reserved", descs.reserve(Node::Pipe(5), 2), Ok(()));
-    heap.refuse(1);
-    let reader = descs.open_desc(Node::Pipe(5), Mode::Read, OpenFlags::NONBLOCK);
-    is(&rt, "a reader", reader.is_ok(), true);
-    let writer = descs.open_desc(Node::Pipe(5), Mode::Write, OpenFlags::NONBLOCK);
-    is(&rt, "a writer", writer.is_ok(), true);
-    is(&rt, "a request is refused", heap.refused(), false);
-    is(&rt, "live", descs.live(), 2);
-    Ok(())
-}
-
-/// A description is there until the last row that names it goes (POSIX.1-2017, fork and close).
-#[test]
-fn the_last_hold_of_a_description(rt: HostRuntime) -> Result<(), Fail> {
-    let node = Node::Pipe(7);
-    let mut descs = Descs::new(rt.alloc());
+/// A parent opens the only description, and a child has it too. Answers its key.
+fn fork_with_one(rt: &impl Abort, descs: &mut Descs, node: Node) -> Result<usize, Fail>
+    requires { descs.old ≡ record { tables = []; opened = []; loose = []; room = record { descriptions = 0; pipes = 0; files = 0 } } }
+{
     let parent = descs.start()?;
-    is(&rt, "the parent", parent, 1);
+    is(rt, "the parent", parent, 1);
     let key = descs.open_desc(node, Mode::Read, OpenFlags::NONBLOCK)?;
-    is(&rt, "readers", descs.readers(node), 1);
-    is(&rt, "the lowest", descs.lowest(parent, 0), Some(0));
+    is(rt, "readers", descs.readers(node), 1);
+    is(rt, "the lowest", descs.lowest(parent, 0), Some(0));
     descs.install(parent, 0, key);
     let child = descs.copy_table(parent)?;
-    is(&rt, "the child", child, 2);
-    let named = descs.remove(parent, 0).ok_or("not open")?;
-    is(&rt, "the parent's", named, key);
-    is(&rt, "released", descs.release(named), Released::Still);
-    let named = descs.remove(child, 0).ok_or("not open")?;
-    is(&rt, "the child's", named, key);
+    is(rt, "the child", child, 2);
+    Ok(key)
+}
+
+/// Closes the first descriptor of a process. Answers the key that it named, and what became of the description.
+fn close(descs: &mut Descs, pid: u32) -> Result<(usize, Released), Fail> {
+    let named = descs.remove(pid, 0).ok_or("not open")?;
+    Ok((named, descs.release(named)))
+}
+
+fn close_twice(rt: &impl Abort, descs: &mut Descs) -> Result<(), Fail>
+    requires { descs.old ≡ record { tables = []; opened = []; loose = []; room = record { descriptions = 0; pipes = 0; files = 0 } } }
+{
+    let node = Node::Pipe(7);
+    let key = fork_with_one(rt, descs, node)?;
     let gone = Released::Gone {
         node,
         mode: Mode::Read,
         readers: 0,
         writers: 0,
     };
-    is(&rt, "released again", descs.release(named), gone);
+    is(rt, "the parent's", close(descs, 1)?, (key, Released::Still));
+    is(rt, "the child's", close(descs, 2)?, (key, gone));
     Ok(())
+}
+
+/// What is tried on descriptions that are new.
+#[derive(Clone, Copy)]
+enum Trial {
+    StartInOrder,
+    OpenTheMost,
+    OpenPastAllMemory,
+    CloseTwice,
+}
+
+/// Tries it. The descriptions stand here alone, so that the end of them is proved once.
+fn meets(rt: &impl Abort, alloc: Global, trial: Trial) -> Result<(), Fail> {
+    let mut descs = Descs::new(alloc);
+    match trial {
+        Trial::StartInOrder => start_in_order(rt, &mut descs),
+        Trial::OpenTheMost => open_the_most(rt, &mut descs),
+        Trial::OpenPastAllMemory => open_past_all_memory(rt, &mut descs),
+        Trial::CloseTwice => close_twice(rt, &mut descs)?,
+    }
+    Ok(())
+}
+
+#[test]
+fn processes_start_in_order(rt: HostRuntime) -> Result<(), Fail> {
+    meets(&rt, rt.alloc(), Trial::StartInOrder)
+}
+
+#[test]
+fn no_description_more_than_4096(rt: HostRuntime) -> Result<(), Fail> {
+    meets(&rt, rt.alloc(), Trial::OpenTheMost)
+}
+
+#[test]
+fn a_key_past_all_memory(rt: HostRuntime) -> Result<(), Fail> {
+    meets(&rt, rt.alloc(), Trial::OpenPastAllMemory)
+}
+
+/// A description is there until the last row that names it goes (POSIX.1-2017, fork and close).
+#[test]
+fn the_last_hold_of_a_description(rt: HostRuntime) -> Result<(), Fail> {
+    meets(&rt, rt.alloc(), Trial::CloseTwice)
+}
+
+/// The requests for memory that a start makes, or an open: each is refused in turn.
+const REQUESTS: &[u64] = &[1, 2];
+
+/// The descriptions whose requests for memory can be refused.
+type Refused<'a> = Descs<&'a Refusing<Global>>;
+
+fn refuse_a_start<'a>(
+    rt: &impl Abort,
+    heap: &'a Refusing<Global>,
+    descs: &mut Refused<'a>,
+    request: u64,
+) {
+    heap.refuse(request);
+    is(rt, "started", descs.start(), Err(StartFault::NoMemory));
+    is(rt, "a start is refused", heap.refused(), true);
+    is(rt, "a process", descs.has(1), false);
+}
+
+fn refuse_an_open<'a>(
+    rt: &impl Abort,
+    heap: &'a Refusing<Global>,
+    descs: &mut Refused<'a>,
+    request: u64,
+) {
+    heap.refuse(request);
+    let opened = descs.open_desc(Node::Pipe(0), Mode::Read, OpenFlags::NONBLOCK);
+    is(rt, "opened", opened, Err(OpenFault::NoMemory));
+    is(rt, "an open is refused", heap.refused(), true);
+    is(rt, "live", descs.live(), 0);
+    is(rt, "readers", descs.readers(Node::Pipe(0)), 0);
+}
+
+fn refuse_each<'a>(rt: &impl Abort, heap: &'a Refusing<Global>, descs: &mut Refused<'a>) {
+    for request in REQUESTS {
+        refuse_a_start(rt, heap, descs, *request);
+    }
+    heap.refuse(0);
+    is(rt, "started", descs.start(), Ok(1));
+    for request in REQUESTS {
+        refuse_an_open(rt, heap, descs, *request);
+    }
+}
+
+fn reserve<'a>(rt: &impl Abort, heap: &'a Refusing<Global>, descs: &mut Refused<'a>) {
+    heap.refuse(1);
+    is(
+        rt,
+        "refused",
+        descs.reserve(Node::Pipe(5), 2),
+        Err(NoMemory),
+    );
+    heap.refuse(0);
+    is(rt, "reserved", descs.reserve(Node::Pipe(5), 2), Ok(()));
+}
+
+/// Two are opened of which neither may ask for memory.
+fn open_two<'a>(rt: &impl Abort, heap: &'a Refusing<Global>, descs: &mut Refused<'a>) {
+    heap.refuse(1);
+    let reader = descs.open_desc(Node::Pipe(5), Mode::Read, OpenFlags::NONBLOCK);
+    is(rt, "a reader", reader.is_ok(), true);
+    let writer = descs.open_desc(Node::Pipe(5), Mode::Write, OpenFlags::NONBLOCK);
+    is(rt, "a writer", writer.is_ok(), true);
+    is(rt, "a request is refused", heap.refused(), false);
+    is(rt, "live", descs.live(), 2);
+}
+
+#[test]
+fn a_want_of_memory_changes_nothing(rt: HostRuntime) {
+    let heap = Refusing::new(rt.alloc());
+    let mut descs = Descs::new(&heap);
+    refuse_each(&rt, &heap, &mut descs);
+}
+
+#[test]
+fn a_reserve_is_enough(rt: HostRuntime) {
+    let heap = Refusing::new(rt.alloc());
+    let mut descs = Descs::new(&heap);
+    reserve(&rt, &heap, &mut descs);
+    open_two(&rt, &heap, &mut descs);
 }

@@ -1,7 +1,7 @@
 //! Parked calls: their numbers, up to the last one, and what a want of memory leaves.
 mod orders;
 
-ghost use Rattle.std.specs.Prelude.{◌≡◌, []};
+ghost use Rattle.std.specs.Prelude.{◌≡◌, ◌+◌, []};
 
 use crate::equal::is;
 use orders::{CALLS, ENDED, ORDERS, are_all_taken, is_taken_back_after, park_all, pid_of};
@@ -105,6 +105,16 @@ fn park<'a>(
     })
 }
 
+/// Takes back the call that was parked last.
+fn unpark<A: Allocator + Copy>(parked: &mut Parked<A>, number: u64) -> Answer
+    requires { number + 1 ≡ parked.old.next }
+{
+    if parked.get(number).is_none() {
+        return Nothing;
+    }
+    told(Some(&parked.unpark(number)))
+}
+
 /// Parks a read, and takes it back.
 fn take_back<'a>(
     heap: &'a Refusing<Global>,
@@ -112,11 +122,14 @@ fn take_back<'a>(
     pid: u32,
     n: u32,
 ) -> Result<Answer, Fail> {
-    let number = parked.park(read(heap, pid, n)?).map_err(|_| "not parked")?;
-    if parked.get(number).is_none() {
-        return Ok(Nothing);
-    }
-    Ok(told(Some(&parked.unpark(number))))
+    Ok(match parked.park(read(heap, pid, n)?) {
+        Ok(number) => unpark(parked, number),
+        Err(fault) => Fault(fault),
+    })
+}
+
+fn take<A: Allocator + Copy>(parked: &mut Parked<A>, number: u64) -> Answer {
+    told(parked.take(number).as_ref())
 }
 
 fn answer_of<'a>(
@@ -129,7 +142,7 @@ fn answer_of<'a>(
         Park(pid, n) => park(heap, parked, pid, n, 0)?,
         TakeBack(pid, n) => take_back(heap, parked, pid, n)?,
         Get(number) => told(parked.get(number)),
-        Take(number) => told(parked.take(number).as_ref()),
+        Take(number) => take(parked, number),
         NextOf(pid, from) => match parked.next_of_process(pid, from) {
             Some(number) => Number(number),
             None => Nothing,
@@ -280,8 +293,22 @@ fn a_write_takes_more(rt: HostRuntime) -> Result<(), Fail> {
 /// The requests for memory that a call may make: each is refused in turn.
 const REQUESTS: &[u64] = &[1, 2];
 
-/// Parks the only call of a process, whose number is the process's, where a request for memory is refused. Answers whether it was refused: then
-/// all is as it was, and once there is memory the call is parked under the same number.
+/// The call that was refused changed nothing, and once there is memory it is parked under the same number.
+fn is_parked_again<'a>(
+    rt: &impl Abort,
+    heap: &'a Refusing<Global>,
+    parked: &mut Parked<&'a Refusing<Global>>,
+    pid: u32,
+) -> Result<(), Fail> {
+    let number = u64::from(pid);
+    is(rt, "the next number", parked.next_number(), number);
+    answers(rt, heap, parked, Get(number), Nothing)?;
+    answers(rt, heap, parked, NextOf(pid, 0), Nothing)?;
+    answers(rt, heap, parked, Park(pid, 10), Number(number))
+}
+
+/// Parks the only call of a process, whose number is the process's, where a request for memory is refused. Answers whether it
+/// was refused: then all is as it was, and once there is memory the call is parked under the same number.
 fn is_refused<'a>(
     rt: &impl Abort,
     heap: &'a Refusing<Global>,
@@ -295,10 +322,7 @@ fn is_refused<'a>(
     heap.refuse(0);
     if is_refused {
         is(rt, "parked", answer, Fault(ParkFault::NoMemory));
-        is(rt, "the next number", parked.next_number(), number);
-        answers(rt, heap, parked, Get(number), Nothing)?;
-        answers(rt, heap, parked, NextOf(pid, 0), Nothing)?;
-        answers(rt, heap, parked, Park(pid, 10), Number(number))?;
+        is_parked_again(rt, heap, parked, pid)?;
     } else {
         is(rt, "parked", answer, Number(number));
     }

@@ -82,6 +82,22 @@ pub(super) const ORDERS: &[&[u32]] = &[
     &[7, 2, 12, 9, 4, 1, 10, 6, 3, 11, 8, 5],
 ];
 
+/// The call of the number is taken, once, and just the others are left.
+fn take_one<'a>(
+    rt: &impl Abort,
+    heap: &'a Refusing<Global>,
+    parked: &mut Parked<&'a Refusing<Global>>,
+    left: &mut Vec<u32>,
+    number: u32,
+) -> Result<(), Fail> {
+    let call = Answer::Read(pid_of(number), number);
+    answers(rt, heap, parked, Take(u64::from(number)), call)?;
+    answers(rt, heap, parked, Take(u64::from(number)), Nothing)?;
+    left.retain(|other| *other != number);
+    are_left(rt, heap, parked, left.as_slice())?;
+    are_of_their_process(rt, heap, parked, left.as_slice())
+}
+
 /// The calls are taken in the order. Answers the numbers that are left.
 fn take_all<'a>(
     rt: &impl Abort,
@@ -92,13 +108,7 @@ fn take_all<'a>(
 ) -> Result<Vec<u32>, Fail> {
     let mut left = Vec::from_slice(alloc, ORDERS[0])?;
     for number in order {
-        let number = *number;
-        let call = Answer::Read(pid_of(number), number);
-        answers(rt, heap, parked, Take(u64::from(number)), call)?;
-        answers(rt, heap, parked, Take(u64::from(number)), Nothing)?;
-        left.retain(|other| *other != number);
-        are_left(rt, heap, parked, left.as_slice())?;
-        are_of_their_process(rt, heap, parked, left.as_slice())?;
+        take_one(rt, heap, parked, &mut left, *number)?;
     }
     Ok(left)
 }
