@@ -8,6 +8,7 @@ pub mod Ends
 pub mod There
 -- A kernel that holds the same descriptions as before has the same of them live.
 pub mod Staying
+pub mod Belonging
 -- What is left of a pipe, from the flags that the kernel read.
 pub mod Hung
 -- What settling makes of the kernel as a description is live no more.

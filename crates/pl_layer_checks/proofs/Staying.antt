@@ -1,8 +1,12 @@
--- Pipes that are there stay there, where one is made or changes.
+-- What is there under a key stays there, where something is made or changes.
 use Rattle.std.proofs.Common.{◌≡◌, ℕ, Bool, true, false, Option, Some, None, sym, subst, nat_eq, refl, ap, ◌∙◌}
 use Rattle.std.specs.Prelude.{IsSome, option_map, if◌then◌else◌}
 use Rattle.std.proofs.lemmas.Bool.{eq-eqb}
 use Rattle.pl_model.specs.Map.{set_at, change_at}
+
+-- a map that is the same has what it had
+pub stays-same : {V : Type 0} (m n : ℕ → Option V) → n ≡ m → (q : ℕ) → IsSome (m q) → IsSome (n q)
+stays-same m n is q there = subst IsSome (sym (λ i. is i q)) there
 
 module _ {V : Type 0} (key : ℕ) (m n : ℕ → Option V) where
   pub stays-changed : (f : V → V) → n ≡ change_at key f m → (q : ℕ) → IsSome (m q) → IsSome (n q)

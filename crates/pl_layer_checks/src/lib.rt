@@ -1,11 +1,13 @@
-//! Tests of the layers below the kernel, with memory and without: parked calls, open file descriptions, and pipes over one
-//! store.
+//! Tests of the layers below the kernel, with memory and without: parked calls, open file descriptions, and pipes and files over
+//! one store.
 #![tactic(auto)]
 
 #[cfg(test)]
 mod descs;
 #[cfg(test)]
 mod equal;
+#[cfg(test)]
+mod files;
 #[cfg(test)]
 mod nodes;
 #[cfg(test)]

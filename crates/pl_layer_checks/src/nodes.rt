@@ -56,7 +56,7 @@ struct Told {
 
 impl<A: Allocator + Copy> TwoPipes<A> {
     fn new(alloc: A) -> Result<TwoPipes<A>, NoMemory> {
-        let mut nodes = Nodes::new(alloc);
+        let mut nodes = Nodes::new(alloc, 0);
         let front = nodes.make_pipe()?;
         let behind = nodes.make_pipe()?;
         Ok(TwoPipes {
@@ -133,7 +133,7 @@ impl<A: Allocator + Copy> TwoPipes<A> {
 }
 
 /// A number that tells bytes and their order apart.
-fn weight(bytes: &[u8]) -> u32 {
+pub(crate) fn weight(bytes: &[u8]) -> u32 {
     let mut sum = 0u32;
     for byte in bytes {
         sum = sum.wrapping_mul(257).wrapping_add(*byte as u32);

@@ -6,7 +6,7 @@ ghost use Rattle.pl_model.specs.Settle.{settle};
 ghost use Rattle.pl_model.specs.Step.{without_call};
 ghost use Rattle.pl_model.specs.Transfer.{room};
 ghost use Rattle.pl_desc.specs.Rows.{at};
-ghost use Rattle.pl_kernel.specs.Contents.{core_of};
+ghost use Rattle.pl_kernel.specs.Contents.{IsProcess, core_of};
 ghost use Rattle.pl_kernel.specs.Opens.{OpenOn};
 ghost use Rattle.pl_kernel.specs.Sound.{MayWait};
 ghost use Rattle.pl_kernel.specs.Parking.{written, refusal, call_on, with_call, Adds, ReadWaits, WriteWaits};
@@ -54,6 +54,7 @@ impl<A: Allocator + Copy> Kernel<A> {
         key: usize,
         taken: u32,
     ) -> Result<u64, NoMemory>
+        requires process { IsProcess self.old pid }
         requires left { ¬ (self.old.calls.next ≡ last_call) }
         requires here { IsSome (at self.old.opened key) }
         requires may { MayWait call taken }
@@ -74,6 +75,7 @@ impl<A: Allocator + Copy> Kernel<A> {
         end: OpenEnd,
         taken: usize,
     ) -> Result<u64, NoMemory>
+        requires process { IsProcess self.old pid }
         requires left { ¬ (self.old.calls.next ≡ last_call) }
         requires on { OpenOn self.old end.key end.pipe }
         requires may { MayWait call taken }

@@ -1,0 +1,11 @@
+use Rattle.std.proofs.Common.{sym, subst}
+use Rattle.std.specs.Prelude.{IsSome}
+use Rattle.pl_segments.specs.Segments.{at}
+use Rattle.pl_layer_checks.proofs.Staying.{stays-changed, stays-same}
+use Rattle.pl_layer_checks.proofs.files.FileAndPipe.write.Goals as goal
+
+pub invariant_of-self : goal.invariant_of-self
+invariant_of-self g c =
+    let k = c.self.inside in
+    (stays-changed k.file (at k.nodes.files) (at c.write_file.new.self.files) _ c.in-Ok.ensures.ok k.file c.self.invariant.0,
+    stays-same (at k.nodes.pipes) (at c.write_file.new.self.pipes) c.in-Ok.ensures.pipes.pipes k.pipe c.self.invariant.1)
