@@ -13,7 +13,7 @@ use Rattle.pl_nodes.specs.declared.content.Content.{Content}
 use Rattle.pl_nodes.specs.declared.content.Content.TheVariants.{Pipe, File}
 use Rattle.pl_nodes.specs.Contents.{as_pipe, as_file}
 use Rattle.pl_nodes.specs.declared.nodes.Nodes.TheInside.{Inside}
-use Rattle.pl_nodes.specs.NodesView.{pipe_in, file_in, slots_in, lists, view_of, IsSound}
+use Rattle.pl_nodes.specs.NodesView.{pipe_in, file_in, slots_in, lists, names_of, view_of, IsSound}
 use Rattle.pl_nodes.proofs.Keyed.{put-back, within}
 use Rattle.pl_nodes.proofs.Lists.{lists-at, lists-length, named-few}
 use Rattle.pl_nodes.proofs.OneChanged.{content-held, changed-shared}
@@ -74,6 +74,7 @@ module _ {A : Type 0} (k : Inside A) (key : ℕ) (old : Content A) (there : at k
     refused-seen = (λ i. record {
       pipes = map (pipe_in (at (kept i))) (refused-contents i);
       files = map (file_in (at (kept i))) (refused-contents i);
+      names = names_of k.names.entries;
       next = k.contents.vacant_key;
       segments = live_count (kept i);
       file_max = k.file_max;

@@ -40,6 +40,7 @@ module _ {A : Type 0} (k : Inside A) (key : ℕ) (slots : List Slice) (there : a
       pipes =
           kept-seen (segment_at k.store) k.contents.slots key (File slots) there sound.shared (segment_at store) new turns (File new) refl pipes_seen refl
           ∙ ap (λ (v : Nodes). at v.pipes) is;
+      names = ap (λ (v : Nodes). v.names) is;
       file_max = ap (λ (v : Nodes). v.file_max) is;
     }
 
@@ -47,4 +48,4 @@ module _ {A : Type 0} (k : Inside A) (key : ℕ) (slots : List Slice) (there : a
   pub file-refused : (store : Segments) → store.held ≡ k.store.held → (new : List Slice) → new ≡ slots → SamePipes flat (view_of (with_content k key (File slots) there sound store (File new)))
   file-refused store kept new same =
       let e : view_of (with_content k key (File slots) there sound store (File new)) ≡ flat = refused-seen k key (File slots) there sound store kept (File new) (λ i. File (same i)) ∙ is in
-      record { pipes = ap (λ (v : Nodes). at v.pipes) e; file_max = ap (λ (v : Nodes). v.file_max) e }
+      record { pipes = ap (λ (v : Nodes). at v.pipes) e; names = ap (λ (v : Nodes). v.names) e; file_max = ap (λ (v : Nodes). v.file_max) e }

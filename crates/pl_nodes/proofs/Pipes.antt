@@ -44,6 +44,7 @@ module _ {A : Type 0} (k : Inside A) (key : ℕ) (p : PipeNode A) (there : at k.
       files =
           kept-seen (segment_at k.store) k.contents.slots key (Pipe p) there sound.shared (segment_at store) new.ring.slots turns (Pipe new) refl files_seen refl
           ∙ ap (λ (v : Nodes). at v.files) is;
+      names = ap (λ (v : Nodes). v.names) is;
       file_max = ap (λ (v : Nodes). v.file_max) is;
     }
 
@@ -51,4 +52,4 @@ module _ {A : Type 0} (k : Inside A) (key : ℕ) (p : PipeNode A) (there : at k.
   pub pipe-refused : (store : Segments) → store.held ≡ k.store.held → (new : PipeNode A) → new ≡ p → SameFiles flat (view_of (with_content k key (Pipe p) there sound store (Pipe new)))
   pipe-refused store kept new same =
       let e : view_of (with_content k key (Pipe p) there sound store (Pipe new)) ≡ flat = refused-seen k key (Pipe p) there sound store kept (Pipe new) (λ i. Pipe (same i)) ∙ is in
-      record { files = ap (λ (v : Nodes). at v.files) e; file_max = ap (λ (v : Nodes). v.file_max) e }
+      record { files = ap (λ (v : Nodes). at v.files) e; names = ap (λ (v : Nodes). v.names) e; file_max = ap (λ (v : Nodes). v.file_max) e }

@@ -1,6 +1,9 @@
 -- The fields of the nodes, as what they hold.
 use Rattle.std.specs.Prelude.{ℕ, ◌≤◌, List, [], length, map, Option, None, Some}
+use Rattle.std.specs.declared.vec.Vec.{Vec}
 use Rattle.pl_model.specs.Numbers.{most_file_bytes}
+use Rattle.pl_model.specs.declared.node.Node.{Node}
+use Rattle.pl_model.specs.Map.{Map as FiniteMap}
 use Rattle.pl_model.specs.State.{Pipe as PipeState}
 use Rattle.pl_segments.specs.declared.slice.Slice.{Slice}
 use Rattle.pl_segments.specs.Segments.{Map, segment_at, live_count}
@@ -38,12 +41,17 @@ module _ {A : Type 0} where
   abbrev pub lists : List (Option (Content A)) → List (List Slice)
   lists contents = map slots_in contents
 
+  -- the entries of the tree, by the bytes of their keys
+  abbrev pub names_of : List (Vec ℕ A × Node) → FiniteMap (List ℕ) Node
+  names_of es = map (λ e. (e.0.items, e.1)) es
+
   abbrev pub view_of : Inside A → Nodes
   view_of k =
       let m = segment_at k.store in
       record {
         pipes = map (pipe_in m) k.contents.slots;
         files = map (file_in m) k.contents.slots;
+        names = names_of k.names.entries;
         next = k.contents.vacant_key;
         segments = live_count k.store.held;
         file_max = k.file_max;

@@ -4,9 +4,11 @@ ghost use Rattle.pl_model.specs.Numbers.{most_file_bytes};
 ghost use Rattle.pl_segments.specs.Segments.{at};
 
 use crate::content::Content;
+use pl_model::Node;
 use pl_segments::Store;
 use slab::Slab;
 use std::alloc::{Allocator, Global};
+use std::collections::BTreeMap;
 use std::marker::Model;
 
 mod files;
@@ -19,6 +21,7 @@ pub struct Nodes<A: Allocator = Global> {
     alloc: A,
     store: Store<A>,
     contents: Slab<Content<A>, A>,
+    names: BTreeMap<Vec<u8, A>, Node, A>,
     file_max: usize,
 }
 
@@ -39,6 +42,7 @@ impl<A: Allocator + Copy> Nodes<A> {
         requires { file_max ≤ most_file_bytes }
         ensures pipes { result.pipes ≡ [] }
         ensures files { result.files ≡ [] }
+        ensures names { result.names ≡ [] }
         ensures segments { result.segments ≡ 0 }
         ensures file_max { result.file_max ≡ file_max }
     {
@@ -46,6 +50,7 @@ impl<A: Allocator + Copy> Nodes<A> {
             alloc,
             store: Store::new(alloc),
             contents: Slab::new(alloc),
+            names: BTreeMap::new(alloc),
             file_max,
         }
     }

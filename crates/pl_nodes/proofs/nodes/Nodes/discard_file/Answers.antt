@@ -31,5 +31,6 @@ returns-clause-pipes g c =
           gone-unseen (segment_at k.store) (segment_at c.let_go.new.store) k.contents c.remove.new.self c.args.key (File c.in-File.gone) (c.remove.ensures.value ∙ ap (λ x. Some x) c.in-File.is)
           c.self.invariant.shared c.let_go.ensures c.remove.ensures.updates pipes_seen refl
           ∙ ap (λ (v : Nodes). at v.pipes) c.self.view_is;
+      names = ap (λ (v : Nodes). v.names) c.self.view_is;
       file_max = ap (λ (v : Nodes). v.file_max) c.self.view_is;
     }

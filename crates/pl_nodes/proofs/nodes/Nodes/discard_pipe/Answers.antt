@@ -31,5 +31,6 @@ returns-clause-files g c =
           gone-unseen (segment_at k.store) (segment_at c.let_go.new.store) k.contents c.remove.new.self c.args.key (Pipe c.in-Pipe.gone) (c.remove.ensures.value ∙ ap (λ x. Some x) c.in-Pipe.is)
           c.self.invariant.shared c.let_go.ensures c.remove.ensures.updates files_seen refl
           ∙ ap (λ (v : Nodes). at v.files) c.self.view_is;
+      names = ap (λ (v : Nodes). v.names) c.self.view_is;
       file_max = ap (λ (v : Nodes). v.file_max) c.self.view_is;
     }

@@ -52,5 +52,6 @@ returns-clause-pipes g c =
           c.insert_reserved.ensures.was_vacant (came-shared k c.self.invariant c.reserve.new.self c.insert_reserved.new.self (same g c) c.insert_reserved.result new c.insert_reserved.ensures.was_vacant c.new.ensures u) c.new.ensures u pipes_seen refl
           ∙ ap (λ cs. seen pipes_seen m cs) (same g c)
           ∙ ap (λ (v : Nodes). at v.pipes) c.self.view_is;
+      names = ap (λ (v : Nodes). v.names) c.self.view_is;
       file_max = ap (λ (v : Nodes). v.file_max) c.self.view_is;
     }

@@ -56,5 +56,6 @@ returns-clause-files g c =
           c.insert_reserved.ensures.was_vacant (came-shared k c.self.invariant c.reserve.new.self c.insert_reserved.new.self (same g c) c.insert_reserved.result new c.insert_reserved.ensures.was_vacant empty u) empty u files_seen refl
           ∙ ap (λ cs. seen files_seen m cs) (same g c)
           ∙ ap (λ (v : Nodes). at v.files) c.self.view_is;
+      names = ap (λ (v : Nodes). v.names) c.self.view_is;
       file_max = ap (λ (v : Nodes). v.file_max) c.self.view_is;
     }
