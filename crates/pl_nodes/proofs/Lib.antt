@@ -5,3 +5,4 @@ pub mod AtKey
 pub mod Pipes
 pub mod Files
 pub mod Coming
+pub mod Names

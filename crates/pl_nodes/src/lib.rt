@@ -1,12 +1,15 @@
-//! What descriptions are on: pipes and regular files, whose bytes stand in the segments of one store.
+//! What descriptions are on: pipes and regular files, whose bytes stand in the segments of one store, and their names.
 //!
-//! Contracts see flat maps from keys to pipes and to the bytes of files, and nothing of segments but their number: each call
-//! says what becomes of one of them, and that all others stay as they were, though they share segments.
+//! Contracts see flat maps from keys to pipes and to the bytes of files, one from names to what they stand for, and nothing of
+//! segments but their number: each call says what becomes of one entry, and that all others stay as they were, though they
+//! share segments.
 #![tactic(auto)]
 
 mod content;
+mod fault;
 mod nodes;
 
+pub use fault::{MakeFault, NoSuchName};
 pub use nodes::Nodes;
 pub use pl_file::WriteFault;
 pub use pl_segments::NoMemory;

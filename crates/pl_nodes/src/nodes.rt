@@ -1,4 +1,4 @@
-//! Pipes and regular files under keys, over one store of segments.
+//! Pipes and regular files under keys, over one store of segments, and their names.
 ghost use Rattle.std.specs.Prelude.{ℕ, ◌≡◌, ◌≤◌, [], None};
 ghost use Rattle.pl_model.specs.Numbers.{most_file_bytes};
 ghost use Rattle.pl_segments.specs.Segments.{at};
@@ -12,10 +12,11 @@ use std::collections::BTreeMap;
 use std::marker::Model;
 
 mod files;
+mod names;
 mod pipes;
 
-/// Pipes and regular files, by key. Contracts see the list of each, the key that the next one gets, how many segments hold
-/// their bytes, and how many bytes a file may have.
+/// Pipes and regular files, by key, and what the names stand for. Contracts see the list of each, the key that the next pipe or
+/// file gets, how many segments hold their bytes, and how many bytes a file may have.
 #[derive(Drop)]
 pub struct Nodes<A: Allocator = Global> {
     alloc: A,
@@ -37,7 +38,7 @@ impl<A: Allocator> Model for Nodes<A> {
 }
 
 impl<A: Allocator + Copy> Nodes<A> {
-    /// No pipes and no files, of which none will have more than `file_max` bytes, at most 16,777,216. It takes no memory.
+    /// No pipes, no names, and no files, of which none will have more than `file_max` bytes, at most 16,777,216. It takes no memory.
     pub fn new(alloc: A, file_max: usize) -> Nodes<A>
         requires { file_max ≤ most_file_bytes }
         ensures pipes { result.pipes ≡ [] }

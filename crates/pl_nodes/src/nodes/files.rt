@@ -23,22 +23,6 @@ fn let_go<A: Allocator + Copy>(store: &mut Store<A>, file: File<A>)
 }
 
 impl<A: Allocator + Copy> Nodes<A> {
-    /// Makes an empty file, and answers its key. An error leaves all as it was.
-    pub fn make_file(&mut self) -> Result<usize, NoMemory>
-        ensures vacant { IfOk result (λ key. at self.old.files key ≡ None) }
-        ensures key { IfOk result (λ key. key ≡ self.old.next) }
-        ensures ok { IfOk result (λ key. at self.new.files ≡ set_at nat_eq (at self.old.files) key (Some [])) }
-        ensures pipes { SamePipes self.old self.new }
-        ensures segments { self.new.segments ≡ self.old.segments }
-        ensures err { OnErr result (self.new ≡ self.old) }
-    {
-        self.contents.reserve(1)?;
-        Ok(
-            self.contents
-                .insert_reserved(Content::File(File::new(self.alloc))),
-        )
-    }
-
     /// How many bytes a file has.
     pub fn file_len(&self, key: usize) -> usize
         requires { IsSome (at self.now.files key) }

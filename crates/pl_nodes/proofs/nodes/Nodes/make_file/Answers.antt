@@ -1,12 +1,19 @@
 use Rattle.std.proofs.Common.{◌≡◌, ◌∙◌, [], Some, refl, ap, sym, nat_eq}
-use Rattle.pl_model.specs.Map.{set_at}
+use Rattle.std.specs.Prelude.{Ok, Err}
+use Rattle.std.specs.Ordering.{nat_cmp}
+use Rattle.std.specs.Cmp.Lexicographic.{slice_cmp}
+use Rattle.pl_model.specs.declared.node.Node.TheVariants.{File as FileNode}
+use Rattle.pl_model.specs.Map.{set_at, put_in_order}
 use Rattle.pl_segments.specs.Segments.{segment_at, at}
 use Rattle.pl_segments.specs.Slices.{all_read}
 use Rattle.slab.specs.Slab.{Slab}
 use Rattle.pl_nodes.specs.declared.content.Content.TheVariants.{File}
+use Rattle.pl_nodes.specs.declared.fault.MakeFault.TheVariants.{Exists, NoMemory}
 use Rattle.pl_nodes.specs.Nodes.{Nodes}
-use Rattle.pl_nodes.proofs.OneChanged.{pipes_seen, files_seen, seen, seen-at, new-seen, new-unseen}
+use Rattle.pl_nodes.specs.NodesView.{names_of}
+use Rattle.pl_nodes.proofs.OneChanged.{pipes_seen, files_seen, seen, new-seen, new-unseen}
 use Rattle.pl_nodes.proofs.Coming.{came-shared, came-sound}
+use Rattle.pl_nodes.proofs.Names.{insert-names, renamed-sound, there, not-there}
 use Rattle.pl_nodes.proofs.nodes.Nodes.make_file.Given.{Over}
 use Rattle.pl_nodes.proofs.nodes.Nodes.make_file.Goals.{After-insert_reserved}
 use Rattle.pl_nodes.proofs.nodes.Nodes.make_file.Goals as goal
@@ -14,19 +21,13 @@ use Rattle.pl_nodes.proofs.nodes.Nodes.make_file.Goals as goal
 -- there is a place more, and all is as it was
 module _ (g : Over) (c : After-insert_reserved g) where
   same : c.reserve.new.self.slots ≡ c.self.inside.contents.slots
-  same = ap (λ (s : Slab _). s.slots) c.in_ok-reserve.ensures.rest_kept
-
-pub returns-clause-vacant : goal.returns-clause-vacant
-returns-clause-vacant g c =
-    let k = c.self.inside in
-    ap (λ (v : Nodes). at v.files c.insert_reserved.result) (sym c.self.view_is)
-    ∙ seen-at files_seen (segment_at k.store) k.contents.slots c.insert_reserved.result
-    ∙ ap (files_seen.see (segment_at k.store)) (ap (λ cs. at cs c.insert_reserved.result) (sym (same g c)) ∙ c.insert_reserved.ensures.was_vacant)
+  same = ap (λ (s : Slab _). s.slots) c.in-Ok.ensures.rest_kept
 
 pub invariant_of-self-2 : goal.invariant_of-self-2
 invariant_of-self-2 g c =
-    came-sound c.self.inside c.self.invariant c.reserve.new.self c.insert_reserved.new.self (same g c) c.insert_reserved.result (File c.new.result)
-    c.insert_reserved.ensures.was_vacant c.new.ensures c.insert_reserved.ensures.updates
+    renamed-sound (record c.self.inside { contents = c.insert_reserved.new.self })
+    (came-sound c.self.inside c.self.invariant c.reserve.new.self c.insert_reserved.new.self (same g c) c.insert_reserved.result (File c.new.result)
+    c.insert_reserved.ensures.was_vacant c.new.ensures c.insert_reserved.ensures.updates) _
 
 pub returns-clause-ok : goal.returns-clause-ok
 returns-clause-ok g c =
@@ -46,12 +47,29 @@ returns-clause-pipes g c =
     let m = segment_at k.store in
     let new = File c.new.result in
     let u = c.insert_reserved.ensures.updates in
-    record {
-      pipes =
-          new-unseen m c.reserve.new.self c.insert_reserved.new.self c.insert_reserved.result new
-          c.insert_reserved.ensures.was_vacant (came-shared k c.self.invariant c.reserve.new.self c.insert_reserved.new.self (same g c) c.insert_reserved.result new c.insert_reserved.ensures.was_vacant c.new.ensures u) c.new.ensures u pipes_seen refl
-          ∙ ap (λ cs. seen pipes_seen m cs) (same g c)
-          ∙ ap (λ (v : Nodes). at v.pipes) c.self.view_is;
-      names = ap (λ (v : Nodes). v.names) c.self.view_is;
-      file_max = ap (λ (v : Nodes). v.file_max) c.self.view_is;
-    }
+    new-unseen m c.reserve.new.self c.insert_reserved.new.self c.insert_reserved.result new
+    c.insert_reserved.ensures.was_vacant (came-shared k c.self.invariant c.reserve.new.self c.insert_reserved.new.self (same g c) c.insert_reserved.result new c.insert_reserved.ensures.was_vacant c.new.ensures u) c.new.ensures u pipes_seen refl
+    ∙ ap (λ cs. seen pipes_seen m cs) (same g c)
+    ∙ ap (λ (v : Nodes). at v.pipes) c.self.view_is
+
+pub returns-clause-names : goal.returns-clause-names
+returns-clause-names g c =
+    ap (λ es. names_of es) c.in-Ok-insert.ensures.entries
+    ∙ insert-names c.self.inside.names.entries c.args.name (FileNode c.vacant_key-key.result)
+    ∙ ap (λ (v : Nodes). put_in_order (slice_cmp nat_cmp) v.names c.args.name.items (FileNode c.vacant_key-key.result)) c.self.view_is
+    ∙ ap (λ key. put_in_order (slice_cmp nat_cmp) c.args.self.now.names c.args.name.items (FileNode key)) (c.vacant_key-key.ensures.value ∙ sym c.insert_reserved.ensures.key)
+
+pub returns-then-contains_key-clause-exists : goal.returns-then-contains_key-clause-exists
+returns-then-contains_key-clause-exists g c = there c.self.inside c.args.self.now c.self.view_is c.args.name.items c.contains_key.result c.contains_key.ensures c.if-contains_key.true (Err Exists) Exists refl
+
+pub returns-in_default-clause-exists : goal.returns-in_default-clause-exists
+returns-in_default-clause-exists g c =
+    not-there c.self.inside c.args.self.now c.self.view_is c.args.name.items c.contains_key.result c.contains_key.ensures c.if-contains_key.false (Err NoMemory) Exists (λ e. cc)
+
+pub returns-in_default-insert-clause-exists : goal.returns-in_default-insert-clause-exists
+returns-in_default-insert-clause-exists g c =
+    not-there c.self.inside c.args.self.now c.self.view_is c.args.name.items c.contains_key.result c.contains_key.ensures c.if-contains_key.false (Err NoMemory) Exists (λ e. cc)
+
+pub returns-clause-exists : goal.returns-clause-exists
+returns-clause-exists g c =
+    not-there c.self.inside c.args.self.now c.self.view_is c.args.name.items c.contains_key.result c.contains_key.ensures c.if-contains_key.false (Ok c.insert_reserved.result) Exists (λ e. cc)

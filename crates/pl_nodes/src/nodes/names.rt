@@ -1,0 +1,72 @@
+//! Names of what is under a key, looked up by their bytes.
+ghost use Rattle.std.specs.Prelude.{◌≡◌, ◌↔◌, [], IfOk, OnErr, IsErr, IsSome, Some, None, Err, nat_eq};
+ghost use Rattle.std.specs.Ordering.{nat_cmp};
+ghost use Rattle.std.specs.Cmp.Lexicographic.{slice_cmp, pointwise};
+ghost use Rattle.pl_model.specs.Map.{set_at, get, without, put_in_order};
+ghost use Rattle.pl_segments.specs.Segments.{at};
+
+use super::Nodes;
+use crate::content::Content;
+use crate::fault::{MakeFault, NoSuchName};
+use pl_file::File;
+use pl_model::Node;
+use std::alloc::Allocator;
+
+impl<A: Allocator + Copy> Nodes<A> {
+    /// Makes an empty file of this name, and answers its key. An error leaves all as it was, and the name is dropped.
+    ///
+    /// # Errors
+    ///
+    /// - `Exists` exactly where the name stands for something, whether or not there is memory (POSIX.1-2017, open, O_EXCL).
+    /// - `NoMemory` where it doesn't, and there is no memory for the file or its name.
+    pub fn make_file(&mut self, name: Vec<u8, A>) -> Result<usize, MakeFault>
+        ensures vacant { IfOk result (λ key. at self.old.files key ≡ None) }
+        ensures key { IfOk result (λ key. key ≡ self.old.next) }
+        ensures ok { IfOk result (λ key. at self.new.files ≡ set_at nat_eq (at self.old.files) key (Some [])) }
+        ensures names { IfOk result (λ key. self.new.names ≡ put_in_order (slice_cmp nat_cmp) self.old.names name.items (Node.File key)) }
+        ensures exists { (result ≡ Err MakeFault.Exists) ↔ IsSome (get (pointwise nat_eq) self.old.names name.items) }
+        ensures pipes { at self.new.pipes ≡ at self.old.pipes }
+        ensures segments { self.new.segments ≡ self.old.segments }
+        ensures file_max { self.new.file_max ≡ self.old.file_max }
+        ensures err { OnErr result (self.new ≡ self.old) }
+    {
+        if self.names.contains_key(&name) {
+            return Err(MakeFault::Exists);
+        }
+        // What takes memory comes before what changes anything.
+        let Ok(()) = self.contents.reserve(1) else {
+            return Err(MakeFault::NoMemory);
+        };
+        let key = self.contents.vacant_key();
+        let Ok(_previous) = self.names.insert(name, Node::File(key)) else {
+            return Err(MakeFault::NoMemory);
+        };
+        Ok(
+            self.contents
+                .insert_reserved(Content::File(File::new(self.alloc))),
+        )
+    }
+
+    /// What a name stands for, if anything.
+    pub fn look_up(&self, name: &[u8]) -> Option<Node>
+        ensures { result ≡ get (pointwise nat_eq) self.now.names name.now }
+    {
+        self.names.get(name).copied()
+    }
+
+    /// Takes a name away, and answers what it stood for, which stays, with its bytes, until it is discarded (POSIX.1-2017,
+    /// unlink). It takes no memory.
+    ///
+    /// # Errors
+    ///
+    /// - `NoSuchName` exactly where the name stands for nothing, and then all is as it was.
+    pub fn unlink(&mut self, name: &[u8]) -> Result<Node, NoSuchName>
+        ensures node { IfOk result (λ node. get (pointwise nat_eq) self.old.names name.now ≡ Some node) }
+        ensures names { self.new.names ≡ without (pointwise nat_eq) self.old.names name.now }
+        ensures missing { IsErr result ↔ (get (pointwise nat_eq) self.old.names name.now ≡ None) }
+        ensures rest { self.new ≡ record self.old { names = self.new.names } }
+        ensures err { OnErr result (self.new ≡ self.old) }
+    {
+        self.names.remove(name).ok_or(NoSuchName)
+    }
+}
