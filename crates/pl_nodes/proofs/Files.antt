@@ -12,7 +12,7 @@ use Rattle.pl_nodes.specs.declared.content.Content.TheVariants.{File}
 use Rattle.pl_nodes.specs.declared.nodes.Nodes.TheInside.{Inside}
 use Rattle.pl_nodes.specs.Nodes.{Nodes, SamePipes}
 use Rattle.pl_nodes.specs.NodesView.{file_in, view_of, IsSound}
-use Rattle.pl_nodes.proofs.OneChanged.{pipes_seen, files_seen, seen-at, changed-seen, kept-seen}
+use Rattle.pl_nodes.proofs.OneChanged.{pipes_seen, files_seen, seen-at, changed-seen, kept-list}
 use Rattle.pl_nodes.proofs.AtKey.{held, with_content, refused-seen}
 
 module _ {A : Type 0} (k : Inside A) (key : ℕ) (slots : List Slice) (there : at k.contents.slots key ≡ Some (File slots)) (sound : IsSound k) (flat : Nodes) (is : view_of k ≡ flat) where
@@ -38,8 +38,8 @@ module _ {A : Type 0} (k : Inside A) (key : ℕ) (slots : List Slice) (there : a
     pub file-pipes : SamePipes flat (view_of (with_content k key (File slots) there sound store (File new)))
     file-pipes = record {
       pipes =
-          kept-seen (segment_at k.store) k.contents.slots key (File slots) there sound.shared (segment_at store) new turns (File new) refl pipes_seen refl
-          ∙ ap (λ (v : Nodes). at v.pipes) is;
+          kept-list (segment_at k.store) k.contents.slots key (File slots) there sound.shared (segment_at store) new turns (File new) refl pipes_seen refl
+          ∙ ap (λ (v : Nodes). v.pipes) is;
       names = ap (λ (v : Nodes). v.names) is;
       file_max = ap (λ (v : Nodes). v.file_max) is;
     }
@@ -48,4 +48,4 @@ module _ {A : Type 0} (k : Inside A) (key : ℕ) (slots : List Slice) (there : a
   pub file-refused : (store : Segments) → store.held ≡ k.store.held → (new : List Slice) → new ≡ slots → SamePipes flat (view_of (with_content k key (File slots) there sound store (File new)))
   file-refused store kept new same =
       let e : view_of (with_content k key (File slots) there sound store (File new)) ≡ flat = refused-seen k key (File slots) there sound store kept (File new) (λ i. File (same i)) ∙ is in
-      record { pipes = ap (λ (v : Nodes). at v.pipes) e; names = ap (λ (v : Nodes). v.names) e; file_max = ap (λ (v : Nodes). v.file_max) e }
+      record { pipes = ap (λ (v : Nodes). v.pipes) e; names = ap (λ (v : Nodes). v.names) e; file_max = ap (λ (v : Nodes). v.file_max) e }

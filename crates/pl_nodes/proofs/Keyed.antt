@@ -50,6 +50,13 @@ change_at-is k f m x e = is_set_at m (change_at k f m) k (Some (f x))
     (ap (λ b. if b then option_map f (m k) else m k) (eq-eqb k k refl) ∙ ap (option_map f) e)
     (λ q n. ap (λ b. if b then option_map f (m q) else m q) (ne_eqb k q (λ h. n (sym h))))
 
+-- lists of one length with the same under each key
+pub same-list : {V : Type 0} (xs ys : List (Option V)) → length xs ≡ length ys → at xs ≡ at ys → xs ≡ ys
+same-list [] [] l e = refl
+same-list [] (y ∷ ys) l e = absurd (omega (arith, l))
+same-list (x ∷ xs) [] l e = absurd (omega (arith, l))
+same-list (x ∷ xs) (y ∷ ys) l e = (λ i. e i zero ∷ same-list xs ys (omega (arith, l)) (λ j q. e j (suc q)) i)
+
 -- what follows from what holds of an `Ok`
 pub if_ok : {T E : Type 0} (r : Result T E) (P Q : T → Type 0) → IfOk r P → ((x : T) → P x → Q x) → IfOk r Q
 if_ok (Ok x) P Q h f = f x h

@@ -4,7 +4,7 @@ use Rattle.std.proofs.Math.Path.{fun_ext}
 use Rattle.std.proofs.Math.ListN.{get_or-map}
 use Rattle.std.specs.Prelude.{option_map, slice_index_or}
 use Rattle.std.proofs.lemmas.Bool.Decides.{eqb_tells}
-use Rattle.std.proofs.lemmas.List.{get_or-set_same, get_or-set_other}
+use Rattle.std.proofs.lemmas.List.{get_or-set_same, get_or-set_other, length-map, length-set}
 use Rattle.pl_model.specs.Map.{set_at, change_at}
 use Rattle.pl_model.specs.State.{Pipe as PipeState}
 use Rattle.pl_segments.specs.declared.slice.Slice.{Slice}
@@ -17,7 +17,7 @@ use Rattle.slab.specs.Slab.{Slab, Updates}
 use Rattle.pl_nodes.specs.declared.content.Content.{Content}
 use Rattle.pl_nodes.specs.declared.content.Content.TheVariants.{Pipe, File}
 use Rattle.pl_nodes.specs.NodesView.{pipe_in, file_in, slots_in, lists}
-use Rattle.pl_nodes.proofs.Keyed.{within, is_set_at, is_change_at}
+use Rattle.pl_nodes.proofs.Keyed.{within, is_set_at, is_change_at, same-list}
 use Rattle.pl_nodes.proofs.Lists.{lists-at, lists-length, lists-set, same-shared}
 
 -- A sight of what is under a key: nothing of nothing, and the same where the slots read the same.
@@ -99,11 +99,17 @@ module _ {A : Type 0} (m : Map) (contents : List (Option (Content A))) (key : �
             after-other
 
         -- or with the same
-        pub kept-seen : s.see n (Some new) ≡ s.see m (Some old) → seen s n (slice_set contents key (Some new)) ≡ seen s m contents
+        kept-seen : s.see n (Some new) ≡ s.see m (Some old) → seen s n (slice_set contents key (Some new)) ≡ seen s m contents
         kept-seen e = fun_ext (λ q. elim (eqb_tells q key) as (λ _. seen s n (slice_set contents key (Some new)) q ≡ seen s m contents q) [
           | inl d ↦ ap (seen s n (slice_set contents key (Some new))) d.1 ∙ after-here ∙ e ∙ sym before-here ∙ ap (seen s m contents) (sym d.1)
           | inr d ↦ after-other q d.1
         ])
+
+        pub kept-list : s.see n (Some new) ≡ s.see m (Some old) → map (s.see n) (slice_set contents key (Some new)) ≡ map (s.see m) contents
+        kept-list e =
+            let now = length-map (slice_set contents key (Some new)) (s.see n) ∙ length-set contents key (Some new) in
+            let was = length-map contents (s.see m) in
+            same-list (map (s.see n) (slice_set contents key (Some new))) (map (s.see m) contents) (now ∙ sym was) (kept-seen e)
 
 -- a content goes, with its slots
 module _ {A : Type 0} (m n : Map) (before after : Slab (Content A)) (key : ℕ) (old : Content A) (there : at before.slots key ≡ Some old) (shared : AreShared m (lists before.slots))
@@ -127,8 +133,14 @@ module _ {A : Type 0} (m n : Map) (before after : Slab (Content A)) (key : ℕ) 
         (λ q d. seen-at s n after.slots q ∙ ap (s.see n) (u.others q d) ∙ others m before.slots key old there shared n [] turned s q d ∙ sym (seen-at s m before.slots q))
 
     -- where it wasn't seen nothing is missed
-    pub gone-unseen : s.see m (Some old) ≡ None → seen s n after.slots ≡ seen s m before.slots
+    gone-unseen : s.see m (Some old) ≡ None → seen s n after.slots ≡ seen s m before.slots
     gone-unseen e = gone-seen ∙ sym (is_set_at (seen s m before.slots) (seen s m before.slots) key None (seen-at s m before.slots key ∙ ap (s.see m) there ∙ e) (λ q d. refl))
+
+    pub gone-list : s.see m (Some old) ≡ None → after.slots ≡ slice_set before.slots key None → map (s.see n) after.slots ≡ map (s.see m) before.slots
+    gone-list e slots =
+        let now = length-map after.slots (s.see n) ∙ ap (λ (xs : List (Option (Content A))). length xs) slots ∙ length-set before.slots key None in
+        let was = length-map before.slots (s.see m) in
+        same-list (map (s.see n) after.slots) (map (s.see m) before.slots) (now ∙ sym was) (gone-unseen e)
 
 -- a content without slots comes under a key that was free
 module _ {A : Type 0} (m : Map) (before after : Slab (Content A)) (key : ℕ) (new : Content A) (free : at before.slots key ≡ None) (shared : AreShared m (lists before.slots))

@@ -13,7 +13,7 @@ use Rattle.pl_nodes.specs.declared.content.Content.TheVariants.{Pipe}
 use Rattle.pl_nodes.specs.declared.nodes.Nodes.TheInside.{Inside}
 use Rattle.pl_nodes.specs.Nodes.{Nodes, SameFiles}
 use Rattle.pl_nodes.specs.NodesView.{pipe_of, pipe_in, view_of, IsSound}
-use Rattle.pl_nodes.proofs.OneChanged.{pipes_seen, files_seen, seen-at, changed-seen, kept-seen}
+use Rattle.pl_nodes.proofs.OneChanged.{pipes_seen, files_seen, seen-at, changed-seen, kept-list}
 use Rattle.pl_nodes.proofs.AtKey.{held, with_content, refused-seen}
 
 module _ {A : Type 0} (k : Inside A) (key : ℕ) (p : PipeNode A) (there : at k.contents.slots key ≡ Some (Pipe p)) (sound : IsSound k) (flat : Nodes) (is : view_of k ≡ flat) where
@@ -42,8 +42,8 @@ module _ {A : Type 0} (k : Inside A) (key : ℕ) (p : PipeNode A) (there : at k.
     pub pipe-files : SameFiles flat (view_of (with_content k key (Pipe p) there sound store (Pipe new)))
     pipe-files = record {
       files =
-          kept-seen (segment_at k.store) k.contents.slots key (Pipe p) there sound.shared (segment_at store) new.ring.slots turns (Pipe new) refl files_seen refl
-          ∙ ap (λ (v : Nodes). at v.files) is;
+          kept-list (segment_at k.store) k.contents.slots key (Pipe p) there sound.shared (segment_at store) new.ring.slots turns (Pipe new) refl files_seen refl
+          ∙ ap (λ (v : Nodes). v.files) is;
       names = ap (λ (v : Nodes). v.names) is;
       file_max = ap (λ (v : Nodes). v.file_max) is;
     }
@@ -52,4 +52,4 @@ module _ {A : Type 0} (k : Inside A) (key : ℕ) (p : PipeNode A) (there : at k.
   pub pipe-refused : (store : Segments) → store.held ≡ k.store.held → (new : PipeNode A) → new ≡ p → SameFiles flat (view_of (with_content k key (Pipe p) there sound store (Pipe new)))
   pipe-refused store kept new same =
       let e : view_of (with_content k key (Pipe p) there sound store (Pipe new)) ≡ flat = refused-seen k key (Pipe p) there sound store kept (Pipe new) (λ i. Pipe (same i)) ∙ is in
-      record { files = ap (λ (v : Nodes). at v.files) e; names = ap (λ (v : Nodes). v.names) e; file_max = ap (λ (v : Nodes). v.file_max) e }
+      record { files = ap (λ (v : Nodes). v.files) e; names = ap (λ (v : Nodes). v.names) e; file_max = ap (λ (v : Nodes). v.file_max) e }

@@ -3,7 +3,6 @@ use Rattle.std.specs.Prelude.{ℕ, List, Option, ◌≡◌}
 use Rattle.pl_model.specs.declared.node.Node.{Node}
 use Rattle.pl_model.specs.Map.{Map}
 use Rattle.pl_model.specs.State.{Pipe}
-use Rattle.pl_segments.specs.Segments.{at}
 
 -- the pipes and the bytes of the files by key, what the names stand for, in the order of their bytes, the key that the next
 -- pipe or file gets, how many segments hold all bytes, and the most bytes of a file
@@ -17,12 +16,12 @@ pub record Nodes : Type 0 where
 
 -- the files and the names are as they were
 pub record SameFiles (old new : Nodes) : Type 0 where
-  pub files : at new.files ≡ at old.files
+  pub files : new.files ≡ old.files
   pub names : new.names ≡ old.names
   pub file_max : new.file_max ≡ old.file_max
 
 -- the pipes and the names are as they were
 pub record SamePipes (old new : Nodes) : Type 0 where
-  pub pipes : at new.pipes ≡ at old.pipes
+  pub pipes : new.pipes ≡ old.pipes
   pub names : new.names ≡ old.names
   pub file_max : new.file_max ≡ old.file_max

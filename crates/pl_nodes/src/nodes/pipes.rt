@@ -31,7 +31,9 @@ impl<A: Allocator + Copy> Nodes<A> {
         ensures vacant { IfOk result (λ key. at self.old.pipes key ≡ None) }
         ensures key { IfOk result (λ key. key ≡ self.old.next) }
         ensures ok { IfOk result (λ key. at self.new.pipes ≡ set_at nat_eq (at self.old.pipes) key (Some empty_pipe)) }
-        ensures files { SameFiles self.old self.new }
+        ensures files { at self.new.files ≡ at self.old.files }
+        ensures names { self.new.names ≡ self.old.names }
+        ensures file_max { self.new.file_max ≡ self.old.file_max }
         ensures segments { self.new.segments ≡ self.old.segments }
         ensures err { OnErr result (self.new ≡ self.old) }
     {

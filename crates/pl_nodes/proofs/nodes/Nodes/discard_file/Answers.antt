@@ -4,7 +4,7 @@ use Rattle.pl_segments.specs.Segments.{segment_at, at}
 use Rattle.pl_nodes.specs.declared.content.Content.TheVariants.{File}
 use Rattle.pl_nodes.specs.Nodes.{Nodes}
 use Rattle.pl_nodes.proofs.AtKey.{held}
-use Rattle.pl_nodes.proofs.OneChanged.{pipes_seen, files_seen, gone-seen, gone-unseen}
+use Rattle.pl_nodes.proofs.OneChanged.{pipes_seen, files_seen, gone-seen, gone-list}
 use Rattle.pl_nodes.proofs.Coming.{gone-sound}
 use Rattle.pl_nodes.proofs.nodes.Nodes.discard_file.Goals as goal
 
@@ -28,9 +28,9 @@ returns-clause-pipes g c =
     let k = c.self.inside in
     record {
       pipes =
-          gone-unseen (segment_at k.store) (segment_at c.let_go.new.store) k.contents c.remove.new.self c.args.key (File c.in-File.gone) (c.remove.ensures.value ∙ ap (λ x. Some x) c.in-File.is)
-          c.self.invariant.shared c.let_go.ensures c.remove.ensures.updates pipes_seen refl
-          ∙ ap (λ (v : Nodes). at v.pipes) c.self.view_is;
+          gone-list (segment_at k.store) (segment_at c.let_go.new.store) k.contents c.remove.new.self c.args.key (File c.in-File.gone) (c.remove.ensures.value ∙ ap (λ x. Some x) c.in-File.is)
+          c.self.invariant.shared c.let_go.ensures c.remove.ensures.updates pipes_seen refl c.remove.ensures.slots
+          ∙ ap (λ (v : Nodes). v.pipes) c.self.view_is;
       names = ap (λ (v : Nodes). v.names) c.self.view_is;
       file_max = ap (λ (v : Nodes). v.file_max) c.self.view_is;
     }

@@ -50,12 +50,7 @@ returns-clause-files g c =
     let new = Pipe (record { ring = c.in_ok-ring.ring; hung = false }) in
     let empty = ap (λ (r : Ring). r.slots) c.in_ok-ring.ensures in
     let u = c.insert_reserved.ensures.updates in
-    record {
-      files =
-          new-unseen m c.reserve.new.self c.insert_reserved.new.self c.insert_reserved.result new
-          c.insert_reserved.ensures.was_vacant (came-shared k c.self.invariant c.reserve.new.self c.insert_reserved.new.self (same g c) c.insert_reserved.result new c.insert_reserved.ensures.was_vacant empty u) empty u files_seen refl
-          ∙ ap (λ cs. seen files_seen m cs) (same g c)
-          ∙ ap (λ (v : Nodes). at v.files) c.self.view_is;
-      names = ap (λ (v : Nodes). v.names) c.self.view_is;
-      file_max = ap (λ (v : Nodes). v.file_max) c.self.view_is;
-    }
+    new-unseen m c.reserve.new.self c.insert_reserved.new.self c.insert_reserved.result new
+    c.insert_reserved.ensures.was_vacant (came-shared k c.self.invariant c.reserve.new.self c.insert_reserved.new.self (same g c) c.insert_reserved.result new c.insert_reserved.ensures.was_vacant empty u) empty u files_seen refl
+    ∙ ap (λ cs. seen files_seen m cs) (same g c)
+    ∙ ap (λ (v : Nodes). at v.files) c.self.view_is
