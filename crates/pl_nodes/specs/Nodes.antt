@@ -4,11 +4,12 @@ use Rattle.pl_model.specs.declared.node.Node.{Node}
 use Rattle.pl_model.specs.Map.{Map}
 use Rattle.pl_model.specs.State.{Pipe}
 
--- the pipes and the bytes of the files by key, what the names stand for, in the order of their bytes, the key that the next
--- pipe or file gets, how many segments hold all bytes, and the most bytes of a file
+-- the pipes and the bytes of the files by key, in how many slots each keeps its bytes, what the names stand for, in the order of
+-- their bytes, the key that the next pipe or file gets, how many segments hold all bytes, and the most bytes of a file
 pub record Nodes : Type 0 where
   pub pipes : List (Option Pipe)
   pub files : List (Option (List ℕ))
+  pub slots : List ℕ
   pub names : Map (List ℕ) Node
   pub next : ℕ
   pub segments : ℕ

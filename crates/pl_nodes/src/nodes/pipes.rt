@@ -1,5 +1,5 @@
 //! Pipes.
-ghost use Rattle.std.specs.Prelude.{◌≡◌, ◌+◌, ◌-◌, ◌*◌, ◌/◌, ◌≤◌, ◌++◌, [], length, take, drop, IfOk, OnErr, OnOk, IsSome, IfSome, Some, None, nat_eq};
+ghost use Rattle.std.specs.Prelude.{◌≡◌, ◌+◌, ◌-◌, ◌*◌, ◌/◌, ◌≤◌, ◌++◌, [], length, take, drop, slice_index_or, IfOk, OnErr, OnOk, IsSome, IfSome, Some, None, nat_eq};
 ghost use Rattle.pl_model.specs.State.{empty_pipe};
 ghost use Rattle.pl_model.specs.Transfer.{room};
 ghost use Rattle.pl_model.specs.Map.{set_at, change_at};
@@ -95,7 +95,8 @@ impl<A: Allocator + Copy> Nodes<A> {
     /// In how many slices the bytes of a pipe stand.
     pub fn slots(&self, key: usize) -> usize
         requires { IsSome (at self.now.pipes key) }
-        ensures { IfSome (at self.now.pipes key) (λ x. result ≤ 2 * x.capacity / segment_size) }
+        ensures value { result ≡ slice_index_or self.now.slots key 0 }
+        ensures bound { IfSome (at self.now.pipes key) (λ x. result ≤ 2 * x.capacity / segment_size) }
     {
         let Content::Pipe(node) = &self.contents[key] else {
             unreachable!()
