@@ -1,8 +1,10 @@
 -- What is there under a key stays there, where something is made or changes.
-use Rattle.std.proofs.Common.{◌≡◌, ℕ, Bool, true, false, Option, Some, None, sym, subst, nat_eq, refl, ap, ◌∙◌}
-use Rattle.std.specs.Prelude.{IsSome, option_map, if◌then◌else◌}
+use Rattle.std.proofs.Common.{◌≡◌, ℕ, Bool, true, false, List, Option, Some, None, sym, subst, nat_eq, refl, ap, ◌∙◌}
+use Rattle.std.specs.Prelude.{IsSome, Result, Ok, Err, OnOk, OnErr, option_map, if◌then◌else◌}
 use Rattle.std.proofs.lemmas.Bool.{eq-eqb}
 use Rattle.pl_model.specs.Map.{set_at, change_at}
+use Rattle.pl_segments.specs.Segments.{at}
+use Rattle.pl_nodes.specs.Nodes.{Nodes}
 
 -- a map that is the same has what it had
 pub stays-same : {V : Type 0} (m n : ℕ → Option V) → n ≡ m → (q : ℕ) → IsSome (m q) → IsSome (n q)
@@ -27,3 +29,8 @@ module _ {V : Type 0} (key : ℕ) (m n : ℕ → Option V) where
 
     pub there-set : IsSome (n key)
     there-set = subst IsSome (sym ((λ i. is i key) ∙ ap (λ b. if b then Some x else m key) (eq-eqb key key refl))) refl
+
+-- a file that is written to, or isn't
+pub stays-written : {T E : Type 0} (r : Result T E) (key : ℕ) (old new : Nodes) (f : List ℕ → List ℕ) → OnOk r (at new.files ≡ change_at key f (at old.files)) → OnErr r (new ≡ old) → (q : ℕ) → IsSome (at old.files q) → IsSome (at new.files q)
+stays-written (Ok x) key old new f ok err = stays-changed key (at old.files) (at new.files) f ok
+stays-written (Err e) key old new f ok err = stays-same (at old.files) (at new.files) (ap (λ (v : Nodes). at v.files) err)

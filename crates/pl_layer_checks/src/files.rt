@@ -11,7 +11,7 @@ use std::test::Fail;
 /// The most bytes of the file: enough for three segments, the last of which isn't full.
 const FILE_MAX: usize = 10_000;
 
-/// A file, and a pipe that holds "pipe".
+/// A file, and a pipe.
 #[derive(Drop)]
 struct FileAndPipe<A: Allocator = Global> {
     alloc: A,
@@ -61,7 +61,6 @@ impl<A: Allocator + Copy> FileAndPipe<A> {
     fn new(alloc: A) -> Result<FileAndPipe<A>, NoMemory> {
         let mut nodes = Nodes::new(alloc, FILE_MAX);
         let pipe = nodes.make_pipe()?;
-        nodes.write_pipe(pipe, b"pipe")?;
         let name = Vec::from_slice(alloc, b"file")?;
         let Ok(file) = nodes.make_file(name) else {
             return Err(NoMemory);
@@ -72,6 +71,13 @@ impl<A: Allocator + Copy> FileAndPipe<A> {
             file,
             pipe,
         })
+    }
+
+    /// Writes bytes to the pipe, as many as there is room for.
+    fn write_to_pipe(&mut self, bytes: &[u8]) -> Result<(), NoMemory> {
+        let count = bytes.len().min(self.nodes.room(self.pipe));
+        self.nodes.write_pipe(self.pipe, &bytes[..count])?;
+        Ok(())
     }
 
     fn write(&mut self, place: usize, bytes: &[u8]) -> Result<Answer, NoMemory> {
@@ -110,10 +116,7 @@ impl<A: Allocator + Copy> FileAndPipe<A> {
 
     /// How many bytes the file has, and how many the pipe holds.
     fn tell(&self) -> (usize, usize) {
-        (
-            self.nodes.file_len(self.file),
-            self.nodes.held(self.pipe),
-        )
+        (self.nodes.file_len(self.file), self.nodes.held(self.pipe))
     }
 
     /// The weight of what the pipe holds, which is taken.
@@ -154,7 +157,11 @@ const ROWS: &[Row] = &[
     (Operation::Read(9_998, 9), Answer::Weight(120), 10_000),
     (Operation::Read(10_000, 1), Answer::Weight(0), 10_000),
     (Operation::Empty, Answer::Done, 0),
-    (Operation::Fill(0, b'a', 20_000), Answer::Count(10_000), 10_000),
+    (
+        Operation::Fill(0, b'a', 20_000),
+        Answer::Count(10_000),
+        10_000,
+    ),
     (Operation::Write(4_096, b"b"), Answer::Count(1), 10_000),
     // "aba"
     (Operation::Read(4_095, 3), Answer::Weight(6_432_036), 10_000),
@@ -193,11 +200,18 @@ fn insist_on_all<A: Allocator + Copy>(
     Ok(refusals)
 }
 
+/// A file, and a pipe that holds "pipe".
+fn beside_a_pipe<A: Allocator + Copy>(alloc: A) -> Result<FileAndPipe<A>, NoMemory> {
+    let mut nodes = FileAndPipe::new(alloc)?;
+    nodes.write_to_pipe(b"pipe")?;
+    Ok(nodes)
+}
+
 /// A new file, which is made again where it was refused, and how often it was.
 fn insist_on_one<A: Allocator + Copy>(alloc: A) -> Result<(FileAndPipe<A>, u32), NoMemory> {
-    match FileAndPipe::new(alloc) {
+    match beside_a_pipe(alloc) {
         Ok(nodes) => Ok((nodes, 0)),
-        Err(NoMemory) => Ok((FileAndPipe::new(alloc)?, 1)),
+        Err(NoMemory) => Ok((beside_a_pipe(alloc)?, 1)),
     }
 }
 
@@ -228,10 +242,101 @@ fn a_refused_write_is_made_again(rt: HostRuntime) -> Result<(), Fail> {
 
 #[test]
 fn a_file_goes_with_its_bytes(rt: HostRuntime) -> Result<(), Fail> {
-    let mut nodes = FileAndPipe::new(rt.alloc())?;
+    let mut nodes = beside_a_pipe(rt.alloc())?;
     nodes.fill(0, b'a', 5_000)?;
     // "pipe"
     is(&rt, "what the pipe holds", nodes.drain()?, 1_908_118_446);
     is(&rt, "segments", nodes.discard(), 0);
+    Ok(())
+}
+
+/// What is done to a name.
+#[derive(Clone, Copy)]
+enum Naming {
+    /// A file is made.
+    Make(&'static str),
+    LookUp(&'static str),
+    Unlink(&'static str),
+}
+
+/// Whether there is something of this name: a file is made where there isn't.
+fn name<A: Allocator + Copy>(
+    nodes: &mut Nodes<A>,
+    alloc: A,
+    naming: Naming,
+) -> Result<bool, NoMemory> {
+    match naming {
+        Naming::Make(name) => {
+            let name = Vec::from_slice(alloc, name.as_bytes())?;
+            match nodes.make_file(name) {
+                Ok(_) => Ok(false),
+                Err(MakeFault::Exists) => Ok(true),
+                Err(MakeFault::NoMemory) => Err(NoMemory),
+            }
+        }
+        Naming::LookUp(name) => Ok(nodes.look_up(name.as_bytes()).is_some()),
+        Naming::Unlink(name) => Ok(nodes.unlink(name.as_bytes()) != Err(NoSuchName)),
+    }
+}
+
+/// What is done, and whether the name stood for something before.
+const NAMES: &[(Naming, bool)] = &[
+    (Naming::LookUp("b"), false),
+    (Naming::Unlink("b"), false),
+    (Naming::Make("b"), false),
+    (Naming::Make("b"), true),
+    (Naming::LookUp("b"), true),
+    (Naming::LookUp(""), false),
+    (Naming::LookUp("bb"), false),
+    (Naming::Make("bb"), false),
+    (Naming::Make("a"), false),
+    (Naming::Unlink("b"), true),
+    (Naming::LookUp("b"), false),
+    (Naming::LookUp("bb"), true),
+    (Naming::LookUp("a"), true),
+    (Naming::Unlink("b"), false),
+    (Naming::Make("b"), false),
+    (Naming::LookUp("b"), true),
+];
+
+/// Does it, and again where it is refused. Answers how often it was refused.
+fn insist_on_name<A: Allocator + Copy>(
+    rt: &impl Abort,
+    nodes: &mut Nodes<A>,
+    alloc: A,
+    row: (Naming, bool),
+) -> Result<u32, NoMemory> {
+    let mut refusals = 0;
+    let stood = match name(nodes, alloc, row.0) {
+        Ok(stood) => stood,
+        Err(NoMemory) => {
+            refusals = 1;
+            name(nodes, alloc, row.0)?
+        }
+    };
+    is(rt, "the name stood for something", stood, row.1);
+    Ok(refusals)
+}
+
+/// All rows. Answers how many were refused.
+fn names<A: Allocator + Copy>(rt: &impl Abort, alloc: A) -> Result<u32, NoMemory> {
+    let mut nodes = Nodes::new(alloc, FILE_MAX);
+    let mut refusals = 0u32;
+    for row in NAMES {
+        refusals = refusals.wrapping_add(insist_on_name(rt, &mut nodes, alloc, *row)?);
+    }
+    Ok(refusals)
+}
+
+#[test]
+fn names_of_files(rt: HostRuntime) -> Result<(), Fail> {
+    let heap = Refusing::new(rt.alloc());
+    for chosen in 0..40u64 {
+        heap.refuse(chosen);
+        let refusals = names(&rt, &heap)?;
+        is(&rt, "refusals", refusals, heap.refused() as u32);
+    }
+    // So many requests that each was refused once.
+    is(&rt, "the last is not refused", heap.refused(), false);
     Ok(())
 }

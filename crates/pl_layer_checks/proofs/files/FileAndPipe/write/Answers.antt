@@ -1,11 +1,11 @@
-use Rattle.std.proofs.Common.{sym, subst}
-use Rattle.std.specs.Prelude.{IsSome}
+use Rattle.std.proofs.Common.{ap}
 use Rattle.pl_segments.specs.Segments.{at}
-use Rattle.pl_layer_checks.proofs.Staying.{stays-changed, stays-same}
+use Rattle.pl_layer_checks.proofs.Staying.{stays-written, stays-same}
 use Rattle.pl_layer_checks.proofs.files.FileAndPipe.write.Goals as goal
 
 pub invariant_of-self : goal.invariant_of-self
 invariant_of-self g c =
-    let k = c.self.inside in
-    (stays-changed k.file (at k.nodes.files) (at c.write_file.new.self.files) _ c.in-Ok.ensures.ok k.file c.self.invariant.0,
-    stays-same (at k.nodes.pipes) (at c.write_file.new.self.pipes) c.in-Ok.ensures.pipes.pipes k.pipe c.self.invariant.1)
+    let k = c.self.inside in (
+      stays-written c.write_file.result k.file k.nodes c.write_file.new.self _ c.write_file.ensures.ok c.write_file.ensures.err k.file c.self.invariant.0,
+      stays-same (at k.nodes.pipes) (at c.write_file.new.self.pipes) (ap at c.write_file.ensures.pipes.pipes) k.pipe c.self.invariant.1,
+    )
