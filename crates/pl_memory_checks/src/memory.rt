@@ -16,6 +16,20 @@ use pl_testing::wanting::{MOST_REQUESTS, all_were_refused, takes_no_memory};
 use std::alloc::Global;
 use std::test::Fail;
 
+/// Makes a step again that wanted for memory, and then has its reply. It fails where it may not want for it, or one did before.
+fn make_again(
+    bench: &mut Scarce,
+    heap: &Refusing<Global>,
+    ask: Ask,
+    want: Want,
+    has_wanted: bool,
+) -> Result<(), Fail> {
+    if takes_no_memory(ask, want) || !heap.refused() || has_wanted {
+        return Err(bench.fault(ask, "wants for memory"));
+    }
+    bench.answers(ask, want)
+}
+
 /// Makes the steps. The first that wants for memory is made again at once, and then has its reply; no other may want for it.
 fn make_each(
     bench: &mut Scarce,
@@ -24,14 +38,10 @@ fn make_each(
 ) -> Result<(), Fail> {
     let mut has_wanted = false;
     for (ask, want) in rows {
-        if bench.makes(*ask, *want)? {
-            continue;
+        if !bench.makes(*ask, *want)? {
+            make_again(bench, heap, *ask, *want, has_wanted)?;
+            has_wanted = true;
         }
-        if takes_no_memory(*ask, *want) || !heap.refused() || has_wanted {
-            return Err(bench.fault(*ask, "wants for memory"));
-        }
-        has_wanted = true;
-        bench.answers(*ask, *want)?;
     }
     Ok(())
 }
@@ -102,9 +112,9 @@ fn goes_on_without(
     rows: &[(Ask, Want)],
     place: usize,
 ) -> Result<(), Fail> {
-    for (i, (reply, row)) in replies.iter().zip(rows).enumerate() {
+    for i in 0..replies.len().min(rows.len()) {
         if i != place {
-            goes_on_at(alloc, other, reply, *row, i < place)?;
+            goes_on_at(alloc, other, &replies[i], rows[i], i < place)?;
         }
     }
     Ok(())
@@ -121,6 +131,11 @@ fn replies_of_run(
     bench.run(example.rows)
 }
 
+/// The place of the first that isn't there.
+fn first_none<T>(items: &[Option<T>]) -> Option<usize> {
+    items.iter().position(|item| item.is_none())
+}
+
 /// The step that wants for memory, where the `n`th request is refused. One does just where a request is refused, but for the
 /// first, which is the run's own.
 fn passed_over(
@@ -129,7 +144,7 @@ fn passed_over(
     replies: &[Option<Reply>],
     n: u64,
 ) -> Result<Option<usize>, Fail> {
-    let passed = replies.iter().position(|reply| reply.is_none());
+    let passed = first_none(replies);
     if replies.len() != example.rows.len() || passed.is_some() != (heap.refused() && n > 1) {
         return Err(Fail::new(format_args!(
             "of the run of {} step {passed:?} wants for memory; request {n} is refused",

@@ -6,21 +6,21 @@ use pl_model::{Limits, Reply, Step};
 use pl_testing::asked::{Ask, Want, steps_of};
 use pl_testing::bench::Bench;
 use pl_testing::refusing::Refusing;
-use std::alloc::Global;
+use std::alloc::{Allocator, Global};
 use std::marker::Model;
 use std::test::Fail;
 
 /// Steps in that memory.
-type Steps<'a> = Vec<Step<&'a Refusing<Global>>, &'a Refusing<Global>>;
+type Steps<'a, B> = Vec<Step<&'a Refusing<B>>, &'a Refusing<B>>;
 
 /// A kernel in memory of `heap`. The bytes of what it is asked are in that memory too, and are no requests for it.
 #[derive(Drop)]
-pub(crate) struct Scarce<'a> {
-    heap: &'a Refusing<Global>,
-    bench: Bench<&'a Refusing<Global>>,
+pub(crate) struct Scarce<'a, B: Allocator = Global> {
+    heap: &'a Refusing<B>,
+    bench: Bench<&'a Refusing<B>>,
 }
 
-impl<'a> Model for Scarce<'a> {
+impl<'a, B: Allocator> Model for Scarce<'a, B> {
     ghost use Rattle.std.specs.Prelude.{ℕ};
 
     ghost Value = { ℕ };
@@ -28,12 +28,12 @@ impl<'a> Model for Scarce<'a> {
     ghost view = { λ _. 0 };
 }
 
-impl<'a> Scarce<'a> {
+impl<'a, B: Allocator> Scarce<'a, B> {
     /// A new kernel within the limits, where the `n`th request is refused.
     pub(crate) fn new(
         name: &'static str,
         alloc: Global,
-        heap: &'a Refusing<Global>,
+        heap: &'a Refusing<B>,
         n: u64,
         limits: Limits,
     ) -> Result<Self, Fail>
@@ -68,7 +68,7 @@ impl<'a> Scarce<'a> {
     }
 
     /// The steps of the rows.
-    fn steps(&self, rows: &[(Ask, Want)]) -> Result<Steps<'a>, Fail> {
+    fn steps(&self, rows: &[(Ask, Want)]) -> Result<Steps<'a, B>, Fail> {
         let counted = self.heap.pause();
         let steps = steps_of(self.heap, rows)?;
         self.heap.go_on(counted);
@@ -85,9 +85,9 @@ impl<'a> Scarce<'a> {
     /// Makes the steps as one run, and answers what each came to, `None` where it found no memory. A run that is refused itself
     /// is made again.
     pub(crate) fn run(&mut self, rows: &[(Ask, Want)]) -> Result<Vec<Option<Reply>>, Fail> {
-        if let Some(replies) = self.run_once(rows)? {
-            return Ok(replies);
+        match self.run_once(rows)? {
+            Some(replies) => Ok(replies),
+            None => Ok(self.run_once(rows)?.ok_or("a run is refused twice")?),
         }
-        Ok(self.run_once(rows)?.ok_or("a run is refused twice")?)
     }
 }
