@@ -15,7 +15,7 @@ use pl_testing::bench::Bench;
 use pl_testing::refusing::Refusing;
 use pl_testing::sessions::{NEW_KERNEL, Session};
 use pl_testing::wanting::takes_no_memory;
-use std::alloc::Global;
+use std::alloc::{Allocator, Global};
 use std::test::Fail;
 
 const APPEND: &[OpenFlags] = &[OpenFlags::APPEND];
@@ -118,9 +118,9 @@ const SESSIONS: &[Session] = &[
 ];
 
 /// The steps come to what their rows say, and those that are to take no memory ask for none.
-fn make_each(
-    bench: &mut Scarce,
-    heap: &Refusing<Global>,
+fn make_each<B: Allocator>(
+    bench: &mut Scarce<'_, B>,
+    heap: &Refusing<B>,
     rows: &[(Ask, Want)],
 ) -> Result<(), Fail> {
     for (ask, want) in rows {
@@ -163,10 +163,8 @@ const NO_PLACE: &[(Ask, Want)] = &[
 ];
 
 /// The tables are filled, and then no memory can be had.
-fn refuse_all<'a>(
-    heap: &'a Refusing<Global>,
-    bench: &mut Bench<&'a Refusing<Global>>,
-) -> Result<(), Fail> {
+fn refuse_all<B: Allocator>(alloc: Global, heap: &Refusing<B>) -> Result<(), Fail> {
+    let mut bench = Bench::new("full tables", alloc, heap, LIMITS)?;
     bench.prepare(1_024, 16)?;
     heap.refuse(1);
     bench.all_answer(NO_PLACE)
@@ -176,8 +174,7 @@ fn refuse_all<'a>(
 #[test]
 fn full_tables_take_no_memory(rt: HostRuntime) -> Result<(), Fail> {
     let heap = Refusing::new(rt.alloc());
-    let mut bench = Bench::new("full tables", rt.alloc(), &heap, LIMITS)?;
-    refuse_all(&heap, &mut bench)?;
+    refuse_all(rt.alloc(), &heap)?;
     assert_eq!(rt; heap.requests(), 0);
     Ok(())
 }

@@ -3,8 +3,8 @@ use super::trickling::{Drip, Failure};
 use pl_model::Totals;
 use pl_run::{Fault, end, run, status, write_fault};
 use pl_script::{MAX_READS, Reads, ScriptFault, Writes};
-use std::alloc::Global;
-use std::io::ErrorKind;
+use std::alloc::Allocator;
+use std::io::{ErrorKind, Read, Write};
 use std::process::Abort;
 use std::test::Fail;
 
@@ -29,12 +29,18 @@ const FAULTS: &[(Fault, &str, u8)] = &[
 ];
 
 /// Whether the writer took the line of the fault.
-fn took_line(fault: &Fault, writer: &mut Drip) -> bool {
+fn took_line<A: Allocator + Copy>(fault: &Fault, writer: &mut Drip<A>) -> bool {
     write_fault(&mut Writes::new(writer), fault)
 }
 
 /// The writer, which takes so many bytes a call, takes the whole line. Answers the number of writes.
-fn writes_line(rt: &impl Abort, alloc: Global, most: usize, fault: &Fault, line: &str) -> usize {
+fn writes_line<A: Allocator + Copy>(
+    rt: &impl Abort,
+    alloc: A,
+    most: usize,
+    fault: &Fault,
+    line: &str,
+) -> usize {
     let mut writer = Drip::new(alloc, most);
     let told = took_line(fault, &mut writer);
     let is_written = writer.taken() == line.as_bytes();
@@ -69,9 +75,9 @@ fn each_end_of_a_script_is_a_fault(rt: HostRuntime) {
 const FAILURES: &[Failure] = &[Failure::Error(ErrorKind::BrokenPipe), Failure::Nothing];
 
 /// The `n`th of the writes of one byte fails.
-fn fail_the_write(
+fn fail_the_write<A: Allocator + Copy>(
     rt: &impl Abort,
-    alloc: Global,
+    alloc: A,
     fault: &Fault,
     line: &str,
     n: usize,
@@ -86,13 +92,19 @@ fn fail_the_write(
     );
 }
 
-fn fail_the_write_by_each(rt: &impl Abort, alloc: Global, fault: &Fault, line: &str, n: usize) {
+fn fail_the_write_by_each<A: Allocator + Copy>(
+    rt: &impl Abort,
+    alloc: A,
+    fault: &Fault,
+    line: &str,
+    n: usize,
+) {
     for failure in FAILURES {
         fail_the_write(rt, alloc, fault, line, n, *failure);
     }
 }
 
-fn fail_writes(rt: &impl Abort, alloc: Global, fault: &Fault, line: &str) {
+fn fail_writes<A: Allocator + Copy>(rt: &impl Abort, alloc: A, fault: &Fault, line: &str) {
     let writes = writes_line(rt, alloc, 1, fault, line);
     for n in 1..=writes {
         fail_the_write_by_each(rt, alloc, fault, line, n);
@@ -119,32 +131,33 @@ const PROGRAMS: &[(&str, &str, &str, u8)] = &[
     ),
 ];
 
-fn run_words(
-    alloc: Global,
-    words: &[String],
-    script: &str,
-    printed: &mut Drip,
+/// Runs the program from the reader to the writer, of which a proof then need not see what they are.
+fn run_words<A: Allocator + Copy, R: Read + Drop, W: Write + Drop>(
+    alloc: A,
+    words: &[String<A>],
+    reader: R,
+    writer: W,
 ) -> Result<Totals, Fault> {
-    let mut reader = Reads::new(script.as_bytes(), MAX_READS);
-    let mut writer = Writes::new(printed);
-    run(alloc, words, &mut reader, &mut writer)
+    let mut source = Reads::new(reader, MAX_READS);
+    let mut sink = Writes::new(writer);
+    run(alloc, words, &mut source, &mut sink)
 }
 
 /// Writes the line of a fault, and answers the status.
-fn status_of_end(ended: Result<Totals, Fault>, told: &mut Drip) -> u8 {
+fn status_of_end<A: Allocator + Copy>(ended: Result<Totals, Fault>, told: &mut Drip<A>) -> u8 {
     let mut writer = Writes::new(told);
     end(&mut writer, ended)
 }
 
 /// Whether the writer took this text.
-fn took(writer: &Drip, text: &str) -> bool {
+fn took<A: Allocator + Copy>(writer: &Drip<A>, text: &str) -> bool {
     writer.taken() == text.as_bytes()
 }
 
 /// Whether the program prints this output, this line of a fault, and ends with this status.
-fn program_prints(
-    alloc: Global,
-    words: &[String],
+fn program_prints<A: Allocator + Copy>(
+    alloc: A,
+    words: &[String<A>],
     script: &str,
     output: &str,
     line: &str,
@@ -152,7 +165,7 @@ fn program_prints(
 ) -> bool {
     let mut printed = Drip::new(alloc, usize::MAX);
     let mut told = Drip::new(alloc, usize::MAX);
-    let ended = run_words(alloc, words, script, &mut printed);
+    let ended = run_words(alloc, words, script.as_bytes(), &mut printed);
     let ends_with = status_of_end(ended, &mut told);
     let is_printed = took(&printed, output);
     let is_told = took(&told, line);
@@ -167,7 +180,7 @@ fn the_program_without_words(rt: HostRuntime) {
     }
 }
 
-fn one_word(alloc: Global) -> Result<Vec<String>, Fail> {
+fn one_word<A: Allocator + Copy>(alloc: A) -> Result<Vec<String<A>, A>, Fail> {
     let mut words = Vec::new(alloc);
     words.push(String::new(alloc))?;
     Ok(words)

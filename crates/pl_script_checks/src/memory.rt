@@ -1,11 +1,11 @@
 //! Scripts that run where a request for memory is refused.
-use super::trickling::{Drip, Failure};
+use super::trickling::{Drip, Failure, run_from};
 use pl_model::Totals;
 use pl_run::LIMITS;
-use pl_script::{MAX_READS, Reads, ScriptFault, Writes, run_script};
+use pl_script::ScriptFault;
 use pl_testing::refusing::Refusing;
 use pl_testing::wanting::MOST_REQUESTS;
-use std::alloc::Global;
+use std::alloc::{Allocator, Global};
 use std::process::Abort;
 use std::test::Fail;
 
@@ -115,14 +115,14 @@ impl Seen {
 
 /// A run in memory that can be refused.
 #[derive(Drop)]
-struct Subject {
-    alloc: Global,
-    heap: Refusing<Global>,
+struct Subject<A: Allocator = Global> {
+    alloc: A,
+    heap: Refusing<A>,
     run: Run,
 }
 
-impl Subject {
-    fn new(alloc: Global, run: Run) -> Self {
+impl<A: Allocator + Copy> Subject<A> {
+    fn new(alloc: A, run: Run) -> Self {
         Subject {
             alloc,
             heap: Refusing::new(alloc),
@@ -131,10 +131,14 @@ impl Subject {
     }
 
     /// Runs the script, and refuses the `n`th request for memory.
-    fn run_without(&self, n: u64, writer: &mut Drip) -> Result<Totals, ScriptFault> {
+    fn run_without(&self, n: u64, writer: &mut Drip<A>) -> Result<Totals, ScriptFault> {
         self.heap.refuse(n);
-        let mut reader = Reads::new(self.run.script.as_bytes(), MAX_READS);
-        run_script(&self.heap, &mut reader, &mut Writes::new(writer), LIMITS)
+        run_from(
+            &self.heap,
+            LIMITS.first_call,
+            self.run.script.as_bytes(),
+            writer,
+        )
     }
 
     /// Where the `n`th request is refused and the first write fails too, the run ends by the write.
@@ -208,7 +212,7 @@ fn are_seen(rt: &impl Abort, run: Run, seen: Seen) {
 }
 
 /// Each request is refused. Where a line that writes finds no memory for its bytes, the lines before it are printed.
-fn each_is_refused(rt: &impl Abort, alloc: Global, run: Run) -> Result<(), Fail> {
+fn each_is_refused<A: Allocator + Copy>(rt: &impl Abort, alloc: A, run: Run) -> Result<(), Fail> {
     let subject = Subject::new(alloc, run);
     let seen = subject.refuse_each(rt)?;
     let requests = subject.heap.requests();

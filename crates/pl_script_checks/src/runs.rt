@@ -2,7 +2,7 @@
 use super::trickling::{Coming, Script, prints};
 use pl_model::Totals;
 use pl_script::ScriptFault;
-use std::alloc::Global;
+use std::alloc::Allocator;
 use std::process::Abort;
 use std::test::Fail;
 
@@ -89,7 +89,14 @@ fn totals_of(end: End) -> Result<Totals, ScriptFault> {
     })
 }
 
-fn prints_so(rt: &impl Abort, alloc: Global, name: &str, bytes: &[u8], output: &str, end: End) {
+fn prints_so<A: Allocator + Copy>(
+    rt: &impl Abort,
+    alloc: A,
+    name: &str,
+    bytes: &[u8],
+    output: &str,
+    end: End,
+) {
     let script = Script {
         name,
         first_call: 1,
@@ -108,7 +115,7 @@ fn small_scripts(rt: HostRuntime) {
 }
 
 /// The bytes at the front, filled up with `#`.
-fn filled(alloc: Global, front: &str, len: usize) -> Result<Vec<u8>, Fail> {
+fn filled<A: Allocator + Copy>(alloc: A, front: &str, len: usize) -> Result<Vec<u8, A>, Fail> {
     let mut script = Vec::from_slice(alloc, front.as_bytes())?;
     script.resize(len, b'#')?;
     Ok(script)

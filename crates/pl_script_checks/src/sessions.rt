@@ -2,7 +2,7 @@
 use super::trickling::{Coming, Script, prints};
 use pl_model::Totals;
 use pl_testing::asked::NEVER_GIVEN;
-use std::alloc::Global;
+use std::alloc::{Allocator, Global};
 use std::process::Abort;
 use std::test::Fail;
 
@@ -225,12 +225,17 @@ const SESSIONS: &[(&str, u64, &str)] = &[
 ];
 
 /// The digits of a byte, so many times.
-fn repeated(alloc: Global, byte: &str, times: &str) -> Result<String, Fail> {
+fn repeated<A: Allocator + Copy>(alloc: A, byte: &str, times: &str) -> Result<String<A>, Fail> {
     let times = times.parse::<usize>()?;
     Ok(byte.repeat(alloc, times)?)
 }
 
-fn push_bytes(alloc: Global, output: &mut String, data: &str, byte: &str) -> Result<(), Fail> {
+fn push_bytes<A: Allocator + Copy>(
+    alloc: A,
+    output: &mut String<A>,
+    data: &str,
+    byte: &str,
+) -> Result<(), Fail> {
     let times = data.strip_prefix("data ").ok_or("no bytes")?;
     let digits = repeated(alloc, byte, times)?;
     output.push_str("data ")?;
@@ -238,28 +243,32 @@ fn push_bytes(alloc: Global, output: &mut String, data: &str, byte: &str) -> Res
 }
 
 /// Adds what a line prints. The session writes `N*hh` for N times the byte hh, whose digits are all printed.
-fn push_printed(alloc: Global, output: &mut String, printed: &str) -> Result<(), Fail> {
+fn push_printed<A: Allocator + Copy>(
+    alloc: A,
+    output: &mut String<A>,
+    printed: &str,
+) -> Result<(), Fail> {
     match printed.split_once('*') {
         Some((data, byte)) => push_bytes(alloc, output, data, byte),
         None => Ok(output.push_str(printed)?),
     }
 }
 
-fn push_line_feed(text: &mut String) -> Result<(), Fail> {
+fn push_line_feed<A: Allocator>(text: &mut String<A>) -> Result<(), Fail> {
     Ok(text.push('\n')?)
 }
 
 /// The scripts of sessions, what they print, and how many lines they have.
 #[derive(Drop)]
-struct Session {
-    alloc: Global,
-    script: String,
-    output: String,
+struct Session<A: Allocator = Global> {
+    alloc: A,
+    script: String<A>,
+    output: String<A>,
     lines: u32,
 }
 
-impl Session {
-    fn new(alloc: Global) -> Self {
+impl<A: Allocator + Copy> Session<A> {
+    fn new(alloc: A) -> Self {
         Session {
             alloc,
             script: String::new(alloc),
@@ -268,16 +277,21 @@ impl Session {
         }
     }
 
+    /// Adds the line that asks.
+    fn push_asked(&mut self, asked: &str) -> Result<(), Fail> {
+        self.script.push_str(asked)?;
+        self.lines = self.lines.saturating_add(1);
+        push_line_feed(&mut self.script)
+    }
+
     fn push_line(&mut self, line: &str) -> Result<(), Fail> {
         let (asked, printed) = line.split_once(" => ").ok_or("a line prints nothing")?;
-        self.script.push_str(asked)?;
-        push_line_feed(&mut self.script)?;
-        self.lines = self.lines.saturating_add(1);
+        self.push_asked(asked)?;
         push_printed(self.alloc, &mut self.output, printed)?;
         push_line_feed(&mut self.output)
     }
 
-    fn of(alloc: Global, lines: &str) -> Result<Session, Fail> {
+    fn of(alloc: A, lines: &str) -> Result<Session<A>, Fail> {
         let mut session = Session::new(alloc);
         for line in lines.lines() {
             session.push_line(line)?;
@@ -301,10 +315,26 @@ impl Session {
     }
 }
 
+fn is_session_printed<A: Allocator + Copy>(
+    rt: &impl Abort,
+    alloc: A,
+    row: (&str, u64, &str),
+) -> Result<(), Fail> {
+    let (name, first_call, lines) = row;
+    let session = Session::of(alloc, lines)?;
+    session.is_printed(rt, name, first_call);
+    Ok(())
+}
+
+/// The table, of which a proof of the test then need not see the rows.
+fn sessions() -> &'static [(&'static str, u64, &'static str)] {
+    SESSIONS
+}
+
 #[test]
 fn each_session_is_printed(rt: HostRuntime) -> Result<(), Fail> {
-    for (name, first_call, lines) in SESSIONS {
-        Session::of(rt.alloc(), lines)?.is_printed(&rt, name, *first_call);
+    for row in sessions() {
+        is_session_printed(&rt, rt.alloc(), *row)?;
     }
     Ok(())
 }

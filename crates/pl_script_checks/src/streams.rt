@@ -2,7 +2,7 @@
 use super::trickling::{Coming, Drip, Failure, Script, Trickle, prints, run_from};
 use pl_model::Totals;
 use pl_script::ScriptFault;
-use std::alloc::Global;
+use std::alloc::Allocator;
 use std::io::ErrorKind;
 use std::process::Abort;
 use std::test::Fail;
@@ -40,13 +40,13 @@ const FAILURES: &[Failure] = &[
 /// How many bytes a read gives.
 const PIECES: &[usize] = &[1, 2, 7];
 
-fn come_in_pieces(rt: &impl Abort, alloc: Global, script: Script<'_>) {
+fn come_in_pieces<A: Allocator + Copy>(rt: &impl Abort, alloc: A, script: Script<'_>) {
     for most in PIECES {
         prints(rt, alloc, script, Coming::InPieces(*most));
     }
 }
 
-fn come_cut_anywhere(rt: &impl Abort, alloc: Global, script: Script<'_>) {
+fn come_cut_anywhere<A: Allocator + Copy>(rt: &impl Abort, alloc: A, script: Script<'_>) {
     for cut in 0..=script.bytes.len() {
         prints(rt, alloc, script, Coming::CutAt(cut));
     }
@@ -63,7 +63,13 @@ fn a_script_in_pieces(rt: HostRuntime) {
 const ERRORS: &[ErrorKind] = &[ErrorKind::BrokenPipe, ErrorKind::Interrupted];
 
 /// The `n`th of reads of one byte fails, and nothing is run.
-fn fail_the_read(rt: &impl Abort, alloc: Global, script: Script<'_>, n: usize, kind: ErrorKind) {
+fn fail_the_read<A: Allocator + Copy>(
+    rt: &impl Abort,
+    alloc: A,
+    script: Script<'_>,
+    n: usize,
+    kind: ErrorKind,
+) {
     let mut reader = Trickle::failing(script.bytes, 1, n, Failure::Error(kind));
     let mut writer = Drip::new(alloc, usize::MAX);
     let end = run_from(alloc, script.first_call, &mut reader, &mut writer);
@@ -71,13 +77,18 @@ fn fail_the_read(rt: &impl Abort, alloc: Global, script: Script<'_>, n: usize, k
     assert!(rt; is_so, "where read {n} has {kind:?}: {end:?}");
 }
 
-fn fail_the_read_by_each(rt: &impl Abort, alloc: Global, script: Script<'_>, n: usize) {
+fn fail_the_read_by_each<A: Allocator + Copy>(
+    rt: &impl Abort,
+    alloc: A,
+    script: Script<'_>,
+    n: usize,
+) {
     for kind in ERRORS {
         fail_the_read(rt, alloc, script, n, *kind);
     }
 }
 
-fn fail_reads(rt: &impl Abort, alloc: Global, script: Script<'_>) {
+fn fail_reads<A: Allocator + Copy>(rt: &impl Abort, alloc: A, script: Script<'_>) {
     // Each read gives one byte, and the last finds the end.
     for n in 1..script.bytes.len() + 2 {
         fail_the_read_by_each(rt, alloc, script, n);
@@ -93,9 +104,9 @@ fn each_read_fails(rt: HostRuntime) {
 }
 
 /// The `n`th of writes of so many bytes fails, and a front of the output was written.
-fn fail_the_write(
+fn fail_the_write<A: Allocator + Copy>(
     rt: &impl Abort,
-    alloc: Global,
+    alloc: A,
     most: usize,
     script: Script<'_>,
     n: usize,
@@ -108,9 +119,9 @@ fn fail_the_write(
     assert!(rt; is_so, "where write {n} has {failure:?}: {end:?}");
 }
 
-fn fail_the_write_by_each(
+fn fail_the_write_by_each<A: Allocator + Copy>(
     rt: &impl Abort,
-    alloc: Global,
+    alloc: A,
     most: usize,
     script: Script<'_>,
     n: usize,
@@ -121,7 +132,12 @@ fn fail_the_write_by_each(
 }
 
 /// The number of writes of so many bytes, none of which fails.
-fn count_writes(rt: &impl Abort, alloc: Global, most: usize, script: Script<'_>) -> usize {
+fn count_writes<A: Allocator + Copy>(
+    rt: &impl Abort,
+    alloc: A,
+    most: usize,
+    script: Script<'_>,
+) -> usize {
     let mut writer = Drip::new(alloc, most);
     let end = run_from(alloc, script.first_call, script.bytes, &mut writer);
     let is_whole = writer.taken() == script.output.as_bytes();
@@ -134,7 +150,12 @@ fn count_writes(rt: &impl Abort, alloc: Global, most: usize, script: Script<'_>)
 
 /// Runs the script by a writer that takes so many bytes a call, and then for each way in which each of these writes may
 /// fail. Answers the number of writes.
-fn fail_each_write(rt: &impl Abort, alloc: Global, most: usize, script: Script<'_>) -> usize {
+fn fail_each_write<A: Allocator + Copy>(
+    rt: &impl Abort,
+    alloc: A,
+    most: usize,
+    script: Script<'_>,
+) -> usize {
     let writes = count_writes(rt, alloc, most, script);
     for n in 1..=writes {
         fail_the_write_by_each(rt, alloc, most, script, n);
@@ -151,7 +172,7 @@ fn each_write_fails(rt: HostRuntime) {
 }
 
 /// What the script of much output prints.
-fn much_output(alloc: Global) -> Result<String, Fail> {
+fn much_output<A: Allocator + Copy>(alloc: A) -> Result<String<A>, Fail> {
     let first = "61".repeat(alloc, 40_000)?;
     let second = "62".repeat(alloc, 40_000)?;
     Ok(format!(in alloc;

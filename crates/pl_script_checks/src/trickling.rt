@@ -2,7 +2,7 @@
 use pl_model::{Limits, Totals};
 use pl_run::LIMITS;
 use pl_script::{MAX_READS, Reads, ScriptFault, Writes, run_script};
-use std::alloc::Global;
+use std::alloc::{Allocator, Global};
 use std::io::{self, ErrorKind, Read, Write};
 use std::process::Abort;
 
@@ -85,20 +85,20 @@ impl Read for Trickle<'_> {
 
 /// A writer that holds what it took.
 #[derive(Drop)]
-pub(crate) struct Drip {
-    taken: Vec<u8>,
+pub(crate) struct Drip<A: Allocator = Global> {
+    taken: Vec<u8, A>,
     /// The most bytes that a call takes.
     most: usize,
     calls: Calls,
 }
 
-impl Drip {
-    pub(crate) fn new(alloc: Global, most: usize) -> Self {
+impl<A: Allocator> Drip<A> {
+    pub(crate) fn new(alloc: A, most: usize) -> Self {
         Drip::failing(alloc, most, 0, Failure::Nothing)
     }
 
     /// The writer whose `n`th call fails.
-    pub(crate) fn failing(alloc: Global, most: usize, n: usize, failure: Failure) -> Self {
+    pub(crate) fn failing(alloc: A, most: usize, n: usize, failure: Failure) -> Self {
         Drip {
             taken: Vec::new(alloc),
             most,
@@ -120,7 +120,7 @@ impl Drip {
     }
 }
 
-impl Write for Drip {
+impl<A: Allocator> Write for Drip<A> {
     fn write(&mut self, buf: &[u8]) -> io::Result<usize> {
         match self.calls.count() {
             Some(Failure::Error(kind)) => return Err(io::Error::from(kind)),
@@ -137,12 +137,12 @@ impl Write for Drip {
     }
 }
 
-/// Runs the script that the reader gives, in memory that isn't refused, with calls numbered from `first_call`.
-pub(crate) fn run_from<R: Read + Drop>(
-    alloc: Global,
+/// Runs the script that the reader gives, in memory of `alloc`, with calls numbered from `first_call`.
+pub(crate) fn run_from<A: Allocator + Copy, B: Allocator, R: Read + Drop>(
+    alloc: A,
     first_call: u64,
     reader: R,
-    writer: &mut Drip,
+    writer: &mut Drip<B>,
 ) -> Result<Totals, ScriptFault> {
     let mut source = Reads::new(reader, MAX_READS);
     let mut sink = Writes::new(writer);
@@ -174,12 +174,12 @@ pub(crate) enum Coming {
     CutAt(usize),
 }
 
-fn run_coming(
-    alloc: Global,
+fn run_coming<A: Allocator + Copy>(
+    alloc: A,
     first_call: u64,
     bytes: &[u8],
     coming: Coming,
-    writer: &mut Drip,
+    writer: &mut Drip<A>,
 ) -> Result<Totals, ScriptFault> {
     match coming {
         Coming::Whole => run_from(alloc, first_call, bytes, writer),
@@ -192,7 +192,12 @@ fn run_coming(
 }
 
 /// The script prints its output and its run ends as it is to, where it comes so.
-pub(crate) fn prints(rt: &impl Abort, alloc: Global, script: Script<'_>, coming: Coming) {
+pub(crate) fn prints<A: Allocator + Copy>(
+    rt: &impl Abort,
+    alloc: A,
+    script: Script<'_>,
+    coming: Coming,
+) {
     let mut writer = Drip::new(alloc, usize::MAX);
     let end = run_coming(alloc, script.first_call, script.bytes, coming, &mut writer);
     let is_printed = writer.taken() == script.output.as_bytes();
