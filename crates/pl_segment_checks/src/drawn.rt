@@ -6,7 +6,8 @@ use crate::operation::Operation::{
     Truncate, Turn, Write,
 };
 use crate::watched::{Draws, Watched};
-use std::alloc::Global;
+use std::alloc::{Allocator, Global};
+use std::marker;
 use std::test::Fail;
 
 /// Operations that are drawn from rows. As they are made, they are cut to what there is and what fits, and their
@@ -204,7 +205,10 @@ const ALL: &[Operation] = &[
 ];
 
 /// Makes operations of the drawing.
-fn draw(watched: &mut Watched, drawing: &Drawing) -> Result<(), Fault> {
+fn draw<A: Allocator + marker::Copy>(
+    watched: &mut Watched<A>,
+    drawing: &Drawing,
+) -> Result<(), Fault> {
     let mut draws = Draws::new();
     for _ in 0..drawing.made {
         let row = draws.below(drawing.rows.len());
@@ -217,7 +221,7 @@ fn draw(watched: &mut Watched, drawing: &Drawing) -> Result<(), Fault> {
 }
 
 /// All bytes go.
-fn let_all_go(watched: &mut Watched) -> Result<(), Fault> {
+fn let_all_go<A: Allocator + marker::Copy>(watched: &mut Watched<A>) -> Result<(), Fault> {
     for operation in LAST {
         watched.step(*operation)?;
     }
@@ -227,15 +231,27 @@ fn let_all_go(watched: &mut Watched) -> Result<(), Fault> {
 const LAST: &[Operation] = &[Reset, Turn, Reset, Truncate, InUse(0, 0)];
 
 /// Makes operations of the drawing, and then lets all go.
-fn goes(alloc: Global, drawing: &Drawing) -> Result<(), Fault> {
-    let mut watched = Watched::new(alloc, alloc, drawing.capacities, drawing.most)?;
-    draw(&mut watched, drawing).and(let_all_go(&mut watched))
+fn draw_and_let_go<A: Allocator + marker::Copy>(
+    watched: &mut Watched<A>,
+    drawing: &Drawing,
+) -> Result<(), Fault> {
+    draw(watched, drawing).and(let_all_go(watched))
+}
+
+/// The drawing goes as the lists say.
+fn goes<A: Allocator + marker::Copy>(
+    alloc: Global,
+    heap: A,
+    drawing: &Drawing,
+) -> Result<(), Fault> {
+    let mut watched = Watched::new(alloc, heap, drawing.capacities, drawing.most)?;
+    draw_and_let_go(&mut watched, drawing)
 }
 
 /// Each drawing goes as the lists say.
 fn all_go(alloc: Global, drawings: &[Drawing]) -> Result<(), Fail> {
     for drawing in drawings {
-        if let Err(fault) = goes(alloc, drawing) {
+        if let Err(fault) = goes(alloc, alloc, drawing) {
             let name = drawing.name;
             return Err(Fail::new(format_args!("{fault:?} among {name}")));
         }

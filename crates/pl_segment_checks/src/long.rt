@@ -4,7 +4,7 @@ use crate::one_store::OneStore;
 use crate::operation::Operation::{Backwards, Drain, Fill, InUse, IsFull, Tee, Truncate, Turn};
 use crate::operation::{MOST, Session};
 use crate::sessions::all_go;
-use std::alloc::Global;
+use std::alloc::{Allocator, Global};
 use std::test::Fail;
 
 /// A ring is filled, copied whole, and both are drained one after the other.
@@ -97,7 +97,7 @@ const A: &[u8] = &[0x61];
 const ZERO_AND_A: &[u8] = &[0, 0x61];
 
 /// Writes the last byte that a file may have, and answers how long it is, and how many segments it has.
-fn write_last(file: &mut OneStore) -> Result<(usize, usize), Fault> {
+fn write_last<A: Allocator + Copy>(file: &mut OneStore<A>) -> Result<(usize, usize), Fault> {
     if !matches!(file.write(16_777_215, A, MOST), Ok(1)) {
         return Err(Fault::OtherSizes);
     }
@@ -105,11 +105,16 @@ fn write_last(file: &mut OneStore) -> Result<(usize, usize), Fault> {
     Ok((file.file_len(), file.in_use()))
 }
 
+/// Writes it to a new file.
+fn write_last_of_new<A: Allocator + Copy>(alloc: A) -> Result<(usize, usize), Fault> {
+    let mut file = OneStore::new(alloc, 4_096, 4_096)?;
+    write_last(&mut file)
+}
+
 /// The gap is one segment of zeros, and what stays of it at its ends.
 #[test]
 fn a_gap_takes_few_segments(rt: HostRuntime) -> Result<(), Fail> {
-    let mut file = OneStore::new(rt.alloc(), 4_096, 4_096)?;
-    let (len, in_use) = write_last(&mut file)?;
+    let (len, in_use) = write_last_of_new(rt.alloc())?;
     assert!(rt;
         len == 16_777_216 && in_use <= 4,
         "{len} bytes in {in_use} segments"
