@@ -1,9 +1,9 @@
 -- A call on the file under a key.
-use Rattle.std.proofs.Common.{◌≡◌, ℕ, List, Some, refl, sym, ◌∙◌, ap, subst, length}
+use Rattle.std.proofs.Common.{◌≡◌, ℕ, List, [], Some, refl, sym, ◌∙◌, ap, subst, length}
 use Rattle.std.specs.Prelude.{IfSome}
 use Rattle.pl_model.specs.Map.{change_at}
 use Rattle.pl_segments.specs.declared.slice.Slice.{Slice}
-use Rattle.pl_segments.specs.Segments.{Segments, segment_at, at}
+use Rattle.pl_segments.specs.Segments.{Map, Segments, segment_at, at}
 use Rattle.pl_segments.specs.Slices.{all_read}
 use Rattle.pl_segments.specs.Turns.{Turns}
 use Rattle.pl_segments.specs.Slots.{total}
@@ -49,3 +49,7 @@ module _ {A : Type 0} (k : Inside A) (key : ℕ) (slots : List Slice) (there : a
   file-refused store kept new same =
       let e : view_of (with_content k key (File slots) there sound store (File new)) ≡ flat = refused-seen k key (File slots) there sound store kept (File new) (λ i. File (same i)) ∙ is in
       record { pipes = ap (λ (v : Nodes). v.pipes) e; names = ap (λ (v : Nodes). v.names) e; file_max = ap (λ (v : Nodes). v.file_max) e }
+
+-- slots that became none are none
+pub became-none : (m : Map) (xs : List Slice) (n : Map) (ys : List Slice) → ys ≡ [] → Turns m xs n [] → Turns m xs n ys
+became-none m xs n ys none = subst (Turns m xs n) (sym none)

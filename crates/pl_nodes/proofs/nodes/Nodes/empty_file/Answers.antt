@@ -1,18 +1,10 @@
-use Rattle.std.proofs.Common.{[], ap, subst, sym, length, arith}
+use Rattle.std.proofs.Common.{[], ap, length, arith}
 use Rattle.pl_segments.specs.Segments.{segment_at}
 use Rattle.pl_segments.specs.Slices.{all_read}
-use Rattle.pl_segments.specs.Turns.{Turns}
 use Rattle.pl_nodes.specs.declared.content.Content.TheVariants.{File}
 use Rattle.pl_nodes.proofs.AtKey.{file-there, held, still-sound}
-use Rattle.pl_nodes.proofs.Files.{file-done, file-pipes}
-use Rattle.pl_nodes.proofs.nodes.Nodes.empty_file.Given.{Over}
-use Rattle.pl_nodes.proofs.nodes.Nodes.empty_file.Goals.{After-self-2-1}
+use Rattle.pl_nodes.proofs.Files.{became-none, file-done, file-pipes}
 use Rattle.pl_nodes.proofs.nodes.Nodes.empty_file.Goals as goal
-
--- the slots became none
-module _ (g : Over) (c : After-self-2-1 g) where
-  turned : Turns (segment_at c.self.inside.store) c.in-Some.file.now (segment_at c.truncate.new.store) c.truncate.new.self
-  turned = subst (λ xs. Turns (segment_at c.self.inside.store) c.in-Some.file.now (segment_at c.truncate.new.store) xs) (sym c.truncate.ensures.value) c.truncate.ensures.turns
 
 pub truncate-requires : goal.truncate-requires
 truncate-requires g c =
@@ -25,17 +17,17 @@ invariant_of-self g c =
     let k = c.self.inside in
     let there = file-there k.contents.slots c.args.key c.index_mut.result.now c.in-Some.file.now c.index_mut.ensures.value c.in-Some.ensures.value in
     let none = ap length c.truncate.ensures.value in
-    still-sound k c.args.key (File c.in-Some.file.now) there c.self.invariant c.truncate.new.store (File c.truncate.new.self) (turned g c) (omega (arith, none))
+    still-sound k c.args.key (File c.in-Some.file.now) there c.self.invariant c.truncate.new.store (File c.truncate.new.self) (became-none (segment_at k.store) c.in-Some.file.now (segment_at c.truncate.new.store) c.truncate.new.self c.truncate.ensures.value c.truncate.ensures.turns) (omega (arith, none))
 
 pub returns-clause-ok : goal.returns-clause-ok
 returns-clause-ok g c =
     let k = c.self.inside in
     let there = file-there k.contents.slots c.args.key c.index_mut.result.now c.in-Some.file.now c.index_mut.ensures.value c.in-Some.ensures.value in
-    file-done k c.args.key c.in-Some.file.now there c.self.invariant c.args.self.now c.self.view_is c.truncate.new.store c.truncate.new.self (turned g c)
+    file-done k c.args.key c.in-Some.file.now there c.self.invariant c.args.self.now c.self.view_is c.truncate.new.store c.truncate.new.self (became-none (segment_at k.store) c.in-Some.file.now (segment_at c.truncate.new.store) c.truncate.new.self c.truncate.ensures.value c.truncate.ensures.turns)
     (λ bytes. []) (ap (all_read (segment_at c.truncate.new.store)) c.truncate.ensures.value)
 
 pub returns-clause-pipes : goal.returns-clause-pipes
 returns-clause-pipes g c =
     let k = c.self.inside in
     let there = file-there k.contents.slots c.args.key c.index_mut.result.now c.in-Some.file.now c.index_mut.ensures.value c.in-Some.ensures.value in
-    file-pipes k c.args.key c.in-Some.file.now there c.self.invariant c.args.self.now c.self.view_is c.truncate.new.store c.truncate.new.self (turned g c)
+    file-pipes k c.args.key c.in-Some.file.now there c.self.invariant c.args.self.now c.self.view_is c.truncate.new.store c.truncate.new.self (became-none (segment_at k.store) c.in-Some.file.now (segment_at c.truncate.new.store) c.truncate.new.self c.truncate.ensures.value c.truncate.ensures.turns)
