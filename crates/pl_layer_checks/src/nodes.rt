@@ -74,23 +74,11 @@ impl<A: Allocator + Copy> TwoPipes<A> {
         Ok(())
     }
 
-    /// Writes so many of one byte, as many as there is room for.
-    fn fill(&mut self, byte: u8, count: usize) -> Result<(), NoMemory> {
-        let bytes = vec![in self.alloc; byte; count]?;
-        self.write(bytes.as_slice())
-    }
-
     /// The first bytes, which are taken.
     fn read(&mut self, count: usize) -> Result<Vec<u8, A>, NoMemory> {
         let count = count.min(self.nodes.held(self.front));
         let bytes = self.nodes.read_pipe(self.front, count)?;
         Ok(bytes)
-    }
-
-    /// The weight of the first bytes, which are taken.
-    fn weigh(&mut self, count: usize) -> Result<u32, NoMemory> {
-        let bytes = self.read(count)?;
-        Ok(weight(bytes.as_slice()))
     }
 
     /// Lets the pipe in front go, and answers how many segments the other one has.
@@ -123,8 +111,14 @@ impl<A: Allocator + Copy> TwoPipes<A> {
     fn make(&mut self, operation: Operation) -> Result<u32, NoMemory> {
         match operation {
             Operation::Write(bytes) => self.write(bytes)?,
-            Operation::Fill(byte, count) => self.fill(byte, count)?,
-            Operation::Read(count) => return self.weigh(count),
+            Operation::Fill(byte, count) => {
+                let bytes = vec![in self.alloc; byte; count]?;
+                self.write(bytes.as_slice())?;
+            }
+            Operation::Read(count) => {
+                let bytes = self.read(count)?;
+                return Ok(weight(bytes.as_slice()));
+            }
             Operation::Hang(hung) => self.hang(hung),
             Operation::Turn => self.turn(),
         }
@@ -207,30 +201,20 @@ fn insist<A: Allocator + Copy>(
     Ok(refusals)
 }
 
-/// Two new pipes, which are made again where they were refused, and how often they were.
-fn insist_on_two<A: Allocator + Copy>(alloc: A) -> Result<(TwoPipes<A>, u32), NoMemory> {
-    match TwoPipes::new(alloc) {
-        Ok(pipes) => Ok((pipes, 0)),
-        Err(NoMemory) => Ok((TwoPipes::new(alloc)?, 1)),
-    }
-}
-
-/// All rows. Answers how many operations were refused.
-fn insist_on_all<A: Allocator + Copy>(
-    rt: &impl Abort,
-    pipes: &mut TwoPipes<A>,
-) -> Result<u32, NoMemory> {
-    let mut refusals = 0u32;
-    for row in ROWS {
-        refusals = refusals.wrapping_add(insist(rt, pipes, *row)?);
-    }
-    Ok(refusals)
-}
-
 /// All rows on two new pipes. Answers how many operations were refused, making pipes among them.
 fn session<A: Allocator + Copy>(rt: &impl Abort, alloc: A) -> Result<u32, NoMemory> {
-    let (mut pipes, refusals) = insist_on_two(alloc)?;
-    Ok(refusals.wrapping_add(insist_on_all(rt, &mut pipes)?))
+    let mut refusals = 0u32;
+    let mut pipes = match TwoPipes::new(alloc) {
+        Ok(pipes) => pipes,
+        Err(NoMemory) => {
+            refusals = 1;
+            TwoPipes::new(alloc)?
+        }
+    };
+    for row in ROWS {
+        refusals = refusals.wrapping_add(insist(rt, &mut pipes, *row)?);
+    }
+    Ok(refusals)
 }
 
 #[test]

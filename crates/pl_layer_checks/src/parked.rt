@@ -128,10 +128,6 @@ fn take_back<'a>(
     })
 }
 
-fn take<A: Allocator + Copy>(parked: &mut Parked<A>, number: u64) -> Answer {
-    told(parked.take(number).as_ref())
-}
-
 fn answer_of<'a>(
     heap: &'a Refusing<Global>,
     parked: &mut Parked<&'a Refusing<Global>>,
@@ -142,7 +138,7 @@ fn answer_of<'a>(
         Park(pid, n) => park(heap, parked, pid, n, 0)?,
         TakeBack(pid, n) => take_back(heap, parked, pid, n)?,
         Get(number) => told(parked.get(number)),
-        Take(number) => take(parked, number),
+        Take(number) => told(parked.take(number).as_ref()),
         NextOf(pid, from) => match parked.next_of_process(pid, from) {
             Some(number) => Number(number),
             None => Nothing,

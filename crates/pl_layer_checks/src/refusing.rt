@@ -2,7 +2,6 @@
 use crate::equal::is;
 use pl_testing::refusing::Refusing;
 use std::alloc::Global;
-use std::process::Abort;
 use std::test::Fail;
 
 /// A request for memory, and what the allocator tells after it.
@@ -56,30 +55,24 @@ fn one_request_is_refused(rt: HostRuntime) {
     }
 }
 
-/// A vector whose requests can be refused.
-type Bytes<'a> = Vec<u8, &'a Refusing<Global>>;
-
-/// A vector that is full has to grow, and is refused.
-fn push_in_vain<'a>(
-    rt: &impl Abort,
-    heap: &'a Refusing<Global>,
-    bytes: &mut Bytes<'a>,
-) -> Result<(), Fail> {
-    bytes.push(1)?;
-    bytes.push(2)?;
-    is(rt, "requests", heap.requests(), 1);
-    heap.refuse(1);
-    is(rt, "a push is refused", bytes.push(3).is_err(), true);
-    is(rt, "refused", heap.refused(), true);
-    is(rt, "bytes", bytes.as_slice(), [1, 2].as_slice());
-    Ok(())
-}
-
 #[test]
 fn a_refused_push_is_made_again(rt: HostRuntime) -> Result<(), Fail> {
     let heap = Refusing::new(rt.alloc());
     let mut bytes = Vec::with_capacity(&heap, 2)?;
-    push_in_vain(&rt, &heap, &mut bytes)?;
+    bytes.push(1u8)?;
+    bytes.push(2)?;
+    is(&rt, "requests", heap.requests(), 1);
+
+    heap.refuse(1);
+    is(
+        &rt,
+        "a vector that is full has to grow",
+        bytes.push(3).is_err(),
+        true,
+    );
+    is(&rt, "refused", heap.refused(), true);
+    is(&rt, "bytes", bytes.as_slice(), [1, 2].as_slice());
+
     bytes.push(3)?;
     is(&rt, "bytes", bytes.as_slice(), [1, 2, 3].as_slice());
     is(&rt, "requests", heap.requests(), 2);
