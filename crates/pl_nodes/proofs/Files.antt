@@ -13,7 +13,7 @@ use Rattle.pl_nodes.specs.declared.nodes.Nodes.TheInside.{Inside}
 use Rattle.pl_nodes.specs.Nodes.{Nodes, SamePipes}
 use Rattle.pl_nodes.specs.NodesView.{file_in, view_of, IsSound}
 use Rattle.pl_nodes.proofs.OneChanged.{pipes_seen, files_seen, seen-at, changed-seen, kept-list}
-use Rattle.pl_nodes.proofs.AtKey.{held, with_content, refused-seen}
+use Rattle.pl_nodes.proofs.AtKey.{held, with_content}
 
 module _ {A : Type 0} (k : Inside A) (key : ℕ) (slots : List Slice) (there : at k.contents.slots key ≡ Some (File slots)) (sound : IsSound k) (flat : Nodes) (is : view_of k ≡ flat) where
   -- it has as many bytes as its slots
@@ -43,12 +43,6 @@ module _ {A : Type 0} (k : Inside A) (key : ℕ) (slots : List Slice) (there : a
       names = ap (λ (v : Nodes). v.names) is;
       file_max = ap (λ (v : Nodes). v.file_max) is;
     }
-
-  -- it was refused, and is as it was
-  pub file-refused : (store : Segments) → store.held ≡ k.store.held → (new : List Slice) → new ≡ slots → SamePipes flat (view_of (with_content k key (File slots) there sound store (File new)))
-  file-refused store kept new same =
-      let e : view_of (with_content k key (File slots) there sound store (File new)) ≡ flat = refused-seen k key (File slots) there sound store kept (File new) (λ i. File (same i)) ∙ is in
-      record { pipes = ap (λ (v : Nodes). v.pipes) e; names = ap (λ (v : Nodes). v.names) e; file_max = ap (λ (v : Nodes). v.file_max) e }
 
 -- slots that became none are none
 pub became-none : (m : Map) (xs : List Slice) (n : Map) (ys : List Slice) → ys ≡ [] → Turns m xs n [] → Turns m xs n ys

@@ -58,6 +58,6 @@ same-list (x ∷ xs) [] l e = absurd (omega (arith, l))
 same-list (x ∷ xs) (y ∷ ys) l e = (λ i. e i zero ∷ same-list xs ys (omega (arith, l)) (λ j q. e j (suc q)) i)
 
 -- what follows from what holds of an `Ok`
-pub if_ok : {T E : Type 0} (r : Result T E) (P Q : T → Type 0) → IfOk r P → ((x : T) → P x → Q x) → IfOk r Q
-if_ok (Ok x) P Q h f = f x h
-if_ok (Err e) P Q h f = h
+pub if_ok : {T E : Type 0} {P Q : T → Type 0} (r : Result T E) → ((x : T) → P x → Q x) → IfOk r P → IfOk r Q
+if_ok (Ok x) f h = f x h
+if_ok (Err e) f h = tt

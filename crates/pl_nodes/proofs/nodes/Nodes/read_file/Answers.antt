@@ -11,5 +11,6 @@ read_at-requires g c = (held c.self.inside c.args.key (File c.in-File.file) (c.i
 pub returns : goal.returns
 returns g c =
     let there = c.index.ensures ∙ ap (λ x. Some x) c.in-File.is in
-    if_ok c.read_at.result _ _ c.read_at.ensures
+    if_ok c.read_at.result
     (λ read is. file-said c.self.inside c.args.key c.in-File.file there c.self.invariant c.args.self.now c.self.view_is (λ bytes. read.items ≡ take c.args.count (drop c.args.place bytes)) is)
+    c.read_at.ensures
