@@ -12,11 +12,13 @@ use Rattle.pl_model.specs.declared.calls.Mode.TheVariants as mode
 use Rattle.pl_model.specs.declared.node.Node.{Node}
 use Rattle.pl_model.specs.declared.node.Node.TheVariants.{Pipe, File}
 use Rattle.pl_model.specs.Modes.{reads, writes}
+use Rattle.pl_model.specs.Nodes.{same_node}
+use Rattle.pl_model.proofs.Nodes.{same_node-refl}
 use Rattle.pl_desc.specs.declared.description.Description.{Description}
 use Rattle.pl_desc.specs.declared.ends.Ends.{Ends}
 use Rattle.pl_desc.specs.declared.ends.Counts.{Counts}
 use Rattle.pl_desc.specs.Rows.{at, Tables, row_at, naming, count_at}
-use Rattle.pl_desc.specs.Descs.{Opened, Room, IsTidy, same_node, is_end_on, ends_on, live_count}
+use Rattle.pl_desc.specs.Descs.{Opened, Room, IsTidy, is_end_on, ends_on, live_count}
 use Rattle.pl_desc.specs.Ends.{one_if, raised, lowered, change_ends, counted, ends_at, ends_in, no_ends, HasCounts}
 use Rattle.pl_desc.specs.Slots.{opened_of, opened_in, holders_of, loose_from, IsSound}
 use Rattle.pl_desc.proofs.RowLemmas.{within, row-names}
@@ -41,10 +43,6 @@ module _ (key : ℕ) (xs ys : List (Option Opened)) (others : (q : ℕ) → q �
   pub ends-change : (test : Mode → Bool) (node : Node) → ends_on test ys node + one_if (is_end_on test node (at xs key)) ≡ ends_on test xs node + one_if (is_end_on test node (at ys key))
   unfolding ends_on
   ends-change test node = tally-change (is_end_on test node) refl key xs ys others
-
-pub node_same : (node : Node) → same_node node node ≡ true
-node_same (Pipe p) = eq-eqb p p refl
-node_same (File f) = eq-eqb f f refl
 
 module _ (tables : Tables) (slots : List (Option Description)) (ends : Node → Ends) (sound : IsSound tables slots ends) where
   -- all holders of a key
@@ -243,7 +241,7 @@ unfolding ends_on
 counted_there opened key o h test =
     let some : is_some (at opened key) ≡ true = ap is_some h in
     let all : one_if (is_end_on test o.node (at opened key)) ≤ count_by (is_end_on test o.node) opened = get_or-le-sum_by (λ x. cond (is_end_on test o.node x) 1 0) opened key None (within opened key some) in
-    let one : one_if (is_end_on test o.node (at opened key)) ≡ one_if (test o.mode) = ap (λ x. one_if (is_end_on test o.node x)) h ∙ ap (λ b. one_if (b && test o.mode)) (node_same o.node) in
+    let one : one_if (is_end_on test o.node (at opened key)) ≡ one_if (test o.mode) = ap (λ x. one_if (is_end_on test o.node x)) h ∙ ap (λ b. one_if (b && test o.mode)) (same_node-refl o.node) in
     omega (arith, all, one)
 
 -- no more descriptions are on a node than are open

@@ -10,10 +10,11 @@ use Rattle.pl_model.specs.declared.calls.Mode.{Mode}
 use Rattle.pl_model.specs.declared.node.Node.{Node}
 use Rattle.pl_model.specs.Map.{set_at}
 use Rattle.pl_model.specs.Modes.{reads, writes}
+use Rattle.pl_model.specs.Nodes.{same_node}
 use Rattle.pl_desc.specs.declared.description.Description.{Description}
 use Rattle.pl_desc.specs.declared.ends.Ends.{Ends}
 use Rattle.pl_desc.specs.Rows.{at, Tables, table_of, is_pid, rows_in, rows_of, row_at, with_row, with_rows_of, with_table, names, named_in, naming, count_at, change_count, one_more, one_less}
-use Rattle.pl_desc.specs.Descs.{Room, last_hold, is_end_on, same_node, ends_on, live_count}
+use Rattle.pl_desc.specs.Descs.{Room, last_hold, is_end_on, ends_on, live_count}
 use Rattle.pl_desc.specs.Ends.{one_if}
 use Rattle.pl_desc.specs.Slots.{opened_of, opened_in, holders_of, loose_from, held_all, IsSound}
 use Rattle.pl_desc.proofs.Known.{Known, Starts}

@@ -6,6 +6,7 @@ use Rattle.pl_model.specs.declared.node.Node.{Node}
 use Rattle.pl_model.specs.declared.node.Node.TheVariants.{Pipe, File}
 use Rattle.pl_model.specs.Numbers.{open_max, most_processes, most_descriptions}
 use Rattle.pl_model.specs.Modes.{reads, writes}
+use Rattle.pl_model.specs.Nodes.{same_node}
 use Rattle.pl_desc.specs.declared.released.Released.{Released}
 use Rattle.pl_desc.specs.declared.released.Released.TheVariants.{Still, Gone}
 use Rattle.pl_desc.specs.Rows.{at, Tables, row_at, naming, count_at}
@@ -30,13 +31,6 @@ pub record Descs : Type 0 where
   pub opened : List (Option Opened)
   pub loose : List ℕ
   pub room : Room
-
--- whether two nodes are one
-abbrev pub same_node : Node → Node → Bool
-same_node (Pipe p) (Pipe q) = nat_eq p q
-same_node (Pipe p) (File f) = false
-same_node (File f) (Pipe p) = false
-same_node (File f) (File g) = nat_eq f g
 
 -- a description on the node, whose mode passes the test
 abbrev pub is_end_on : (Mode → Bool) → Node → Option Opened → Bool

@@ -4,9 +4,10 @@ use Rattle.pl_model.specs.declared.calls.Mode.{Mode}
 use Rattle.pl_model.specs.declared.node.Node.{Node}
 use Rattle.pl_model.specs.declared.node.Node.TheVariants.{Pipe, File}
 use Rattle.pl_model.specs.Modes.{reads, writes}
+use Rattle.pl_model.specs.Nodes.{same_node}
 use Rattle.pl_desc.specs.declared.ends.Ends.{Ends}
 use Rattle.pl_desc.specs.declared.ends.Counts.{Counts}
-use Rattle.pl_desc.specs.Descs.{Opened, same_node, ends_on}
+use Rattle.pl_desc.specs.Descs.{Opened, ends_on}
 
 -- the counts of a node that nothing is open on
 abbrev pub no_ends : Ends

@@ -1,6 +1,7 @@
 //! A file and a pipe over one store of segments, and names of files, with memory and without.
 use crate::equal::is;
 use crate::nodes::weight;
+use pl_model::Node;
 use pl_nodes::{MakeFault, NoMemory, NoSuchName, Nodes, WriteFault};
 use pl_testing::refusing::Refusing;
 use std::alloc::{Allocator, Global};
@@ -126,10 +127,13 @@ impl<A: Allocator + Copy> FileAndPipe<A> {
         Ok(weight(bytes.as_slice()))
     }
 
-    /// Lets the file go, and answers how many segments are left.
+    /// Takes the file's name, lets the file go that has none now, and answers how many segments are left.
     fn discard(self) -> usize {
         let mut nodes = self.nodes;
-        nodes.discard_file(self.file);
+        let _node = nodes.unlink(b"file");
+        if !nodes.has_name(Node::File(self.file)) {
+            nodes.discard_file(self.file);
+        }
         nodes.segments()
     }
 }
@@ -259,7 +263,7 @@ enum Naming {
     Unlink(&'static str),
 }
 
-/// Whether there is something of this name: a file is made where there isn't.
+/// Whether there is something of this name: a file is made where there isn't. What a name stood for has it until it is taken away.
 fn name<A: Allocator + Copy>(
     nodes: &mut Nodes<A>,
     alloc: A,
@@ -274,8 +278,14 @@ fn name<A: Allocator + Copy>(
                 Err(MakeFault::NoMemory) => Err(NoMemory),
             }
         }
-        Naming::LookUp(name) => Ok(nodes.look_up(name.as_bytes()).is_some()),
-        Naming::Unlink(name) => Ok(nodes.unlink(name.as_bytes()) != Err(NoSuchName)),
+        Naming::LookUp(name) => match nodes.look_up(name.as_bytes()) {
+            Some(node) => Ok(nodes.has_name(node)),
+            None => Ok(false),
+        },
+        Naming::Unlink(name) => match nodes.unlink(name.as_bytes()) {
+            Ok(node) => Ok(!nodes.has_name(node)),
+            Err(NoSuchName) => Ok(false),
+        },
     }
 }
 

@@ -1,5 +1,6 @@
 //! Two pipes over one store of segments, with memory and without.
 use crate::equal::is;
+use pl_model::Node;
 use pl_nodes::{NoMemory, Nodes};
 use pl_testing::refusing::Refusing;
 use std::alloc::{Allocator, Global};
@@ -39,6 +40,8 @@ enum Operation {
     Read(usize),
     /// The pipe is hung or not.
     Hang(bool),
+    /// The pipe is made what a new one is.
+    Reset,
     /// The other pipe comes to the front.
     Turn,
 }
@@ -84,12 +87,18 @@ impl<A: Allocator + Copy> TwoPipes<A> {
     /// Lets the pipe in front go, and answers how many segments the other one has.
     fn discard(self) -> usize {
         let mut nodes = self.nodes;
-        nodes.discard_pipe(self.front);
+        if !nodes.has_name(Node::Pipe(self.front)) {
+            nodes.discard_pipe(self.front);
+        }
         nodes.segments()
     }
 
     fn hang(&mut self, hung: bool) {
         self.nodes.set_hung(self.front, hung);
+    }
+
+    fn reset(&mut self) {
+        self.nodes.reset_pipe(self.front);
     }
 
     fn turn(&mut self) {
@@ -120,6 +129,7 @@ impl<A: Allocator + Copy> TwoPipes<A> {
                 return Ok(weight(bytes.as_slice()));
             }
             Operation::Hang(hung) => self.hang(hung),
+            Operation::Reset => self.reset(),
             Operation::Turn => self.turn(),
         }
         Ok(0)
@@ -178,6 +188,9 @@ const ROWS: &[Row] = &[
     (Operation::Turn, 0, (1, 1, false, 1)),
     // "e"
     (Operation::Read(1), 101, (0, 0, false, 0)),
+    (Operation::Write(b"gh"), 0, (2, 1, false, 1)),
+    (Operation::Hang(true), 0, (2, 1, true, 1)),
+    (Operation::Reset, 0, (0, 0, false, 0)),
 ];
 
 /// Does an operation, and again where it is refused, which leaves all as it was. Answers how often it was refused.

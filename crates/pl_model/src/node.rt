@@ -8,3 +8,17 @@ pub enum Node {
     /// The regular file of this key.
     File(usize),
 }
+
+impl Node {
+    ghost use Rattle.std.specs.Prelude.{◌≡◌};
+    ghost use Rattle.pl_model.specs.Nodes.{key_of};
+
+    /// The key under which it is held.
+    pub fn key(self) -> usize
+        ensures { result ≡ key_of self }
+    {
+        match self {
+            Node::Pipe(key) | Node::File(key) => key,
+        }
+    }
+}

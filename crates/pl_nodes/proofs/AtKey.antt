@@ -9,13 +9,15 @@ use Rattle.pl_segments.specs.Segments.{Segments, segment_at, at, holders, live_c
 use Rattle.pl_segments.specs.Turns.{Holds, Turns}
 use Rattle.pl_segments.specs.Sharing.{slots_at, AreShared}
 use Rattle.pl_nodes.specs.declared.content.PipeNode.{PipeNode}
+use Rattle.pl_nodes.specs.declared.content.FileNode.{FileNode}
 use Rattle.pl_nodes.specs.declared.content.Content.{Content}
 use Rattle.pl_nodes.specs.declared.content.Content.TheVariants.{Pipe, File}
 use Rattle.pl_nodes.specs.Contents.{as_pipe, as_file}
 use Rattle.pl_nodes.specs.declared.nodes.Nodes.TheInside.{Inside}
-use Rattle.pl_nodes.specs.NodesView.{pipe_in, file_in, slots_in, lists, names_of, view_of, IsSound}
+use Rattle.pl_nodes.specs.NodesView.{pipe_in, file_in, slots_in, lists, names_of, one_if, AreNamed, view_of, IsSound}
 use Rattle.pl_nodes.proofs.Keyed.{put-back, within}
 use Rattle.pl_nodes.proofs.Lists.{lists-at, lists-length, named-few}
+use Rattle.pl_nodes.proofs.Named.{NamedAlike, put-named, named-none}
 use Rattle.pl_nodes.proofs.OneChanged.{content-held, changed-shared}
 
 -- what turned out to be a pipe, or a file, stands there as that
@@ -23,9 +25,9 @@ pub pipe-there : {A : Type 0} (contents : List (Option (Content A))) (key : ℕ)
 pipe-there contents key (Pipe y) p there is = there ∙ ap (λ o. option_map (λ z. Pipe z) o) (sym is)
 pipe-there contents key (File y) p there is = absurd (cc)
 
-pub file-there : {A : Type 0} (contents : List (Option (Content A))) (key : ℕ) (x : Content A) (slots : List Slice) → at contents key ≡ Some x → Some slots ≡ as_file x → at contents key ≡ Some (File slots)
-file-there contents key (Pipe y) slots there is = absurd (cc)
-file-there contents key (File y) slots there is = there ∙ ap (λ o. option_map (λ z. File z) o) (sym is)
+pub file-there : {A : Type 0} (contents : List (Option (Content A))) (key : ℕ) (x : Content A) (f : FileNode A) → at contents key ≡ Some x → Some f ≡ as_file x → at contents key ≡ Some (File f)
+file-there contents key (Pipe y) f there is = absurd (cc)
+file-there contents key (File y) f there is = there ∙ ap (λ o. option_map (λ z. File z) o) (sym is)
 
 module _ {A : Type 0} (k : Inside A) (key : ℕ) (old : Content A) (there : at k.contents.slots key ≡ Some old) (sound : IsSound k) where
   pub held : Holds (segment_at k.store) (slots_in (Some old))
@@ -51,10 +53,12 @@ module _ {A : Type 0} (k : Inside A) (key : ℕ) (old : Content A) (there : at k
           subst (λ (xs : List Slice). length xs ≤ most_file_bytes) (sym is) (sound.short q)
     ]
 
-    pub still-sound : Turns (segment_at k.store) (slots_in (Some old)) (segment_at store) (slots_in (Some new)) → length (slots_in (Some new)) ≤ most_file_bytes → IsSound (with_content store new)
-    still-sound turns few = record {
+    pub still-sound : Turns (segment_at k.store) (slots_in (Some old)) (segment_at store) (slots_in (Some new)) → length (slots_in (Some new)) ≤ most_file_bytes → NamedAlike (Some old) (Some new)
+        → IsSound (with_content store new)
+    still-sound turns few alike = record {
       shared = changed-shared (segment_at k.store) k.contents.slots key old there sound.shared (segment_at store) (slots_in (Some new)) turns new refl;
       short = still-short few;
+      named = put-named k.contents.slots key old new there alike k.names.entries sound.named;
       most = sound.most;
     }
 
@@ -67,6 +71,7 @@ module _ {A : Type 0} (k : Inside A) (key : ℕ) (old : Content A) (there : at k
     refused-sound = record {
       shared = subst (λ m. AreShared m (lists (slice_set k.contents.slots key (Some new)))) (sym (ap at kept)) (subst (λ cs. AreShared (segment_at k.store) (lists cs)) (sym refused-contents) sound.shared);
       short = subst (λ cs. (q : ℕ) → length (slots_at (lists cs) q) ≤ most_file_bytes) (sym refused-contents) sound.short;
+      named = subst (λ cs. AreNamed k.names.entries cs) (sym refused-contents) sound.named;
       most = sound.most;
     }
 
@@ -90,9 +95,10 @@ few-holders k sound short key =
     omega (arith, named, counted, len, short)
 
 -- where there is nothing all is well
-pub empty-sound : {A : Type 0} (k : Inside A) → k.store.held ≡ [] → k.contents.slots ≡ [] → k.file_max ≤ most_file_bytes → IsSound k
-empty-sound k none nothing most = record {
+pub empty-sound : {A : Type 0} (k : Inside A) → k.store.held ≡ [] → k.contents.slots ≡ [] → k.names.entries ≡ [] → k.file_max ≤ most_file_bytes → IsSound k
+empty-sound {A} k none nothing nobody most = record {
   shared = subst (λ cs. AreShared (segment_at k.store) (lists cs)) (sym nothing) (record { counted = λ key. ap (λ held. holders (at held) key) none; lie = λ q. tt });
   short = λ q. subst (λ cs. length (slots_at (lists cs) q) ≤ most_file_bytes) (sym nothing) (omega arith);
+  named = subst (λ es. AreNamed es k.contents.slots) (sym nobody) (subst (λ cs. AreNamed [] cs) (sym nothing) (λ n. ap one_if (sym (named-none A n))));
   most = most;
 }

@@ -1,8 +1,12 @@
 -- What comes under a free key, and what goes.
-use Rattle.std.proofs.Common.{◌≡◌, ◌≤◌, ℕ, List, [], Some, None, sym, ◌∙◌, ap, subst, inl, inr, length, set, arith}
+use Rattle.std.proofs.Common.{◌≡◌, ◌≤◌, ℕ, false, List, [], Some, None, sym, ◌∙◌, ap, subst, inl, inr, length, set, arith}
 use Rattle.std.proofs.lemmas.Bool.Decides.{eqb_tells}
 use Rattle.std.proofs.lemmas.List.{get_or-set_same, get_or-set_other}
+use Rattle.std.specs.declared.vec.Vec.{Vec}
+use Rattle.std.specs.BTreeMap.{BTreeMap}
 use Rattle.pl_model.specs.Numbers.{most_file_bytes}
+use Rattle.pl_model.specs.declared.node.Node.{Node}
+use Rattle.pl_model.specs.Nodes.{key_of, has_name}
 use Rattle.pl_segments.specs.declared.slice.Slice.{Slice}
 use Rattle.pl_segments.specs.Segments.{Segments, segment_at, at}
 use Rattle.pl_segments.specs.Turns.{Turns}
@@ -10,13 +14,19 @@ use Rattle.pl_segments.specs.Sharing.{slots_at, AreShared}
 use Rattle.slab.specs.Slab.{Slab, Updates}
 use Rattle.pl_nodes.specs.declared.content.Content.{Content}
 use Rattle.pl_nodes.specs.declared.nodes.Nodes.TheInside.{Inside}
-use Rattle.pl_nodes.specs.NodesView.{slots_in, lists, IsSound}
-use Rattle.pl_nodes.proofs.OneChanged.{within-lists, gone-lists, gone-shared, new-lists, new-shared}
+use Rattle.pl_nodes.specs.Nodes.{Nodes}
+use Rattle.pl_nodes.specs.NodesView.{slots_in, lists, named_as, AreNamed, view_of, IsSound}
+use Rattle.pl_nodes.proofs.Named.{NamedAlike, still-named, named-is}
+use Rattle.pl_nodes.proofs.OneChanged.{pipes_seen, files_seen, seen-at, within-lists, gone-lists, gone-shared, new-lists, new-shared}
 
 module _ {A : Type 0} (k : Inside A) (sound : IsSound k) where
-  -- it goes
+  -- what has no name says so
+  pub says-unnamed : (flat : Nodes) → view_of k ≡ flat → (n : Node) → has_name flat.names n ≡ false → named_as n (at k.contents.slots (key_of n)) ≡ false
+  says-unnamed flat is n none = named-is k.names.entries k.contents.slots sound.named n ∙ ap (λ (v : Nodes). has_name v.names n) is ∙ none
+
+  -- it goes, and had no name
   module _ (store : Segments) (after : Slab (Content A)) (key : ℕ) (old : Content A) (there : at k.contents.slots key ≡ Some old)
-      (turned : Turns (segment_at k.store) (slots_in (Some old)) (segment_at store) []) (u : Updates k.contents after key None) where
+      (turned : Turns (segment_at k.store) (slots_in (Some old)) (segment_at store) []) (u : Updates k.contents after key None) (alike : NamedAlike (Some old) None) where
     gone-short : (q : ℕ) → length (slots_at (set (lists k.contents.slots) key []) q) ≤ most_file_bytes
     gone-short q = elim (eqb_tells q key) as (λ _. length (slots_at (set (lists k.contents.slots) key []) q) ≤ most_file_bytes) [
       | inl e ↦
@@ -30,8 +40,18 @@ module _ {A : Type 0} (k : Inside A) (sound : IsSound k) where
     gone-sound = record {
       shared = gone-shared (segment_at k.store) (segment_at store) k.contents after key old there sound.shared turned u;
       short = λ q. subst (λ (xs : List Slice). length xs ≤ most_file_bytes) (sym (gone-lists (segment_at k.store) (segment_at store) k.contents after key old there sound.shared turned u q)) (gone-short q);
+      named = still-named k.contents.slots after.slots key u.others (Some old) None there u.changed alike k.names.entries sound.named;
       most = sound.most;
     }
+
+  -- where nothing is there is neither a pipe nor a file
+  pub vacant-seen : (before : Slab (Content A)) → before.slots ≡ k.contents.slots → (key : ℕ) → at before.slots key ≡ None → (flat : Nodes) → view_of k ≡ flat → (at flat.pipes key ≡ None) × (at flat.files key ≡ None)
+  vacant-seen before same key free flat is =
+      let m = segment_at k.store in
+      let none = ap (λ cs. at cs key) (sym same) ∙ free in (
+        ap (λ (v : Nodes). at v.pipes key) (sym is) ∙ seen-at pipes_seen m k.contents.slots key ∙ ap (pipes_seen.see m) none,
+        ap (λ (v : Nodes). at v.files key) (sym is) ∙ seen-at files_seen m k.contents.slots key ∙ ap (files_seen.see m) none,
+      )
 
   -- it comes, in the place of nothing
   module _ (before after : Slab (Content A)) (same : before.slots ≡ k.contents.slots) (key : ℕ) (new : Content A) (free : at before.slots key ≡ None)
@@ -39,11 +59,15 @@ module _ {A : Type 0} (k : Inside A) (sound : IsSound k) where
     pub came-shared : AreShared (segment_at k.store) (lists before.slots)
     came-shared = subst (λ cs. AreShared (segment_at k.store) (lists cs)) (sym same) sound.shared
 
-    pub came-sound : IsSound (record k { contents = after })
-    came-sound = record {
+    pub came-unnamed : NamedAlike None (Some new) → AreNamed k.names.entries after.slots
+    came-unnamed alike = still-named before.slots after.slots key u.others None (Some new) free u.changed alike k.names.entries (subst (λ cs. AreNamed k.names.entries cs) (sym same) sound.named)
+
+    pub came-sound : (names : BTreeMap (Vec ℕ A) Node) → AreNamed names.entries after.slots → IsSound (record k { contents = after; names = names })
+    came-sound names named = record {
       shared = new-shared (segment_at k.store) before after key new free came-shared empty u;
       short = λ q.
           subst (λ (xs : List Slice). length xs ≤ most_file_bytes) (sym (new-lists (segment_at k.store) before after key new free came-shared empty u q ∙ ap (λ cs. slots_at (lists cs) q) same))
           (sound.short q);
+      named = named;
       most = sound.most;
     }

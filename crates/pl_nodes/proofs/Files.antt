@@ -8,6 +8,7 @@ use Rattle.pl_segments.specs.Slices.{all_read}
 use Rattle.pl_segments.specs.Turns.{Turns}
 use Rattle.pl_segments.specs.Slots.{total}
 use Rattle.pl_segments.proofs.SlotLemmas.{total-read}
+use Rattle.pl_nodes.specs.declared.content.FileNode.{FileNode}
 use Rattle.pl_nodes.specs.declared.content.Content.TheVariants.{File}
 use Rattle.pl_nodes.specs.declared.nodes.Nodes.TheInside.{Inside}
 use Rattle.pl_nodes.specs.Nodes.{Nodes, SamePipes}
@@ -15,30 +16,30 @@ use Rattle.pl_nodes.specs.NodesView.{file_in, view_of, IsSound}
 use Rattle.pl_nodes.proofs.OneChanged.{pipes_seen, files_seen, seen-at, changed-seen, kept-list}
 use Rattle.pl_nodes.proofs.AtKey.{held, with_content}
 
-module _ {A : Type 0} (k : Inside A) (key : ℕ) (slots : List Slice) (there : at k.contents.slots key ≡ Some (File slots)) (sound : IsSound k) (flat : Nodes) (is : view_of k ≡ flat) where
+module _ {A : Type 0} (k : Inside A) (key : ℕ) (f : FileNode A) (there : at k.contents.slots key ≡ Some (File f)) (sound : IsSound k) (flat : Nodes) (is : view_of k ≡ flat) where
   -- it has as many bytes as its slots
-  pub file-total : total slots ≡ length (all_read (segment_at k.store) slots)
-  file-total = sym (total-read (segment_at k.store) slots (held k key (File slots) there sound).lie)
+  pub file-total : total f.file ≡ length (all_read (segment_at k.store) f.file)
+  file-total = sym (total-read (segment_at k.store) f.file (held k key (File f) there sound).lie)
 
-  file-flat : at flat.files key ≡ Some (all_read (segment_at k.store) slots)
+  file-flat : at flat.files key ≡ Some (all_read (segment_at k.store) f.file)
   file-flat = ap (λ (v : Nodes). at v.files key) (sym is) ∙ seen-at files_seen (segment_at k.store) k.contents.slots key ∙ ap (file_in (segment_at k.store)) there
 
   -- what is said of it
-  pub file-said : (P : List ℕ → Type 0) → P (all_read (segment_at k.store) slots) → IfSome (at flat.files key) P
+  pub file-said : (P : List ℕ → Type 0) → P (all_read (segment_at k.store) f.file) → IfSome (at flat.files key) P
   file-said P h = subst (λ o. IfSome o P) (sym file-flat) h
 
   -- it changes, and with it the store
-  module _ (store : Segments) (new : List Slice) (turns : Turns (segment_at k.store) slots (segment_at store) new) where
-    pub file-done : (f : List ℕ → List ℕ) → all_read (segment_at store) new ≡ f (all_read (segment_at k.store) slots)
-        → at (view_of (with_content k key (File slots) there sound store (File new))).files ≡ change_at key f (at flat.files)
-    file-done f e =
-        changed-seen (segment_at k.store) k.contents.slots key (File slots) there sound.shared (segment_at store) new turns (File new) refl files_seen f (ap (λ x. Some x) e)
-        ∙ ap (λ (v : Nodes). change_at key f (at v.files)) is
+  module _ (store : Segments) (new : FileNode A) (turns : Turns (segment_at k.store) f.file (segment_at store) new.file) where
+    pub file-done : (g : List ℕ → List ℕ) → all_read (segment_at store) new.file ≡ g (all_read (segment_at k.store) f.file)
+        → at (view_of (with_content k key (File f) there sound store (File new))).files ≡ change_at key g (at flat.files)
+    file-done g e =
+        changed-seen (segment_at k.store) k.contents.slots key (File f) there sound.shared (segment_at store) new.file turns (File new) refl files_seen g (ap (λ x. Some x) e)
+        ∙ ap (λ (v : Nodes). change_at key g (at v.files)) is
 
-    pub file-pipes : SamePipes flat (view_of (with_content k key (File slots) there sound store (File new)))
+    pub file-pipes : SamePipes flat (view_of (with_content k key (File f) there sound store (File new)))
     file-pipes = record {
       pipes =
-          kept-list (segment_at k.store) k.contents.slots key (File slots) there sound.shared (segment_at store) new turns (File new) refl pipes_seen refl
+          kept-list (segment_at k.store) k.contents.slots key (File f) there sound.shared (segment_at store) new.file turns (File new) refl pipes_seen refl
           ∙ ap (λ (v : Nodes). v.pipes) is;
       names = ap (λ (v : Nodes). v.names) is;
       file_max = ap (λ (v : Nodes). v.file_max) is;

@@ -6,3 +6,5 @@ pub mod Pipes
 pub mod Files
 pub mod Coming
 pub mod Names
+pub mod Named
+pub mod Unnamed

@@ -9,14 +9,14 @@ use Rattle.std.specs.Ordering.{nat_cmp, match_ordering}
 use Rattle.std.specs.Cmp.Lexicographic.{slice_cmp, pointwise}
 use Rattle.std.specs.List.{filter}
 use Rattle.std.specs.Map.{lookup, remove_entry}
-use Rattle.std.specs.BTreeMap.{BTreeMap, insert_entry, is_at, get_by}
+use Rattle.std.specs.BTreeMap.{insert_entry, is_at, get_by}
 use Rattle.std.proofs.lemmas.Cmp.{nat_list_eq_equiv}
 use Rattle.std.proofs.lemmas.Map.Text.{is_eq-slice_cmp}
 use Rattle.pl_model.specs.declared.node.Node.{Node}
 use Rattle.pl_model.specs.Map.{get, without, put_in_order}
 use Rattle.pl_nodes.specs.declared.nodes.Nodes.TheInside.{Inside}
 use Rattle.pl_nodes.specs.Nodes.{Nodes}
-use Rattle.pl_nodes.specs.NodesView.{names_of, view_of, IsSound}
+use Rattle.pl_nodes.specs.NodesView.{names_of, view_of}
 
 -- what is mapped is mapped in each case
 map-match : {X Y : Type 0} (f : X → Y) (o : Ordering) (a b c : List X) → map f (match_ordering o a b c) ≡ match_ordering o (map f a) (map f b) (map f c)
@@ -45,7 +45,7 @@ module _ {A : Type 0} where
       ∙ ap (λ rest. match_ordering (slice_cmp nat_cmp k.items e.0.items) ((k.items, node) ∷ (e.0.items, e.1) ∷ names_of es) ((e.0.items, node) ∷ names_of es) ((e.0.items, e.1) ∷ rest)) (insert-names es k node)
 
 -- what finds nothing from an entry on finds nothing behind it
-past-head : {X : Type 0} (here : Bool) (x : X) (rest : Option X) → cond here (Some x) rest ≡ None → rest ≡ None
+pub past-head : {X : Type 0} (here : Bool) (x : X) (rest : Option X) → cond here (Some x) rest ≡ None → rest ≡ None
 past-head true x rest none = absurd (cc)
 past-head false x rest none = none
 
@@ -86,11 +86,6 @@ module _ {A : Type 0} (name : List ℕ) where
   pub remove-names : (es : List (Vec ℕ A × Node)) → lookup (is_at (compares name)) (remove_entry (is_at (compares name)) es) ≡ None
       → names_of (remove_entry (is_at (compares name)) es) ≡ without (pointwise nat_eq) (names_of es) name
   remove-names es none = ap (λ ds. names_of ds) (removes-all (is_at (compares name)) es none) ∙ kept-names es
-
--- what is sound is so with any names
-module _ {A : Type 0} (k : Inside A) (sound : IsSound k) (names : BTreeMap (Vec ℕ A) Node) where
-  pub renamed-sound : IsSound (record k { names = names })
-  renamed-sound = record { shared = sound.shared; short = sound.short; most = sound.most }
 
 -- whether the tree has a name
 module _ {A : Type 0} (k : Inside A) (flat : Nodes) (is : view_of k ≡ flat) (name : List ℕ) where

@@ -13,15 +13,17 @@ use Rattle.pl_model.specs.State.{Core, Pipe}
 use Rattle.pl_model.specs.Settle.{settle}
 use Rattle.pl_model.specs.Numbered.{numbers}
 use Rattle.pl_model.specs.Laws.{IsSettled}
+use Rattle.pl_model.specs.Nodes.{same_node, has_name}
 use Rattle.pl_model.proofs.settling.Members.{or_left, or_right}
 use Rattle.pl_model.proofs.settling.Idempotent.{settled}
 use Rattle.pl_model.proofs.settling.FromSettled.{at_other}
+use Rattle.pl_model.proofs.Nodes.{same_node-refl}
+use Rattle.pl_model.proofs.Counting.{some_counted}
 use Rattle.pl_desc.specs.Rows.{at}
-use Rattle.pl_desc.specs.Descs.{Opened, Descs, same_node, is_end_on, ends_on, last_hold}
-use Rattle.pl_kernel.specs.Contents.{Nodes, IsThere, has_name}
+use Rattle.pl_desc.specs.Descs.{Opened, Descs, is_end_on, ends_on, last_hold}
+use Rattle.pl_kernel.specs.Contents.{Nodes, IsThere}
 use Rattle.pl_kernel.specs.LastHold.{is_kept, is_open_on, ended_pipe, pipes_left, files_left, Leaves, Releases}
 use Rattle.pl_kernel.specs.Sound.{AreThere}
-use Rattle.pl_kernel.proofs.holders.Holding.{some_counted}
 use Rattle.pl_nodes.proofs.Keyed.{within}
 
 -- what settling left is settled
@@ -70,27 +72,23 @@ module _ {X : Type 0} where
   mapped_some f None h = absurd (let e : false ≡ true = h in cc)
 
 -- a pipe is put there
-pub there-put : (opened : ℕ → Option Opened) (nodes : Nodes) (pipes : List (Option Pipe)) (p : ℕ) (x : Pipe) → at pipes ≡ set_at nat_eq (at nodes.pipes) p (Some x) → AreThere opened nodes → AreThere opened (record nodes { pipes = pipes })
-there-put opened nodes pipes p x is = there-still opened nodes (record nodes { pipes = pipes }) refl still
+pub there-put : (opened : ℕ → Option Opened) (nodes new : Nodes) (p : ℕ) (x : Pipe) → at new.pipes ≡ set_at nat_eq (at nodes.pipes) p (Some x) → at new.files ≡ at nodes.files → new.names ≡ nodes.names → AreThere opened nodes → AreThere opened new
+there-put opened nodes new p x is files names = there-still opened nodes new names still
   where
-    still : (n : Node) → IsThere nodes n → IsThere (record nodes { pipes = pipes }) n
+    still : (n : Node) → IsThere nodes n → IsThere new n
     still (node.Pipe q) h = subst (λ (m : ℕ → Option Pipe). IsSome (m q)) (sym is) (set_some (at nodes.pipes) p q (Some x) (λ e. refl) h)
-    still (node.File f) h = h
-
-same_node-refl : (n : Node) → same_node n n ≡ true
-same_node-refl (node.Pipe p) = eq-eqb p p refl
-same_node-refl (node.File f) = eq-eqb f f refl
+    still (node.File f) h = subst (λ (m : ℕ → Option (List ℕ)). IsSome (m f)) (sym files) h
 
 -- a description is on a node, and a name stands for one, that is kept
 kept_open : (opened : List (Option Opened)) (nodes : Nodes) (d : ℕ) (o : Opened) → at opened d ≡ Some o → is_kept opened nodes o.node ≡ true
 unfolding ends_on
-kept_open opened nodes d o here = or_left (is_open_on opened o.node) (has_name nodes o.node) (some_counted test opened ∙ list_any_at test opened d None (within opened d o here) (ap test here ∙ (λ i. same_node-refl o.node i && true)))
+kept_open opened nodes d o here = or_left (is_open_on opened o.node) (has_name nodes.names o.node) (some_counted test opened ∙ list_any_at test opened d None (within opened d o here) (ap test here ∙ (λ i. same_node-refl o.node i && true)))
   where
     test : Option Opened → Bool
     test = is_end_on any_mode o.node
 
 kept_named : (opened : List (Option Opened)) (nodes : Nodes) (k : ℕ) (e : List ℕ × Node) → k < length nodes.names → is_kept opened nodes (slice_index_or nodes.names k e).1 ≡ true
-kept_named opened nodes k e l = or_right (is_open_on opened n) (has_name nodes n) (list_any_at (λ (x : List ℕ × Node). same_node x.1 n) nodes.names k e l (same_node-refl n))
+kept_named opened nodes k e l = or_right (is_open_on opened n) (has_name nodes.names n) (list_any_at (λ (x : List ℕ × Node). same_node x.1 n) nodes.names k e l (same_node-refl n))
   where
     n : Node
     n = (slice_index_or nodes.names k e).1

@@ -1,7 +1,8 @@
 //! Regular files.
-ghost use Rattle.std.specs.Prelude.{◌≡◌, ◌↔◌, ◌-◌, ◌≤◌, [], length, take, drop, IfOk, OnErr, OnOk, IsSome, IfSome, Some, None, Err, nat_eq};
+ghost use Rattle.std.specs.Prelude.{◌≡◌, ◌↔◌, ◌-◌, ◌≤◌, false, [], length, take, drop, IfOk, OnErr, OnOk, IsSome, IfSome, Some, None, Err, nat_eq};
 ghost use Rattle.pl_model.specs.Numbers.{most_file_bytes};
 ghost use Rattle.pl_model.specs.Map.{set_at, change_at};
+ghost use Rattle.pl_model.specs.Nodes.{has_name};
 ghost use Rattle.pl_segments.specs.Segments.{segment_at, at};
 ghost use Rattle.pl_segments.specs.Turns.{Holds, Turns};
 ghost use Rattle.pl_file.specs.File.{written, fitting};
@@ -10,6 +11,7 @@ ghost use Rattle.pl_nodes.specs.Nodes.{SamePipes};
 use super::Nodes;
 use crate::content::Content;
 use pl_file::{File, WriteFault};
+use pl_model::Node;
 use pl_segments::{NoMemory, Store};
 use std::alloc::Allocator;
 
@@ -29,10 +31,10 @@ impl<A: Allocator + Copy> Nodes<A> {
         ensures value { IfSome (at self.now.files key) (λ bytes. result ≡ length bytes) }
         ensures few { result ≤ most_file_bytes }
     {
-        let Content::File(file) = &self.contents[key] else {
+        let Content::File(node) = &self.contents[key] else {
             unreachable!()
         };
-        file.len()
+        node.file.len()
     }
 
     /// At most `count` bytes of a file from a place on, none past its end (POSIX.1-2017, read).
@@ -40,10 +42,10 @@ impl<A: Allocator + Copy> Nodes<A> {
         requires { IsSome (at self.now.files key) }
         ensures { IfOk result (λ read. IfSome (at self.now.files key) (λ bytes. read.items ≡ take count (drop place bytes))) }
     {
-        let Content::File(file) = &self.contents[key] else {
+        let Content::File(node) = &self.contents[key] else {
             unreachable!()
         };
-        file.read_at(&self.store, place, count)
+        node.file.read_at(&self.store, place, count)
     }
 
     /// Writes as many bytes at a place as stand below the greatest length of a file, and answers how many; what lies between the end
@@ -64,12 +66,14 @@ impl<A: Allocator + Copy> Nodes<A> {
     {
         // A proof learns here that there are fewer files and pipes than a segment can have holders.
         let _most = self.contents.capacity();
-        let Some(file) = self.contents[key].as_file_mut() else {
+        let Some(node) = self.contents[key].as_file_mut() else {
             unreachable!()
         };
-        let written = file.write_at(&mut self.store, place, bytes, self.file_max)?;
+        let written = node
+            .file
+            .write_at(&mut self.store, place, bytes, self.file_max)?;
         // And here that the file has no more slots than it may have bytes.
-        let _len = file.len();
+        let _len = node.file.len();
         Ok(written)
     }
 
@@ -79,21 +83,22 @@ impl<A: Allocator + Copy> Nodes<A> {
         ensures ok { at self.new.files ≡ change_at key (λ bytes. []) (at self.old.files) }
         ensures pipes { SamePipes self.old self.new }
     {
-        let Some(file) = self.contents[key].as_file_mut() else {
+        let Some(node) = self.contents[key].as_file_mut() else {
             unreachable!()
         };
-        file.truncate(&mut self.store);
+        node.file.truncate(&mut self.store);
     }
 
-    /// Lets a file go, with its bytes. It takes no memory.
+    /// Lets a file go that has no name, with its bytes. It takes no memory.
     pub fn discard_file(&mut self, key: usize)
-        requires { IsSome (at self.old.files key) }
+        requires here { IsSome (at self.old.files key) }
+        requires unnamed { has_name self.old.names (Node.File key) ≡ false }
         ensures ok { at self.new.files ≡ set_at nat_eq (at self.old.files) key None }
         ensures pipes { SamePipes self.old self.new }
     {
         let Content::File(gone) = self.contents.remove(key) else {
             unreachable!()
         };
-        let_go(&mut self.store, gone);
+        let_go(&mut self.store, gone.file);
     }
 }

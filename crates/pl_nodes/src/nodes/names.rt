@@ -3,10 +3,11 @@ ghost use Rattle.std.specs.Prelude.{◌≡◌, ◌↔◌, [], IfOk, OnErr, IsErr
 ghost use Rattle.std.specs.Ordering.{nat_cmp};
 ghost use Rattle.std.specs.Cmp.Lexicographic.{slice_cmp, pointwise};
 ghost use Rattle.pl_model.specs.Map.{set_at, get, without, put_in_order};
+ghost use Rattle.pl_model.specs.Nodes.{has_name};
 ghost use Rattle.pl_segments.specs.Segments.{at};
 
 use super::Nodes;
-use crate::content::Content;
+use crate::content::{Content, FileNode};
 use crate::fault::{MakeFault, NoSuchName};
 use pl_file::File;
 use pl_model::Node;
@@ -20,7 +21,7 @@ impl<A: Allocator + Copy> Nodes<A> {
     /// - `Exists` exactly where the name stands for something, whether or not there is memory (POSIX.1-2017, open, O_EXCL).
     /// - `NoMemory` where it doesn't, and there is no memory for the file or its name.
     pub fn make_file(&mut self, name: Vec<u8, A>) -> Result<usize, MakeFault>
-        ensures vacant { IfOk result (λ key. at self.old.files key ≡ None) }
+        ensures vacant { IfOk result (λ key. (at self.old.pipes key ≡ None) × (at self.old.files key ≡ None)) }
         ensures key { IfOk result (λ key. key ≡ self.old.next) }
         ensures ok { IfOk result (λ key. at self.new.files ≡ set_at nat_eq (at self.old.files) key (Some [])) }
         ensures names { IfOk result (λ key. self.new.names ≡ put_in_order (slice_cmp nat_cmp) self.old.names name.items (Node.File key)) }
@@ -42,8 +43,10 @@ impl<A: Allocator + Copy> Nodes<A> {
             return Err(MakeFault::NoMemory);
         };
         Ok(
-            self.contents
-                .insert_reserved(Content::File(File::new(self.alloc))),
+            self.contents.insert_reserved(Content::File(FileNode {
+                file: File::new(self.alloc),
+                named: true,
+            })),
         )
     }
 
@@ -52,6 +55,16 @@ impl<A: Allocator + Copy> Nodes<A> {
         ensures { result ≡ get (pointwise nat_eq) self.now.names name.now }
     {
         self.names.get(name).copied()
+    }
+
+    /// Whether a name stands for a pipe or a file, however many names there are. Of what isn't there no name does.
+    pub fn has_name(&self, node: Node) -> bool
+        ensures { result ≡ has_name self.now.names node }
+    {
+        match self.contents.get(node.key()) {
+            Some(content) => content.is_named_as(node),
+            None => false,
+        }
     }
 
     /// Takes a name away, and answers what it stood for, which stays, with its bytes, until it is discarded (POSIX.1-2017,
@@ -67,6 +80,10 @@ impl<A: Allocator + Copy> Nodes<A> {
         ensures rest { self.new ≡ record self.old { names = self.new.names } }
         ensures err { OnErr result (self.new ≡ self.old) }
     {
-        self.names.remove(name).ok_or(NoSuchName)
+        let Some(node) = self.names.remove(name) else {
+            return Err(NoSuchName);
+        };
+        self.contents[node.key()].set_named(false);
+        Ok(node)
     }
 }

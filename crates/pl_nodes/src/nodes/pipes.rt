@@ -1,8 +1,9 @@
 //! Pipes.
-ghost use Rattle.std.specs.Prelude.{◌≡◌, ◌+◌, ◌-◌, ◌*◌, ◌/◌, ◌≤◌, ◌++◌, [], length, take, drop, slice_index_or, IfOk, OnErr, OnOk, IsSome, IfSome, Some, None, nat_eq};
+ghost use Rattle.std.specs.Prelude.{◌≡◌, ◌+◌, ◌-◌, ◌*◌, ◌/◌, ◌≤◌, ◌++◌, false, [], length, take, drop, slice_index_or, IfOk, OnErr, OnOk, IsSome, IfSome, Some, None, nat_eq};
 ghost use Rattle.pl_model.specs.State.{empty_pipe};
 ghost use Rattle.pl_model.specs.Transfer.{room};
 ghost use Rattle.pl_model.specs.Map.{set_at, change_at};
+ghost use Rattle.pl_model.specs.Nodes.{has_name};
 ghost use Rattle.pl_segments.specs.Segments.{segment_size, segment_at, at};
 ghost use Rattle.pl_segments.specs.Turns.{Holds, Turns};
 ghost use Rattle.pl_ring.specs.Ring.{most_capacity};
@@ -10,6 +11,7 @@ ghost use Rattle.pl_nodes.specs.Nodes.{SameFiles};
 
 use super::Nodes;
 use crate::content::{Content, PipeNode};
+use pl_model::Node;
 use pl_model::numbers::FIRST_CAPACITY;
 use pl_ring::Ring;
 use pl_segments::{NoMemory, Store};
@@ -28,7 +30,7 @@ impl<A: Allocator + Copy> Nodes<A> {
     /// Makes an empty pipe of 65,536 bytes of capacity (pipe(7), Pipe capacity), and answers its key. An error leaves all as it
     /// was.
     pub fn make_pipe(&mut self) -> Result<usize, NoMemory>
-        ensures vacant { IfOk result (λ key. at self.old.pipes key ≡ None) }
+        ensures vacant { IfOk result (λ key. (at self.old.pipes key ≡ None) × (at self.old.files key ≡ None)) }
         ensures key { IfOk result (λ key. key ≡ self.old.next) }
         ensures ok { IfOk result (λ key. at self.new.pipes ≡ set_at nat_eq (at self.old.pipes) key (Some empty_pipe)) }
         ensures files { at self.new.files ≡ at self.old.files }
@@ -40,8 +42,11 @@ impl<A: Allocator + Copy> Nodes<A> {
         self.contents.reserve(1)?;
         let ring = Ring::new(self.alloc, FIRST_CAPACITY)?;
         Ok(
-            self.contents
-                .insert_reserved(Content::Pipe(PipeNode { ring, hung: false })),
+            self.contents.insert_reserved(Content::Pipe(PipeNode {
+                ring,
+                hung: false,
+                named: false,
+            })),
         )
     }
 
@@ -146,9 +151,24 @@ impl<A: Allocator + Copy> Nodes<A> {
         Ok(())
     }
 
-    /// Lets a pipe go, with its bytes. It takes no memory.
-    pub fn discard_pipe(&mut self, key: usize)
+    /// Makes a pipe what a new one is: empty, of 65,536 bytes of capacity, and not hung. So is a FIFO left by its last end, since
+    /// it keeps nothing for the next (POSIX.1-2017, close). It takes no memory.
+    pub fn reset_pipe(&mut self, key: usize)
         requires { IsSome (at self.old.pipes key) }
+        ensures ok { at self.new.pipes ≡ change_at key (λ x. empty_pipe) (at self.old.pipes) }
+        ensures files { SameFiles self.old self.new }
+    {
+        let Some(node) = self.contents[key].as_pipe_mut() else {
+            unreachable!()
+        };
+        node.ring.reset(&mut self.store);
+        node.hung = false;
+    }
+
+    /// Lets a pipe go that has no name, with its bytes. It takes no memory.
+    pub fn discard_pipe(&mut self, key: usize)
+        requires here { IsSome (at self.old.pipes key) }
+        requires unnamed { has_name self.old.names (Node.Pipe key) ≡ false }
         ensures ok { at self.new.pipes ≡ set_at nat_eq (at self.old.pipes) key None }
         ensures files { SameFiles self.old self.new }
     {

@@ -1,5 +1,5 @@
 use Rattle.std.proofs.Common.{ap}
-use Rattle.pl_kernel.specs.Contents.{pipes_alone}
+use Rattle.pl_kernel.specs.Contents.{nodes_of}
 use Rattle.pl_kernel.specs.LastHold.{Releases}
 use Rattle.pl_kernel.proofs.holders.EachInTurn.{released_next, held_next, there_next}
 use Rattle.pl_kernel.proofs.last_hold.release_all.Goals as goal
@@ -9,14 +9,14 @@ loop-place-preserved g c =
     let old = c.args.descs.now in
     let mid = c.loop-place.descs in
     let new = c.release.new.descs in
-    let before = pipes_alone c.args.nodes.now.pipes in
-    let between = pipes_alone c.loop-place.nodes.pipes in
-    let after = pipes_alone c.release.new.nodes.pipes in
+    let before = nodes_of c.args.nodes.now in
+    let between = nodes_of c.loop-place.nodes in
+    let after = nodes_of c.release.new.nodes in
     let keys = c.args.keys.now in
     let place = c.loop-place.place in
     let was = c.loop-place.invariant in
     let told = c.release.ensures in
-    let one : Releases mid new between after _ = record { opened = told.opened; loose = told.loose; tables = told.tables; tidy = told.tidy; stays = λ last. ap pipes_alone (told.stays last); leaves = told.leaves } in
+    let one : Releases mid new between after _ = record { opened = told.opened; loose = told.loose; tables = told.tables; tidy = told.tidy; stays = λ last. ap nodes_of (told.stays last); leaves = told.leaves } in
     record {
       released = released_next keys place c.loop-place-test.true old mid new before between after was.released was.held was.there was.tidy one;
       held = held_next keys place c.loop-place-test.true old mid new before between after was.released was.held was.there was.tidy one;

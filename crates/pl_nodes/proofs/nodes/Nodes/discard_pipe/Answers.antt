@@ -1,11 +1,13 @@
-use Rattle.std.proofs.Common.{◌∙◌, Some, None, refl, ap, nat_eq}
+use Rattle.std.proofs.Common.{◌∙◌, Some, None, refl, sym, ap, nat_eq}
+use Rattle.pl_model.specs.declared.node.Node.TheVariants as node
 use Rattle.pl_model.specs.Map.{set_at}
 use Rattle.pl_segments.specs.Segments.{segment_at, at}
 use Rattle.pl_nodes.specs.declared.content.Content.TheVariants.{Pipe}
 use Rattle.pl_nodes.specs.Nodes.{Nodes}
+use Rattle.pl_nodes.specs.NodesView.{pipe_named}
 use Rattle.pl_nodes.proofs.AtKey.{held}
 use Rattle.pl_nodes.proofs.OneChanged.{pipes_seen, files_seen, gone-seen, gone-list}
-use Rattle.pl_nodes.proofs.Coming.{gone-sound}
+use Rattle.pl_nodes.proofs.Coming.{says-unnamed, gone-sound}
 use Rattle.pl_nodes.proofs.nodes.Nodes.discard_pipe.Goals as goal
 
 pub let_go-requires : goal.let_go-requires
@@ -13,8 +15,10 @@ let_go-requires g c = held c.self.inside c.args.key (Pipe c.in-Pipe.gone) (c.rem
 
 pub invariant_of-self : goal.invariant_of-self
 invariant_of-self g c =
-    gone-sound c.self.inside c.self.invariant c.let_go.new.store c.remove.new.self c.args.key (Pipe c.in-Pipe.gone) (c.remove.ensures.value ∙ ap (λ x. Some x) c.in-Pipe.is)
-    c.let_go.ensures c.remove.ensures.updates
+    let k = c.self.inside in
+    let there = c.remove.ensures.value ∙ ap (λ x. Some x) c.in-Pipe.is in
+    gone-sound k c.self.invariant c.let_go.new.store c.remove.new.self c.args.key (Pipe c.in-Pipe.gone) there c.let_go.ensures c.remove.ensures.updates
+    (sym (sym (ap pipe_named there) ∙ says-unnamed k c.self.invariant c.args.self.now c.self.view_is (node.Pipe c.args.key) c.requires.unnamed), refl)
 
 pub returns-clause-ok : goal.returns-clause-ok
 returns-clause-ok g c =

@@ -1,4 +1,4 @@
-use Rattle.std.proofs.Common.{[], ap, length, arith}
+use Rattle.std.proofs.Common.{refl, [], ap, length, arith}
 use Rattle.pl_segments.specs.Segments.{segment_at}
 use Rattle.pl_segments.specs.Slices.{all_read}
 use Rattle.pl_nodes.specs.declared.content.Content.TheVariants.{File}
@@ -9,25 +9,25 @@ use Rattle.pl_nodes.proofs.nodes.Nodes.empty_file.Goals as goal
 pub truncate-requires : goal.truncate-requires
 truncate-requires g c =
     let k = c.self.inside in
-    let there = file-there k.contents.slots c.args.key c.index_mut.result.now c.in-Some.file.now c.index_mut.ensures.value c.in-Some.ensures.value in
-    held k c.args.key (File c.in-Some.file.now) there c.self.invariant
+    let there = file-there k.contents.slots c.args.key c.index_mut.result.now c.in-Some.node.now c.index_mut.ensures.value c.in-Some.ensures.value in
+    held k c.args.key (File c.in-Some.node.now) there c.self.invariant
 
 pub invariant_of-self : goal.invariant_of-self
 invariant_of-self g c =
     let k = c.self.inside in
-    let there = file-there k.contents.slots c.args.key c.index_mut.result.now c.in-Some.file.now c.index_mut.ensures.value c.in-Some.ensures.value in
+    let there = file-there k.contents.slots c.args.key c.index_mut.result.now c.in-Some.node.now c.index_mut.ensures.value c.in-Some.ensures.value in
     let none = ap length c.truncate.ensures.value in
-    still-sound k c.args.key (File c.in-Some.file.now) there c.self.invariant c.truncate.new.store (File c.truncate.new.self) (became-none (segment_at k.store) c.in-Some.file.now (segment_at c.truncate.new.store) c.truncate.new.self c.truncate.ensures.value c.truncate.ensures.turns) (omega (arith, none))
+    still-sound k c.args.key (File c.in-Some.node.now) there c.self.invariant c.truncate.new.store (File (record c.in-Some.node.now { file = c.truncate.new.self })) (became-none (segment_at k.store) c.in-Some.node.now.file (segment_at c.truncate.new.store) c.truncate.new.self c.truncate.ensures.value c.truncate.ensures.turns) (omega (arith, none)) (refl, refl)
 
 pub returns-clause-ok : goal.returns-clause-ok
 returns-clause-ok g c =
     let k = c.self.inside in
-    let there = file-there k.contents.slots c.args.key c.index_mut.result.now c.in-Some.file.now c.index_mut.ensures.value c.in-Some.ensures.value in
-    file-done k c.args.key c.in-Some.file.now there c.self.invariant c.args.self.now c.self.view_is c.truncate.new.store c.truncate.new.self (became-none (segment_at k.store) c.in-Some.file.now (segment_at c.truncate.new.store) c.truncate.new.self c.truncate.ensures.value c.truncate.ensures.turns)
+    let there = file-there k.contents.slots c.args.key c.index_mut.result.now c.in-Some.node.now c.index_mut.ensures.value c.in-Some.ensures.value in
+    file-done k c.args.key c.in-Some.node.now there c.self.invariant c.args.self.now c.self.view_is c.truncate.new.store (record c.in-Some.node.now { file = c.truncate.new.self }) (became-none (segment_at k.store) c.in-Some.node.now.file (segment_at c.truncate.new.store) c.truncate.new.self c.truncate.ensures.value c.truncate.ensures.turns)
     (λ bytes. []) (ap (all_read (segment_at c.truncate.new.store)) c.truncate.ensures.value)
 
 pub returns-clause-pipes : goal.returns-clause-pipes
 returns-clause-pipes g c =
     let k = c.self.inside in
-    let there = file-there k.contents.slots c.args.key c.index_mut.result.now c.in-Some.file.now c.index_mut.ensures.value c.in-Some.ensures.value in
-    file-pipes k c.args.key c.in-Some.file.now there c.self.invariant c.args.self.now c.self.view_is c.truncate.new.store c.truncate.new.self (became-none (segment_at k.store) c.in-Some.file.now (segment_at c.truncate.new.store) c.truncate.new.self c.truncate.ensures.value c.truncate.ensures.turns)
+    let there = file-there k.contents.slots c.args.key c.index_mut.result.now c.in-Some.node.now c.index_mut.ensures.value c.in-Some.ensures.value in
+    file-pipes k c.args.key c.in-Some.node.now there c.self.invariant c.args.self.now c.self.view_is c.truncate.new.store (record c.in-Some.node.now { file = c.truncate.new.self }) (became-none (segment_at k.store) c.in-Some.node.now.file (segment_at c.truncate.new.store) c.truncate.new.self c.truncate.ensures.value c.truncate.ensures.turns)

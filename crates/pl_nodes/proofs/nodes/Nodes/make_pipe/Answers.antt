@@ -8,7 +8,7 @@ use Rattle.pl_ring.specs.Ring.{Ring}
 use Rattle.pl_nodes.specs.declared.content.Content.TheVariants.{Pipe}
 use Rattle.pl_nodes.specs.Nodes.{Nodes}
 use Rattle.pl_nodes.proofs.OneChanged.{pipes_seen, files_seen, seen, seen-at, new-seen, new-unseen}
-use Rattle.pl_nodes.proofs.Coming.{came-shared, came-sound}
+use Rattle.pl_nodes.proofs.Coming.{came-shared, came-unnamed, came-sound, vacant-seen}
 use Rattle.pl_nodes.proofs.nodes.Nodes.make_pipe.Given.{Over}
 use Rattle.pl_nodes.proofs.nodes.Nodes.make_pipe.Goals.{After-insert_reserved}
 use Rattle.pl_nodes.proofs.nodes.Nodes.make_pipe.Goals as goal
@@ -19,22 +19,22 @@ module _ (g : Over) (c : After-insert_reserved g) where
   same = ap (λ (s : Slab _). s.slots) c.in_ok-reserve.ensures.rest_kept
 
 pub returns-clause-vacant : goal.returns-clause-vacant
-returns-clause-vacant g c =
-    let k = c.self.inside in
-    ap (λ (v : Nodes). at v.pipes c.insert_reserved.result) (sym c.self.view_is)
-    ∙ seen-at pipes_seen (segment_at k.store) k.contents.slots c.insert_reserved.result
-    ∙ ap (pipes_seen.see (segment_at k.store)) (ap (λ cs. at cs c.insert_reserved.result) (sym (same g c)) ∙ c.insert_reserved.ensures.was_vacant)
+returns-clause-vacant g c = vacant-seen c.self.inside c.self.invariant c.reserve.new.self (same g c) c.insert_reserved.result c.insert_reserved.ensures.was_vacant c.args.self.now c.self.view_is
 
 pub invariant_of-self-2 : goal.invariant_of-self-2
 invariant_of-self-2 g c =
-    came-sound c.self.inside c.self.invariant c.reserve.new.self c.insert_reserved.new.self (same g c) c.insert_reserved.result (Pipe (record { ring = c.in_ok-ring.ring; hung = false }))
-    c.insert_reserved.ensures.was_vacant (ap (λ (r : Ring). r.slots) c.in_ok-ring.ensures) c.insert_reserved.ensures.updates
+    let k = c.self.inside in
+    let new = Pipe (record { ring = c.in_ok-ring.ring; hung = false; named = false }) in
+    let empty = ap (λ (r : Ring). r.slots) c.in_ok-ring.ensures in
+    let u = c.insert_reserved.ensures.updates in
+    came-sound k c.self.invariant c.reserve.new.self c.insert_reserved.new.self (same g c) c.insert_reserved.result new c.insert_reserved.ensures.was_vacant empty u
+    k.names (came-unnamed k c.self.invariant c.reserve.new.self c.insert_reserved.new.self (same g c) c.insert_reserved.result new c.insert_reserved.ensures.was_vacant empty u (refl, refl))
 
 pub returns-clause-ok : goal.returns-clause-ok
 returns-clause-ok g c =
     let k = c.self.inside in
     let m = segment_at k.store in
-    let new = Pipe (record { ring = c.in_ok-ring.ring; hung = false }) in
+    let new = Pipe (record { ring = c.in_ok-ring.ring; hung = false; named = false }) in
     let empty = ap (λ (r : Ring). r.slots) c.in_ok-ring.ensures in
     let u = c.insert_reserved.ensures.updates in
     new-seen m c.reserve.new.self c.insert_reserved.new.self c.insert_reserved.result new
@@ -47,7 +47,7 @@ pub returns-clause-files : goal.returns-clause-files
 returns-clause-files g c =
     let k = c.self.inside in
     let m = segment_at k.store in
-    let new = Pipe (record { ring = c.in_ok-ring.ring; hung = false }) in
+    let new = Pipe (record { ring = c.in_ok-ring.ring; hung = false; named = false }) in
     let empty = ap (λ (r : Ring). r.slots) c.in_ok-ring.ensures in
     let u = c.insert_reserved.ensures.updates in
     new-unseen m c.reserve.new.self c.insert_reserved.new.self c.insert_reserved.result new

@@ -1,4 +1,4 @@
-use Rattle.std.proofs.Common.{◌≤◌, ◌∙◌, ap, drop, length, arith}
+use Rattle.std.proofs.Common.{refl, ◌≤◌, ◌∙◌, ap, drop, length, arith}
 use Rattle.std.proofs.lemmas.List.{length-take}
 use Rattle.pl_segments.specs.Segments.{Segments, segment_at}
 use Rattle.pl_segments.specs.Slices.{all_read}
@@ -49,7 +49,7 @@ invariant_of-self-2 g c =
     let node = c.in-Some.node.now in
     let there = pipe-there c.self.inside.contents.slots c.args.key c.index_mut.result.now c.in-Some.node.now c.index_mut.ensures.value c.in-Some.ensures.value in
     still-sound c.self.inside c.args.key (Pipe node) there c.self.invariant c.pop_bytes.new.store (Pipe (record node { ring = c.pop_bytes.new.self })) c.in_ok-bytes.ensures.turns
-    (omega (arith, c.slots-slots.ensures.value, c.slots-slots.ensures.bound, c.in_ok-bytes.ensures.capacity, c.capacity-capacity.ensures.value, c.capacity-capacity.ensures.range.most))
+    (omega (arith, c.slots-slots.ensures.value, c.slots-slots.ensures.bound, c.in_ok-bytes.ensures.capacity, c.capacity-capacity.ensures.value, c.capacity-capacity.ensures.range.most)) (refl, refl)
 
 pub returns-clause-few : goal.returns-clause-few
 returns-clause-few g c =

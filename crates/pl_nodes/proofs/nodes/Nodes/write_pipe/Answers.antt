@@ -1,4 +1,4 @@
-use Rattle.std.proofs.Common.{◌≤◌, ◌∙◌, ◌++◌, ap, length, arith}
+use Rattle.std.proofs.Common.{refl, ◌≤◌, ◌∙◌, ◌++◌, ap, length, arith}
 use Rattle.pl_model.specs.Transfer.{room}
 use Rattle.pl_segments.specs.Segments.{Segments}
 use Rattle.pl_nodes.specs.declared.content.Content.TheVariants.{Pipe}
@@ -48,7 +48,7 @@ invariant_of-self-2 g c =
     let node = c.in-Some.node.now in
     let there = pipe-there c.self.inside.contents.slots c.args.key c.index_mut.result.now c.in-Some.node.now c.index_mut.ensures.value c.in-Some.ensures.value in
     still-sound c.self.inside c.args.key (Pipe node) there c.self.invariant c.push_bytes.new.store (Pipe (record node { ring = c.push_bytes.new.self })) c.in_ok-push_bytes.ensures.turns
-    (omega (arith, c.slots-slots.ensures.value, c.slots-slots.ensures.bound, c.capacity-capacity.ensures.value, c.capacity-capacity.ensures.range.most))
+    (omega (arith, c.slots-slots.ensures.value, c.slots-slots.ensures.bound, c.capacity-capacity.ensures.value, c.capacity-capacity.ensures.range.most)) (refl, refl)
 
 pub returns-clause-ok : goal.returns-clause-ok
 returns-clause-ok g c =
