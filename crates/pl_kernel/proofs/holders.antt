@@ -17,3 +17,5 @@ pub mod Gone
 pub mod GivenUp
 -- Holds of several descriptions are given up one after another.
 pub mod EachInTurn
+-- Where no process is and no name, nothing is.
+pub mod Deserted

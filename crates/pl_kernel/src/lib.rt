@@ -10,6 +10,8 @@ mod kernel;
 mod last_hold;
 mod opening;
 mod parking;
+mod stats;
 
 pub use fault::NoMemory;
 pub use kernel::Kernel;
+pub use stats::Stats;

@@ -4,7 +4,8 @@ ghost use Rattle.pl_model.specs.Numbers.{most_file_bytes};
 
 use crate::asked::{Ask, Want};
 use pl_kernel::Kernel;
-use pl_model::{Bytes8, Limits, Outcome, Reply, Step};
+use pl_model::numbers::MAX_PROCESSES;
+use pl_model::{Bytes8, Call, Limits, Outcome, Reply, Step};
 use std::alloc::{Allocator, Global};
 use std::marker::Model;
 use std::test::Fail;
@@ -134,6 +135,18 @@ impl<A: Allocator + Copy> Bench<A> {
         } else {
             Err(self.fault(ask, "finds no memory"))
         }
+    }
+
+    /// Ends every process, and fails where bytes are kept in memory after that.
+    pub fn ends_empty(&mut self) -> Result<(), Fail> {
+        for pid in 1..=MAX_PROCESSES as u32 {
+            let _reply = reply_to(&mut self.kernel, Step::Begin(pid, Call::Exit));
+        }
+        let (name, segments) = (self.name, self.kernel.stats().segments);
+        if segments == 0 {
+            return Ok(());
+        }
+        Err(Fail::new(format_args!("{segments} segments are left at the end of {name}")))
     }
 
     /// Makes the steps, in order, and fails at the first that doesn't answer what its row says.

@@ -36,8 +36,8 @@ pub const NEW_KERNEL: Session = Session {
 };
 
 /// Makes each session on a kernel of its own, within the limits but for its first call. It fails at the first row that isn't
-/// answered as it says, which it names with its session, at a session without rows, and where there is no memory for the bytes
-/// of a row.
+/// answered as it says, which it names with its session, at a session whose bytes outlive its processes or that has no rows, and
+/// where there is no memory for the bytes of a row.
 pub fn each_answers(alloc: Global, limits: Limits, sessions: &[Session]) -> Result<(), Fail>
     requires { limits.file_max ≤ most_file_bytes }
 {
@@ -47,11 +47,12 @@ pub fn each_answers(alloc: Global, limits: Limits, sessions: &[Session]) -> Resu
     Ok(())
 }
 
-/// Makes all of the session.
+/// Makes all of the session, and ends its processes.
 fn make(bench: &mut Bench, session: &Session) -> Result<(), Fail> {
     bench.prepare(session.processes, session.full_tables)?;
     bench.all_answer(session.rows)?;
-    bench.all_answer(session.more)
+    bench.all_answer(session.more)?;
+    bench.ends_empty()
 }
 
 fn session_answers(alloc: Global, limits: Limits, session: &Session) -> Result<(), Fail>
