@@ -1,1 +1,3 @@
 pub mod Decided
+pub mod Names
+pub mod Offsets

@@ -1,9 +1,15 @@
-//! What calls come to, decided on plain numbers: the tables of the rules. They change nothing, so that each is proved, and each
+//! What calls come to, decided on plain values: the tables of the rules. They change nothing, so that each is proved, and each
 //! wrong one refused, without a kernel.
 #![tactic(auto)]
 
 mod closing;
+mod naming;
+mod opening;
+mod seeking;
 mod transfers;
 
 pub use closing::hung_after_close;
+pub use naming::name_fault;
+pub use opening::open_fault;
+pub use seeking::sought;
 pub use transfers::{case_of_read, case_of_write};

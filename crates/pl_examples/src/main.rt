@@ -9,11 +9,14 @@ use std::process::ExitCode;
 use std::{fs, io};
 
 /// A script is `NAME.script`, and what it prints `NAME.out`: its output, and the line of its fault.
-const NAMES: [&str; 8] = [
+const NAMES: [&str; 11] = [
     "bytes_before_end_of_file",
     "full_pipe",
     "parking",
     "shared",
+    "files",
+    "end_of_file",
+    "names_and_flags",
     "full_table",
     "limits",
     "refusals",

@@ -8,8 +8,8 @@ use Rattle.pl_model.specs.Memory.{PassesOverInWant}
 use Rattle.pl_model.specs.Run.{after, outcomes, marked}
 use Rattle.pl_model.specs.Refused.{after_outcomes}
 use Rattle.pl_model.specs.StreamLaw.{StreamLaw}
-use Rattle.pl_kernel.specs.Contents.{Contents}
-use Rattle.pl_kernel.specs.Makes.{Stands, Makes, WantsMemory}
+use Rattle.pl_state.specs.Contents.{Contents}
+use Rattle.pl_state.specs.Makes.{Stands, Makes, WantsMemory}
 
 module _ {A : Type 0} where
   -- What a step came to: it was made, or it found no memory and changed nothing.

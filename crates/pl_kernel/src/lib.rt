@@ -1,17 +1,13 @@
-//! The kernel: processes, descriptors and pipes, one step at a time.
+//! The kernel: processes, descriptors, files and pipes, one step at a time.
 //!
 //! `Kernel::step` makes one step, and `Kernel::run` a list of them. What they answer is what the flat machine of
 //! `pl_model` answers, from every state for which the kernel stands.
 #![tactic(auto)]
 
-mod access;
-mod fault;
 mod kernel;
-mod last_hold;
-mod opening;
-mod parking;
 mod stats;
+mod steps;
 
-pub use fault::NoMemory;
 pub use kernel::Kernel;
+pub use pl_state::NoMemory;
 pub use stats::Stats;

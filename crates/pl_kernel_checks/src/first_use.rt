@@ -23,5 +23,7 @@ fn bytes_come_back(rt: HostRuntime) -> Result<(), Fail> {
     let mut kernel = Kernel::new(rt.alloc(), LIMITS);
     let reply = there_and_back(rt.alloc(), &mut kernel);
     assert_eq!(rt; reply, Ok(Reply::Bytes(bytes)));
+    // two bytes are left
+    assert_eq!(rt; kernel.stats().segments, 1);
     Ok(())
 }

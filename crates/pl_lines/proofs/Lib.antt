@@ -7,3 +7,5 @@ pub mod HexText
 pub mod Pushing
 pub mod LineLemmas
 pub mod FlagLemmas
+pub mod NameLemmas
+pub mod CallLemmas

@@ -1,14 +1,14 @@
 -- What a parser answered, against what the words say.
-use Rattle.std.specs.Prelude.{◌≡◌, ◌<◌, ◌^◌, ℕ, ℤ, List, [], ◌∷◌, length, Option, Some, None, Result, Ok, Err, IsSomeAnd, if◌then◌else◌, nat_le, codes}
+use Rattle.std.specs.Prelude.{◌≡◌, ◌<◌, ◌^◌, ℕ, ℤ, List, [], ◌∷◌, length, Option, Some, None, Result, Ok, Err, IsSomeAnd, if◌then◌else◌, nat_le, ◌==◌, codes}
 use Rattle.std.specs.Str.{bytes_eq}
 use Rattle.pl_model.specs.declared.calls.Call.{Call}
 use Rattle.pl_model.specs.declared.calls.Call.TheVariants as call
 use Rattle.pl_model.specs.declared.calls.Step.TheVariants as step
 use Rattle.pl_model.specs.declared.script.Line.{Line}
 use Rattle.pl_model.specs.declared.script.Line.TheVariants.{Do}
-use Rattle.pl_model.specs.Lines.{dup2_of, dup_fd_of, close_of, get_fl_of, set_fl_of, fork_of, exit_of}
+use Rattle.pl_model.specs.Lines.{dup2_of, dup_fd_of, close_of, lseek_of, get_fl_of, set_fl_of, unlink_of, fork_of, exit_of}
 use Rattle.pl_model.specs.Numbers.{most_bytes}
-use Rattle.pl_model.specs.Words.{◌>>=◌, number, signed}
+use Rattle.pl_model.specs.Words.{◌>>=◌, number, signed, is_plain, hex_byte}
 use Rattle.pl_lines.specs.declared.fault.LineFault.{LineFault}
 use Rattle.pl_lines.specs.declared.fault.LineFault.TheVariants.{Bad, NoMemory}
 
@@ -34,9 +34,11 @@ GivesTaking Takes (Err NoMemory) said = IsSomeAnd said Takes
 abbrev pub BytesTake : List ℕ → Type 0
 BytesTake bytes = 0 < length bytes
 
--- of calls, a write of bytes alone
+-- of calls, those with bytes or a name alone
 abbrev pub CallTakes : {A : Type 0} → Call A → Type 0
 CallTakes (call.Write fd bytes) = BytesTake bytes
+CallTakes (call.OpenName name mode flags) = BytesTake name
+CallTakes (call.Unlink name) = BytesTake name
 CallTakes _ = ⊥
 
 -- of lines, one that begins such a call
@@ -51,6 +53,16 @@ LineAskedTakes asked = IsSomeAnd asked LineTakes
 -- no more bytes than one write takes
 abbrev pub one_write : Option (List ℕ) → Option (List ℕ)
 one_write said = said >>= λ bytes. if nat_le (length bytes) most_bytes then Some bytes else None
+
+-- the first byte of a name, and the bytes of the word behind it
+abbrev pub first_of_name : List ℕ → Option (ℕ × List ℕ)
+first_of_name [] = None
+first_of_name (c ∷ []) = if is_plain c then Some (c, []) else None
+first_of_name (c ∷ d ∷ []) = if is_plain c then Some (c, d ∷ []) else None
+first_of_name (c ∷ high ∷ low ∷ rest) =
+    if c == 37 then (hex_byte high low >>= λ b. Some (b, rest))
+    else if is_plain c then Some (c, high ∷ low ∷ rest)
+    else None
 
 -- the word of a list of one
 abbrev pub only : List (List ℕ) → Option (List ℕ)
@@ -75,8 +87,10 @@ later_call_of name rest =
     if bytes_eq name (codes "dup2") then dup2_of rest
     else if bytes_eq name (codes "dupfd") then dup_fd_of rest
     else if bytes_eq name (codes "close") then close_of rest
+    else if bytes_eq name (codes "lseek") then lseek_of rest
     else if bytes_eq name (codes "getfl") then get_fl_of rest
     else if bytes_eq name (codes "setfl") then set_fl_of rest
+    else if bytes_eq name (codes "unlink") then unlink_of rest
     else if bytes_eq name (codes "fork") then fork_of rest
     else if bytes_eq name (codes "exit") then exit_of rest
     else None

@@ -13,7 +13,7 @@ use pl_model::numbers::MAX_BYTES;
 use std::alloc::Allocator;
 
 /// The one byte of two hexadecimal digits.
-fn one_byte(digits: &[u8]) -> Option<u8>
+pub(crate) fn one_byte(digits: &[u8]) -> Option<u8>
     ensures { result ≡ one_byte digits.now }
 {
     let mut byte = [0u8];

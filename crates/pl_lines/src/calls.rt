@@ -1,14 +1,15 @@
 //! The calls in lines.
-ghost use Rattle.pl_model.specs.Words.{words};
-ghost use Rattle.pl_model.specs.Lines.{pipe_of, read_of, write_of, dup_of, dup2_of, dup_fd_of, close_of, get_fl_of, set_fl_of, fork_of, exit_of, call_of};
+ghost use Rattle.pl_model.specs.Words.{words, mode_of, whence_of};
+ghost use Rattle.pl_model.specs.Lines.{pipe_of, open_name_of, read_of, write_of, dup_of, dup2_of, dup_fd_of, close_of, lseek_of, get_fl_of, set_fl_of, unlink_of, fork_of, exit_of, call_of};
 ghost use Rattle.pl_lines.specs.Parsed.{Gives, GivesTaking, CallTakes, later_call_of};
 
 use crate::bytes::parse_bytes;
 use crate::fault::LineFault;
-use crate::flags::parse_flags_or_none;
-use crate::numbers::{fd_and_word, only_i32, parse_i32, parse_u32};
-use crate::words::{end, next_word};
-use pl_model::Call;
+use crate::flags::{parse_flags_if_any, parse_flags_or_none};
+use crate::names::parse_name;
+use crate::numbers::{fd_and_word, only_i32, parse_i32, parse_i64, parse_u32};
+use crate::words::{end, next_word, only_word, word};
+use pl_model::{Call, Mode, Whence};
 use std::alloc::Allocator;
 
 #[tactic(auto, unfolding(pl_model::specs::Lines::pipe_of))]
@@ -26,6 +27,38 @@ fn pipe_call<A: Allocator + Copy>(rest: &[u8]) -> Result<Call<A>, LineFault>
             }
         }
     }
+}
+
+/// What a file is opened for.
+#[tactic(auto, unfolding(pl_model::specs::Words::mode_of))]
+fn parse_mode(word: &[u8]) -> Result<Mode, LineFault>
+    ensures { Gives result (mode_of word.now) }
+{
+    if word == b"r".as_slice() {
+        Ok(Mode::Read)
+    } else if word == b"w".as_slice() {
+        Ok(Mode::Write)
+    } else if word == b"rw".as_slice() {
+        Ok(Mode::Both)
+    } else {
+        Err(LineFault::Bad)
+    }
+}
+
+#[tactic(auto, unfolding(pl_model::specs::Lines::open_name_of))]
+fn open_call<A: Allocator + Copy>(alloc: A, rest: &[u8]) -> Result<Call<A>, LineFault>
+    ensures { GivesTaking CallTakes result (open_name_of (words rest.now)) }
+{
+    let (name, rest) = word(rest)?;
+    let (mode, rest) = word(rest)?;
+    let mode = parse_mode(mode)?;
+    let flags = parse_flags_if_any(rest)?;
+    // What takes memory comes last, as a bad line is bad whatever the memory.
+    Ok(Call::OpenName {
+        name: parse_name(alloc, name)?,
+        mode,
+        flags,
+    })
 }
 
 #[tactic(auto, unfolding(pl_model::specs::Lines::read_of))]
@@ -90,6 +123,36 @@ fn close_call<A: Allocator + Copy>(rest: &[u8]) -> Result<Call<A>, LineFault>
     })
 }
 
+/// Where an offset is counted from.
+#[tactic(auto, unfolding(pl_model::specs::Words::whence_of))]
+fn parse_whence(word: &[u8]) -> Result<Whence, LineFault>
+    ensures { Gives result (whence_of word.now) }
+{
+    if word == b"set".as_slice() {
+        Ok(Whence::Set)
+    } else if word == b"cur".as_slice() {
+        Ok(Whence::Cur)
+    } else if word == b"end".as_slice() {
+        Ok(Whence::End)
+    } else {
+        Err(LineFault::Bad)
+    }
+}
+
+#[tactic(auto, unfolding(pl_model::specs::Lines::lseek_of))]
+fn lseek_call<A: Allocator + Copy>(rest: &[u8]) -> Result<Call<A>, LineFault>
+    ensures { Gives result (lseek_of (words rest.now)) }
+{
+    let (fd, rest) = word(rest)?;
+    let (offset, rest) = word(rest)?;
+    let whence = only_word(rest)?;
+    Ok(Call::Lseek {
+        fd: parse_i32(fd)?,
+        offset: parse_i64(offset)?,
+        whence: parse_whence(whence)?,
+    })
+}
+
 #[tactic(auto, unfolding(pl_model::specs::Lines::get_fl_of))]
 fn get_fl_call<A: Allocator + Copy>(rest: &[u8]) -> Result<Call<A>, LineFault>
     ensures { Gives result (get_fl_of (words rest.now)) }
@@ -107,6 +170,15 @@ fn set_fl_call<A: Allocator + Copy>(rest: &[u8]) -> Result<Call<A>, LineFault>
     Ok(Call::SetFl {
         fd,
         flags: parse_flags_or_none(flags)?,
+    })
+}
+
+#[tactic(auto, unfolding(pl_model::specs::Lines::unlink_of))]
+fn unlink_call<A: Allocator + Copy>(alloc: A, rest: &[u8]) -> Result<Call<A>, LineFault>
+    ensures { GivesTaking CallTakes result (unlink_of (words rest.now)) }
+{
+    Ok(Call::Unlink {
+        name: parse_name(alloc, only_word(rest)?)?,
     })
 }
 
@@ -128,7 +200,11 @@ fn exit_call<A: Allocator + Copy>(rest: &[u8]) -> Result<Call<A>, LineFault>
 
 /// The call of this name, of those from `dup2` on.
 #[tactic(auto, unfolding(crate::specs::Parsed::later_call_of))]
-fn parse_later_call<A: Allocator + Copy>(name: &[u8], rest: &[u8]) -> Result<Call<A>, LineFault>
+fn parse_later_call<A: Allocator + Copy>(
+    alloc: A,
+    name: &[u8],
+    rest: &[u8],
+) -> Result<Call<A>, LineFault>
     ensures { GivesTaking CallTakes result (later_call_of name.now (words rest.now)) }
 {
     if name == b"dup2".as_slice() {
@@ -137,10 +213,14 @@ fn parse_later_call<A: Allocator + Copy>(name: &[u8], rest: &[u8]) -> Result<Cal
         dup_fd_call(rest)
     } else if name == b"close".as_slice() {
         close_call(rest)
+    } else if name == b"lseek".as_slice() {
+        lseek_call(rest)
     } else if name == b"getfl".as_slice() {
         get_fl_call(rest)
     } else if name == b"setfl".as_slice() {
         set_fl_call(rest)
+    } else if name == b"unlink".as_slice() {
+        unlink_call(alloc, rest)
     } else if name == b"fork".as_slice() {
         fork_call(rest)
     } else if name == b"exit".as_slice() {
@@ -161,6 +241,8 @@ pub(crate) fn parse_call<A: Allocator + Copy>(
 {
     if name == b"pipe".as_slice() {
         pipe_call(rest)
+    } else if name == b"open".as_slice() {
+        open_call(alloc, rest)
     } else if name == b"read".as_slice() {
         read_call(rest)
     } else if name == b"write".as_slice() {
@@ -168,6 +250,6 @@ pub(crate) fn parse_call<A: Allocator + Copy>(
     } else if name == b"dup".as_slice() {
         dup_call(rest)
     } else {
-        parse_later_call(name, rest)
+        parse_later_call(alloc, name, rest)
     }
 }

@@ -1,11 +1,12 @@
 //! The flags in words.
 ghost use Rattle.std.specs.List.{slice_split};
 ghost use Rattle.pl_model.specs.Flags.{no_flags};
-ghost use Rattle.pl_model.specs.Words.{is_comma, flag_of, with_flags, flags_of, flags_or_none};
+ghost use Rattle.pl_model.specs.Words.{is_comma, flag_of, with_flags, flags_of, flags_if_any, flags_or_none, words};
 ghost use Rattle.pl_lines.specs.Parsed.{Gives};
 
 use crate::fault::LineFault;
 use crate::search::place_of;
+use crate::words::{end, next_word};
 use bitflags::Flags;
 use pl_model::OpenFlags;
 
@@ -41,6 +42,20 @@ fn parse_flags(names: &[u8]) -> Result<OpenFlags, LineFault>
     }
     flags.insert(parse_flag(rest)?);
     Ok(flags)
+}
+
+/// The flags of the word that may stand there, none where there is no word.
+#[tactic(auto, unfolding(pl_model::specs::Words::flags_if_any))]
+pub(crate) fn parse_flags_if_any(rest: &[u8]) -> Result<OpenFlags, LineFault>
+    ensures { Gives result (flags_if_any (words rest.now)) }
+{
+    match next_word(rest) {
+        None => Ok(OpenFlags::empty()),
+        Some((names, rest)) => {
+            end(rest)?;
+            parse_flags(names)
+        }
+    }
 }
 
 /// The flags of names that are joined by commas, or none of `-`.

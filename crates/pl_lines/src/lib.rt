@@ -4,8 +4,9 @@
 //! line asks and what a reply looks like is defined in `pl_model`, in `specs/Lines.antt` and `specs/Shown.antt`.
 //!
 //! The lines are `start`, `resume C`, `interrupt C`, `P pipe`, `P pipe nonblock`, `P read FD N`, `P write FD BYTES`,
-//! `P dup FD`, `P dup2 FD FD`, `P dupfd FD N`, `P close FD`, `P getfl FD`, `P setfl FD FLAGS`, `P fork` and `P exit`, and those
-//! that ask nothing: blank ones and comments, which begin with `#`.
+//! `P open NAME MODE`, `P open NAME MODE FLAGS`, `P lseek FD OFFSET WHENCE`, `P unlink NAME`, `P dup FD`, `P dup2 FD FD`,
+//! `P dupfd FD N`, `P close FD`, `P getfl FD`, `P setfl FD FLAGS`, `P fork` and `P exit`, and those that ask nothing: blank ones and
+//! comments, which begin with `#`.
 #![tactic(auto)]
 
 mod bytes;
@@ -13,6 +14,7 @@ mod calls;
 mod fault;
 mod flags;
 mod lines;
+mod names;
 mod numbers;
 mod parse;
 mod search;

@@ -3,7 +3,7 @@ ghost use Rattle.std.specs.Prelude.{◌≡◌, ◌<◌, ◌≤◌, ◌+◌, ◌^
 ghost use Rattle.std.specs.List.{list_all};
 ghost use Rattle.std.specs.Str.Parse.{digits_value};
 ghost use Rattle.pl_model.specs.Numbers.{most_bytes};
-ghost use Rattle.pl_model.specs.Words.{is_digit, number, signed, words};
+ghost use Rattle.pl_model.specs.Words.{is_digit, number, signed, signed_long, words};
 ghost use Rattle.pl_lines.specs.Parsed.{Gives, GivesAs, only_number, only_signed, fd_and_word};
 
 use crate::fault::LineFault;
@@ -55,8 +55,8 @@ fn parse_u64(word: &[u8]) -> Result<u64, LineFault>
     Ok(number(1 << 64, word)? as u64)
 }
 
-/// A number with or without one `-` in front.
-#[tactic(auto, unfolding(pl_model::specs::Words::signed))]
+/// A number of 32 bits with or without one `-` in front.
+#[tactic(auto, unfolding(pl_model::specs::Words::signed_below))]
 pub(crate) fn parse_i32(word: &[u8]) -> Result<i32, LineFault>
     ensures { Gives result (signed word.now) }
 {
@@ -68,6 +68,22 @@ pub(crate) fn parse_i32(word: &[u8]) -> Result<i32, LineFault>
         Ok(-(n as i64) as i32)
     } else {
         Ok(number(1 << 31, word)? as i32)
+    }
+}
+
+/// A number of 64 bits with or without one `-` in front.
+#[tactic(auto, unfolding(pl_model::specs::Words::signed_below))]
+pub(crate) fn parse_i64(word: &[u8]) -> Result<i64, LineFault>
+    ensures { Gives result (signed_long word.now) }
+{
+    if word.is_empty() {
+        return Err(LineFault::Bad);
+    }
+    if word[0] == b'-' {
+        let n = number((1 << 63) + 1, word.split_at(1).1)?;
+        Ok(-(n as i128) as i64)
+    } else {
+        Ok(number(1 << 63, word)? as i64)
     }
 }
 

@@ -141,6 +141,7 @@ fn push_reply<A: Allocator + Copy>(
         Reply::Count { n, sigpipe: false } => push_number(text, "count ", *n),
         Reply::Count { n, sigpipe: true } => push_broken_count(text, *n),
         Reply::Bytes(bytes) => push_bytes(alloc, text, bytes.as_slice()),
+        Reply::Offset(offset) => push_number(text, "offset ", *offset),
         Reply::Flags { mode, flags } => push_flags(text, *mode, *flags),
         Reply::Unit => text.push_str("ok"),
         Reply::Fault(errno) => text.push_str(errno_text(*errno)),

@@ -4,3 +4,5 @@
 pub mod Examples
 -- The pieces of small runs, computed from the definitions.
 pub mod PieceExamples
+-- The small examples of regular files, computed from the definitions.
+pub mod FileExamples

@@ -10,6 +10,10 @@ pub mod WhoIsLive
 pub mod FromSettled
 -- What the end of a step makes of each change that a call makes to a settled state.
 pub mod Changes
+-- Names that stand once each.
+pub mod Names
+-- What the end of a step makes of what calls do to files and their names.
+pub mod Files
 -- What the end of a step makes of a call that is parked, or tried again in vain.
 pub mod Parking
 -- What leaves in turn is settled as if it left at once.

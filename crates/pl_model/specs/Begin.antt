@@ -1,19 +1,22 @@
 -- How each call begins: its checks in order, and then its answer or its first try.
-use Rattle.std.specs.Prelude.{ℕ, ℤ, pos, negsuc, ◌+◌, ◌-◌, Bool, false, not, ◌==◌, nat_lt, List, [], ◌∷◌, length, Option, option_and_then, if◌then◌else◌}
+use Rattle.std.specs.Prelude.{ℕ, ℤ, pos, negsuc, ◌+◌, ◌-◌, ◌+ℤ◌, Bool, false, not, ◌==◌, ◌&&◌, ◌||◌, nat_lt, nat_le, List, [], ◌∷◌, length, Option, option_and_then, is_none, is_some, if◌then◌else◌}
+use Rattle.std.specs.List.{list_any}
 use Rattle.std.specs.declared.option.Option.TheVariants.{None, Some}
 use Rattle.pl_model.specs.declared.calls.Mode.{Mode}
+use Rattle.pl_model.specs.declared.calls.Whence.{Whence}
+use Rattle.pl_model.specs.declared.calls.Whence.TheVariants.{Set, Cur, End}
 use Rattle.pl_model.specs.declared.flags.OpenFlags.{OpenFlags}
-use Rattle.pl_model.specs.declared.replies.Reply.TheVariants.{Pid, Fd, Fds, Bytes, Flags, Unit}
-use Rattle.pl_model.specs.declared.replies.Errno.TheVariants.{EAGAIN, EBADF, EINVAL, EMFILE, ENFILE}
-use Rattle.pl_model.specs.Numbers.{open_max, most_descriptions}
+use Rattle.pl_model.specs.declared.replies.Reply.TheVariants.{Pid, Fd, Fds, Bytes, Offset, Flags, Unit}
+use Rattle.pl_model.specs.declared.replies.Errno.TheVariants.{EAGAIN, EBADF, EEXIST, EINVAL, EMFILE, ENAMETOOLONG, ENFILE, ENOENT, ENXIO, EOVERFLOW, ESPIPE}
+use Rattle.pl_model.specs.Numbers.{open_max, most_descriptions, most_name_bytes, greatest_offset}
 use Rattle.pl_model.specs.Modes.{reads, writes, for_reading, for_writing}
-use Rattle.pl_model.specs.Flags.{has, nonblock, nonblock_if, status_flags}
-use Rattle.pl_model.specs.Keys.{Keys, NewKeys, Draws, PipeNode}
-use Rattle.pl_model.specs.State.{Core, Description, Open, described, row, set_pipe, set_description, empty_pipe}
+use Rattle.pl_model.specs.Flags.{has, creat, excl, trunc, nonblock, nonblock_if, status_flags}
+use Rattle.pl_model.specs.Keys.{Keys, Node, NewKeys, Draws, PipeNode, FileNode}
+use Rattle.pl_model.specs.State.{Core, Description, Open, described, named, row, set_file, set_pipe, set_description, empty_pipe}
 use Rattle.pl_model.specs.Live.{live_count}
-use Rattle.pl_model.specs.Trial.{Begins, Answered, answered, tried, refuse_if, found}
-use Rattle.pl_model.specs.Transfer.{count}
-use Rattle.pl_model.specs.Tables.{lowest, lowest_pid, install, close_row, describe, fork}
+use Rattle.pl_model.specs.Trial.{Begins, Begun, Answered, answered, refused, tried, refuse_if, found}
+use Rattle.pl_model.specs.Transfer.{count, file_at, moved_to}
+use Rattle.pl_model.specs.Tables.{lowest, lowest_pid, install, close_row, describe, create_file, forget_name, fork}
 
 -- the place of an open descriptor in its table
 abbrev pub natural : ℤ → ℕ
@@ -25,7 +28,21 @@ abbrev pub is_descriptor : ℤ → Bool
 is_descriptor (pos n) = nat_lt n open_max
 is_descriptor (negsuc n) = false
 
+-- the number, where it isn't below 0
+abbrev pub unsigned : ℤ → Option ℕ
+unsigned (pos n) = Some n
+unsigned (negsuc n) = None
+
+-- Our own: a slash or a NUL. No name has one, as there are no directories.
+abbrev pub is_never_in_name : ℕ → Bool
+is_never_in_name b = b == 47 || b == 0
+
 module _ {K : Keys} where
+  -- the file that the node is, if it is one
+  abbrev pub file_of : Node K → Option K.File
+  file_of (PipeNode p) = None
+  file_of (FileNode f) = Some f
+
   -- POSIX.1-2017, read and write, O_NONBLOCK: whether a call on the description may wait.
   abbrev pub may_block : Description K → Bool
   may_block description = not (has description.flags.0 nonblock)
@@ -58,6 +75,41 @@ module _ {A : Type 0} {K : Keys} where
       found (lowest s pid (first + 1)) EMFILE (λ second.
       refuse_if (nat_lt (most_descriptions - 2) (live_count s)) ENFILE
       (Draws (λ new. Answered (make_pipe s new pid first second (nonblock_if nonblocking)) (Fds (pos first) (pos second))))))
+
+  -- POSIX.1-2017, open and unlink: ENOENT of an empty name, ENAMETOOLONG. That a slash or a NUL is EINVAL is our own choice.
+  abbrev pub check_name : List ℕ → Begins A K → Begins A K
+  check_name name next =
+      refuse_if (length name == 0) ENOENT
+      (refuse_if (nat_lt most_name_bytes (length name)) ENAMETOOLONG
+      (refuse_if (list_any is_never_in_name name) EINVAL next))
+
+  -- POSIX.1-2017, open, O_TRUNC: a file that is opened for writing loses its bytes. That another keeps them is our own choice.
+  abbrev pub truncated : Core A K → K.File → Mode → OpenFlags → Core A K
+  truncated s f mode flags = if has flags.0 trunc && writes mode then set_file s f [] else s
+
+  -- POSIX.1-2017, open: the descriptor names a new description on the node, whose offset is 0.
+  abbrev pub open_at : Core A K → K.Description → ℕ → ℕ → Node K → Mode → OpenFlags → Begun A K
+  open_at s d pid fd node mode flags = Answered (install (describe s d node mode (status_flags flags)) pid fd d) (Fd (pos fd))
+
+  -- What a name stands for is opened, or made where it stands for nothing. No name stands for a pipe yet; one would answer as a
+  -- FIFO does that has no other end (POSIX.1-2017, open: ENXIO).
+  abbrev pub open_named : Core A K → ℕ → ℕ → List ℕ → Option (Node K) → Mode → OpenFlags → Begins A K
+  open_named s pid fd name None mode flags =
+      Draws (λ new. open_at (create_file s name new.file) new.description pid fd (FileNode new.file) mode flags)
+  open_named s pid fd name (Some (FileNode f)) mode flags =
+      Draws (λ new. open_at (truncated s f mode flags) new.description pid fd (FileNode f) mode flags)
+  open_named s pid fd name (Some (PipeNode p)) mode flags = refused ENXIO
+
+  -- POSIX.1-2017, open: EEXIST, ENOENT, EMFILE, ENFILE. That O_EXCL has no effect without O_CREAT is our own choice.
+  unfoldable pub begin_open_name : Core A K → ℕ → List ℕ → Mode → OpenFlags → Begins A K
+  begin_open_name s pid name mode flags =
+      let node = named s name in
+      check_name name
+      (refuse_if (is_some node && (has flags.0 creat && has flags.0 excl)) EEXIST
+      (refuse_if (is_none node && not (has flags.0 creat)) ENOENT
+      (found (lowest s pid 0) EMFILE (λ fd.
+      refuse_if (nat_le most_descriptions (live_count s)) ENFILE
+      (open_named s pid fd name node mode flags)))))
 
   -- POSIX.1-2017, read: EBADF. That a read of 0 bytes has no other effect is our own choice.
   unfoldable pub begin_read : Core A K → ℕ → ℤ → ℕ → Begins A K
@@ -102,6 +154,21 @@ module _ {A : Type 0} {K : Keys} where
       found (open_fd s pid fd) EBADF (λ o.
       answered (close_row s pid (natural fd)) Unit)
 
+  -- POSIX.1-2017, lseek: where an offset is counted from.
+  abbrev pub seek_base : Core A K → Description K → K.File → Whence → ℕ
+  seek_base s description f Set = 0
+  seek_base s description f Cur = description.offset
+  seek_base s description f End = length (file_at s f)
+
+  -- POSIX.1-2017, lseek: EBADF, ESPIPE, EINVAL, EOVERFLOW. An offset may be past the end of the file.
+  unfoldable pub begin_lseek : Core A K → ℕ → ℤ → ℤ → Whence → Begins A K
+  begin_lseek s pid fd offset whence =
+      found (open_fd s pid fd) EBADF (λ o.
+      found (file_of o.description.node) ESPIPE (λ f.
+      found (unsigned (pos (seek_base s o.description f whence) +ℤ offset)) EINVAL (λ n.
+      refuse_if (nat_lt greatest_offset n) EOVERFLOW
+      (answered (moved_to s o.key o.description n) (Offset n)))))
+
   -- POSIX.1-2017, fcntl, F_GETFL: EBADF.
   unfoldable pub begin_get_fl : Core A K → ℕ → ℤ → Begins A K
   begin_get_fl s pid fd =
@@ -113,6 +180,13 @@ module _ {A : Type 0} {K : Keys} where
   begin_set_fl s pid fd flags =
       found (open_fd s pid fd) EBADF (λ o.
       answered (set_description s o.key (record o.description { flags = status_flags flags })) Unit)
+
+  -- POSIX.1-2017, unlink: ENOENT. What the name stood for lives on while it is open.
+  unfoldable pub begin_unlink : Core A K → List ℕ → Begins A K
+  begin_unlink s name =
+      check_name name
+      (refuse_if (is_none (named s name)) ENOENT
+      (answered (forget_name s name) Unit))
 
   -- POSIX.1-2017, fork: EAGAIN.
   unfoldable pub begin_fork : Core A K → ℕ → Begins A K

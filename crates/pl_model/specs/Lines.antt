@@ -2,11 +2,11 @@
 use Rattle.std.specs.Prelude.{ℕ, ◌^◌, List, [], ◌∷◌, Bool, true, false, ◌==◌, if◌then◌else◌, Option, Some, None, codes}
 use Rattle.std.specs.Str.{bytes_eq}
 use Rattle.pl_model.specs.declared.calls.Call.{Call}
-use Rattle.pl_model.specs.declared.calls.Call.TheVariants.{Pipe, Read, Write, Dup, Dup2, DupFd, Close, GetFl, SetFl, Fork, Exit}
+use Rattle.pl_model.specs.declared.calls.Call.TheVariants.{Pipe, OpenName, Read, Write, Dup, Dup2, DupFd, Close, Lseek, GetFl, SetFl, Unlink, Fork, Exit}
 use Rattle.pl_model.specs.declared.calls.Step.TheVariants.{Start, Begin, Resume, Interrupt}
 use Rattle.pl_model.specs.declared.script.Line.{Line}
 use Rattle.pl_model.specs.declared.script.Line.TheVariants.{Do}
-use Rattle.pl_model.specs.Words.{◌>>=◌, words, without_return, number, signed, bytes_of, flags_or_none}
+use Rattle.pl_model.specs.Words.{◌>>=◌, words, without_return, number, signed, signed_long, bytes_of, name_of, mode_of, whence_of, flags_if_any, flags_or_none}
 
 abbrev pub is_comment : List ℕ → Bool
 is_comment [] = false
@@ -18,6 +18,15 @@ module _ {A : Type 0} where
   pipe_of [] = Some (Pipe false)
   pipe_of (flag ∷ []) = if bytes_eq flag (codes "nonblock") then Some (Pipe true) else None
   pipe_of _ = None
+
+  -- `P open NAME MODE [FLAGS]`
+  unfoldable pub open_name_of : List (List ℕ) → Option (Call A)
+  open_name_of (name ∷ mode ∷ flags) = do
+    m ← mode_of mode
+    fs ← flags_if_any flags
+    n ← name_of name
+    Some (OpenName n m fs)
+  open_name_of _ = None
 
   -- `P read FD N`
   unfoldable pub read_of : List (List ℕ) → Option (Call A)
@@ -61,6 +70,15 @@ module _ {A : Type 0} where
   close_of (fd ∷ []) = signed fd >>= λ f. Some (Close f)
   close_of _ = None
 
+  -- `P lseek FD OFFSET WHENCE`
+  unfoldable pub lseek_of : List (List ℕ) → Option (Call A)
+  lseek_of (fd ∷ offset ∷ whence ∷ []) = do
+    f ← signed fd
+    o ← signed_long offset
+    w ← whence_of whence
+    Some (Lseek f o w)
+  lseek_of _ = None
+
   -- `P getfl FD`
   unfoldable pub get_fl_of : List (List ℕ) → Option (Call A)
   get_fl_of (fd ∷ []) = signed fd >>= λ f. Some (GetFl f)
@@ -73,6 +91,11 @@ module _ {A : Type 0} where
     fs ← flags_or_none flags
     Some (SetFl f fs)
   set_fl_of _ = None
+
+  -- `P unlink NAME`
+  unfoldable pub unlink_of : List (List ℕ) → Option (Call A)
+  unlink_of (name ∷ []) = name_of name >>= λ n. Some (Unlink n)
+  unlink_of _ = None
 
   -- `P fork`
   unfoldable pub fork_of : List (List ℕ) → Option (Call A)
@@ -88,14 +111,17 @@ module _ {A : Type 0} where
   unfoldable pub call_of : List ℕ → List (List ℕ) → Option (Call A)
   call_of name rest =
       if bytes_eq name (codes "pipe") then pipe_of rest
+      else if bytes_eq name (codes "open") then open_name_of rest
       else if bytes_eq name (codes "read") then read_of rest
       else if bytes_eq name (codes "write") then write_of rest
       else if bytes_eq name (codes "dup") then dup_of rest
       else if bytes_eq name (codes "dup2") then dup2_of rest
       else if bytes_eq name (codes "dupfd") then dup_fd_of rest
       else if bytes_eq name (codes "close") then close_of rest
+      else if bytes_eq name (codes "lseek") then lseek_of rest
       else if bytes_eq name (codes "getfl") then get_fl_of rest
       else if bytes_eq name (codes "setfl") then set_fl_of rest
+      else if bytes_eq name (codes "unlink") then unlink_of rest
       else if bytes_eq name (codes "fork") then fork_of rest
       else if bytes_eq name (codes "exit") then exit_of rest
       else None

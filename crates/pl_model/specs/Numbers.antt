@@ -30,6 +30,14 @@ most_bytes = 16777216
 abbrev pub most_file_bytes : ℕ
 most_file_bytes = 16777216
 
+-- POSIX.1-2017, limits.h, NAME_MAX: the bytes of a name.
+abbrev pub most_name_bytes : ℕ
+most_name_bytes = 255
+
+-- POSIX.1-2017, lseek, EOVERFLOW: the greatest offset, as one fits 64 bits with a sign.
+abbrev pub greatest_offset : ℕ
+greatest_offset = 9223372036854775807
+
 -- Our own: the bytes of a script.
 abbrev pub most_script_bytes : ℕ
 most_script_bytes = 16777216

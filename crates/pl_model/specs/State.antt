@@ -1,13 +1,14 @@
 -- What the machine holds.
 use Rattle.std.specs.Prelude.{ℕ, ℤ, pos, negsuc, Bool, false, List, [], nat_eq, nat_lt, ◌&&◌, Option, option_map, if◌then◌else◌}
+use Rattle.std.specs.Cmp.Lexicographic.{pointwise}
 use Rattle.std.specs.declared.option.Option.TheVariants.{None, Some}
 use Rattle.pl_model.specs.declared.calls.Mode.{Mode}
 use Rattle.pl_model.specs.declared.calls.Call.{Call}
 use Rattle.pl_model.specs.declared.calls.Limits.{Limits}
 use Rattle.pl_model.specs.declared.flags.OpenFlags.{OpenFlags}
 use Rattle.pl_model.specs.Numbers.{first_capacity, open_max}
-use Rattle.pl_model.specs.Keys.{Keys, Node}
-use Rattle.pl_model.specs.Map.{Map, set_at}
+use Rattle.pl_model.specs.Keys.{Keys, Node, PipeNode, FileNode}
+use Rattle.pl_model.specs.Map.{Map, get, set_at}
 
 -- POSIX.1-2017, Open File Description: how a file is accessed, shared by all descriptors that name it.
 pub record Description (K : Keys) : Type 0 where
@@ -38,7 +39,7 @@ pub record Waiting (A : Type 0) (K : Keys) : Type 0 where
   pub met : Bool
 
 -- All that the machine holds, under some keys: the processes by pid, the row of a pid and a descriptor, what stands under
--- each key, the names of files and FIFOs, the parked calls by number, and the number of the next one.
+-- each key, what the names of files and FIFOs stand for, the parked calls by number, and the number of the next one.
 pub record Core (A : Type 0) (K : Keys) : Type 0 where
   pub processes : ℕ → Bool
   pub rows : ℕ → ℕ → Option K.Description
@@ -78,6 +79,19 @@ module _ {A : Type 0} {K : Keys} where
   -- the description under a key
   abbrev pub described : Core A K → K.Description → Option (Open K)
   described s d = option_map (λ x. record { key = d; description = x }) (s.descriptions d)
+
+  -- what the name stands for
+  abbrev pub named : Core A K → List ℕ → Option (Node K)
+  named s name = get (pointwise nat_eq) s.names name
+
+  abbrev pub bytes_on : Core A K → Option (Node K) → Option (List ℕ)
+  bytes_on s None = None
+  bytes_on s (Some (PipeNode p)) = None
+  bytes_on s (Some (FileNode f)) = s.files f
+
+  -- the bytes of the file of a name, and none where the name stands for no file (our own)
+  abbrev pub file_bytes : Core A K → List ℕ → Option (List ℕ)
+  file_bytes s name = bytes_on s (named s name)
 
   abbrev pub set_row : Core A K → ℕ → ℕ → Option K.Description → Core A K
   set_row s pid fd d = record s { rows = λ q k. if nat_eq q pid && nat_eq k fd then d else s.rows q k }

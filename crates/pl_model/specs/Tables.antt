@@ -1,13 +1,15 @@
--- The tables of descriptors, and the processes.
-use Rattle.std.specs.Prelude.{ℕ, ◌-◌, true, false, not, nat_eq, Option, is_none}
+-- The tables of descriptors, the names, and the processes.
+use Rattle.std.specs.Prelude.{ℕ, List, [], ◌-◌, true, false, not, nat_eq, Option, is_none}
 use Rattle.std.specs.declared.option.Option.TheVariants.{None, Some}
 use Rattle.std.specs.List.{filter}
+use Rattle.std.specs.Ordering.{nat_cmp}
+use Rattle.std.specs.Cmp.Lexicographic.{slice_cmp, pointwise}
 use Rattle.pl_model.specs.declared.calls.Mode.{Mode}
 use Rattle.pl_model.specs.declared.flags.OpenFlags.{OpenFlags}
 use Rattle.pl_model.specs.Numbers.{open_max, most_processes, first_from}
-use Rattle.pl_model.specs.Map.{set_at}
-use Rattle.pl_model.specs.Keys.{Keys, Node}
-use Rattle.pl_model.specs.State.{Core, set_row, set_description}
+use Rattle.pl_model.specs.Map.{set_at, put_in_order, without}
+use Rattle.pl_model.specs.Keys.{Keys, Node, FileNode}
+use Rattle.pl_model.specs.State.{Core, set_row, set_file, set_description}
 
 module _ {A : Type 0} {K : Keys} where
   -- POSIX.1-2017, File Descriptor Allocation: the least free descriptor of the process, from `least` on.
@@ -29,6 +31,14 @@ module _ {A : Type 0} {K : Keys} where
   -- a new description, under a new key
   abbrev pub describe : Core A K → K.Description → Node K → Mode → OpenFlags → Core A K
   describe s d node mode flags = set_description s d (record { node = node; mode = mode; flags = flags; offset = 0 })
+
+  -- POSIX.1-2017, open, O_CREAT: the name stands for a new regular file, which is empty. Names are in the order of their bytes.
+  abbrev pub create_file : Core A K → List ℕ → K.File → Core A K
+  create_file s name f = record (set_file s f []) { names = put_in_order (slice_cmp nat_cmp) s.names name (FileNode f) }
+
+  -- POSIX.1-2017, unlink: the name stands for nothing.
+  abbrev pub forget_name : Core A K → List ℕ → Core A K
+  forget_name s name = record s { names = without (pointwise nat_eq) s.names name }
 
   -- Our own: a process that starts has no open descriptor.
   abbrev pub start : Core A K → ℕ → Core A K

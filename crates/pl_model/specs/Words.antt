@@ -1,8 +1,10 @@
 -- The words of a line, and what each kind of word says.
-use Rattle.std.specs.Prelude.{ℕ, ◌+◌, ◌-◌, ◌*◌, ◌^◌, List, [], ◌∷◌, length, slice_index, take, replicate, Bool, true, false, nat_lt, nat_le, ◌==◌, ◌||◌, ◌&&◌, if◌then◌else◌, ℤ, pos, neg_ℤ, Option, Some, None, option_and_then, codes, filter, bit_or}
+use Rattle.std.specs.Prelude.{ℕ, ◌+◌, ◌-◌, ◌*◌, ◌^◌, List, [], ◌∷◌, length, slice_index, take, replicate, Bool, true, false, not, nat_lt, nat_le, ◌==◌, ◌||◌, ◌&&◌, if◌then◌else◌, ℤ, pos, neg_ℤ, Option, Some, None, option_and_then, codes, filter, bit_or}
 use Rattle.std.specs.List.{slice_split, list_all, before_first, after_first, position_or_len}
 use Rattle.std.specs.Str.{bytes_eq}
 use Rattle.std.specs.Str.Parse.{digits_value}
+use Rattle.pl_model.specs.declared.calls.Mode.{Mode}
+use Rattle.pl_model.specs.declared.calls.Whence.{Whence}
 use Rattle.pl_model.specs.declared.flags.OpenFlags.{OpenFlags}
 use Rattle.pl_model.specs.Numbers.{most_bytes}
 use Rattle.pl_model.specs.Flags.{creat, excl, trunc, append, nonblock, no_flags}
@@ -38,12 +40,20 @@ number limit word =
     if list_all is_digit word && (nat_le 1 (length word) && (nat_le (length word) 20 && nat_lt (digits_value 10 word) limit))
     then Some (digits_value 10 word) else None
 
--- FD: a number that fits 32 bits with a sign, after one `-` or none
-unfoldable pub signed : List ℕ → Option ℤ
-signed [] = None
-signed (c ∷ digits) =
-    if c == 45 then (number (2 ^ 31 + 1) digits >>= λ n. Some (neg_ℤ (pos n)))
-    else (number (2 ^ 31) (c ∷ digits) >>= λ n. Some (pos n))
+-- a number below the limit, or at most the limit after one `-`
+unfoldable pub signed_below : ℕ → List ℕ → Option ℤ
+signed_below limit [] = None
+signed_below limit (c ∷ digits) =
+    if c == 45 then (number (limit + 1) digits >>= λ n. Some (neg_ℤ (pos n)))
+    else (number limit (c ∷ digits) >>= λ n. Some (pos n))
+
+-- FD: a number that fits 32 bits with a sign
+abbrev pub signed : List ℕ → Option ℤ
+signed word = signed_below (2 ^ 31) word
+
+-- OFFSET: a number that fits 64 bits with a sign
+abbrev pub signed_long : List ℕ → Option ℤ
+signed_long word = signed_below (2 ^ 63) word
 
 -- a hexadecimal digit of either case
 abbrev pub hex_digit : ℕ → Option ℕ
@@ -96,6 +106,43 @@ bytes_of word =
     if bytes_eq word (codes "-") then Some []
     else (digits_or_repeated word >>= λ bytes. if nat_le (length bytes) most_bytes then Some bytes else None)
 
+-- a byte that stands for itself in a name: a printed one, neither a blank nor `%`
+abbrev pub is_plain : ℕ → Bool
+is_plain c = nat_le 33 c && (nat_le c 126 && not (c == 37))
+
+-- such a byte, before the bytes behind it
+abbrev pub plain_then : ℕ → Option (List ℕ) → Option (List ℕ)
+plain_then c rest = if is_plain c then (rest >>= λ bytes. Some (c ∷ bytes)) else None
+
+-- the bytes of a name, in which `%hh` is the byte hh, and `%` stands in no other way
+unfoldable pub name_bytes : List ℕ → Option (List ℕ)
+name_bytes [] = Some []
+name_bytes (c ∷ []) = plain_then c (name_bytes [])
+name_bytes (c ∷ d ∷ []) = plain_then c (name_bytes (d ∷ []))
+name_bytes (c ∷ high ∷ low ∷ rest) =
+    if c == 37 then (hex_byte high low >>= λ b. name_bytes rest >>= λ bytes. Some (b ∷ bytes))
+    else plain_then c (name_bytes (high ∷ low ∷ rest))
+
+-- NAME: `-` for the empty name, or its bytes
+unfoldable pub name_of : List ℕ → Option (List ℕ)
+name_of word = if bytes_eq word (codes "-") then Some [] else name_bytes word
+
+-- MODE
+unfoldable pub mode_of : List ℕ → Option Mode
+mode_of word =
+    if bytes_eq word (codes "r") then Some Mode.Read
+    else if bytes_eq word (codes "w") then Some Mode.Write
+    else if bytes_eq word (codes "rw") then Some Mode.Both
+    else None
+
+-- WHENCE
+unfoldable pub whence_of : List ℕ → Option Whence
+whence_of word =
+    if bytes_eq word (codes "set") then Some Whence.Set
+    else if bytes_eq word (codes "cur") then Some Whence.Cur
+    else if bytes_eq word (codes "end") then Some Whence.End
+    else None
+
 -- the flag of this name
 unfoldable pub flag_of : List ℕ → Option OpenFlags
 flag_of name =
@@ -117,6 +164,12 @@ is_comma c = c == 44
 -- FLAGS: names joined by commas
 unfoldable pub flags_of : List ℕ → Option OpenFlags
 flags_of word = with_flags no_flags (slice_split is_comma word)
+
+-- FLAGS that may be left out
+unfoldable pub flags_if_any : List (List ℕ) → Option OpenFlags
+flags_if_any [] = Some no_flags
+flags_if_any (word ∷ []) = flags_of word
+flags_if_any _ = None
 
 -- FLAGS, or `-` for none
 unfoldable pub flags_or_none : List ℕ → Option OpenFlags

@@ -1,6 +1,7 @@
 //! What a step asks for.
 use crate::bytes::Bytes8;
 use crate::flags::OpenFlags;
+use crate::name::Name;
 use std::alloc::{Allocator, Global};
 
 /// What an open file description may be used for (POSIX.1-2017, open).
@@ -12,6 +13,17 @@ pub enum Mode {
     Write,
     /// Reading and writing.
     Both,
+}
+
+/// Where a new offset is counted from (POSIX.1-2017, lseek).
+#[derive(Clone, Copy, Debug, PartialEq, Eq)]
+pub enum Whence {
+    /// The beginning of the file.
+    Set,
+    /// The offset of before.
+    Cur,
+    /// The end of the file.
+    End,
 }
 
 /// The two limits that are chosen when a kernel is made.
@@ -28,25 +40,65 @@ pub struct Limits {
 pub enum Call<A: Allocator = Global> {
     /// Makes a pipe, its read end and its write end (POSIX.1-2017, pipe). With `nonblock` both ends have `NONBLOCK`,
     /// as by Linux's pipe2(2) with `O_NONBLOCK`.
-    Pipe { nonblock: bool },
+    Pipe {
+        nonblock: bool,
+    },
+    /// Opens what the name stands for, by the least free descriptor. With `CREAT` a name that stands for nothing comes to stand
+    /// for an empty regular file (POSIX.1-2017, open).
+    OpenName {
+        name: Name<A>,
+        mode: Mode,
+        flags: OpenFlags,
+    },
     /// Reads at most `n` bytes (POSIX.1-2017, read).
-    Read { fd: i32, n: u32 },
+    Read {
+        fd: i32,
+        n: u32,
+    },
     /// Writes the bytes (POSIX.1-2017, write).
-    Write { fd: i32, bytes: Bytes8<A> },
+    Write {
+        fd: i32,
+        bytes: Bytes8<A>,
+    },
     /// Names what a descriptor names by the least free descriptor too (POSIX.1-2017, dup).
-    Dup { fd: i32 },
+    Dup {
+        fd: i32,
+    },
     /// Names what `fd` names by `target` too, which is closed first. Where `target` is `fd` itself nothing changes
     /// (POSIX.1-2017, dup, dup2).
-    Dup2 { fd: i32, target: i32 },
+    Dup2 {
+        fd: i32,
+        target: i32,
+    },
     /// Names what `fd` names by the least free descriptor from `least` on too (POSIX.1-2017, fcntl, `F_DUPFD`).
-    DupFd { fd: i32, least: i32 },
+    DupFd {
+        fd: i32,
+        least: i32,
+    },
     /// Closes a descriptor (POSIX.1-2017, close).
-    Close { fd: i32 },
+    Close {
+        fd: i32,
+    },
+    /// Sets the offset of what a descriptor names, a regular file (POSIX.1-2017, lseek).
+    Lseek {
+        fd: i32,
+        offset: i64,
+        whence: Whence,
+    },
     /// Tells the mode and the status flags of what a descriptor names (POSIX.1-2017, fcntl, `F_GETFL`).
-    GetFl { fd: i32 },
+    GetFl {
+        fd: i32,
+    },
     /// Sets `APPEND` and `NONBLOCK` of what a descriptor names as they are in `flags`, and ignores all other flags
     /// (POSIX.1-2017, fcntl, `F_SETFL`).
-    SetFl { fd: i32, flags: OpenFlags },
+    SetFl {
+        fd: i32,
+        flags: OpenFlags,
+    },
+    /// Takes a name away. What it stood for lives on while a description is open on it (POSIX.1-2017, unlink).
+    Unlink {
+        name: Name<A>,
+    },
     /// Starts a process whose descriptors name what those of this one do (POSIX.1-2017, fork).
     Fork,
     /// Ends the process: its descriptors are closed and its parked calls dropped (POSIX.1-2017, _exit).

@@ -1,6 +1,6 @@
 //! The numbers of the layer, for code. Contracts cite those of the definitions (`specs/Numbers.antt`), which these are.
 ghost use Rattle.std.specs.Prelude.{◌≡◌};
-ghost use Rattle.pl_model.specs.Numbers.{pipe_buf, first_capacity, open_max, most_descriptions, most_processes, most_bytes, most_file_bytes, most_script_bytes, most_reads, last_call};
+ghost use Rattle.pl_model.specs.Numbers.{pipe_buf, first_capacity, open_max, most_descriptions, most_processes, most_bytes, most_file_bytes, most_name_bytes, greatest_offset, most_script_bytes, most_reads, last_call};
 
 /// The most bytes of a write that goes in whole or not at all (POSIX.1-2017, limits.h; pipe(7), PIPE_BUF).
 pub const PIPE_BUF: usize = 4_096;
@@ -23,6 +23,12 @@ pub const MAX_BYTES: usize = 16_777_216;
 /// The greatest limit on the bytes of a regular file.
 pub const MAX_FILE_BYTES: u32 = 16_777_216;
 
+/// The most bytes of a name (POSIX.1-2017, limits.h, NAME_MAX).
+pub const MAX_NAME_BYTES: usize = 255;
+
+/// The greatest offset of a description (POSIX.1-2017, lseek, EOVERFLOW).
+pub const MAX_OFFSET: u64 = 9_223_372_036_854_775_807;
+
 /// The most bytes of a script.
 pub const MAX_SCRIPT_BYTES: usize = 16_777_216;
 
@@ -41,6 +47,8 @@ pub fn are_those_of_the_definitions()
     ensures most_processes { MAX_PROCESSES ≡ most_processes }
     ensures most_bytes { MAX_BYTES ≡ most_bytes }
     ensures most_file_bytes { MAX_FILE_BYTES ≡ most_file_bytes }
+    ensures most_name_bytes { MAX_NAME_BYTES ≡ most_name_bytes }
+    ensures greatest_offset { MAX_OFFSET ≡ greatest_offset }
     ensures most_script_bytes { MAX_SCRIPT_BYTES ≡ most_script_bytes }
     ensures most_reads { MAX_READS ≡ most_reads }
     ensures last_call { LAST_CALL ≡ last_call }

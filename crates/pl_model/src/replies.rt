@@ -30,7 +30,7 @@ pub enum Errno {
 pub enum Reply<A: Allocator = Global> {
     /// The pid of the process that was started, from 1 to 1,024.
     Pid(u32),
-    /// The descriptor that names what was duplicated, from 0 to 255.
+    /// The descriptor that names what was opened or duplicated, from 0 to 255.
     Fd(i32),
     /// The read end and the write end of a new pipe, from 0 to 255.
     Fds(i32, i32),
@@ -38,6 +38,8 @@ pub enum Reply<A: Allocator = Global> {
     Count { n: u32, sigpipe: bool },
     /// The bytes that were read; none of them is end of file, or a read of 0 bytes.
     Bytes(Bytes8<A>),
+    /// The offset of an open file description, from the beginning of its file.
+    Offset(u64),
     /// The mode of an open file description, and those of its flags `APPEND` and `NONBLOCK` that are set.
     Flags { mode: Mode, flags: OpenFlags },
     /// The call is done, and has nothing to tell.

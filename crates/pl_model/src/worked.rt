@@ -1,5 +1,6 @@
 //! What the definitions answer in small examples. Each function does nothing: its contract is the example, computed.
 ghost use Rattle.pl_model.specs.Worked.{BytesBeforeEndOfFile, PartialAndWholeNotWaiting, ReadOfNothing, WriteOfNothing, LastWriterCloses, SmallWriteAtItsBoundary, InterruptedLargeWrite, ParkedCallKeepsItsEnd, LastReaderLeaves, CallNumbersSpent, InterleavingWithALargeWrite, ThreeNamesOfOneWriteEnd, FlagsOfSharedDescriptions, FullTable, DescriptorsThatAreNotOpen, ExitDropsParkedCalls, TableOfWrites, ScriptOfBytesBeforeEndOfFile, ScriptOfFlags, EmptyScript, ScriptWithoutLineFeed, ScriptOfNoProcess};
+ghost use Rattle.pl_model.specs.WorkedFiles.{EndOfAFile, BadNames, RefusalsOfAnOpen, FlagsOfAnOpen, AppendingAndSeeking, UnlinkedFileLivesOn, NamesKeepTheirFiles, PipesHaveNoOffset, ScriptOfFiles, NamesInWords};
 ghost use Rattle.pl_model.specs.WorkedStream.{RunsInPieces};
 
 use std::alloc::Allocator;
@@ -32,6 +33,18 @@ pub fn sharing<A: Allocator>()
     ensures exit_drops_parked_calls { ExitDropsParkedCalls A }
 {}
 
+/// Regular files and their names.
+pub fn files<A: Allocator>()
+    ensures end_of_a_file { EndOfAFile A }
+    ensures bad_names { BadNames A }
+    ensures refusals_of_an_open { RefusalsOfAnOpen A }
+    ensures flags_of_an_open { FlagsOfAnOpen A }
+    ensures appending_and_seeking { AppendingAndSeeking A }
+    ensures unlinked_file_lives_on { UnlinkedFileLivesOn A }
+    ensures names_keep_their_files { NamesKeepTheirFiles A }
+    ensures pipes_have_no_offset { PipesHaveNoOffset A }
+{}
+
 /// The pieces in which the bytes of small runs go through a pipe, and what becomes of a write.
 pub fn pieces<A: Allocator>()
     ensures { RunsInPieces A }
@@ -49,4 +62,6 @@ pub fn scripts<A: Allocator>()
     ensures empty { EmptyScript A }
     ensures without_line_feed { ScriptWithoutLineFeed A }
     ensures no_process { ScriptOfNoProcess A }
+    ensures files { ScriptOfFiles A }
+    ensures names { NamesInWords }
 {}

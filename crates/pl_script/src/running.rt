@@ -4,7 +4,7 @@ ghost use Rattle.std.specs.Io.KnownBytes.{Appends};
 ghost use Rattle.pl_model.specs.declared.calls.Limits.{Limits};
 ghost use Rattle.pl_model.specs.Numbered.{opening};
 ghost use Rattle.pl_model.specs.Numbers.{most_file_bytes, most_script_bytes, most_reads};
-ghost use Rattle.pl_kernel.specs.Makes.{Stands};
+ghost use Rattle.pl_state.specs.Makes.{Stands};
 ghost use Rattle.pl_script.specs.LineByLine.{none_counted, IsAnswered, IsAt, Stops};
 ghost use Rattle.pl_script.specs.Running.{IsRun, IsCountedRun, IsReadToEnd, WritingEnds};
 

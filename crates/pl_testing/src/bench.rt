@@ -58,6 +58,7 @@ fn moved<A: Allocator>(alloc: Global, reply: Reply<A>) -> Result<Reply, Fail> {
             let copy = Vec::from_slice(alloc, bytes.as_slice())?;
             Reply::Bytes(Bytes8::from_vec(copy).ok_or("more bytes than a call moves")?)
         }
+        Reply::Offset(offset) => Reply::Offset(offset),
         Reply::Flags { mode, flags } => Reply::Flags { mode, flags },
         Reply::Unit => Reply::Unit,
         Reply::Fault(errno) => Reply::Fault(errno),

@@ -3,10 +3,12 @@ use Rattle.std.proofs.Common.{ap, sym, subst, ◌∙◌, ℕ, Bool, true, false,
 use Rattle.std.specs.declared.option.Option.TheVariants.{None, Some}
 use Rattle.std.specs.Prelude.{◌==◌, nat_lt, length}
 use Rattle.pl_model.specs.declared.calls.Call.{Call}
+use Rattle.pl_model.specs.declared.calls.Mode.{Mode}
 use Rattle.pl_model.specs.declared.calls.Step.{Step}
 use Rattle.pl_model.specs.declared.calls.Step.TheVariants.{Start, Begin, Resume, Interrupt}
 use Rattle.pl_model.specs.declared.cases.ReadCase.{ReadCase}
 use Rattle.pl_model.specs.declared.cases.WriteCase.{WriteCase}
+use Rattle.pl_model.specs.declared.flags.OpenFlags.{OpenFlags}
 use Rattle.pl_model.specs.declared.replies.Reply.{Reply}
 use Rattle.pl_model.specs.declared.replies.Reply.TheVariants.{Fault, NoProcess, NoCall, CallsSpent, Parked}
 use Rattle.pl_model.specs.declared.replies.Errno.TheVariants.{EINTR}
@@ -20,7 +22,7 @@ use Rattle.pl_model.specs.Settle.{settle}
 use Rattle.pl_model.specs.Trial.{Trial, Done, Wait, Flow, still, flowed, pipe_at, Begun, Begins, Refused, Answered, Tried, found, refuse_if}
 use Rattle.pl_model.specs.Transfer.{count, read_row, write_row, read_case, write_case, read_pipe, write_pipe, read_file, write_file, read_node, write_node}
 use Rattle.pl_model.specs.Tables.{lowest_pid}
-use Rattle.pl_model.specs.Begin.{begin_pipe, begin_read, begin_write, begin_dup, begin_dup2, begin_dup_fd, begin_close, begin_get_fl, begin_set_fl, begin_fork}
+use Rattle.pl_model.specs.Begin.{open_named, begin_pipe, begin_open_name, begin_read, begin_write, begin_dup, begin_dup2, begin_dup_fd, begin_close, begin_lseek, begin_get_fl, begin_set_fl, begin_unlink, begin_fork}
 use Rattle.pl_model.specs.Step.{Stepped, with_kept, try, begin, begun, happen, core_step, ended, first_tried, interrupted, parked, resumed, started, stepped, tried_again, waiting, without_call}
 use Rattle.pl_model.specs.Numbered.{numbers, State, After, next_numbers, step_of, step}
 use Rattle.pl_model.specs.Refused.{is_refused, with_call_ended}
@@ -34,6 +36,7 @@ module _ {A : Type 0} where
   begin-refused pid call (Reply.Fds a b) = refl
   begin-refused pid call (Reply.Count n sigpipe) = refl
   begin-refused pid call (Reply.Bytes bytes) = refl
+  begin-refused pid call (Reply.Offset n) = refl
   begin-refused pid call (Reply.Flags mode flags) = refl
   begin-refused pid call Reply.Unit = refl
   begin-refused pid call (Fault errno) = refl
@@ -97,26 +100,37 @@ module _ {A : Type 0} {K : Keys} where
   try-fair s w (Call.Read fd n) may_wait = fair_kept s _ _ (λ o. read_node-fair s o.key o.description o.description.node n)
   try-fair s w (Call.Write fd bytes) may_wait = fair_kept s _ _ (λ o. write_node-fair s o.key o.description o.description.node bytes w.taken may_wait)
   try-fair s w (Call.Pipe nonblock) may_wait = tt
+  try-fair s w (Call.OpenName name mode flags) may_wait = tt
   try-fair s w (Call.Dup fd) may_wait = tt
   try-fair s w (Call.Dup2 fd target) may_wait = tt
   try-fair s w (Call.DupFd fd least) may_wait = tt
   try-fair s w (Call.Close fd) may_wait = tt
+  try-fair s w (Call.Lseek fd offset whence) may_wait = tt
   try-fair s w (Call.GetFl fd) may_wait = tt
   try-fair s w (Call.SetFl fd flags) may_wait = tt
+  try-fair s w (Call.Unlink name) may_wait = tt
   try-fair s w Call.Fork may_wait = tt
   try-fair s w Call.Exit may_wait = tt
 
+  open_named-plain : (new : NewKeys K) (s : Core A K) (pid fd : ℕ) (name : List ℕ) (node : Option (Node K)) (mode : Mode) (flags : OpenFlags) → LeadsTo new (IsPlainBegun s) (open_named s pid fd name node mode flags)
+  open_named-plain new s pid fd name None mode flags = search ways
+  open_named-plain new s pid fd name (Some (FileNode f)) mode flags = search ways
+  open_named-plain new s pid fd name (Some (PipeNode p)) mode flags = search ways
+
   begin-plain : (new : NewKeys K) (s : Core A K) (pid : ℕ) (call : Call A) → LeadsTo new (IsPlainBegun s) (begin s pid call)
-  unfolding begin begin_pipe begin_read begin_write begin_dup begin_dup2 begin_dup_fd begin_close begin_get_fl begin_set_fl begin_fork
+  unfolding begin begin_pipe begin_open_name begin_read begin_write begin_dup begin_dup2 begin_dup_fd begin_close begin_lseek begin_get_fl begin_set_fl begin_unlink begin_fork
   begin-plain new s pid (Call.Pipe nonblock) = search (ways, refusable) depth 14
+  begin-plain new s pid (Call.OpenName name mode flags) = search (ways, refusable, open_named-plain) depth 14
   begin-plain new s pid (Call.Read fd n) = search (ways, refusable) depth 14
   begin-plain new s pid (Call.Write fd bytes) = search (ways, refusable) depth 14
   begin-plain new s pid (Call.Dup fd) = search (ways, refusable) depth 14
   begin-plain new s pid (Call.Dup2 fd target) = search (ways, refusable) depth 14
   begin-plain new s pid (Call.DupFd fd least) = search (ways, refusable) depth 14
   begin-plain new s pid (Call.Close fd) = search (ways, refusable) depth 14
+  begin-plain new s pid (Call.Lseek fd offset whence) = search (ways, refusable) depth 14
   begin-plain new s pid (Call.GetFl fd) = search (ways, refusable) depth 14
   begin-plain new s pid (Call.SetFl fd flags) = search (ways, refusable) depth 14
+  begin-plain new s pid (Call.Unlink name) = search (ways, refusable) depth 14
   begin-plain new s pid Call.Fork = search (ways, refusable) depth 14
   begin-plain new s pid Call.Exit = search ways
 
@@ -134,6 +148,7 @@ module _ {A : Type 0} {K : Keys} where
   done-unchanged s u flow (Reply.Fds a b) fair r = absurd (cc)
   done-unchanged s u flow (Reply.Count n sigpipe) fair r = absurd (cc)
   done-unchanged s u flow (Reply.Bytes bytes) fair r = absurd (cc)
+  done-unchanged s u flow (Reply.Offset n) fair r = absurd (cc)
   done-unchanged s u flow (Reply.Flags mode flags) fair r = absurd (cc)
   done-unchanged s u flow Reply.Unit fair r = absurd (cc)
   done-unchanged s u flow (Fault errno) fair r = ((λ i. flowed (fair.0 i) (fair.1 i)) ∙ flowed-still s, fair.1)
@@ -166,6 +181,7 @@ module _ {A : Type 0} {K : Keys} where
     replied u flow (Reply.Fds a b) fair r = cc
     replied u flow (Reply.Count n sigpipe) fair r = cc
     replied u flow (Reply.Bytes bytes) fair r = cc
+    replied u flow (Reply.Offset n) fair r = cc
     replied u flow (Reply.Flags mode flags) fair r = cc
     replied u flow Reply.Unit fair r = cc
     replied u flow (Fault errno) fair r = cc
@@ -238,17 +254,25 @@ module _ {A : Type 0} {K : Keys} where
 
   ruleset firsts = (first_found, first_if, first_past, first_plain, first_draws)
 
+  open_named-first : (s : Core A K) (pid fd : ℕ) (name : List ℕ) (node : Option (Node K)) (mode : Mode) (flags : OpenFlags) → RefusesFirst (open_named s pid fd name node mode flags)
+  open_named-first s pid fd name None mode flags = search firsts
+  open_named-first s pid fd name (Some (FileNode f)) mode flags = search firsts
+  open_named-first s pid fd name (Some (PipeNode p)) mode flags = search firsts
+
   begin-first : (s : Core A K) (pid : ℕ) (call : Call A) → RefusesFirst (begin s pid call)
-  unfolding begin begin_pipe begin_read begin_write begin_dup begin_dup2 begin_dup_fd begin_close begin_get_fl begin_set_fl begin_fork
+  unfolding begin begin_pipe begin_open_name begin_read begin_write begin_dup begin_dup2 begin_dup_fd begin_close begin_lseek begin_get_fl begin_set_fl begin_unlink begin_fork
   begin-first s pid (Call.Pipe nonblock) = search firsts depth 14
+  begin-first s pid (Call.OpenName name mode flags) = search (firsts, open_named-first) depth 14
   begin-first s pid (Call.Read fd n) = search firsts depth 14
   begin-first s pid (Call.Write fd bytes) = search firsts depth 14
   begin-first s pid (Call.Dup fd) = search firsts depth 14
   begin-first s pid (Call.Dup2 fd target) = search firsts depth 14
   begin-first s pid (Call.DupFd fd least) = search firsts depth 14
   begin-first s pid (Call.Close fd) = search firsts depth 14
+  begin-first s pid (Call.Lseek fd offset whence) = search firsts depth 14
   begin-first s pid (Call.GetFl fd) = search firsts depth 14
   begin-first s pid (Call.SetFl fd flags) = search firsts depth 14
+  begin-first s pid (Call.Unlink name) = search firsts depth 14
   begin-first s pid Call.Fork = search firsts depth 14
   begin-first s pid Call.Exit = search firsts
 

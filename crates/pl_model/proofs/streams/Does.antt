@@ -53,6 +53,8 @@ module _ {A : Type 0} where
         set_description = λ u d x on h. h;
         new_pipe = λ u h. h;
         set_file = λ u f bytes h. h;
+        create_file = λ u name h. h;
+        forget_name = λ u name h. h;
         fork = λ u pid child h. h;
         exit = λ u pid h. among_filter s u (λ c. not (nat_eq c.1.pid pid)) h;
       }

@@ -71,6 +71,8 @@ module _ {A : Type 0} (d : ℕ) (node : Node numbers) where
         set_description = λ s k x on h. on_set s k x on h;
         new_pipe = λ s h. h;
         set_file = λ s f bytes h. h;
+        create_file = λ s name h. h;
+        forget_name = λ s name h. h;
         fork = λ s pid child h. h;
         exit = λ s pid h. h;
       } in

@@ -64,3 +64,7 @@ returns-in-Count-default-true g c =
 pub returns-in-Bytes : goal.returns-in-Bytes
 unfolding reply_text
 returns-in-Bytes g c = rw c.in-Bytes.is (rw c.as_slice.ensures.value at c.push_bytes.ensures)
+
+pub returns-in-Offset : goal.returns-in-Offset
+unfolding reply_text
+returns-in-Offset g c = rw c.in-Offset.is c.push_number-in-Offset.ensures

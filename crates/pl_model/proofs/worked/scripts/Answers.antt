@@ -1,4 +1,5 @@
 use Rattle.pl_model.proofs.computed.Examples.{script_of_bytes_before_end_of_file, script_of_flags, empty_script, script_without_line_feed, script_of_no_process}
+use Rattle.pl_model.proofs.computed.FileExamples.{script_of_files, names_in_words}
 use Rattle.pl_model.proofs.worked.scripts.Goals as goal
 
 pub returns-clause-bytes_before_end_of_file : goal.returns-clause-bytes_before_end_of_file
@@ -15,3 +16,9 @@ returns-clause-without_line_feed g c = script_without_line_feed _
 
 pub returns-clause-no_process : goal.returns-clause-no_process
 returns-clause-no_process g c = script_of_no_process _
+
+pub returns-clause-files : goal.returns-clause-files
+returns-clause-files g c = script_of_files _
+
+pub returns-clause-names : goal.returns-clause-names
+returns-clause-names g c = names_in_words

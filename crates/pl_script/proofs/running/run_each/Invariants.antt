@@ -3,7 +3,7 @@ use Rattle.std.specs.Prelude.{string_bytes}
 use Rattle.pl_model.specs.declared.calls.Limits.{Limits}
 use Rattle.pl_model.specs.Numbered.{opening}
 use Rattle.pl_model.specs.Script.{lines}
-use Rattle.pl_kernel.specs.Makes.{Stands}
+use Rattle.pl_state.specs.Makes.{Stands}
 use Rattle.pl_script.proofs.RunSteps.{IsUnderway}
 use Rattle.pl_script.proofs.running.run_each.Given as goal
 

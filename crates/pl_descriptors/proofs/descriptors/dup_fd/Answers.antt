@@ -1,0 +1,49 @@
+use Rattle.std.proofs.Common.{◌<◌, ◌≤◌, ◌≡◌, true, false, sym, ap, subst, ◌∙◌, w32, to_z, of_z, pos}
+use Rattle.std.proofs.lemmas.Int.{to_z-of_z}
+use Rattle.pl_model.specs.Numbers.{open_max}
+use Rattle.pl_model.specs.Begin.{is_descriptor, natural}
+use Rattle.pl_desc.specs.Rows.{row_of, lowest_of}
+use Rattle.pl_state.specs.Contents.{Contents}
+use Rattle.pl_descriptors.specs.Duplicates.{Duplicates}
+use Rattle.pl_state.proofs.by_call.Closing.{row_found}
+use Rattle.pl_descriptors.proofs.by_call.Duplicating.{below_all, above_all, within_all, place_is, dup_fd-closed, dup_fd-refused, dup_fd-does}
+use Rattle.pl_state.proofs.Known.{Caller, caller}
+use Rattle.pl_descriptors.proofs.descriptors.dup_fd.Given.{Over}
+use Rattle.pl_descriptors.proofs.descriptors.dup_fd.Goals.{After-find}
+use Rattle.pl_descriptors.proofs.descriptors.dup_fd.Goals as goal
+use Rattle.pl_descriptors.proofs.descriptors.dup_fd.Goals.{then-least-lt0-via-then-least-lt0, then-least-lt0-via-else-least-lt0+then-least-ge-OPEN_MAX}
+use lib.Signed.{lt_z}
+use lib.IntN.{nat_abs}
+
+-- the process that calls, and what its descriptor names
+module _ (g : Over) (c : After-find g) where
+  abbrev calls : Caller g.row.A.Denot
+  calls = caller c.kernel.inside c.kernel.invariant c.args.kernel.now c.kernel.view_is c.args.pid c.requires
+
+  named : row_of calls.descs.tables c.args.pid c.args.fd ≡ c.find.result
+  named = row_found calls.descs.tables c.args.pid c.args.fd c.ranges.fd c.find.result c.find.ensures
+
+pub returns-in_default : goal.returns-in_default
+returns-in_default g c =
+    let w = (goal.at.returns-in_default g c).After-find in
+    rw (← c.kernel.view_is) (dup_fd-closed (calls g w) c.args.fd c.args.least (named g w ∙ c.in_default.is))
+
+pub returns-then-least-lt0 : goal.returns-then-least-lt0
+returns-then-least-lt0 g c =
+    let w = (goal.at.returns-then-least-lt0 g c).After-find in
+    let least_is = to_z-of_z w32 c.args.least c.ranges.least in
+    let out : is_descriptor c.args.least ≡ false = elim c.then-least-lt0.branch [
+      | then-least-lt0-via-then-least-lt0 v ↦ below_all c.args.least (ap (λ z. lt_z z (pos 0)) (sym least_is) ∙ v.if-least-lt0.true)
+      | then-least-lt0-via-else-least-lt0+then-least-ge-OPEN_MAX v ↦ above_all c.args.least (ap (λ z. lt_z z (pos 0)) (sym least_is) ∙ v.if-least-lt0.false) (subst (λ z. open_max ≤ nat_abs z) least_is v.if-least-ge-OPEN_MAX.true)
+    ] in
+    rw (← c.kernel.view_is) (dup_fd-refused (calls g w) c.args.fd c.args.least c.in-Some.key (named g w ∙ c.in-Some.is) out)
+
+pub returns : goal.returns
+returns g c =
+    let w = (goal.at.returns g c).After-find in
+    let least_is = to_z-of_z w32 c.args.least c.ranges.least in
+    let within : is_descriptor c.args.least ≡ true = within_all c.args.least (ap (λ z. lt_z z (pos 0)) (sym least_is) ∙ c.if-least-lt0.false) (subst (λ z. nat_abs z < open_max) least_is c.if-least-ge-OPEN_MAX.false) in
+    let least : nat_abs (to_z w32 (of_z w32 c.args.least)) ≡ natural c.args.least = ap nat_abs least_is ∙ place_is c.args.least within in
+    let done = subst (λ (z : Contents g.row.A.Denot). Duplicates z c.args.pid c.in-Some.key (lowest_of z.tables c.args.pid (natural c.args.least)) c.duplicate.result c.duplicate.new.kernel) (sym c.kernel.view_is)
+    (subst (λ n. Duplicates c.args.kernel.now c.args.pid c.in-Some.key (lowest_of c.args.kernel.now.tables c.args.pid n) c.duplicate.result c.duplicate.new.kernel) least c.duplicate.ensures) in
+    rw (← c.kernel.view_is) (dup_fd-does (calls g w) c.args.fd c.args.least c.in-Some.key (named g w ∙ c.in-Some.is) within c.duplicate.result c.duplicate.new.kernel done)

@@ -1,0 +1,63 @@
+//! One step of the kernel, by the calls.
+ghost use Rattle.std.specs.Prelude.{◌≡◌, true, IfOk, OnErr, IsOk};
+ghost use Rattle.pl_model.specs.Memory.{is_frugal, is_frugal_call};
+ghost use Rattle.pl_state.specs.Contents.{IsProcess};
+ghost use Rattle.pl_state.specs.Makes.{MakesAtKeys, MayWantAtKeys};
+
+use pl_descriptors::{close, dup, dup_fd, dup2, exit, fork, get_fl, set_fl, start};
+use pl_model::{Call, Reply, Step};
+use pl_naming::{open_name, unlink};
+use pl_state::{KernelState, NoMemory};
+use pl_transfers::{interrupt, lseek, pipe, read, resume, write};
+use std::alloc::Allocator;
+
+fn begin<A: Allocator + Copy>(
+    kernel: &mut KernelState<A>,
+    pid: u32,
+    call: Call<A>,
+) -> Result<Reply<A>, NoMemory>
+    requires { IsProcess kernel.old pid }
+    ensures done { IfOk result (λ reply. MakesAtKeys kernel.old (Step.Begin pid call) reply kernel.new) }
+    ensures undone { OnErr result (kernel.new ≡ kernel.old) }
+    ensures wanted { OnErr result (MayWantAtKeys {A = A} kernel.old (Step.Begin pid call)) }
+    ensures frugal { is_frugal_call call ≡ true → IsOk result }
+{
+    match call {
+        Call::Pipe { nonblock } => pipe(kernel, pid, nonblock),
+        Call::OpenName { name, mode, flags } => open_name(kernel, pid, &name, mode, flags),
+        Call::Read { fd, n } => read(kernel, pid, fd, n),
+        Call::Write { fd, bytes } => write(kernel, pid, fd, bytes),
+        Call::Dup { fd } => Ok(dup(kernel, pid, fd)),
+        Call::Dup2 { fd, target } => Ok(dup2(kernel, pid, fd, target)),
+        Call::DupFd { fd, least } => Ok(dup_fd(kernel, pid, fd, least)),
+        Call::Close { fd } => Ok(close(kernel, pid, fd)),
+        Call::Lseek { fd, offset, whence } => Ok(lseek(kernel, pid, fd, offset, whence)),
+        Call::GetFl { fd } => Ok(get_fl(kernel, pid, fd)),
+        Call::SetFl { fd, flags } => Ok(set_fl(kernel, pid, fd, flags)),
+        Call::Unlink { name } => Ok(unlink(kernel, pid, &name)),
+        Call::Fork => fork(kernel, pid),
+        Call::Exit => Ok(exit(kernel, pid)),
+    }
+}
+
+pub(crate) fn act<A: Allocator + Copy>(
+    kernel: &mut KernelState<A>,
+    step: Step<A>,
+) -> Result<Reply<A>, NoMemory>
+    ensures done { IfOk result (λ reply. MakesAtKeys kernel.old step reply kernel.new) }
+    ensures undone { OnErr result (kernel.new ≡ kernel.old) }
+    ensures wanted { OnErr result (MayWantAtKeys {A = A} kernel.old step) }
+    ensures frugal { is_frugal step ≡ true → IsOk result }
+{
+    match step {
+        Step::Start => start(kernel),
+        Step::Begin(pid, call) => {
+            if !kernel.descs.has(pid) {
+                return Ok(Reply::NoProcess);
+            }
+            begin(kernel, pid, call)
+        }
+        Step::Resume(number) => resume(kernel, number),
+        Step::Interrupt(number) => Ok(interrupt(kernel, number)),
+    }
+}

@@ -1,0 +1,10 @@
+-- What a file that is opened leaves at the kernel's keys.
+pub mod OpenedFile
+-- What an open of a name comes to at the kernel's keys.
+pub mod Opening
+-- What a file that is made leaves at the kernel's keys.
+pub mod Creating
+-- What a file that is opened again leaves at the kernel's keys.
+pub mod Reopening
+-- What taking a name away comes to at the kernel's keys.
+pub mod Unlinking

@@ -1,0 +1,126 @@
+-- What is left of a node, from the flags that the kernel read.
+use Rattle.std.proofs.Common.{◌≡◌, ℕ, Bool, true, false, List, Option, Some, None, IfSome, refl, sym, ◌∙◌, ap, subst, inl, inr, nat_eq}
+use Rattle.std.proofs.Math.Path.{fun_ext}
+use Rattle.std.proofs.lemmas.Bool.Decides.{eqb_tells}
+use Rattle.std.specs.Prelude.{if◌then◌else◌, ◌||◌, option_map}
+use Rattle.pl_model.specs.Map.{kept_if, set_at, change_at}
+use Rattle.pl_model.specs.State.{Pipe, empty_pipe}
+use Rattle.pl_model.specs.Nodes.{has_name}
+use Rattle.pl_parked.proofs.Rising.{IfSome_by}
+use Rattle.pl_desc.specs.Rows.{at}
+use Rattle.pl_model.specs.declared.calls.Mode.{Mode}
+use Rattle.pl_model.specs.declared.node.Node.{Node}
+use Rattle.pl_model.specs.declared.node.Node.TheVariants as node
+use Rattle.pl_model.specs.Modes.{reads, writes}
+use Rattle.pl_model.specs.Settle.{hangs, with_ends}
+use Rattle.pl_desc.specs.declared.released.Released.TheVariants.{Still, Gone}
+use Rattle.pl_desc.specs.Descs.{Opened, Descs, ends_on, last_hold, gone, released}
+use Rattle.pl_nodes.specs.Nodes.{SameFiles, SamePipes}
+use Rattle.pl_nodes.specs.Nodes.{Nodes as KeptNodes}
+use Rattle.pl_state.specs.LastHold.{has_reader, has_writer, is_open_on, with_these_ends, Leaves}
+use Rattle.pl_state.specs.Contents.{Nodes, nodes_of}
+use Rattle.pl_state.proofs.holders.Ends.{any_end}
+
+-- a change at a key, and the value put there
+change_at-set : {V : Type 0} (k : ℕ) (f : V → V) (m : ℕ → Option V) → change_at k f m ≡ set_at nat_eq m k (option_map f (m k))
+change_at-set k f m = fun_ext (λ q. elim (eqb_tells k q) as (λ _. change_at k f m q ≡ set_at nat_eq m k (option_map f (m k)) q) [
+  | inl t ↦ ap (λ b. if b then option_map f (m q) else m q) t.0 ∙ ap (λ z. option_map f (m z)) (sym t.1) ∙ sym (ap (λ b. if b then option_map f (m k) else m q) t.0)
+  | inr t ↦ ap (λ b. if b then option_map f (m q) else m q) t.0 ∙ sym (ap (λ b. if b then option_map f (m k) else m q) t.0)
+])
+
+-- a pipe is left with these ends, and was hung or not
+module _ (p : ℕ) (old new : KeptNodes) (r w h w0 : Bool) (h_is : IfSome (at old.pipes p) (λ x. h ≡ x.hung)) where
+  abbrev decided : Option Bool
+  decided = if r || w then Some (hangs r w (h || w0)) else None
+
+  abbrev kept : Bool
+  kept = (r || w) || has_name old.names (node.Pipe p)
+
+  abbrev Left : Type 0
+  Left = at new.pipes ≡ set_at nat_eq (at old.pipes) p (option_map (with_these_ends r w w0) (kept_if ((r || w) || has_name old.names (node.Pipe p)) (at old.pipes p)))
+
+  was : (x : Pipe) → at old.pipes p ≡ Some x → h ≡ x.hung
+  was x e = subst (λ o. IfSome o (λ x. h ≡ x.hung)) e h_is
+
+  pub left_hung : (hung : Bool) → decided ≡ Some hung → at new.pipes ≡ change_at p (λ x. record x { hung = hung }) (at old.pipes) → Left
+  left_hung hung d is = is ∙ change_at-set p (λ x. record x { hung = hung }) (at old.pipes) ∙ ap (λ o. set_at nat_eq (at old.pipes) p o) (by (r || w) d (at old.pipes p) refl)
+    where
+      by : (b : Bool) → ◌≡◌ {A = Option Bool} (if b then Some (hangs r w (h || w0)) else None) (Some hung) → (o : Option Pipe) → at old.pipes p ≡ o
+          → option_map (λ (x : Pipe). record x { hung = hung }) o ≡ option_map (λ x. with_ends b r w (x.hung || w0) x) (kept_if (b || has_name old.names (node.Pipe p)) o)
+      by true e None t = refl
+      by true e (Some x) t = (let s : hangs r w (h || w0) ≡ hung = cc in λ i. Some (record x { hung = (sym s ∙ ap (λ z. hangs r w (z || w0)) (was x t)) i }))
+      by false e o t = absurd (cc)
+
+  pub left_reset : decided ≡ None → has_name old.names (node.Pipe p) ≡ true → at new.pipes ≡ change_at p (λ x. empty_pipe) (at old.pipes) → Left
+  left_reset d n is = is ∙ change_at-set p (λ x. empty_pipe) (at old.pipes) ∙ ap (λ o. set_at nat_eq (at old.pipes) p o) (by (r || w) d ∙ ap (λ b. option_map (with_these_ends r w w0) (kept_if ((r || w) || b) (at old.pipes p))) (sym n))
+    where
+      by : (b : Bool) → ◌≡◌ {A = Option Bool} (if b then Some (hangs r w (h || w0)) else None) None
+          → option_map (λ (x : Pipe). empty_pipe) (at old.pipes p) ≡ option_map (λ x. with_ends b r w (x.hung || w0) x) (kept_if (b || true) (at old.pipes p))
+      by true e = absurd (cc)
+      by false e = refl
+
+  pub left_none : decided ≡ None → has_name old.names (node.Pipe p) ≡ false → at new.pipes ≡ set_at nat_eq (at old.pipes) p None → Left
+  left_none d n is = is ∙ ap (λ o. set_at nat_eq (at old.pipes) p o) (by (r || w) d ∙ ap (λ b. option_map (with_these_ends r w w0) (kept_if ((r || w) || b) (at old.pipes p))) (sym n))
+    where
+      by : (b : Bool) → ◌≡◌ {A = Option Bool} (if b then Some (hangs r w (h || w0)) else None) None
+          → ◌≡◌ {A = Option Pipe} None (option_map (λ x. with_ends b r w (x.hung || w0) x) (kept_if (b || false) (at old.pipes p)))
+      by true e = absurd (cc)
+      by false e = refl
+
+-- what is left of a pipe is what a description that is gone leaves of it
+module _ (before after : List (Option Opened)) (p : ℕ) (old new : KeptNodes) (r w w0 : Bool)
+    (r_is : r ≡ has_reader after p) (w_is : w ≡ has_writer after p) (w0_is : w0 ≡ has_writer before p) where
+  open_is : (r || w) ≡ is_open_on after (node.Pipe p)
+  open_is = (λ i. r_is i || w_is i) ∙ sym (any_end (node.Pipe p) after)
+
+  pub leaves_pipe : at new.pipes ≡ set_at nat_eq (at old.pipes) p (option_map (with_these_ends r w w0) (kept_if ((r || w) || has_name old.names (node.Pipe p)) (at old.pipes p)))
+      → SameFiles old new → Leaves before after (nodes_of old) (nodes_of new) (node.Pipe p)
+  leaves_pipe is same = record {
+    pipes = is ∙ (λ i. set_at nat_eq (at old.pipes) p (option_map (λ x. with_ends (open_is i) (r_is i) (w_is i) (x.hung || w0_is i) x) (kept_if (open_is i || has_name old.names (node.Pipe p)) (at old.pipes p))));
+    files = ap at same.files;
+    names = same.names;
+    file_max = same.file_max;
+  }
+
+-- and likewise of a file
+pub leaves_file : (before after : List (Option Opened)) (f : ℕ) (old new : KeptNodes) (b : Bool) → b ≡ is_open_on after (node.File f)
+    → at new.files ≡ set_at nat_eq (at old.files) f (kept_if (b || has_name old.names (node.File f)) (at old.files f)) → SamePipes old new → Leaves before after (nodes_of old) (nodes_of new) (node.File f)
+leaves_file before after f old new b b_is is same = record {
+  pipes = ap at same.pipes;
+  files = is ∙ ap (λ z. set_at nat_eq (at old.files) f (kept_if (z || has_name old.names (node.File f)) (at old.files f))) b_is;
+  names = same.names;
+  file_max = same.file_max;
+}
+
+-- a file that is kept is as it was
+pub left_kept : (m : ℕ → Option (List ℕ)) (f : ℕ) (b : Bool) → b ≡ true → m ≡ set_at nat_eq m f (kept_if b (m f))
+left_kept m f b kept = fun_ext (λ q. elim (eqb_tells f q) as (λ _. m q ≡ set_at nat_eq m f (kept_if b (m f)) q) [
+  | inl t ↦ sym (ap (λ z. if z then kept_if b (m f) else m q) t.0 ∙ ap (λ z. kept_if z (m f)) kept ∙ ap m t.1)
+  | inr t ↦ sym (ap (λ z. if z then kept_if b (m f) else m q) t.0)
+])
+
+-- of the description of a key, which was on the node
+pub leaves_at : (before after : List (Option Opened)) (key : ℕ) (n : Node) (old new : Nodes) → option_map (λ (o : Opened). o.node) (at before key) ≡ Some n
+    → Leaves before after old new n → IfSome (at before key) (λ o. Leaves before after old new o.node)
+leaves_at before after key n old new is left = IfSome_by (at before key) (λ o. Leaves before after old new o.node)
+    (λ o here. let is_on : Some o.node ≡ Some n = sym (ap (option_map (λ (o : Opened). o.node)) here) ∙ is in let same : o.node ≡ n = cc in subst (Leaves before after old new) (sym same) left)
+
+-- the counts that a release told are those of the descriptions that are left
+pub counts_left : (descs : Descs) (key : ℕ) (on : Node) → option_map (λ (o : Opened). o.node) (at descs.opened key) ≡ Some on → (after : List (Option Opened)) (n : Node) (m : Mode) (readers writers : ℕ)
+    → option_map (released (last_hold descs key) after) (at descs.opened key) ≡ Some (Gone n m readers writers) → (readers ≡ ends_on reads after on) × (writers ≡ ends_on writes after on)
+counts_left descs key on is after n m readers writers told = by (at descs.opened key) (last_hold descs key) is told
+  where
+    by : (o : Option Opened) (last : Bool) → option_map (λ (o : Opened). o.node) o ≡ Some on → option_map (released last after) o ≡ Some (Gone n m readers writers) → (readers ≡ ends_on reads after on) × (writers ≡ ends_on writes after on)
+    by None last i t = absurd (cc)
+    by (Some o) false i t = absurd (let s : Some Still ≡ Some (Gone n m readers writers) = t in cc)
+    by (Some o) true i t = (
+        let same : o.node ≡ on = cc in
+        let s : Some (gone after o) ≡ Some (Gone n m readers writers) = t in
+        let r : ends_on reads after o.node ≡ readers = cc in
+        let w : ends_on writes after o.node ≡ writers = cc in
+        (sym r ∙ ap (ends_on reads after) same, sym w ∙ ap (ends_on writes after) same))
+
+-- what is told of the node of a key's description
+pub node_told : (P : Node → Type 0) (o : Option Opened) (n : Node) → IfSome o (λ o. P o.node) → option_map (λ (o : Opened). o.node) o ≡ Some n → P n
+node_told P None n h is = absurd (cc)
+node_told P (Some o) n h is = (let same : o.node ≡ n = cc in subst P same h)

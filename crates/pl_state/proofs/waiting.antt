@@ -1,0 +1,10 @@
+-- Calls that wait.
+
+-- The calls that wait, as the machine has them, through each change.
+pub mod Calls
+-- The parked calls of a sound kernel are in order.
+pub mod InOrder
+-- A call is parked, at the kernel's keys.
+pub mod ParkedCalls
+-- A parked call ends, at the kernel's keys.
+pub mod Ending

@@ -1,0 +1,157 @@
+-- A call is parked, at the kernel's keys.
+use Rattle.std.proofs.Common.{◌≡◌, ◌≢◌, ℕ, ◌+◌, Bool, true, false, cond, List, [], ◌∷◌, ◌++◌, Some, refl, sym, ◌∙◌, ap, subst, nat_eq, arith, IfSome}
+use Rattle.std.specs.Prelude.{◌≤◌, ◌<◌, ◌*◌, ◌^◌, IsSome, IsTrue, All}
+use Rattle.std.specs.Set.{is_member}
+use Rattle.std.proofs.lemmas.Bool.{eqb-true}
+use Rattle.pl_model.specs.declared.node.Node.TheVariants as node
+use Rattle.pl_model.specs.declared.calls.Call.{Call}
+use Rattle.pl_model.specs.declared.calls.Call.TheVariants as call
+use Rattle.pl_model.specs.Numbers.{last_call}
+use Rattle.pl_model.specs.State.{Core, Pipe, set_pipe}
+use Rattle.pl_model.specs.Live.{in_rows, in_parked, pids, is_live}
+use Rattle.pl_model.specs.Settle.{settle}
+use Rattle.pl_model.specs.Step.{parked}
+use Rattle.pl_model.specs.Numbered.{numbers}
+use Rattle.pl_model.proofs.settling.Members.{or_elim}
+use Rattle.pl_model.proofs.settling.FromSettled.{moved-settled}
+use Rattle.pl_model.proofs.settling.Parking.{parked_live, park-settled}
+use Rattle.pl_parked.specs.Calls.{Calls}
+use Rattle.pl_parked.specs.declared.call.ParkedCall.{ParkedCall}
+use Rattle.pl_parked.proofs.Rising.{Rise-push}
+use Rattle.pl_desc.specs.Rows.{at, is_pid, count_at, change_count, one_more}
+use Rattle.pl_desc.specs.Descs.{Opened, Descs, IsTidy}
+use Rattle.pl_state.specs.Contents.{Contents, with_pipes, contents, waiting_of, core_of}
+use Rattle.pl_state.specs.Opens.{OpenOn}
+use Rattle.pl_state.specs.Parking.{call_on, with_call, Adds}
+use Rattle.pl_state.specs.Sound.{IsSound, IsWaiting, AreCounted, MayWait, Keeps, most_kept, times, keeping, OnPipe, IsPipe}
+use Rattle.pl_state.proofs.Known.{Known}
+use Rattle.pl_state.proofs.waiting.Calls.{more-parked, get_more}
+use Rattle.pl_state.proofs.by_call.Begun.{there, lives, pipe_held}
+use Rattle.pl_state.proofs.holders.There.{settled_after}
+use Rattle.pl_state.proofs.holders.Holding.{keeping_more, keeping_few, times_one}
+use Rattle.pl_state.proofs.by_call.Moving.{changed_is, changed_sound}
+use Rattle.pl_state.proofs.holders.OnPipes.{keeps-pipe}
+
+-- a call that keeps one description keeps no other
+pub only_one : (key d : ℕ) → is_member nat_eq (key ∷ []) d ≡ true → d ≡ key
+only_one key d h = or_elim (nat_eq d key) false (λ e. eqb-true d key e) (λ f. absurd (cc)) h
+
+not_last : (n : ℕ) → n ≤ last_call → n ≢ last_call → n + 1 ≤ last_call
+not_last n few not_it = grind (arith, few, not_it)
+
+-- a call is parked, which keeps descriptions that are open
+module _ {A : Type 0} (k : Contents A) (sound : IsSound A k) (w : ParkedCall A) (waits : IsWaiting A w) (open_ones : (d : ℕ) → is_member nat_eq w.kept d ≡ true → IsSome (at k.opened d)) (left : k.calls.next ≢ last_call) (on_pipes : All (OnPipe (at k.opened)) w.kept) (process : IsTrue (is_pid k.tables w.pid)) where
+  abbrev before : Core A numbers
+  before = core_of k
+
+  live : (d : ℕ) → is_member nat_eq w.kept d ≡ true → is_live before d ≡ true
+  live d h = let o = there (at k.opened d) (open_ones d h) in lives k sound.whole d o.0 o.1
+
+  call_is : core_of (with_call k w) ≡ parked before (waiting_of w)
+  unfolding core_of
+  call_is = λ i. record before { parked = more-parked k.calls.calls k.calls.next w i; next_call = k.calls.next + 1 }
+
+  call_settles : core_of (with_call k w) ≡ settle before (parked before (waiting_of w))
+  call_settles = call_is ∙ sym (park-settled before sound.settled (waiting_of w) live)
+
+  call_sound : IsSound A (with_call k w)
+  call_sound = record {
+    whole = record {
+      rise = Rise-push 0 k.calls.next k.calls.calls w sound.rise;
+      numbered = not_last k.calls.next sound.numbered left;
+      there = sound.there;
+      limit = sound.limit;
+      once = sound.once;
+      settled = settled_after (core_of (with_call k w)) before (parked before (waiting_of w)) call_settles;
+    };
+    waiting = λ n. get_more k.calls.calls k.calls.next w (IsWaiting A) waits n (sound.waiting n);
+    belong = λ n. get_more k.calls.calls k.calls.next w (λ y. IsTrue (is_pid k.tables y.pid)) process n (sound.belong n);
+    on_pipes = λ n. get_more k.calls.calls k.calls.next w (λ y. All (OnPipe (at k.opened)) y.kept) on_pipes n (sound.on_pipes n);
+  }
+
+-- what may wait keeps the description that it tries
+keeps_one : {A : Type 0} (key : ℕ) (call : Call A) (taken : ℕ) → MayWait call taken → Keeps call (key ∷ [])
+keeps_one key (call.Read fd n) taken may = (key, refl)
+keeps_one key (call.Write fd bytes) taken may = (key, refl)
+keeps_one key other taken may = absurd may
+
+-- and which keeps one
+module _ {A : Type 0} (k : Contents A) (sound : IsSound A k) (key : ℕ) (o : Opened) (here : at k.opened key ≡ Some o) (pipe : IsPipe o.node) (left : k.calls.next ≢ last_call) (pid : ℕ) (call : Call A) (taken : ℕ) (may : MayWait call taken) (process : IsTrue (is_pid k.tables pid)) where
+  abbrev c : Core A numbers
+  c = core_of k
+
+  abbrev w : ParkedCall A
+  w = call_on key pid call taken
+
+  abbrev with_it : Contents A
+  with_it = with_call k w
+
+  waits : IsWaiting A w
+  waits = record { few = omega arith; keeps = keeps_one key call taken may; may = may }
+
+  open_one : (d : ℕ) → is_member nat_eq (key ∷ []) d ≡ true → IsSome (at k.opened d)
+  open_one d h = subst (λ z. IsSome z) (sym (ap (at k.opened) (only_one key d h) ∙ here)) refl
+
+  on_pipe : All (OnPipe (at k.opened)) (key ∷ [])
+  on_pipe = keeps-pipe (at k.opened) key (subst (λ o. IfSome o (λ o. IsPipe o.node)) (sym here) pipe)
+
+  pub park_is : core_of with_it ≡ parked c (waiting_of w)
+  park_is = call_is k sound w waits open_one left on_pipe process
+
+  pub park_settles : core_of with_it ≡ settle c (parked c (waiting_of w))
+  park_settles = call_settles k sound w waits open_one left on_pipe process
+
+  pub park_sound : IsSound A with_it
+  park_sound = call_sound k sound w waits open_one left on_pipe process
+
+  -- and its pipe has other bytes
+  module _ (p : ℕ) (on : OpenOn k key (node.Pipe p)) (x : Pipe) (is : at k.nodes.pipes p ≡ Some x) (more : List ℕ) (new : Contents A) (adds : Adds with_it p more new) where
+    abbrev bytes : List ℕ
+    bytes = x.bytes ++ more
+
+    abbrev moved : Core A numbers
+    moved = set_pipe c p (record x { bytes = bytes })
+
+    moved_is : core_of (with_pipes with_it new.nodes.pipes) ≡ parked moved (waiting_of w)
+    moved_is = changed_is with_it park_sound key p (record { opened = on.opened; here = on.here; node = on.node }) x is bytes new.nodes.pipes (λ y. record y { bytes = y.bytes ++ more }) refl adds.pipes ∙ ap (λ z. set_pipe z p (record x { bytes = bytes })) park_is
+
+    moved_live : (d : ℕ) → is_live (parked moved (waiting_of w)) d ≡ is_live c d
+    unfolding in_rows in_parked pids
+    moved_live d = parked_live c sound.settled (waiting_of w) (live k sound w waits open_one left on_pipe process) d
+
+    pub park_moves : core_of new ≡ settle c (parked moved (waiting_of w))
+    unfolding core_of
+    park_moves = ap (λ z. core_of z) adds.rest ∙ moved_is ∙ sym (settles is)
+      where
+        settles : at k.nodes.pipes p ≡ Some x → settle c (parked moved (waiting_of w)) ≡ parked moved (waiting_of w)
+        settles is = moved-settled c (parked moved (waiting_of w)) sound.settled (record { descriptions = refl; files = refl; names = refl }) moved_live p x is (pipe_held k sound.whole key p on) bytes refl
+
+    pub park_moves_sound : IsSound A new
+    park_moves_sound = subst (IsSound A) (sym adds.rest) (changed_sound with_it park_sound key p (record { opened = on.opened; here = on.here; node = on.node }) x is bytes new.nodes.pipes (λ y. record y { bytes = y.bytes ++ more }) refl adds.pipes)
+
+-- few holds are loose
+pub few_holds : {A : Type 0} (descs : Descs) (k : Contents A) → IsSound A k → AreCounted A descs k.calls.calls → (key : ℕ) → count_at descs.loose key < 2 ^ 100
+few_holds descs k sound are key =
+    let few : keeping k.calls.calls key + most_kept * 0 ≤ most_kept * k.calls.next = keeping_few 0 k.calls.next k.calls.calls key sound.rise sound.waiting in
+    omega (arith, are.counted key, few, sound.numbered)
+
+-- what a call keeps is held for it
+module _ {A : Type 0} (m : Known A) (w : ParkedCall A) (descs' : Descs) (rest : descs' ≡ record m.descs { loose = descs'.loose }) where
+  open m use {descs, nodes, calls, limits, are}
+
+  abbrev more : Calls A
+  more = (with_call (contents descs nodes calls limits) w).calls
+
+  pub held_is : contents descs' nodes more limits ≡ with_call (contents descs nodes calls limits) w
+  held_is = ap (λ z. contents z nodes more limits) rest
+
+  pub park_held : ((q : ℕ) → count_at descs'.loose q ≡ count_at descs.loose q + times w.kept q) → IsTidy descs' → AreCounted A descs' more.calls
+  park_held loose tidy = record { tidy = tidy; counted = λ q. loose q ∙ ap (λ n. n + times w.kept q) (are.counted q) ∙ sym (keeping_more calls.calls calls.next w q) }
+
+-- one hold more is that of a list of one key
+pub held_once : (key : ℕ) (m n : ℕ → ℕ) → n ≡ change_count key one_more m → (q : ℕ) → n q ≡ m q + times (key ∷ []) q
+held_once key m n is q = (λ i. is i q) ∙ by (nat_eq key q) (m q) ∙ ap (λ z. m q + z) (sym (times_one key q))
+  where
+    by : (b : Bool) (n : ℕ) → cond b (n + 1) n ≡ n + cond b 1 0
+    by true n = omega arith
+    by false n = omega arith

@@ -1,0 +1,98 @@
+-- What holds of all that a kernel holds.
+use Rattle.std.specs.Prelude.{◌≡◌, ◌≤◌, ℕ, Bool, IsTrue, List, [], ◌∷◌, length, nat_eq, Option, IfSome, All, ⊤, count_by}
+use Rattle.std.specs.List.{sum_by}
+use Rattle.std.specs.Cmp.Lexicographic.{pointwise}
+use Rattle.pl_model.specs.declared.calls.Call.{Call}
+use Rattle.pl_model.specs.declared.calls.Call.TheVariants as call
+use Rattle.pl_model.specs.declared.node.Node.{Node}
+use Rattle.pl_model.specs.declared.node.Node.TheVariants as node
+use Rattle.pl_model.specs.Numbers.{last_call, pipe_buf}
+use Rattle.pl_model.specs.Map.{Map, get, EachOnce}
+use Rattle.pl_model.specs.Laws.{IsSettled}
+use Rattle.pl_parked.specs.declared.call.ParkedCall.{ParkedCall}
+use Rattle.pl_parked.specs.Calls.{Rise}
+use Rattle.pl_desc.specs.Rows.{at, is_pid, count_at}
+use Rattle.pl_desc.specs.Descs.{Opened, Descs, IsTidy}
+use Rattle.pl_state.specs.Contents.{Contents, Nodes, IsThere, core_of}
+
+-- What may wait, with so many bytes taken: a read takes none, a write no more than it has, and none where it is to go in
+-- whole.
+abbrev pub MayWait : {A : Type 0} → Call A → ℕ → Type 0
+MayWait (call.Read fd n) taken = taken ≡ 0
+MayWait (call.Write fd bytes) taken = (taken ≤ length bytes) × (length bytes ≤ pipe_buf → taken ≡ 0)
+MayWait other taken = ⊥
+
+-- Our own: the descriptions that one call keeps.
+abbrev pub most_kept : ℕ
+most_kept = 256
+
+-- the only key of a list
+abbrev pub IsOnly : ℕ → List ℕ → Type 0
+IsOnly key kept = kept ≡ key ∷ []
+
+-- What a call keeps as it waits: a read and a write the one description that they try.
+abbrev pub Keeps : {A : Type 0} → Call A → List ℕ → Type 0
+Keeps (call.Read fd n) kept = (key : ℕ) × IsOnly key kept
+Keeps (call.Write fd bytes) kept = (key : ℕ) × IsOnly key kept
+Keeps other kept = ⊥
+
+-- A parked call, which keeps no more descriptions than one call may name.
+pub record IsWaiting (A : Type 0) (c : ParkedCall A) : Type 0 where
+  pub few : length c.kept ≤ most_kept
+  pub keeps : Keeps c.call c.kept
+  pub may : MayWait c.call c.taken
+
+-- No description dangles, and no name: what it is on, or stands for, is there.
+pub record AreThere (opened : ℕ → Option Opened) (nodes : Nodes) : Type 0 where
+  pub described : (d : ℕ) → IfSome (opened d) (λ o. IsThere nodes o.node)
+  pub named : All (λ e. IsThere nodes e.1) nodes.names
+
+-- What holds of all that a kernel holds, whatever its calls wait for.
+pub record IsWhole (A : Type 0) (k : Contents A) : Type 0 where
+  -- each number stands once, so one call ends at a time
+  pub rise : Rise 0 k.calls.next k.calls.calls
+  pub numbered : k.calls.next ≤ last_call
+  -- so a call on a description finds its node
+  pub there : AreThere (at k.opened) k.nodes
+  -- so a file ends where the machine's does
+  pub limit : k.nodes.file_max ≡ k.limits.file_max
+  -- so a name that is taken away stood for one node alone
+  pub once : EachOnce (pointwise nat_eq) k.nodes.names
+  -- the end of a step has nothing more to tidy, so what is described is live, and a refused call changes nothing
+  pub settled : IsSettled (core_of {A = A} k)
+
+-- Each call that waits is that of a process that is there.
+abbrev pub Belong : {A : Type 0} → Map ℕ (ParkedCall A) → (ℕ → Bool) → Type 0
+Belong calls processes = (number : ℕ) → IfSome (get nat_eq calls number) (λ w. IsTrue (processes w.pid))
+
+abbrev pub IsPipe : Node → Type 0
+IsPipe (node.Pipe p) = ⊤
+IsPipe (node.File f) = ⊥
+
+-- the description of a key, where there is one, is on a pipe
+abbrev pub OnPipe : (ℕ → Option Opened) → ℕ → Type 0
+OnPipe opened key = IfSome (opened key) (λ o. IsPipe o.node)
+
+-- What a call that waits keeps is on a pipe: on a regular file no call waits.
+abbrev pub WaitOnPipes : {A : Type 0} → Map ℕ (ParkedCall A) → (ℕ → Option Opened) → Type 0
+WaitOnPipes calls opened = (number : ℕ) → IfSome (get nat_eq calls number) (λ w. All (OnPipe opened) w.kept)
+
+-- The kernel's invariant, of what it holds.
+pub record IsSound (A : Type 0) (k : Contents A) : Type 0 where
+  pub whole : IsWhole A k
+  pub open whole use *
+  pub waiting : (number : ℕ) → IfSome (get nat_eq k.calls.calls number) (IsWaiting A)
+  pub belong : Belong k.calls.calls (is_pid k.tables)
+  pub on_pipes : WaitOnPipes k.calls.calls (at k.opened)
+
+-- how many times a key stands in a list, and in the lists that parked calls keep
+abbrev pub times : List ℕ → ℕ → ℕ
+times kept key = count_by (λ k. nat_eq k key) kept
+
+abbrev pub keeping : {A : Type 0} → Map ℕ (ParkedCall A) → ℕ → ℕ
+keeping calls key = sum_by (λ e. times e.1.kept key) calls
+
+-- Its invariant, of who holds what: a loose hold of a description is that of a parked call that keeps it.
+pub record AreCounted (A : Type 0) (descs : Descs) (calls : Map ℕ (ParkedCall A)) : Type 0 where
+  pub tidy : IsTidy descs
+  pub counted : (key : ℕ) → count_at descs.loose key ≡ keeping calls key

@@ -1,0 +1,19 @@
+//! What a kernel holds, and what its calls share.
+//!
+//! The fields of a `KernelState` are public, so that the crates of the calls can reach them. Its invariant holds wherever it is whole:
+//! who changes a field proves it again.
+#![tactic(auto)]
+
+mod access;
+mod ending;
+mod fault;
+mod last_hold;
+mod opening;
+mod state;
+
+pub use access::{Access, OpenEnd, OpenNode};
+pub use ending::end_call;
+pub use fault::NoMemory;
+pub use last_hold::{leave_unnamed, release, release_all};
+pub use opening::open_at;
+pub use state::KernelState;

@@ -1,0 +1,52 @@
+//! All that a kernel holds.
+ghost use Rattle.pl_model.specs.Numbers.{most_file_bytes};
+ghost use Rattle.std.specs.Prelude.{◌≤◌};
+
+use pl_desc::Descs;
+use pl_model::Limits;
+use pl_nodes::Nodes;
+use pl_parked::Parked;
+use std::alloc::{Allocator, Global};
+use std::marker::Model;
+
+/// All that a kernel holds, in the memory of one allocator.
+#[derive(Drop)]
+pub struct KernelState<A: Allocator = Global> {
+    pub alloc: A,
+    pub limits: Limits,
+    pub descs: Descs<A>,
+    pub nodes: Nodes<A>,
+    pub parked: Parked<A>,
+}
+
+impl<A: Allocator> Model for KernelState<A> {
+    ghost use Rattle.pl_state.specs.Contents.{Contents};
+
+    ghost Value = { Contents A };
+
+    ghost use Rattle.pl_state.specs.KernelView.{view_of};
+    ghost use Rattle.pl_state.specs.Sound.{IsSound, AreCounted};
+
+    ghost view = { view_of };
+
+    ghost invariant = { λ k. IsSound A (view_of k) × AreCounted A k.descs k.parked.calls };
+}
+
+impl<A: Allocator + Copy> KernelState<A> {
+    ghost use Rattle.pl_model.specs.Numbered.{opening};
+    ghost use Rattle.pl_state.specs.Makes.{Stands};
+
+    /// What a kernel with no process holds. `limits.file_max` is at most 16,777,216. It takes no memory.
+    pub fn new(alloc: A, limits: Limits) -> KernelState<A>
+        requires { limits.file_max ≤ most_file_bytes }
+        ensures { Stands result (opening {A = A} limits) }
+    {
+        KernelState {
+            alloc,
+            limits,
+            descs: Descs::new(alloc),
+            nodes: Nodes::new(alloc, limits.file_max as usize),
+            parked: Parked::new(alloc, limits.first_call),
+        }
+    }
+}

@@ -1,0 +1,18 @@
+-- What a try of a call comes to at the kernel's keys.
+pub mod Trying
+-- A description changes, and is on what it was on; its file may have other bytes.
+pub mod Redescribing
+-- What a read and a write of a file come to at the kernel's keys.
+pub mod Filing
+-- What a read comes to at the kernel's keys.
+pub mod Reading
+-- What a write comes to at the kernel's keys.
+pub mod Writing
+-- What a resume or an interrupt comes to at the kernel's keys.
+pub mod Resuming
+-- What a seek comes to at the kernel's keys.
+pub mod Seeking
+-- A call that waits at its first try is refused, or parked.
+pub mod Refusing
+-- A parked call is tried again and waits on, at the kernel's keys.
+pub mod Again

@@ -1,0 +1,122 @@
+use Rattle.std.proofs.Common.{◌≡◌, None, ◌≤◌, ◌++◌, false, refl, sym, ap, subst, ◌∙◌, length, take, w32, IfSome, Some, arith}
+use Rattle.std.specs.Prelude.{◌==◌, not, slice_range}
+use Rattle.std.proofs.lemmas.Int.{to_z-of_z}
+use Rattle.std.proofs.lemmas.Bool.{ne_eqb}
+use Rattle.pl_model.specs.declared.calls.Call.{Call}
+use Rattle.pl_model.specs.declared.calls.Step.TheVariants.{Begin}
+use Rattle.pl_model.specs.declared.cases.WriteCase.TheVariants.{Waits}
+use Rattle.pl_model.specs.declared.replies.Reply.TheVariants.{Count, Parked}
+use Rattle.pl_model.specs.Modes.{writes}
+use Rattle.pl_model.specs.Transfer.{room, write_case}
+use Rattle.pl_model.specs.Numbers.{pipe_buf}
+use Rattle.pl_decisions.specs.Decided.{FitsRoom}
+use Rattle.pl_state.specs.KernelView.{view_of}
+use Rattle.pl_model.specs.State.{Pipe}
+use Rattle.pl_state.specs.declared.access.OpenEnd.{OpenEnd}
+use Rattle.pl_state.specs.Contents.{Contents}
+use Rattle.pl_state.specs.Opens.{Opens, of_end}
+use Rattle.pl_desc.specs.Rows.{at}
+use Rattle.pl_state.specs.LastHold.{has_reader}
+use Rattle.pl_state.specs.Makes.{MakesAtKeys}
+use Rattle.pl_state.specs.Parking.{refusal, call_on, with_call, Adds}
+use Rattle.pl_nodes.proofs.Keyed.{on_err}
+use Rattle.pl_state.proofs.by_call.Begun.{pipe_there}
+use Rattle.pl_state.proofs.by_call.Moving.{changed_sound}
+use Rattle.pl_transfers.proofs.by_call.Writing.{from_first, write-ends, write-wants, write-broken, write-refused, write-waits, write-waits-wants}
+use Rattle.pl_state.specs.Sound.{IsSound}
+use Rattle.pl_state.proofs.Known.{Caller, caller, moved_view}
+use Rattle.pl_transfers.proofs.transfers.write_pipe.Given.{Over}
+use Rattle.pl_transfers.proofs.transfers.write_pipe.Goals.{After-as_slice-length, After-case_of_write, In_default}
+use Rattle.pl_transfers.proofs.transfers.write_pipe.Goals as goal
+
+-- the pipe, and what the write comes to
+module _ (g : Over) (c : After-case_of_write g) where
+  abbrev k : Contents g.row.A.Denot
+  k = view_of c.kernel.inside
+
+  abbrev o : OpenEnd
+  o = c.args.end
+
+  abbrev calls_on : Caller g.row.A.Denot
+  calls_on = caller c.kernel.inside c.kernel.invariant c.args.kernel.now c.kernel.view_is c.args.pid c.requires.process
+
+  on_end : Opens k writes c.args.pid c.args.fd (of_end o)
+  on_end = subst (λ z. Opens z writes c.args.pid c.args.fd (of_end o)) (sym c.kernel.view_is) c.requires.opens
+
+  some : (length c.args.bytes == 0) ≡ false
+  some = ne_eqb (length c.args.bytes) 0 c.requires.some
+
+  on_pipe : (p : Pipe) × (at k.nodes.pipes o.pipe ≡ Some p)
+  on_pipe = pipe_there k c.kernel.invariant.0.whole o.key o.pipe on_end.on
+
+  comes_to : write_case (length c.args.bytes) 0 (room on_pipe.0) (has_reader k.opened o.pipe) (not o.nonblock) ≡ c.case_of_write.result
+  comes_to =
+      let told = subst (λ z. IfSome (at z.nodes.pipes o.pipe) (λ x. c.case_of_write.result ≡ write_case (length c.as_slice-length.result.now) 0 (room x) (has_reader z.opened o.pipe) (not o.nonblock))) (sym c.kernel.view_is) c.case_of_write.ensures.case in
+      ap (λ z. write_case (length z) 0 (room on_pipe.0) (has_reader k.opened o.pipe) (not o.nonblock)) (sym c.as_slice-length.ensures.value)
+      ∙ sym (subst (λ z. IfSome z (λ x. c.case_of_write.result ≡ write_case (length c.as_slice-length.result.now) 0 (room x) (has_reader k.opened o.pipe) (not o.nonblock))) on_pipe.1 told)
+
+-- nothing keeps the call from waiting
+may_wait : (g : Over) (c : In_default g) → refusal {A = g.row.A.Denot} c.args.end.nonblock (view_of c.kernel.inside).calls.next ≡ None
+may_wait g c = ap (λ z. refusal c.args.end.nonblock z.calls.next) c.kernel.view_is ∙ sym c.refusal_to_wait.ensures ∙ c.in_default.is
+
+pub returns-in_err-write_pipe-in-Ends-clause-wanted : goal.returns-in_err-write_pipe-in-Ends-clause-wanted
+returns-in_err-write_pipe-in-Ends-clause-wanted g c =
+    let w = (goal.at.returns-in_err-write_pipe-in-Ends-clause-wanted g c).After-case_of_write in
+    let p = on_pipe g w in
+    on_err c.from_residual.result _ (rw (← c.kernel.view_is) (write-wants (calls_on g w) c.args.fd c.args.bytes (o g w) (on_end g w) (some g w) p.0 p.1 c.in-Ends.from c.in-Ends.to (comes_to g w ∙ c.in-Ends.is)))
+
+pub invariant_of-kernel-in-Ends-1 : goal.invariant_of-kernel-in-Ends-1
+invariant_of-kernel-in-Ends-1 g c =
+    let w = (goal.at.invariant_of-kernel-in-Ends-1 g c).After-case_of_write in
+    let p = on_pipe g w in
+    (subst (IsSound g.row.A.Denot) (moved_view c.kernel.inside c.write_pipe.new.self c.in_ok-write_pipe-in-Ends.ensures.files) (changed_sound (k g w) c.kernel.invariant.0 (o g w).key (o g w).pipe (on_end g w).on p.0 p.1 _ c.write_pipe.new.self.pipes (λ x. record x { bytes = x.bytes ++ slice_range c.as_slice.result.now c.in-Ends.from c.in-Ends.to }) refl c.in_ok-write_pipe-in-Ends.ensures.ok), c.kernel.invariant.1)
+
+pub returns-in-Some-clause-done : goal.returns-in-Some-clause-done
+returns-in-Some-clause-done g c =
+    let w = (goal.at.returns-in-Some-clause-done g c).After-case_of_write in
+    let p = on_pipe g w in
+    let refused = ap (λ z. refusal (o g w).nonblock z.calls.next) c.kernel.view_is ∙ sym c.refusal_to_wait.ensures ∙ c.in-Some.is in
+    rw (← c.kernel.view_is) (write-refused (calls_on g w) c.args.fd c.args.bytes (o g w) (on_end g w) (some g w) p.0 p.1 c.in-Waits.from c.in-Waits.to (comes_to g w ∙ c.in-Waits.is) c.in-Some.refusal refused)
+
+pub returns-in_err-number-in-Waits-clause-wanted : goal.returns-in_err-number-in-Waits-clause-wanted
+returns-in_err-number-in-Waits-clause-wanted g c =
+    let w = (goal.at.returns-in_err-number-in-Waits-clause-wanted g c).After-case_of_write in
+    let p = on_pipe g w in
+    let left = may_wait g (goal.at.returns-in_err-number-in-Waits-clause-wanted g c).In_default in
+    on_err c.from_residual-in_err-number-in-Waits.result _ (rw (← c.kernel.view_is) (write-waits-wants (calls_on g w) c.args.fd c.args.bytes (o g w) (on_end g w) (some g w) p.0 p.1 c.in-Waits.from c.in-Waits.to (comes_to g w ∙ c.in-Waits.is) left))
+
+pub returns-in-Broken-clause-done : goal.returns-in-Broken-clause-done
+returns-in-Broken-clause-done g c =
+    let w = (goal.at.returns-in-Broken-clause-done g c).After-case_of_write in
+    let p = on_pipe g w in
+    rw (← c.kernel.view_is) (write-broken (calls_on g w) c.args.fd c.args.bytes (o g w) (on_end g w) (some g w) p.0 p.1 (comes_to g w ∙ c.in-Broken.is))
+
+pub returns-in_ok-write_pipe-in-Ends-clause-done : goal.returns-in_ok-write_pipe-in-Ends-clause-done
+returns-in_ok-write_pipe-in-Ends-clause-done g c =
+    let w = (goal.at.returns-in_ok-write_pipe-in-Ends-clause-done g c).After-case_of_write in
+    let p = on_pipe g w in
+    let bytes_are = ap (λ z. slice_range z c.in-Ends.from c.in-Ends.to) c.as_slice.ensures.value in
+    rw (← c.kernel.view_is) (subst (MakesAtKeys (k g w) (Begin c.args.pid (Call.Write c.args.fd c.args.bytes)) (Count c.in-Ends.to false)) (moved_view c.kernel.inside c.write_pipe.new.self c.in_ok-write_pipe-in-Ends.ensures.files)
+    (write-ends (calls_on g w) c.args.fd c.args.bytes (o g w) (on_end g w) (some g w) p.0 p.1 c.in-Ends.from c.in-Ends.to (comes_to g w ∙ c.in-Ends.is) (slice_range c.as_slice.result.now c.in-Ends.from c.in-Ends.to) bytes_are c.write_pipe.new.self.pipes c.in_ok-write_pipe-in-Ends.ensures.ok))
+
+pub returns-in_ok-number-in-Waits-clause-done : goal.returns-in_ok-number-in-Waits-clause-done
+returns-in_ok-number-in-Waits-clause-done g c =
+    let w = (goal.at.returns-in_ok-number-in-Waits-clause-done g c).After-case_of_write in
+    let p = on_pipe g w in
+    let k = view_of c.kernel.inside in
+    let o = c.args.end in
+    let left = may_wait g (goal.at.returns-in_ok-number-in-Waits-clause-done g c).In_default in
+    let x = Begin c.args.pid (Call.Write c.args.fd c.args.bytes) in
+    let to = c.in-Waits.to in
+    let call = call_on o.key c.args.pid (Call.Write c.args.fd c.args.bytes) to in
+    let fits : FitsRoom (Waits c.in-Waits.from to) (length c.as_slice-length.result.now) 0 (room p.0) =
+    subst (λ z. IfSome z (λ x. FitsRoom (Waits c.in-Waits.from to) (length c.as_slice-length.result.now) 0 (room x))) p.1 (subst (λ z. IfSome (at z.nodes.pipes o.pipe) (λ x. FitsRoom (Waits c.in-Waits.from to) (length c.as_slice-length.result.now) 0 (room x))) (sym c.kernel.view_is) c.in-Waits.ensures.fits) in
+    let within : to ≤ length c.args.bytes = subst (λ xs. to ≤ length xs) c.as_slice-length.ensures.value fits.2 in
+    let told_adds = subst (λ z. Adds (with_call c.args.kernel.now (call_on o.key c.args.pid (Call.Write z c.args.bytes) to)) o.pipe (take to c.args.bytes) c.park_write.new.kernel) (to_z-of_z w32 c.args.fd c.ranges.fd) c.in_ok-number-in-Waits.ensures.ok in
+    let by_view = subst (λ z. Adds (with_call z call) o.pipe (take to c.args.bytes) c.park_write.new.kernel) (sym c.kernel.view_is) told_adds in
+    let part = from_first c.args.bytes c.in-Waits.from to (omega (arith, fits.0)) in
+    let adds = subst (λ z. Adds (with_call k call) o.pipe z c.park_write.new.kernel) (sym part) by_view in
+    let small : length c.args.bytes ≤ pipe_buf → to ≡ 0 = (λ s. fits.4 (subst (λ xs. length xs ≤ pipe_buf) (sym c.as_slice-length.ensures.value) s)) in
+    let does = write-waits (calls_on g w) c.args.fd c.args.bytes o (on_end g w) (some g w) p.0 p.1 c.in-Waits.from to (comes_to g w ∙ c.in-Waits.is) left c.park_write.new.kernel (within, small) adds in
+    let number : c.in_ok-number-in-Waits.number ≡ k.calls.next = c.in_ok-number-in-Waits.ensures.number ∙ ap (λ z. z.calls.next) (sym c.kernel.view_is) in
+    subst (λ z. MakesAtKeys z x (Parked c.in_ok-number-in-Waits.number) c.park_write.new.kernel) c.kernel.view_is (subst (λ z. MakesAtKeys k x (Parked z) c.park_write.new.kernel) (sym number) does)

@@ -1,0 +1,54 @@
+//! Reads and writes of regular files, at the offset that all descriptors of a description share.
+ghost use Rattle.std.specs.Prelude.{◌≡◌, ◌↔◌, ◌≤◌, length, IfOk, OnErr, Err};
+ghost use Rattle.pl_model.specs.declared.node.Node.TheVariants as node;
+ghost use Rattle.pl_state.specs.Opens.{OpenOn};
+ghost use Rattle.pl_transfers.specs.Files.{ReadsFile, WritesFile, IsFull};
+
+use bitflags::Flags;
+use pl_model::{Bytes8, Node, OpenFlags};
+use pl_nodes::WriteFault;
+use pl_state::{KernelState, NoMemory};
+use std::alloc::Allocator;
+
+// Reads from the offset of a description on, which advances.
+pub(crate) fn read_file<A: Allocator + Copy>(
+    kernel: &mut KernelState<A>,
+    key: usize,
+    file: usize,
+    n: u32,
+) -> Result<Bytes8<A>, NoMemory>
+    requires { OpenOn kernel.old key (Node.File file) }
+    ensures done { IfOk result (λ bytes. ReadsFile kernel.old key file n bytes kernel.new) }
+    ensures undone { OnErr result (kernel.new ≡ kernel.old) }
+{
+    let place = kernel.descs.offset(key) as usize;
+    // A proof learns here that no file has more bytes than a read may answer.
+    let _len = kernel.nodes.file_len(file);
+    let bytes = kernel.nodes.read_file(file, place, n as usize)?;
+    kernel.descs.set_offset(key, (place + bytes.len()) as u64);
+    Ok(Bytes8::from_vec(bytes).unwrap())
+}
+
+// Writes bytes, not none, at the offset of a description, or at the end of the file under `APPEND`, and leaves the offset behind
+// what was written.
+pub(crate) fn write_file<A: Allocator + Copy>(
+    kernel: &mut KernelState<A>,
+    key: usize,
+    file: usize,
+    bytes: &[u8],
+) -> Result<usize, WriteFault>
+    requires on { OpenOn kernel.old key (Node.File file) }
+    requires some { 1 ≤ length bytes.now }
+    ensures done { IfOk result (λ count. WritesFile kernel.old key file bytes.now count kernel.new) }
+    ensures big { (result ≡ Err WriteFault.TooBig) ↔ IsFull kernel.old key file }
+    ensures undone { OnErr result (kernel.new ≡ kernel.old) }
+{
+    let place = if kernel.descs.flags(key).contains(OpenFlags::APPEND) {
+        kernel.nodes.file_len(file)
+    } else {
+        kernel.descs.offset(key) as usize
+    };
+    let count = kernel.nodes.write_file(file, place, bytes)?;
+    kernel.descs.set_offset(key, (place + count) as u64);
+    Ok(count)
+}

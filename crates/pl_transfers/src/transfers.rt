@@ -1,0 +1,284 @@
+//! Reads and writes, and how pipes are made.
+ghost use Rattle.std.specs.Prelude.{◌≡◌, ◌≢◌, ◌≤◌, [], length, IfOk, OnErr, IsSome, IfSome, IfNone, None, Some};
+ghost use Rattle.pl_model.specs.Flags.{nonblock_if};
+ghost use Rattle.pl_model.specs.Modes.{reads, writes};
+ghost use Rattle.pl_model.specs.Transfer.{read_case, write_case, room};
+ghost use Rattle.pl_model.specs.Begin.{open_for};
+ghost use Rattle.pl_desc.specs.Rows.{at};
+ghost use Rattle.pl_decisions.specs.Decided.{FitsRoom};
+ghost use Rattle.pl_state.specs.Contents.{IsProcess, core_of, allows};
+ghost use Rattle.pl_state.specs.Opens.{Opens, of_end};
+ghost use Rattle.pl_state.specs.LastHold.{has_reader, has_writer};
+ghost use Rattle.pl_state.specs.Makes.{MakesAtKeys, MayWantAtKeys};
+
+use crate::files::{read_file, write_file};
+use crate::waiting::{park, park_write, refusal_to_wait};
+use bitflags::Flags;
+use pl_model::numbers::MAX_DESCRIPTIONS;
+use pl_model::{Bytes8, Call, Errno, Mode, Node, OpenFlags, ReadCase, Reply, Step, WriteCase};
+use pl_nodes::WriteFault;
+use pl_state::{Access, KernelState, NoMemory, OpenEnd, OpenNode, open_at};
+use std::alloc::Allocator;
+
+/// The read of no bytes, which is end of file.
+pub(crate) fn no_bytes<A: Allocator>(alloc: A) -> Reply<A>
+    ensures { result ≡ Reply.Bytes [] }
+{
+    Reply::Bytes(Bytes8::from_vec(Vec::new(alloc)).unwrap())
+}
+
+/// The status flags of the ends of a new pipe.
+fn flags_of(nonblock: bool) -> OpenFlags
+    ensures { result ≡ nonblock_if nonblock }
+{
+    if nonblock {
+        OpenFlags::NONBLOCK
+    } else {
+        OpenFlags::empty()
+    }
+}
+
+/// Makes a pipe, and opens its read end and its write end on the two least free descriptors (POSIX.1-2017, pipe; pipe2(2)).
+///
+/// The reply is the two, or `EMFILE` where fewer are free, or `ENFILE` above 4,094 descriptions. The only error is want of memory. All of
+/// these leave all as it was.
+pub fn pipe<A: Allocator + Copy>(
+    kernel: &mut KernelState<A>,
+    pid: u32,
+    nonblock: bool,
+) -> Result<Reply<A>, NoMemory>
+    requires { IsProcess kernel.old pid }
+    ensures done { IfOk result (λ reply. MakesAtKeys kernel.old (Step.Begin pid (Call.Pipe nonblock)) reply kernel.new) }
+    ensures undone { OnErr result (kernel.new ≡ kernel.old) }
+    ensures wanted { OnErr result (MayWantAtKeys {A = A} kernel.old (Step.Begin pid (Call.Pipe nonblock))) }
+{
+    let Some(first) = kernel.descs.lowest(pid, 0) else {
+        return Ok(Reply::Fault(Errno::EMFILE));
+    };
+    let Some(second) = kernel.descs.lowest(pid, first + 1) else {
+        return Ok(Reply::Fault(Errno::EMFILE));
+    };
+    if kernel.descs.live() > MAX_DESCRIPTIONS - 2 {
+        return Ok(Reply::Fault(Errno::ENFILE));
+    }
+    let flags = flags_of(nonblock);
+    let node = Node::Pipe(kernel.nodes.next_key());
+    kernel.descs.reserve(node, 2)?;
+    kernel.nodes.make_pipe()?;
+    open_at(&mut kernel.descs, pid, first, node, Mode::Read, flags);
+    open_at(&mut kernel.descs, pid, second, node, Mode::Write, flags);
+    Ok(Reply::Fds(first as i32, second as i32))
+}
+
+// What a descriptor names, where its mode allows the access.
+fn open_for<A: Allocator + Copy>(
+    kernel: &KernelState<A>,
+    pid: u32,
+    fd: i32,
+    access: Access,
+) -> Option<OpenNode>
+    ensures some { IfSome result (Opens kernel.now (allows access) pid fd) }
+    ensures none { IfNone result (open_for (allows access) (core_of {A = A} kernel.now) pid fd ≡ None) }
+{
+    let key = kernel.descs.find(pid, fd)?;
+    if !access.is_allowed_by(kernel.descs.mode(key)) {
+        return None;
+    }
+    Some(OpenNode {
+        key,
+        node: kernel.descs.node(key),
+        nonblock: kernel.descs.flags(key).contains(OpenFlags::NONBLOCK),
+    })
+}
+
+// What a read of n bytes, not 0, of a pipe comes to.
+pub(crate) fn case_of_read<A: Allocator + Copy>(
+    kernel: &KernelState<A>,
+    pipe: usize,
+    n: u32,
+) -> ReadCase
+    requires { IsSome (at kernel.now.nodes.pipes pipe) }
+    ensures { IfSome (at kernel.now.nodes.pipes pipe) (λ x. result ≡ read_case n (length x.bytes) (has_writer kernel.now.opened pipe)) }
+{
+    let held = kernel.nodes.held(pipe);
+    let has_writer = kernel.descs.writers(Node::Pipe(pipe)) > 0;
+    pl_decisions::case_of_read(n as usize, held, has_writer)
+}
+
+// What a write of bytes, not none, of which some were taken before, to a pipe comes to.
+pub(crate) fn case_of_write<A: Allocator + Copy>(
+    kernel: &KernelState<A>,
+    pipe: usize,
+    length: usize,
+    taken: usize,
+    may_wait: bool,
+) -> WriteCase
+    requires pipe { IsSome (at kernel.now.nodes.pipes pipe) }
+    requires taken { taken ≤ length }
+    ensures case { IfSome (at kernel.now.nodes.pipes pipe) (λ x. result ≡ write_case length taken (room x) (has_reader kernel.now.opened pipe) may_wait) }
+    ensures fits { IfSome (at kernel.now.nodes.pipes pipe) (λ x. FitsRoom result length taken (room x)) }
+{
+    let room = kernel.nodes.room(pipe);
+    let has_reader = kernel.descs.readers(Node::Pipe(pipe)) > 0;
+    pl_decisions::case_of_write(length, taken, room, has_reader, may_wait)
+}
+
+/// Reads at most `n` bytes of what a descriptor names (POSIX.1-2017, read).
+///
+/// The reply is the bytes, none at the end of file, or a number under which the call waits, or `EBADF` where the descriptor isn't open for
+/// reading, `EAGAIN` where the call would wait and may not, `CallsSpent` where no number is left; these and the only error, want of
+/// memory, leave all as it was.
+pub fn read<A: Allocator + Copy>(
+    kernel: &mut KernelState<A>,
+    pid: u32,
+    fd: i32,
+    n: u32,
+) -> Result<Reply<A>, NoMemory>
+    requires { IsProcess kernel.old pid }
+    ensures done { IfOk result (λ reply. MakesAtKeys kernel.old (Step.Begin pid (Call.Read fd n)) reply kernel.new) }
+    ensures undone { OnErr result (kernel.new ≡ kernel.old) }
+    ensures wanted { OnErr result (MayWantAtKeys {A = A} kernel.old (Step.Begin pid (Call.Read fd n))) }
+{
+    let Some(open) = open_for(kernel, pid, fd, Access::Reading) else {
+        return Ok(Reply::Fault(Errno::EBADF));
+    };
+    if n == 0 {
+        return Ok(no_bytes(kernel.alloc));
+    }
+    match open.node {
+        Node::Pipe(pipe) => read_pipe(
+            kernel,
+            pid,
+            fd,
+            n,
+            OpenEnd {
+                key: open.key,
+                pipe,
+                nonblock: open.nonblock,
+            },
+        ),
+        Node::File(file) => Ok(Reply::Bytes(read_file(kernel, open.key, file, n)?)),
+    }
+}
+
+// A read of n bytes, not 0, of the end of a pipe that a descriptor names.
+fn read_pipe<A: Allocator + Copy>(
+    kernel: &mut KernelState<A>,
+    pid: u32,
+    fd: i32,
+    n: u32,
+    end: OpenEnd,
+) -> Result<Reply<A>, NoMemory>
+    requires process { IsProcess kernel.old pid }
+    requires opens { Opens kernel.old reads pid fd (of_end end) }
+    requires some { n ≢ 0 }
+    ensures done { IfOk result (λ reply. MakesAtKeys kernel.old (Step.Begin pid (Call.Read fd n)) reply kernel.new) }
+    ensures undone { OnErr result (kernel.new ≡ kernel.old) }
+    ensures wanted { OnErr result (MayWantAtKeys {A = A} kernel.old (Step.Begin pid (Call.Read fd n))) }
+{
+    match case_of_read(kernel, end.pipe, n) {
+        ReadCase::Gives(count) => {
+            let bytes = kernel.nodes.read_pipe(end.pipe, count)?;
+            Ok(Reply::Bytes(Bytes8::from_vec(bytes).unwrap()))
+        }
+        ReadCase::EndOfFile => Ok(no_bytes(kernel.alloc)),
+        ReadCase::Waits => {
+            if let Some(refusal) = refusal_to_wait(kernel, end.nonblock) {
+                return Ok(refusal);
+            }
+            let number = park(kernel, pid, Call::Read { fd, n }, end.key, 0)?;
+            Ok(Reply::Parked(number))
+        }
+    }
+}
+
+/// Writes bytes to what a descriptor names (POSIX.1-2017, write; pipe(7), PIPE_BUF).
+///
+/// The reply is how many went in, or a number under which the call waits for the rest, or `EBADF` where the descriptor isn't open for
+/// writing, `EPIPE` of a pipe without readers, `EFBIG` of a file with no room left, `EAGAIN` where the call would wait and may not,
+/// `CallsSpent` where no number is left; these and the only error, want of memory, leave all as it was.
+pub fn write<A: Allocator + Copy>(
+    kernel: &mut KernelState<A>,
+    pid: u32,
+    fd: i32,
+    bytes: Bytes8<A>,
+) -> Result<Reply<A>, NoMemory>
+    requires { IsProcess kernel.old pid }
+    ensures done { IfOk result (λ reply. MakesAtKeys kernel.old (Step.Begin pid (Call.Write fd bytes)) reply kernel.new) }
+    ensures undone { OnErr result (kernel.new ≡ kernel.old) }
+    ensures wanted { OnErr result (MayWantAtKeys {A = A} kernel.old (Step.Begin pid (Call.Write fd bytes))) }
+{
+    // A proof learns here what holds of the kernel.
+    let _ = &kernel.descs;
+    let Some(open) = open_for(kernel, pid, fd, Access::Writing) else {
+        return Ok(Reply::Fault(Errno::EBADF));
+    };
+    if bytes.as_slice().is_empty() {
+        return Ok(Reply::Count {
+            n: 0,
+            sigpipe: false,
+        });
+    }
+    match open.node {
+        Node::Pipe(pipe) => write_pipe(
+            kernel,
+            pid,
+            fd,
+            bytes,
+            OpenEnd {
+                key: open.key,
+                pipe,
+                nonblock: open.nonblock,
+            },
+        ),
+        Node::File(file) => match write_file(kernel, open.key, file, bytes.as_slice()) {
+            Ok(count) => Ok(Reply::Count {
+                n: count as u32,
+                sigpipe: false,
+            }),
+            Err(WriteFault::TooBig) => Ok(Reply::Fault(Errno::EFBIG)),
+            Err(WriteFault::NoMemory) => Err(NoMemory),
+        },
+    }
+}
+
+// A write of bytes, not none, to the end of a pipe that a descriptor names.
+fn write_pipe<A: Allocator + Copy>(
+    kernel: &mut KernelState<A>,
+    pid: u32,
+    fd: i32,
+    bytes: Bytes8<A>,
+    end: OpenEnd,
+) -> Result<Reply<A>, NoMemory>
+    requires process { IsProcess kernel.old pid }
+    requires opens { Opens kernel.old writes pid fd (of_end end) }
+    requires some { length bytes ≢ 0 }
+    ensures done { IfOk result (λ reply. MakesAtKeys kernel.old (Step.Begin pid (Call.Write fd bytes)) reply kernel.new) }
+    ensures undone { OnErr result (kernel.new ≡ kernel.old) }
+    ensures wanted { OnErr result (MayWantAtKeys {A = A} kernel.old (Step.Begin pid (Call.Write fd bytes))) }
+{
+    let length = bytes.as_slice().len();
+    match case_of_write(kernel, end.pipe, length, 0, !end.nonblock) {
+        WriteCase::Broken => Ok(Reply::Fault(Errno::EPIPE)),
+        WriteCase::CutShort => Ok(Reply::Count {
+            n: 0,
+            sigpipe: true,
+        }),
+        WriteCase::Ends { from, to } => {
+            kernel
+                .nodes
+                .write_pipe(end.pipe, &bytes.as_slice()[from..to])?;
+            Ok(Reply::Count {
+                n: to as u32,
+                sigpipe: false,
+            })
+        }
+        WriteCase::Waits { to, .. } => {
+            if let Some(refusal) = refusal_to_wait(kernel, end.nonblock) {
+                return Ok(refusal);
+            }
+            let number = park_write(kernel, pid, Call::Write { fd, bytes }, end, to)?;
+            Ok(Reply::Parked(number))
+        }
+    }
+}

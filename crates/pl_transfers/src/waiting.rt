@@ -1,0 +1,243 @@
+//! Calls that wait: how they are parked, tried again, interrupted, and end.
+ghost use Rattle.std.specs.Prelude.{◌≡◌, ◌≤◌, nat_eq, length, take, IfOk, OnOk, OnErr, IsSome, IfSome};
+ghost use Rattle.pl_model.specs.Numbers.{last_call, most_bytes};
+ghost use Rattle.pl_model.specs.Map.{get};
+ghost use Rattle.pl_model.specs.Settle.{settle};
+ghost use Rattle.pl_model.specs.Step.{without_call};
+ghost use Rattle.pl_model.specs.Transfer.{room};
+ghost use Rattle.pl_desc.specs.Rows.{at};
+ghost use Rattle.pl_state.specs.Contents.{IsProcess, core_of};
+ghost use Rattle.pl_state.specs.Opens.{OpenOn};
+ghost use Rattle.pl_state.specs.Sound.{MayWait, OnPipe};
+ghost use Rattle.pl_state.specs.Parking.{written, refusal, call_on, with_call, Adds, ReadWaits, WriteWaits};
+ghost use Rattle.pl_state.specs.Makes.{MakesAtKeys, MayWantAtKeys};
+
+use crate::parking::park_call;
+use crate::transfers::{case_of_read, case_of_write, no_bytes};
+use pl_model::{Bytes8, Call, Errno, Node, ReadCase, Reply, Step, WriteCase};
+use pl_state::{KernelState, NoMemory, OpenEnd, end_call, release_all};
+use std::alloc::Allocator;
+
+/// The bytes of a write, and none of another call.
+fn bytes_of<A: Allocator>(call: &Call<A>) -> &[u8]
+    ensures value { result.now ≡ written call.now }
+    ensures few { length result.now ≤ most_bytes }
+{
+    match call {
+        Call::Write { bytes, .. } => bytes.as_slice(),
+        _ => &[],
+    }
+}
+
+// Why a call that would wait doesn't, if it doesn't. This is tested before any memory is asked for.
+pub(crate) fn refusal_to_wait<A: Allocator + Copy>(
+    kernel: &KernelState<A>,
+    nonblock: bool,
+) -> Option<Reply<A>>
+    ensures { result ≡ refusal nonblock kernel.now.calls.next }
+{
+    if nonblock {
+        return Some(Reply::Fault(Errno::EAGAIN));
+    }
+    if kernel.parked.spent() {
+        return Some(Reply::CallsSpent);
+    }
+    None
+}
+
+// Parks a call that keeps the description of a key.
+pub(crate) fn park<A: Allocator + Copy>(
+    kernel: &mut KernelState<A>,
+    pid: u32,
+    call: Call<A>,
+    key: usize,
+    taken: u32,
+) -> Result<u64, NoMemory>
+    requires process { IsProcess kernel.old pid }
+    requires left { ¬ (kernel.old.calls.next ≡ last_call) }
+    requires here { IsSome (at kernel.old.opened key) }
+    requires pipe { OnPipe (at kernel.old.opened) key }
+    requires may { MayWait call taken }
+    ensures number { IfOk result (λ number. number ≡ kernel.old.calls.next) }
+    ensures ok { OnOk result (kernel.new ≡ with_call kernel.old (call_on key pid call taken)) }
+    ensures err { OnErr result (kernel.new ≡ kernel.old) }
+{
+    let number = park_call(kernel.alloc, &mut kernel.parked, pid, call, key, taken)?;
+    kernel.descs.hold(key);
+    Ok(number)
+}
+
+// Parks a write, and then adds the bytes of its first turn. Where these find no memory the call is taken back.
+pub(crate) fn park_write<A: Allocator + Copy>(
+    kernel: &mut KernelState<A>,
+    pid: u32,
+    call: Call<A>,
+    end: OpenEnd,
+    taken: usize,
+) -> Result<u64, NoMemory>
+    requires process { IsProcess kernel.old pid }
+    requires left { ¬ (kernel.old.calls.next ≡ last_call) }
+    requires on { OpenOn kernel.old end.key (Node.Pipe end.pipe) }
+    requires may { MayWait call taken }
+    requires taken { taken ≤ length (written call) }
+    requires room { IfSome (at kernel.old.nodes.pipes end.pipe) (λ x. taken ≤ room x) }
+    ensures number { IfOk result (λ number. number ≡ kernel.old.calls.next) }
+    ensures ok { OnOk result (Adds (with_call kernel.old (call_on end.key pid call taken)) end.pipe (take taken (written call)) kernel.new) }
+    ensures err { OnErr result (kernel.new ≡ kernel.old) }
+{
+    let number = park_call(
+        kernel.alloc,
+        &mut kernel.parked,
+        pid,
+        call,
+        end.key,
+        taken as u32,
+    )?;
+    let call = kernel.parked.get(number).unwrap();
+    let bytes = bytes_of(&call.call);
+    match kernel.nodes.write_pipe(end.pipe, &bytes[..taken]) {
+        Ok(()) => {
+            kernel.descs.hold(end.key);
+            Ok(number)
+        }
+        Err(pl_nodes::NoMemory) => {
+            kernel.parked.unpark(number);
+            Err(NoMemory)
+        }
+    }
+}
+
+// The pipe that a description is open on.
+fn pipe_of<A: Allocator + Copy>(kernel: &KernelState<A>, key: usize) -> usize
+    requires here { IsSome (at kernel.now.opened key) }
+    requires pipe { OnPipe (at kernel.now.opened) key }
+    ensures { OpenOn kernel.now key (Node.Pipe result) }
+{
+    match kernel.descs.node(key) {
+        Node::Pipe(pipe) => pipe,
+        Node::File(_) => unreachable!(),
+    }
+}
+
+fn resume_read<A: Allocator + Copy>(
+    kernel: &mut KernelState<A>,
+    number: u64,
+    key: usize,
+    n: u32,
+) -> Result<Reply<A>, NoMemory>
+    requires { ReadWaits kernel.old number key n }
+    ensures done { IfOk result (λ reply. MakesAtKeys kernel.old (Step.Resume number) reply kernel.new) }
+    ensures undone { OnErr result (kernel.new ≡ kernel.old) }
+    ensures wanted { OnErr result (MayWantAtKeys {A = A} kernel.old (Step.Resume number)) }
+{
+    let pipe = pipe_of(kernel, key);
+    match case_of_read(kernel, pipe, n) {
+        ReadCase::Gives(count) => {
+            let bytes = kernel.nodes.read_pipe(pipe, count)?;
+            end_call(kernel, number);
+            Ok(Reply::Bytes(Bytes8::from_vec(bytes).unwrap()))
+        }
+        ReadCase::EndOfFile => {
+            end_call(kernel, number);
+            Ok(no_bytes(kernel.alloc))
+        }
+        ReadCase::Waits => Ok(Reply::Parked(number)),
+    }
+}
+
+fn resume_write<A: Allocator + Copy>(
+    kernel: &mut KernelState<A>,
+    number: u64,
+    key: usize,
+    length: usize,
+    taken: u32,
+) -> Result<Reply<A>, NoMemory>
+    requires { WriteWaits kernel.old number key length taken }
+    ensures done { IfOk result (λ reply. MakesAtKeys kernel.old (Step.Resume number) reply kernel.new) }
+    ensures undone { OnErr result (kernel.new ≡ kernel.old) }
+    ensures wanted { OnErr result (MayWantAtKeys {A = A} kernel.old (Step.Resume number)) }
+{
+    let pipe = pipe_of(kernel, key);
+    match case_of_write(kernel, pipe, length, taken as usize, true) {
+        WriteCase::Broken => {
+            end_call(kernel, number);
+            Ok(Reply::Fault(Errno::EPIPE))
+        }
+        WriteCase::CutShort => {
+            end_call(kernel, number);
+            Ok(Reply::Count {
+                n: taken,
+                sigpipe: true,
+            })
+        }
+        WriteCase::Ends { from, to } => {
+            let call = kernel.parked.get(number).unwrap();
+            kernel
+                .nodes
+                .write_pipe(pipe, &bytes_of(&call.call)[from..to])?;
+            end_call(kernel, number);
+            Ok(Reply::Count {
+                n: to as u32,
+                sigpipe: false,
+            })
+        }
+        WriteCase::Waits { from, to } => {
+            let call = kernel.parked.get(number).unwrap();
+            kernel
+                .nodes
+                .write_pipe(pipe, &bytes_of(&call.call)[from..to])?;
+            kernel.parked.set_taken(number, to as u32);
+            Ok(Reply::Parked(number))
+        }
+    }
+}
+
+/// Tries the parked call of a number again. The reply is what it comes to, its number where it waits on, or `NoCall` where there is none.
+///
+/// The only error is want of memory, which leaves all as it was, the call parked.
+pub fn resume<A: Allocator + Copy>(
+    kernel: &mut KernelState<A>,
+    number: u64,
+) -> Result<Reply<A>, NoMemory>
+    ensures done { IfOk result (λ reply. MakesAtKeys kernel.old (Step.Resume number) reply kernel.new) }
+    ensures undone { OnErr result (kernel.new ≡ kernel.old) }
+    ensures wanted { OnErr result (MayWantAtKeys {A = A} kernel.old (Step.Resume number)) }
+{
+    let Some(call) = kernel.parked.get(number) else {
+        return Ok(Reply::NoCall);
+    };
+    let key = call.kept.as_slice()[0];
+    match &call.call {
+        Call::Read { n, .. } => {
+            let n = *n;
+            resume_read(kernel, number, key, n)
+        }
+        Call::Write { bytes, .. } => {
+            let length = bytes.as_slice().len();
+            let taken = call.taken;
+            resume_write(kernel, number, key, length, taken)
+        }
+        _ => unreachable!(),
+    }
+}
+
+/// Ends the parked call of a number (POSIX.1-2017, read and write, EINTR). It takes no memory.
+///
+/// The reply is `EINTR`, or the count of what a write took, or `NoCall` where there is no such call.
+pub fn interrupt<A: Allocator + Copy>(kernel: &mut KernelState<A>, number: u64) -> Reply<A>
+    ensures { MakesAtKeys kernel.old (Step.Interrupt number) result kernel.new }
+{
+    let Some(call) = kernel.parked.get(number) else {
+        return Reply::NoCall;
+    };
+    let taken = call.taken;
+    end_call(kernel, number);
+    if taken > 0 {
+        Reply::Count {
+            n: taken,
+            sigpipe: false,
+        }
+    } else {
+        Reply::Fault(Errno::EINTR)
+    }
+}
