@@ -8,3 +8,5 @@ pub mod Creating
 pub mod Reopening
 -- What taking a name away comes to at the kernel's keys.
 pub mod Unlinking
+-- What the bytes of the file of a name are at the kernel's keys.
+pub mod Telling

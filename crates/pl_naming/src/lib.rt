@@ -3,4 +3,4 @@
 
 mod naming;
 
-pub use naming::{open_name, unlink};
+pub use naming::{file_bytes, open_name, unlink};

@@ -8,13 +8,13 @@ ghost use Rattle.pl_model.specs.Numbers.{most_descriptions};
 ghost use Rattle.pl_desc.specs.Rows.{at, lowest_of};
 ghost use Rattle.pl_desc.specs.Descs.{live_count};
 ghost use Rattle.pl_state.specs.Contents.{IsProcess};
-ghost use Rattle.pl_state.specs.Makes.{MakesAtKeys, MayWantAtKeys};
+ghost use Rattle.pl_state.specs.Makes.{MakesAtKeys, MayWantAtKeys, Tells, HasFile};
 ghost use Rattle.pl_naming.specs.Openings.{IsRefused, MayOpen};
 
 use bitflags::Flags;
 use pl_decisions::{name_fault, open_fault};
 use pl_model::numbers::MAX_DESCRIPTIONS;
-use pl_model::{Call, Errno, Mode, Name, Node, OpenFlags, Reply, Step};
+use pl_model::{Bytes8, Call, Errno, Mode, Name, Node, OpenFlags, Reply, Step};
 use pl_nodes::Nodes;
 use pl_state::{KernelState, NoMemory, leave_unnamed, open_at};
 use std::alloc::Allocator;
@@ -180,4 +180,27 @@ pub fn unlink<A: Allocator + Copy>(
     };
     leave_unnamed(&kernel.descs, &mut kernel.nodes, node);
     Reply::Unit
+}
+
+/// The bytes of the file that a name stands for, all of them; `None` where it stands for nothing, or for what is no file (our own).
+///
+/// # Errors
+///
+/// `NoMemory` only where there is such a file, and no memory for its bytes.
+pub fn file_bytes<A: Allocator + Copy>(
+    kernel: &KernelState<A>,
+    name: &Name<A>,
+) -> Result<Option<Bytes8<A>>, NoMemory>
+    ensures told { IfOk result (Tells {A = A} kernel.now name.now) }
+    ensures wanted { OnErr result (HasFile {A = A} kernel.now name.now) }
+{
+    let nodes = &kernel.nodes;
+    let Some(node) = nodes.look_up(name.as_slice()) else {
+        return Ok(None);
+    };
+    let Node::File(file) = node else {
+        return Ok(None);
+    };
+    let bytes = nodes.read_file(file, 0, nodes.file_len(file))?;
+    Ok(Some(Bytes8::from_vec(bytes).unwrap()))
 }

@@ -1,8 +1,9 @@
 -- What a step of the kernel does.
-use Rattle.std.specs.Prelude.{◌≡◌, ℕ, false, []}
+use Rattle.std.specs.Prelude.{◌≡◌, ℕ, List, [], false, Option, IsSome}
 use Rattle.pl_model.specs.declared.calls.Step.{Step}
 use Rattle.pl_model.specs.declared.replies.Reply.{Reply}
 use Rattle.pl_model.specs.Keys.{NewKeys, drawn}
+use Rattle.pl_model.specs.State.{file_bytes}
 use Rattle.pl_model.specs.Step.{core_step}
 use Rattle.pl_model.specs.Numbered.{numbers, State, step}
 use Rattle.pl_model.specs.StandsFor.{StandsFor, Comes}
@@ -33,6 +34,14 @@ module _ {A : Type 0} where
   -- and a fault at Resume or Interrupt that state without the call, settled.
   abbrev pub LeavesByReply : Contents A → Step A → Reply A → Contents A → Type 0
   LeavesByReply old x reply new = (s : State A) → Stands old s → Stands new (after_reply s x reply)
+
+  -- The bytes of the file of a name were told so: for each state for which the kernel stands, they are the flat machine's.
+  abbrev pub Tells : Contents A → List ℕ → Option (List ℕ) → Type 0
+  Tells k name told = (s : State A) → Stands k s → told ≡ file_bytes s.core name
+
+  -- the name stands for a file
+  abbrev pub HasFile : Contents A → List ℕ → Type 0
+  HasFile k name = (s : State A) → Stands k s → IsSome (file_bytes s.core name)
 
   -- a step of the machine under the kernel's own keys was answered so and left this
   abbrev pub MakesAtKeys : Contents A → Step A → Reply A → Contents A → Type 0
