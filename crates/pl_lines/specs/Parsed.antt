@@ -5,7 +5,7 @@ use Rattle.pl_model.specs.declared.calls.Call.{Call}
 use Rattle.pl_model.specs.declared.calls.Call.TheVariants as call
 use Rattle.pl_model.specs.declared.calls.Step.TheVariants as step
 use Rattle.pl_model.specs.declared.script.Line.{Line}
-use Rattle.pl_model.specs.declared.script.Line.TheVariants.{Do}
+use Rattle.pl_model.specs.declared.script.Line.TheVariants.{Do, File}
 use Rattle.pl_model.specs.Lines.{dup2_of, dup_fd_of, close_of, lseek_of, get_fl_of, set_fl_of, unlink_of, fork_of, exit_of}
 use Rattle.pl_model.specs.Numbers.{most_bytes}
 use Rattle.pl_model.specs.Words.{◌>>=◌, number, signed, is_plain, hex_byte}
@@ -41,10 +41,11 @@ CallTakes (call.OpenName name mode flags) = BytesTake name
 CallTakes (call.Unlink name) = BytesTake name
 CallTakes _ = ⊥
 
--- of lines, one that begins such a call
+-- of lines, one that begins such a call, or asks for the file of a name
 abbrev pub LineTakes : {A : Type 0} → Line A → Type 0
 LineTakes (Do (step.Begin pid begun)) = CallTakes begun
 LineTakes (Do _) = ⊥
+LineTakes (File name) = BytesTake name
 
 -- the same of a line that may ask nothing
 abbrev pub LineAskedTakes : {A : Type 0} → Option (Line A) → Type 0

@@ -1,9 +1,10 @@
 //! The lines of a script: what one asks, and the text of what it is answered.
 //!
-//! `parse_line` reads one line, `next_line` parts the lines of a text, and `show` and `push_line` give the text of an outcome. What a
-//! line asks and what a reply looks like is defined in `pl_model`, in `specs/Lines.antt` and `specs/Shown.antt`.
+//! `parse_line` reads one line, `next_line` parts the lines of a text, `show` and `push_line` give the text of an outcome, and
+//! `show_file` and `push_file_line` that of a file's bytes. What a line asks and what it is answered is defined in `pl_model`, in
+//! `specs/Lines.antt` and `specs/Shown.antt`.
 //!
-//! The lines are `start`, `resume C`, `interrupt C`, `P pipe`, `P pipe nonblock`, `P read FD N`, `P write FD BYTES`,
+//! The lines are `start`, `resume C`, `interrupt C`, `file NAME`, `P pipe`, `P pipe nonblock`, `P read FD N`, `P write FD BYTES`,
 //! `P open NAME MODE`, `P open NAME MODE FLAGS`, `P lseek FD OFFSET WHENCE`, `P unlink NAME`, `P dup FD`, `P dup2 FD FD`,
 //! `P dupfd FD N`, `P close FD`, `P getfl FD`, `P setfl FD FLAGS`, `P fork` and `P exit`, and those that ask nothing: blank ones and
 //! comments, which begin with `#`.
@@ -24,4 +25,4 @@ mod words;
 pub use fault::LineFault;
 pub use lines::next_line;
 pub use parse::parse_line;
-pub use text::{push_line, show};
+pub use text::{push_file_line, push_line, show, show_file};

@@ -1,13 +1,14 @@
 //! What lines ask.
 ghost use Rattle.std.specs.Prelude.{◌≡◌};
 ghost use Rattle.pl_model.specs.Words.{words};
-ghost use Rattle.pl_model.specs.Lines.{start_of, resume_of, interrupt_of, begin_of, words_line, is_comment, line};
+ghost use Rattle.pl_model.specs.Lines.{start_of, resume_of, interrupt_of, file_of, begin_of, words_line, is_comment, line};
 ghost use Rattle.pl_lines.specs.Parsed.{Gives, GivesTaking, LineTakes, LineAskedTakes};
 
 use crate::calls::parse_call;
 use crate::fault::LineFault;
+use crate::names::parse_name;
 use crate::numbers::{only_u64, parse_u32};
-use crate::words::{end, next_word, without_return, word};
+use crate::words::{end, next_word, only_word, without_return, word};
 use pl_model::{Line, Step};
 use std::alloc::Allocator;
 
@@ -31,6 +32,14 @@ fn interrupt_line<A: Allocator + Copy>(rest: &[u8]) -> Result<Line<A>, LineFault
     ensures { Gives result (interrupt_of (words rest.now)) }
 {
     Ok(Line::Do(Step::Interrupt(only_u64(rest)?)))
+}
+
+/// What the file of a name holds.
+#[tactic(auto, unfolding(pl_model::specs::Lines::file_of))]
+fn file_line<A: Allocator + Copy>(alloc: A, rest: &[u8]) -> Result<Line<A>, LineFault>
+    ensures { GivesTaking LineTakes result (file_of (words rest.now)) }
+{
+    Ok(Line::File(parse_name(alloc, only_word(rest)?)?))
 }
 
 #[tactic(auto, unfolding(pl_model::specs::Lines::begin_of))]
@@ -57,6 +66,8 @@ fn words_line<A: Allocator + Copy>(
         resume_line(rest)
     } else if first == b"interrupt".as_slice() {
         interrupt_line(rest)
+    } else if first == b"file".as_slice() {
+        file_line(alloc, rest)
     } else {
         begin_line(alloc, first, rest)
     }
@@ -68,7 +79,8 @@ fn is_comment(word: &[u8]) -> bool
     !word.is_empty() && word[0] == b'#'
 }
 
-/// What a line asks, given without its line feed; `None` where it asks nothing, as a blank line or a comment.
+/// What a line asks, given without its line feed: a step, or, as `file NAME`, what the file of a name holds; `None` where it asks
+/// nothing, as a blank line or a comment.
 ///
 /// # Errors
 ///

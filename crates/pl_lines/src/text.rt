@@ -1,7 +1,8 @@
-//! The text of replies.
-ghost use Rattle.std.specs.Prelude.{◌≡◌, [], ◌∷◌, ◌++◌, OnOk, OnErr, IfOk, codes, string_bytes};
+//! The text of replies and of files.
+ghost use Rattle.std.specs.Prelude.{◌≡◌, [], ◌∷◌, ◌++◌, OnOk, OnErr, IfOk, codes, string_bytes, take, option_copied};
 ghost use Rattle.std.specs.Fmt.{decimal, signed_decimal};
-ghost use Rattle.pl_model.specs.Shown.{bytes_text, errno_text, mode_text, flags_text, reply_text, outcome_text};
+ghost use Rattle.std.specs.String.Boundary.{IsSplitPoint};
+ghost use Rattle.pl_model.specs.Shown.{bytes_text, file_text, errno_text, mode_text, flags_text, reply_text, outcome_text};
 ghost use Rattle.pl_lines.specs.Pushed.{Pushes};
 
 use bitflags::Flags;
@@ -32,19 +33,20 @@ fn push_number<A: Allocator + Copy, I: Integer>(
     push_two(text, name, Buffer::new().format(number))
 }
 
-/// Adds the bytes as hexadecimal digits in lower case, or `-` for none.
+/// Adds the bytes behind their name, as hexadecimal digits in lower case, or `-` for none.
 fn push_bytes<A: Allocator + Copy>(
     alloc: A,
     text: &mut String<A>,
+    name: &str,
     bytes: &[u8],
 ) -> Result<(), AllocError>
-    ensures { Pushes result (string_bytes text.old) (string_bytes text.new) (codes "data " ++ bytes_text bytes.now) }
+    ensures { Pushes result (string_bytes text.old) (string_bytes text.new) (name.now ++ bytes_text bytes.now) }
 {
     if bytes.is_empty() {
-        return text.push_str("data -");
+        return push_two(text, name, "-");
     }
     let digits = hex::encode(alloc, bytes)?;
-    push_two(text, "data ", digits.as_str())
+    push_two(text, name, digits.as_str())
 }
 
 fn errno_text(errno: Errno) -> &'static str
@@ -140,7 +142,7 @@ fn push_reply<A: Allocator + Copy>(
         Reply::Fds(reader, writer) => push_fds(text, *reader, *writer),
         Reply::Count { n, sigpipe: false } => push_number(text, "count ", *n),
         Reply::Count { n, sigpipe: true } => push_broken_count(text, *n),
-        Reply::Bytes(bytes) => push_bytes(alloc, text, bytes.as_slice()),
+        Reply::Bytes(bytes) => push_bytes(alloc, text, "data ", bytes.as_slice()),
         Reply::Offset(offset) => push_number(text, "offset ", *offset),
         Reply::Flags { mode, flags } => push_flags(text, *mode, *flags),
         Reply::Unit => text.push_str("ok"),
@@ -167,6 +169,21 @@ fn push_outcome<A: Allocator + Copy>(
     }
 }
 
+/// Adds the bytes of a file, or that there is no such file.
+#[tactic(auto, unfolding(pl_model::specs::Shown::file_text))]
+fn push_file<A: Allocator + Copy>(
+    alloc: A,
+    text: &mut String<A>,
+    bytes: Option<&[u8]>,
+) -> Result<(), AllocError>
+    ensures { Pushes result (string_bytes text.old) (string_bytes text.new) (file_text (option_copied bytes.entry)) }
+{
+    match bytes {
+        Some(bytes) => push_bytes(alloc, text, "file ", bytes),
+        None => text.push_str("no file"),
+    }
+}
+
 /// Adds the line of an outcome, or a front of it where there is no memory for it.
 fn push_front_of_line<A: Allocator + Copy>(
     alloc: A,
@@ -177,6 +194,35 @@ fn push_front_of_line<A: Allocator + Copy>(
 {
     push_outcome(alloc, text, outcome)?;
     text.push_str("\n")
+}
+
+/// Adds the line of a file's bytes, or a front of it where there is no memory for it.
+fn push_front_of_file_line<A: Allocator + Copy>(
+    alloc: A,
+    text: &mut String<A>,
+    bytes: Option<&[u8]>,
+) -> Result<(), AllocError>
+    ensures { Pushes result (string_bytes text.old) (string_bytes text.new) (file_text (option_copied bytes.entry) ++ 10 ∷ []) }
+{
+    push_file(alloc, text, bytes)?;
+    text.push_str("\n")
+}
+
+/// Cuts the text to the length of before, if what was to stand behind it found no memory.
+fn keep_if_pushed<A: Allocator>(
+    text: &mut String<A>,
+    len: usize,
+    pushed: Result<(), AllocError>,
+) -> Result<(), AllocError>
+    requires { IsSplitPoint (string_bytes text.old) len }
+    ensures same { result ≡ pushed }
+    ensures done { OnOk result (string_bytes text.new ≡ string_bytes text.old) }
+    ensures undone { OnErr result (string_bytes text.new ≡ take len (string_bytes text.old)) }
+{
+    if pushed.is_err() {
+        text.truncate(len);
+    }
+    pushed
 }
 
 /// Adds the line of an outcome: its text and a line feed. Where there is no memory for it, which is the only error, the text is
@@ -191,12 +237,26 @@ pub fn push_line<A: Allocator + Copy>(
 {
     let len = text.as_str().len();
     let pushed = push_front_of_line(alloc, text, outcome);
-    if pushed.is_err() {
-        // It is text still, and was whole at the length of before: a character ends there.
-        let _ = text.as_str();
-        text.truncate(len);
-    }
-    pushed
+    // It is text still, and was whole at the length of before: a character ends there.
+    let _ = text.as_str();
+    keep_if_pushed(text, len, pushed)
+}
+
+/// Adds the line of a file's bytes, or that there is no such file: its text and a line feed. Where there is no memory for it,
+/// which is the only error, the text is as it was.
+pub fn push_file_line<A: Allocator + Copy>(
+    alloc: A,
+    text: &mut String<A>,
+    bytes: Option<&[u8]>,
+) -> Result<(), AllocError>
+    ensures done { OnOk result (string_bytes text.new ≡ string_bytes text.old ++ (file_text (option_copied bytes.entry) ++ 10 ∷ [])) }
+    ensures undone { OnErr result (string_bytes text.new ≡ string_bytes text.old) }
+{
+    let len = text.as_str().len();
+    let pushed = push_front_of_file_line(alloc, text, bytes);
+    // As in `push_line`.
+    let _ = text.as_str();
+    keep_if_pushed(text, len, pushed)
 }
 
 /// The text of an outcome, without the line feed that ends its line. The only error is want of memory.
@@ -205,5 +265,18 @@ pub fn show<A: Allocator + Copy>(alloc: A, outcome: &Outcome<A>) -> Result<Strin
 {
     let mut text = String::new(alloc);
     push_outcome(alloc, &mut text, outcome)?;
+    Ok(text)
+}
+
+/// The text of a file's bytes, or that there is no such file, without the line feed that ends its line. The only error is want
+/// of memory.
+pub fn show_file<A: Allocator + Copy>(
+    alloc: A,
+    bytes: Option<&[u8]>,
+) -> Result<String<A>, AllocError>
+    ensures { IfOk result (λ text. string_bytes text ≡ file_text (option_copied bytes.entry)) }
+{
+    let mut text = String::new(alloc);
+    push_file(alloc, &mut text, bytes)?;
     Ok(text)
 }

@@ -5,7 +5,7 @@ use Rattle.pl_model.specs.declared.calls.Call.{Call}
 use Rattle.pl_model.specs.declared.calls.Call.TheVariants.{Pipe, OpenName, Read, Write, Dup, Dup2, DupFd, Close, Lseek, GetFl, SetFl, Unlink, Fork, Exit}
 use Rattle.pl_model.specs.declared.calls.Step.TheVariants.{Start, Begin, Resume, Interrupt}
 use Rattle.pl_model.specs.declared.script.Line.{Line}
-use Rattle.pl_model.specs.declared.script.Line.TheVariants.{Do}
+use Rattle.pl_model.specs.declared.script.Line.TheVariants.{Do, File}
 use Rattle.pl_model.specs.Words.{◌>>=◌, words, without_return, number, signed, signed_long, bytes_of, name_of, mode_of, whence_of, flags_if_any, flags_or_none}
 
 abbrev pub is_comment : List ℕ → Bool
@@ -141,6 +141,11 @@ module _ {A : Type 0} where
   interrupt_of (c ∷ []) = number (2 ^ 64) c >>= λ n. Some (Do (Interrupt n))
   interrupt_of _ = None
 
+  -- `file NAME`
+  unfoldable pub file_of : List (List ℕ) → Option (Line A)
+  file_of (name ∷ []) = name_of name >>= λ n. Some (File n)
+  file_of _ = None
+
   -- `P CALL ..`, the process of pid P begins a call
   unfoldable pub begin_of : List ℕ → List (List ℕ) → Option (Line A)
   begin_of pid (name ∷ rest) = do
@@ -155,6 +160,7 @@ module _ {A : Type 0} where
       if bytes_eq word (codes "start") then start_of rest
       else if bytes_eq word (codes "resume") then resume_of rest
       else if bytes_eq word (codes "interrupt") then interrupt_of rest
+      else if bytes_eq word (codes "file") then file_of rest
       else begin_of word rest
 
   -- a line without words, and a comment, ask nothing

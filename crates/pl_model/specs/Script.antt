@@ -1,14 +1,15 @@
 -- What a script prints (our own).
-use Rattle.std.specs.Prelude.{◌≡◌, ℕ, ◌+◌, List, [], ◌∷◌, ◌++◌, length, Bool, true, false, not, ◌==◌, ◌&&◌, if◌then◌else◌, Option, Some, None, count_by}
+use Rattle.std.specs.Prelude.{◌≡◌, ℕ, ◌+◌, List, [], ◌∷◌, ◌++◌, length, Bool, true, false, not, ◌==◌, ◌&&◌, if◌then◌else◌, Option, Some, None, is_some, count_by}
 use Rattle.pl_model.specs.declared.calls.Limits.{Limits}
 use Rattle.pl_model.specs.declared.script.Line.{Line}
-use Rattle.pl_model.specs.declared.script.Line.TheVariants.{Do}
+use Rattle.pl_model.specs.declared.script.Line.TheVariants.{Do, File}
 use Rattle.pl_model.specs.declared.script.Totals.{Totals}
 use Rattle.pl_model.specs.declared.replies.Outcome.TheVariants.{Replied, NoMemory}
+use Rattle.pl_model.specs.State.{file_bytes}
 use Rattle.pl_model.specs.Numbered.{State, opening, step}
 use Rattle.pl_model.specs.Memory.{never_wants_memory}
 use Rattle.pl_model.specs.Lines.{line}
-use Rattle.pl_model.specs.Shown.{outcome_text}
+use Rattle.pl_model.specs.Shown.{outcome_text, file_text}
 
 -- the byte, before the first line
 abbrev pub onto_first : ℕ → List (List ℕ) → List (List ℕ)
@@ -43,6 +44,8 @@ module _ {A : Type 0} where
   abbrev pub answer : State A → Line A → Bool → State A × List ℕ
   answer s (Do x) true = (s, outcome_text {A = A} NoMemory)
   answer s (Do x) false = ((step s x).state, outcome_text (Replied (step s x).reply))
+  answer s (File name) true = (s, outcome_text {A = A} NoMemory)
+  answer s (File name) false = (s, file_text (file_bytes s.core name))
 
   -- the lines that are printed, with one mark for each
   unfoldable pub answers : State A → List (Line A) → List Bool → List ℕ
@@ -52,6 +55,7 @@ module _ {A : Type 0} where
 
   abbrev pub never_marked : State A → Line A → Bool
   never_marked s (Do x) = never_wants_memory s x
+  never_marked s (File name) = not (is_some (file_bytes s.core name))
 
   -- one mark for each line that asks, none where memory is never wanted
   unfoldable pub are_marks : State A → List (Line A) → List Bool → Bool
@@ -62,6 +66,7 @@ module _ {A : Type 0} where
 
   abbrev pub is_step : Line A → Bool
   is_step (Do x) = true
+  is_step (File name) = false
 
 -- the number of the first bad line, where the first line has this number
 unfoldable pub first_bad : (A : Type 0) → ℕ → List (List ℕ) → Option ℕ

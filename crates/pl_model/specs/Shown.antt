@@ -1,5 +1,5 @@
 -- The text of a reply (our own).
-use Rattle.std.specs.Prelude.{ℕ, ◌/◌, ◌%◌, List, [], ◌∷◌, ◌++◌, Bool, true, false, codes, slice_index}
+use Rattle.std.specs.Prelude.{ℕ, ◌/◌, ◌%◌, List, [], ◌∷◌, ◌++◌, Bool, true, false, Option, Some, None, codes, slice_index}
 use Rattle.std.specs.Fmt.{decimal, signed_decimal}
 use Rattle.pl_model.specs.declared.calls.Mode.{Mode}
 use Rattle.pl_model.specs.declared.flags.OpenFlags.{OpenFlags}
@@ -23,6 +23,11 @@ hex_text (b ∷ bytes) = slice_index lower_digits (b / 16) ∷ slice_index lower
 unfoldable pub bytes_text : List ℕ → List ℕ
 bytes_text [] = codes "-"
 bytes_text (b ∷ bytes) = hex_text (b ∷ bytes)
+
+-- the bytes of a file, or that there is no such file
+unfoldable pub file_text : Option (List ℕ) → List ℕ
+file_text None = codes "no file"
+file_text (Some bytes) = codes "file " ++ bytes_text bytes
 
 -- The name of an error. POSIX.1-2017, write, EPIPE: it comes with the signal SIGPIPE.
 abbrev pub errno_text : Errno → List ℕ

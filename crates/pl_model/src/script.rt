@@ -1,5 +1,6 @@
 //! What the lines of a script ask, and what is counted of them.
 use crate::calls::Step;
+use crate::name::Name;
 use std::alloc::{Allocator, Global};
 
 /// What a line of a script asks.
@@ -7,6 +8,8 @@ use std::alloc::{Allocator, Global};
 pub enum Line<A: Allocator = Global> {
     /// A step.
     Do(Step<A>),
+    /// What the file of this name holds.
+    File(Name<A>),
 }
 
 /// What a run of a script counted.

@@ -1,6 +1,6 @@
 -- From one line of a script to the next.
 use Rattle.std.proofs.Common.{◌≡◌, ℕ, ◌+◌, ◌<◌, ◌≤◌, Bool, true, false, cond, ◌&&◌, List, [], ◌∷◌, ◌++◌, length, take, drop, Option, Some, None, Ok, Err, inr, refl, sym, ap, subst, ◌∙◌, append_assoc, arith}
-use Rattle.std.specs.Prelude.{count_by, replicate, IfSome}
+use Rattle.std.specs.Prelude.{count_by, replicate, not, is_some, IfSome, IsSome}
 use Rattle.std.specs.Io.KnownBytes.{Appends}
 use Rattle.std.proofs.KnownBytes.{Appends-nil, Appends-trans}
 use Rattle.std.proofs.lemmas.List.{append-nil, take-append-drop, length-append}
@@ -8,14 +8,16 @@ use Rattle.std.proofs.lemmas.List.Sums.{sum_by-cons, sum_by_push}
 use Rattle.pl_model.specs.declared.calls.Limits.{Limits}
 use Rattle.pl_model.specs.declared.calls.Step.{Step}
 use Rattle.pl_model.specs.declared.replies.Reply.{Reply}
+use Rattle.pl_model.specs.declared.replies.Outcome.TheVariants as Outcome
 use Rattle.pl_model.specs.declared.replies.Outcome.TheVariants.{Replied}
 use Rattle.pl_model.specs.declared.script.Line.{Line}
-use Rattle.pl_model.specs.declared.script.Line.TheVariants.{Do}
+use Rattle.pl_model.specs.declared.script.Line.TheVariants.{Do, File}
 use Rattle.pl_model.specs.declared.script.Totals.{Totals}
+use Rattle.pl_model.specs.State.{file_bytes}
 use Rattle.pl_model.specs.Numbered.{State, opening, step}
 use Rattle.pl_model.specs.Lines.{line}
 use Rattle.pl_model.specs.Numbers.{most_script_bytes}
-use Rattle.pl_model.specs.Shown.{outcome_text}
+use Rattle.pl_model.specs.Shown.{outcome_text, file_text}
 use Rattle.pl_model.specs.Script.{lines, asked, if_good, first_bad, number_if_bad, answers, answer, are_marks, never_marked, is_step}
 use Rattle.pl_script.specs.declared.fault.ScriptFault.TheVariants as faults
 use Rattle.pl_script.specs.declared.fault.ScriptFault.{ScriptFault}
@@ -38,10 +40,6 @@ first_bad-nil A n = refl
 asked-nil : (A : Type 0) → asked {A = A} [] ≡ []
 unfolding asked
 asked-nil A = refl
-
--- each line that asks something asks for a step
-is_step-all : {A : Type 0} (x : Line A) → is_step x ≡ true
-is_step-all (Do x) = refl
 
 at_most_one : (b : Bool) → cond b 1 0 ≤ 1
 at_most_one true = omega arith
@@ -88,6 +86,24 @@ module _ {A : Type 0} where
   replies old new asked x reply before after is made text = λ s stood.
       let done = made s stood in
       rw is (record { stands = done.1; text = text ∙ ap (λ r. before ++ (outcome_text (Replied r) ++ 10 ∷ [])) done.0; lawful = refl })
+
+  -- a line whose file was told of
+  pub tells : (Stands : State A → Type 0) (asked : Line A) (name : List ℕ) (told : Option (List ℕ)) (before after : List ℕ) → asked ≡ File name
+      → ((s : State A) → Stands s → told ≡ file_bytes s.core name) → after ≡ before ++ (file_text told ++ 10 ∷ [])
+      → IsAnswered Stands Stands asked false before after
+  tells Stands asked name told before after is held text = λ s stood.
+      rw is (record { stands = stood; text = text ∙ ap (λ o. before ++ (file_text o ++ 10 ∷ [])) (held s stood); lawful = refl })
+
+  -- a line for whose file there was no memory
+  pub finds_none : (Stands : State A → Type 0) (asked : Line A) (name : List ℕ) (before after : List ℕ) → asked ≡ File name
+      → ((s : State A) → Stands s → IsSome (file_bytes s.core name)) → after ≡ before ++ (outcome_text {A = A} Outcome.NoMemory ++ 10 ∷ [])
+      → IsAnswered Stands Stands asked true before after
+  finds_none Stands asked name before after is there text = λ s stood.
+      rw is (record { stands = stood; text = text; lawful = is_there (file_bytes s.core name) (there s stood) })
+    where
+      is_there : (o : Option (List ℕ)) → IsSome o → not (is_some o) ≡ false
+      is_there None h = absurd (cc)
+      is_there (Some bytes) h = refl
 
   -- as many marks as there are lines, none of them set
   abbrev no_marks : List (Line A) → List Bool
@@ -141,7 +157,7 @@ module _ {A : Type 0} where
     -- a line that is answered
     pub runs : (x : Line A) (After : State A → Type 0) (before added new : List ℕ) (mark : Bool) → line {A = A} l ≡ Some (Some x) → IsAnswered Stands After x mark added new → text ≡ before ++ added
         → IsAt script limits Stands text counted (l ∷ rest)
-        → IsAt script limits After (before ++ new) (record { lines = counted.lines + 1; steps = counted.steps + 1; nomem = counted.nomem + cond mark 1 0 }) rest
+        → IsAt script limits After (before ++ new) (record { lines = counted.lines + 1; steps = counted.steps + cond (is_step x) 1 0; nomem = counted.nomem + cond mark 1 0 }) rest
     runs x After before added new mark e answered split at =
         let done = answered at.state at.stands in
         let next : State A = (answer at.state x mark).0 in
@@ -172,11 +188,11 @@ module _ {A : Type 0} where
           bad = λ others. rw (joins at.before l others) (at.bad (l ∷ others) ∙ first_bad-cons A (counted.lines + 1) l others (Some (Some x)) e);
           lines_count = one_more at.before l counted.lines at.lines_count;
           steps_count = λ others.
-              let count : count_by is_step (asked {A = A} (l ∷ others)) ≡ 1 + count_by is_step (asked {A = A} others) =
-              ap (count_by is_step) (more_asked others) ∙ sum_by-cons (λ y. cond (is_step y) 1 0) x (asked others) ∙ ap (λ b. cond b 1 0 + count_by is_step (asked {A = A} others)) (is_step-all x) in
+              let count : count_by is_step (asked {A = A} (l ∷ others)) ≡ cond (is_step x) 1 0 + count_by is_step (asked {A = A} others) =
+              ap (count_by is_step) (more_asked others) ∙ sum_by-cons (λ y. cond (is_step y) 1 0) x (asked others) in
               rw (joins at.before l others) (omega (arith, count, at.steps_count (l ∷ others)));
           nomem_count = ap (λ n. n + cond mark 1 0) at.nomem_count ∙ sym (sum_by_push (λ m. cond m 1 0) at.marks mark);
-          steps_below = omega (arith, at.steps_below);
+          steps_below = omega (arith, at.steps_below, at_most_one (is_step x));
           nomem_below = omega (arith, at.nomem_below, at_most_one mark);
         }
 

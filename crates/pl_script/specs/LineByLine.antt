@@ -45,8 +45,8 @@ module _ {A : Type 0} where
     pub steps_below : counted.steps ≤ counted.lines
     pub nomem_below : counted.nomem ≤ counted.lines
 
--- A line that isn't run isn't counted and prints nothing. Memory is wanting only for one that asks a step, which may have
--- been made.
+-- A line that isn't run isn't counted and prints nothing. Memory is wanting only for one that asks something, whose step may
+-- have been made.
 abbrev pub Stops : (A : Type 0) → List ℕ → (old new : Totals) → (before after : List ℕ) → LineFault → Type 0
 Stops A bytes old new before after Bad = (new ≡ old) × (after ≡ before) × (line {A = A} bytes ≡ None)
 Stops A bytes old new before after NoMemory = (new ≡ old) × (after ≡ before) × Asks A bytes

@@ -29,12 +29,12 @@ WritesAndCounts A script limits counted written =
     (marks : List Bool) × AreMarks A script limits marks × (written ≡ output A script limits marks)
     × (counted ≡ totals A script marks)
 
--- the line asks for a step
+-- the line asks for something
 abbrev pub Asks : (A : Type 0) → List ℕ → Type 0
 Asks A bytes = IsSomeAnd (line {A = A} bytes) (λ asked. IsSome asked)
 
--- Memory was wanting at the line behind the first n, which asks for a step: what was written is the output of those n lines,
--- at some marks, and none of them is bad. The step may have been made, but its text isn't written.
+-- Memory was wanting at the line behind the first n, which asks for something: what was written is the output of those n lines,
+-- at some marks, and none of them is bad. Its step may have been made, but its text isn't written.
 pub record WritesLinesBefore (A : Type 0) (script : List ℕ) (limits : Limits) (n : ℕ) (written : List ℕ) : Type 0 where
   pub before : List (List ℕ)
   pub next : List ℕ

@@ -1,7 +1,7 @@
 //! Scripts: lists of lines that ask for steps of a kernel, and the text that their replies make.
 //!
-//! `run_script` runs a whole script from a reader to a writer; `parse_line` and `show`, of `pl_lines`, are one line of it. What a
-//! script prints is defined in `pl_model`, in `specs/Script.antt`.
+//! `run_script` runs a whole script from a reader to a writer; `parse_line`, `show` and `show_file`, of `pl_lines`, are one line
+//! of it. What a script prints is defined in `pl_model`, in `specs/Script.antt`.
 #![tactic(auto)]
 
 mod fault;
@@ -11,7 +11,7 @@ mod streams;
 mod writing;
 
 pub use fault::ScriptFault;
-pub use pl_lines::{LineFault, parse_line, show};
+pub use pl_lines::{LineFault, parse_line, show, show_file};
 pub use pl_model::numbers::{MAX_READS, MAX_SCRIPT_BYTES};
 pub use pl_model::{Line, Totals};
 pub use running::run_script;

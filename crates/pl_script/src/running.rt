@@ -3,6 +3,7 @@ ghost use Rattle.std.specs.Prelude.{◌≡◌, ◌+◌, ◌<◌, ◌≤◌, ◌+
 ghost use Rattle.std.specs.Io.KnownBytes.{Appends};
 ghost use Rattle.pl_model.specs.declared.calls.Limits.{Limits};
 ghost use Rattle.pl_model.specs.Numbered.{opening};
+ghost use Rattle.pl_model.specs.Script.{is_step};
 ghost use Rattle.pl_model.specs.Numbers.{most_file_bytes, most_script_bytes, most_reads};
 ghost use Rattle.pl_state.specs.Makes.{Stands};
 ghost use Rattle.pl_script.specs.LineByLine.{none_counted, IsAnswered, IsAt, Stops};
@@ -13,12 +14,68 @@ use crate::reading::read_script;
 use crate::streams::{Sink, Source};
 use crate::writing::write_whole;
 use pl_kernel::{Kernel, NoMemory};
-use pl_lines::{LineFault, next_line, parse_line, push_line};
-use pl_model::{Limits, Line, Outcome, Totals};
+use pl_lines::{LineFault, next_line, parse_line, push_file_line, push_line};
+use pl_model::{Limits, Line, Name, Outcome, Step, Totals};
 use std::alloc::{AllocError, Allocator};
 
 /// Output is written once so many bytes of it wait.
 const WAITING: usize = 65_536;
+
+// Makes a step and adds the line of its reply; tells whether it found no memory.
+fn answer_step<A: Allocator + Copy>(
+    alloc: A,
+    kernel: &mut Kernel<A>,
+    out: &mut String<A>,
+    step: Step<A>,
+) -> Result<bool, AllocError>
+    ensures answered { IfOk result (λ mark.
+        IsAnswered {A = A} (Stands kernel.old) (Stands kernel.new) (Line.Do step) mark (string_bytes out.old) (string_bytes out.new)) }
+    ensures unanswered { OnErr result (string_bytes out.new ≡ string_bytes out.old) }
+{
+    match kernel.step(step) {
+        Ok(reply) => {
+            push_line(alloc, out, &Outcome::Replied(reply))?;
+            Ok(false)
+        }
+        Err(NoMemory) => {
+            push_line(alloc, out, &Outcome::NoMemory)?;
+            Ok(true)
+        }
+    }
+}
+
+// Adds the line of what the file of a name holds; tells whether there was no memory to read it.
+fn answer_file<A: Allocator + Copy>(
+    alloc: A,
+    kernel: &Kernel<A>,
+    out: &mut String<A>,
+    name: &Name<A>,
+) -> Result<bool, AllocError>
+    ensures answered { IfOk result (λ mark.
+        IsAnswered {A = A} (Stands kernel.now) (Stands kernel.now) (Line.File name.now) mark (string_bytes out.old) (string_bytes out.new)) }
+    ensures unanswered { OnErr result (string_bytes out.new ≡ string_bytes out.old) }
+{
+    match kernel.file_bytes(name) {
+        Ok(Some(bytes)) => {
+            push_file_line(alloc, out, Some(bytes.as_slice()))?;
+            Ok(false)
+        }
+        Ok(None) => {
+            push_file_line(alloc, out, None)?;
+            Ok(false)
+        }
+        Err(NoMemory) => {
+            push_line::<A>(alloc, out, &Outcome::NoMemory)?;
+            Ok(true)
+        }
+    }
+}
+
+fn asks_a_step<A: Allocator>(asked: &Line<A>) -> bool
+    ensures { result ≡ is_step asked.now }
+{
+    matches!(asked, Line::Do(_))
+}
 
 /// Does what a line asks and adds its line to the output; tells whether it found no memory. Where there is no memory for the
 /// line, the step may have been made, and the output is as it was.
@@ -32,16 +89,9 @@ fn answer_line<A: Allocator + Copy>(
         IsAnswered {A = A} (Stands kernel.old) (Stands kernel.new) asked mark (string_bytes out.old) (string_bytes out.new)) }
     ensures unanswered { OnErr result (string_bytes out.new ≡ string_bytes out.old) }
 {
-    let Line::Do(step) = asked;
-    match kernel.step(step) {
-        Ok(reply) => {
-            push_line(alloc, out, &Outcome::Replied(reply))?;
-            Ok(false)
-        }
-        Err(NoMemory) => {
-            push_line(alloc, out, &Outcome::NoMemory)?;
-            Ok(true)
-        }
+    match asked {
+        Line::Do(step) => answer_step(alloc, kernel, out, step),
+        Line::File(name) => answer_file(alloc, kernel, out, &name),
     }
 }
 
@@ -67,9 +117,10 @@ fn run_line<A: Allocator + Copy>(
         totals.lines += 1;
         return Ok(());
     };
+    let is_step = asks_a_step(&asked);
     let found_none = answer_line(alloc, kernel, out, asked)?;
     totals.lines += 1;
-    totals.steps += 1;
+    totals.steps += u32::from(is_step);
     totals.nomem += u32::from(found_none);
     Ok(())
 }

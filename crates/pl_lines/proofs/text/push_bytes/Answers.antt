@@ -1,11 +1,11 @@
 use Rattle.std.proofs.Common.{rules, tests}
 use Rattle.std.proofs.lemmas.Result.{err_from_is_err_and}
 use Rattle.pl_lines.proofs.HexText.{no_bytes, some_bytes}
-use Rattle.pl_lines.proofs.Pushing.{pushed, nothing}
+use Rattle.pl_lines.proofs.Pushing.{nothing}
 use Rattle.pl_lines.proofs.text.push_bytes.Goals as goal
 
 pub returns-then-is_empty : goal.returns-then-is_empty
-returns-then-is_empty g c = rw (no_bytes c.args.bytes.now (search (rules, tests))) (pushed _ _ _ _ c.push_str.ensures.bytes)
+returns-then-is_empty g c = rw (no_bytes c.args.bytes.now (search (rules, tests))) c.push_two.ensures
 
 pub returns-in_err-digits : goal.returns-in_err-digits
 returns-in_err-digits g c =
@@ -14,4 +14,4 @@ returns-in_err-digits g c =
 
 pub returns : goal.returns
 returns g c =
-    rw (some_bytes c.args.bytes.now (search (rules, tests)), ← c.in_ok-digits.ensures, ← c.as_str.ensures.value) c.push_two.ensures
+    rw (some_bytes c.args.bytes.now (search (rules, tests)), ← c.in_ok-digits.ensures, ← c.as_str.ensures.value) c.push_two-2.ensures

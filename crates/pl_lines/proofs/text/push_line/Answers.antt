@@ -1,8 +1,7 @@
 use Rattle.pl_lines.proofs.Pushing.{may_cut}
 use Rattle.pl_lines.proofs.text.push_line.Goals as goal
 
-pub truncate-requires : goal.truncate-requires
-truncate-requires g c =
-    λ within.
+pub keep_if_pushed-requires : goal.keep_if_pushed-requires
+keep_if_pushed-requires g c =
     let place = may_cut c.push_front_of_line-pushed.ensures (rw c.as_str-len.ensures.value at c.as_str-len.utf8) (rw c.as_str.ensures.value at c.as_str.utf8) in
     rw c.as_str-len.ensures.value (place.0, λ _. place.1)

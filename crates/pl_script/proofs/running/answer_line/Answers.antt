@@ -1,5 +1,7 @@
-use Rattle.pl_script.proofs.RunSteps.{replies}
 use Rattle.pl_script.proofs.running.answer_line.Goals as goal
 
-pub returns-in_ok-push_line-in-Ok-clause-answered : goal.returns-in_ok-push_line-in-Ok-clause-answered
-returns-in_ok-push_line-in-Ok-clause-answered g c = replies _ _ c.args.asked _ c.in-Ok.reply _ _ (cc) c.in-Ok.ensures.made c.in_ok-push_line-in-Ok.ensures.done
+pub returns-in-Do-clause-answered : goal.returns-in-Do-clause-answered
+returns-in-Do-clause-answered g c = rw c.in-Do.is c.answer_step.ensures.answered
+
+pub returns-in-File-clause-answered : goal.returns-in-File-clause-answered
+returns-in-File-clause-answered g c = rw c.in-File.is c.answer_file.ensures.answered
