@@ -1,17 +1,17 @@
 //! Steps that take no memory answer as ever where none can be had.
 use crate::scarce::Scarce;
+use pl_model::Whence::{Cur, End, Set};
 use pl_model::{Errno, Limits, Mode, OpenFlags};
 use pl_run::LIMITS;
 use pl_testing::asked::Ask::{
-    self, Close, Dup, Dup2, DupFd, Exit, Fork, GetFl, Interrupt, Pipe, PipeNonblock, Read, Resume,
-    SetFl, Start, Write,
+    self, Close, Dup, Dup2, DupFd, Exit, Fork, GetFl, Interrupt, Lseek, Open, Pipe, PipeNonblock,
+    Read, Resume, SetFl, Start, Unlink, Write,
 };
-use pl_testing::asked::Data::{Many, Text};
+use pl_testing::asked::Data::{self, Many, Text};
 use pl_testing::asked::NEVER_GIVEN;
 use pl_testing::asked::Want::{
-    self, CallsSpent, Count, Fault, Fd, Fds, Flags, NoCall, NoProcess, Parked, Pid, Unit,
+    self, CallsSpent, Count, Fault, Fd, Fds, Flags, NoCall, NoProcess, Offset, Parked, Pid, Unit,
 };
-use pl_testing::bench::Bench;
 use pl_testing::refusing::Refusing;
 use pl_testing::sessions::{NEW_KERNEL, Session};
 use pl_testing::wanting::takes_no_memory;
@@ -19,6 +19,12 @@ use std::alloc::{Allocator, Global};
 use std::test::Fail;
 
 const APPEND: &[OpenFlags] = &[OpenFlags::APPEND];
+
+const CREAT: &[OpenFlags] = &[OpenFlags::CREAT];
+
+const NEW: &[OpenFlags] = &[OpenFlags::CREAT, OpenFlags::EXCL];
+
+const F: Data = Text("f");
 
 /// Steps of which some are to take no memory.
 const SESSIONS: &[Session] = &[
@@ -115,6 +121,52 @@ const SESSIONS: &[Session] = &[
         ],
         ..NEW_KERNEL
     },
+    // So do a seek and the taking away of a name, also where a file goes with its bytes, and an open or a write of a file that is
+    // refused.
+    Session {
+        name: "calls_on_files",
+        rows: &[
+            (Open(1, F, Mode::Both, CREAT), NoProcess),
+            (Unlink(1, F), NoProcess),
+            (Lseek(1, 0, 0, Set), NoProcess),
+            (Start, Pid(1)),
+            (Open(1, F, Mode::Both, &[]), Fault(Errno::ENOENT)),
+            (Open(1, Text(""), Mode::Both, CREAT), Fault(Errno::ENOENT)),
+            (
+                Open(1, Many(b'a', 256), Mode::Both, CREAT),
+                Fault(Errno::ENAMETOOLONG),
+            ),
+            (
+                Open(1, Text("a/b"), Mode::Both, CREAT),
+                Fault(Errno::EINVAL),
+            ),
+            (Unlink(1, F), Fault(Errno::ENOENT)),
+            (Open(1, F, Mode::Both, NEW), Fd(0)),
+            (Open(1, F, Mode::Both, NEW), Fault(Errno::EEXIST)),
+            (Write(1, 0, Many(b'a', 10_000)), Count(10_000)),
+            (
+                Lseek(1, 0, i64::MAX, Set),
+                Offset(9_223_372_036_854_775_807),
+            ),
+            (Lseek(1, 0, 1, Cur), Fault(Errno::EOVERFLOW)),
+            (Write(1, 0, Text("b")), Fault(Errno::EFBIG)),
+            (Lseek(1, 0, -1, Set), Fault(Errno::EINVAL)),
+            (Lseek(1, 0, 0, End), Offset(10_000)),
+            // a file that is open, and one that isn't
+            (Unlink(1, F), Unit),
+            (Open(1, F, Mode::Write, NEW), Fd(1)),
+            (Write(1, 1, Many(b'b', 10_000)), Count(10_000)),
+            (Read(1, 1, 1), Fault(Errno::EBADF)),
+            (Close(1, 1), Unit),
+            (Unlink(1, F), Unit),
+            (Lseek(1, 1, 0, Set), Fault(Errno::EBADF)),
+            (Lseek(1, 0, -1, Cur), Offset(9_999)),
+            (Close(1, 0), Unit),
+            (Pipe(1), Fds(0, 1)),
+            (Lseek(1, 0, 0, Cur), Fault(Errno::ESPIPE)),
+        ],
+        ..NEW_KERNEL
+    },
 ];
 
 /// The steps come to what their rows say, and those that are to take no memory ask for none.
@@ -153,21 +205,23 @@ fn each_session_takes_no_memory(rt: HostRuntime) -> Result<(), Fail> {
     Ok(())
 }
 
-/// The process, the descriptors and the descriptions for which there is no place.
+/// The process, the descriptors, the descriptions and the file for which there is no place.
 const NO_PLACE: &[(Ask, Want)] = &[
     (Start, Fault(Errno::EAGAIN)),
     (Fork(1), Fault(Errno::EAGAIN)),
     (Pipe(1), Fault(Errno::EMFILE)),
     (Dup(1, 0), Fault(Errno::EMFILE)),
+    (Open(1, F, Mode::Both, CREAT), Fault(Errno::EMFILE)),
     (Pipe(17), Fault(Errno::ENFILE)),
+    (Open(17, F, Mode::Both, CREAT), Fault(Errno::ENFILE)),
+    (Unlink(17, F), Fault(Errno::ENOENT)),
 ];
 
 /// The tables are filled, and then no memory can be had.
 fn refuse_all<B: Allocator>(alloc: Global, heap: &Refusing<B>) -> Result<(), Fail> {
-    let mut bench = Bench::new("full tables", alloc, heap, LIMITS)?;
+    let mut bench = Scarce::new("full tables", alloc, heap, 0, LIMITS)?;
     bench.prepare(1_024, 16)?;
-    heap.refuse(1);
-    bench.all_answer(NO_PLACE)
+    make_each(&mut bench, heap, NO_PLACE)
 }
 
 /// They are refused as ever where no memory can be had.

@@ -46,7 +46,7 @@ fn make_each<B: Allocator>(
     Ok(())
 }
 
-/// Makes the steps of the example, where the `n`th request for memory is refused.
+/// Makes the steps of the example, where the `n`th request for memory is refused. At its end nothing is left.
 fn make_steps<B: Allocator>(
     alloc: Global,
     heap: &Refusing<B>,
@@ -54,7 +54,8 @@ fn make_steps<B: Allocator>(
     n: u64,
 ) -> Result<(), Fail> {
     let mut bench = Scarce::new(example.name, alloc, heap, n, LIMITS)?;
-    make_each(&mut bench, heap, example.rows)
+    make_each(&mut bench, heap, example.rows)?;
+    bench.ends_empty(example.names)
 }
 
 /// Refuses each request of the steps in turn, until they meet no refusal.
@@ -67,6 +68,12 @@ fn refuse_each_step(alloc: Global, example: &Session) -> Result<(), Fail> {
         }
     }
     all_were_refused(&heap, example.name)
+}
+
+/// Refuses each request of the steps in turn, made one by one and as a run.
+pub(crate) fn refuse_each(alloc: Global, example: &Session) -> Result<(), Fail> {
+    refuse_each_step(alloc, example)?;
+    refuse_each_of_run(alloc, example)
 }
 
 /// Whether the other kernel answers the step likewise.
@@ -249,8 +256,7 @@ fn examples() -> &'static [Session] {
 #[test]
 fn each_example_survives_refusals(rt: HostRuntime) -> Result<(), Fail> {
     for example in examples() {
-        refuse_each_step(rt.alloc(), example)?;
-        refuse_each_of_run(rt.alloc(), example)?;
+        refuse_each(rt.alloc(), example)?;
     }
     Ok(())
 }

@@ -3,7 +3,7 @@ ghost use Rattle.std.specs.Prelude.{◌≤◌};
 ghost use Rattle.pl_model.specs.Numbers.{most_file_bytes};
 
 use pl_model::{Limits, Reply, Step};
-use pl_testing::asked::{Ask, Want, steps_of};
+use pl_testing::asked::{Ask, Data, Want, steps_of};
 use pl_testing::bench::Bench;
 use pl_testing::refusing::Refusing;
 use std::alloc::{Allocator, Global};
@@ -60,6 +60,20 @@ impl<'a, B: Allocator> Scarce<'a, B> {
         } else {
             Err(self.fault(ask, "finds no memory"))
         }
+    }
+
+    /// So many processes start, and the first `full_tables` of them fill their tables.
+    pub(crate) fn prepare(&mut self, processes: u32, full_tables: u32) -> Result<(), Fail> {
+        self.bench.prepare(processes, full_tables)
+    }
+
+    /// Ends every process, and takes the names away, which are all; no request for memory is refused. It fails where bytes are
+    /// kept after that.
+    pub(crate) fn ends_empty(&mut self, names: &[Data]) -> Result<(), Fail> {
+        let counted = self.heap.pause();
+        self.bench.ends_empty(names)?;
+        self.heap.go_on(counted);
+        Ok(())
     }
 
     /// What a test fails with at the last step.

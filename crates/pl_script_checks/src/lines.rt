@@ -1,5 +1,6 @@
 //! What lines ask.
 use crate::shared_lines;
+use pl_model::Name;
 use pl_script::{Line, LineFault, parse_line};
 use pl_testing::asked::Ask::{
     self, Close, Interrupt, Pipe, PipeNonblock, Read, Resume, Start, Write,
@@ -60,6 +61,18 @@ const GOOD: &[(&str, Ask)] = &[
     ("1 pipe nonblock\r", PipeNonblock(1)),
 ];
 
+/// Lines that ask for a file, and its name.
+const FILES: &[(&str, &str)] = &[
+    ("file f", "f"),
+    ("file -", ""),
+    ("file %2d", "-"),
+    ("file --", "--"),
+    ("file a%2Fb", "a/b"),
+    ("file %2fa%00", "/a\0"),
+    ("file ~!%7e", "~!~"),
+    ("\tfile  file\r", "file"),
+];
+
 const ASK_NOTHING: &[&str] = &[
     "",
     " ",
@@ -84,13 +97,13 @@ const BAD: &[&str] = &[
     "1",
     "-",
     "\r\r",
-    "file x",
     "1 pip",
     "1 pipes",
     "star",
     "starts",
     "1 start",
     "1 resume 1",
+    "1 file f",
     "pipe",
     "read 0 1",
     "start#",
@@ -113,12 +126,15 @@ const BAD: &[&str] = &[
     "1 write 1 - -",
     "1 close",
     "1 close 0 0",
+    "file",
+    "file f f",
     // upper case
     "START",
     "Start",
     "RESUME 1",
     "Interrupt 1",
     "1 PIPE",
+    "FILE f",
     "1 Read 0 1",
     "1 WRITE 1 61",
     "1 Close 0",
@@ -181,6 +197,13 @@ const BAD: &[&str] = &[
     "1 write 1 -61",
     "1 write 1 0x61",
     "1 write 1 6 1",
+    // names
+    "file %",
+    "file %2",
+    "file %2g",
+    "file a%",
+    "file \u{7f}",
+    "file \u{fc}",
     // what is no blank
     "start\r\r",
     "start\r ",
@@ -196,6 +219,11 @@ const BAD: &[&str] = &[
 fn asks(alloc: Global, text: &str, ask: Ask) -> Result<bool, Fail> {
     let asked = Line::Do(ask.step(alloc)?);
     Ok(parse_line(alloc, text.as_bytes()) == Ok(Some(asked)))
+}
+
+fn asks_for_file(alloc: Global, text: &str, name: &str) -> Result<bool, Fail> {
+    let name = Name::from_vec(Vec::from_slice(alloc, name.as_bytes())?);
+    Ok(parse_line(alloc, text.as_bytes()) == Ok(Some(Line::File(name))))
 }
 
 fn asks_nothing(alloc: Global, text: &str) -> bool {
@@ -225,6 +253,15 @@ fn good_lines(rt: HostRuntime) -> Result<(), Fail> {
     each_asks(&rt, rt.alloc(), GOOD)?;
     each_asks(&rt, rt.alloc(), shared_lines::GOOD)?;
     each_asks(&rt, rt.alloc(), shared_lines::FLAGS)
+}
+
+#[test]
+fn lines_that_ask_for_a_file(rt: HostRuntime) -> Result<(), Fail> {
+    for (text, name) in FILES {
+        let is_asked = asks_for_file(rt.alloc(), text, name)?;
+        assert!(rt; is_asked, "{text:?} asks for the file {name:?}");
+    }
+    Ok(())
 }
 
 #[test]

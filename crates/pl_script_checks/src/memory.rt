@@ -14,6 +14,7 @@ use std::test::Fail;
 #[derive(Clone, Copy)]
 struct Run {
     script: &'static str,
+    steps: u32,
     output: &'static str,
     outputs_with_nomem: &'static [&'static str],
     outputs_before_writes: &'static [&'static str],
@@ -21,6 +22,7 @@ struct Run {
 
 const NOTHING_WAITS: Run = Run {
     script: "start\n1 pipe nonblock\n1 read 0 1\n1 write 1 70*61\n1 read 0 3\n1 write 1 70*62\n1 write 1 63\n",
+    steps: 7,
     output: "pid 1\nfds 0 1\nEAGAIN\ncount 70\ndata 616161\ncount 70\ncount 1\n",
     outputs_with_nomem: &[
         "nomem\nno process\nno process\nno process\nno process\nno process\nno process\n",
@@ -39,6 +41,7 @@ const NOTHING_WAITS: Run = Run {
 
 const A_WRITE_WAITS: Run = Run {
     script: "start\n1 pipe\n1 write 1 70000*61\n1 read 0 3\nresume 1\ninterrupt 1\nresume 1\n",
+    steps: 7,
     output: "pid 1\nfds 0 1\nparked 1\ndata 616161\nparked 1\ncount 65539\nno call\n",
     outputs_with_nomem: &[
         "nomem\nno process\nno process\nno process\nno call\nno call\nno call\n",
@@ -48,6 +51,26 @@ const A_WRITE_WAITS: Run = Run {
         "pid 1\nfds 0 1\nparked 1\ndata 616161\nnomem\ncount 65536\nno call\n",
     ],
     outputs_before_writes: &["pid 1\nfds 0 1\n"],
+};
+
+// A line that finds no memory to tell of a file is no step, and leaves the file.
+const A_FILE_IS_TOLD_OF: Run = Run {
+    script: "start\n1 open f w creat\n1 write 0 6162\nfile f\n1 unlink f\nfile f\n1 lseek 0 0 cur\n",
+    steps: 5,
+    output: "pid 1\nfd 0\ncount 2\nfile 6162\nok\nno file\noffset 2\n",
+    outputs_with_nomem: &[
+        "nomem\nno process\nno process\nno file\nno process\nno file\nno process\n",
+        "pid 1\nnomem\nEBADF\nno file\nENOENT\nno file\nEBADF\n",
+        "pid 1\nfd 0\nnomem\nfile -\nok\nno file\noffset 0\n",
+        "pid 1\nfd 0\ncount 2\nnomem\nok\nno file\noffset 2\n",
+    ],
+    outputs_before_writes: &[
+        "pid 1\n",
+        "pid 1\nfd 0\n",
+        "pid 1\nfd 0\ncount 2\n",
+        "pid 1\nfd 0\ncount 2\nfile 6162\n",
+        "pid 1\nfd 0\ncount 2\nfile 6162\nok\n",
+    ],
 };
 
 /// Which request of a run is refused, and what the run printed.
@@ -82,7 +105,7 @@ fn is_ended(rt: &impl Abort, run: Run, at: At<'_>, totals: Totals) -> bool {
     let is_nomem = at.output != run.output;
     let wanted = Totals {
         lines: 7,
-        steps: 7,
+        steps: run.steps,
         nomem: u32::from(is_nomem),
     };
     assert!(rt; totals == wanted, "{totals:?}, {at:?}");
@@ -97,7 +120,7 @@ struct Seen {
     /// A run made fewer requests than the number of the one to refuse.
     has_ended: bool,
     has_printed_nomem: bool,
-    /// How many of the outputs before a write were printed by runs that found no memory to go on.
+    /// How many of the outputs before a line that writes, or has a name, were printed by runs that found no memory to go on.
     before_writes: usize,
 }
 
@@ -201,7 +224,7 @@ impl<A: Allocator + Copy> Subject<A> {
     }
 }
 
-/// A step found no memory in some run, and each output before a write was printed by some run that found none to go on.
+/// A step found no memory in some run, and each output before a line that writes, or has a name, was printed by some run that found none to go on.
 fn are_seen(rt: &impl Abort, run: Run, seen: Seen) {
     assert!(rt; seen.has_printed_nomem, "no run printed nomem");
     let printed = seen.before_writes;
@@ -211,7 +234,7 @@ fn are_seen(rt: &impl Abort, run: Run, seen: Seen) {
     );
 }
 
-/// Each request is refused. Where a line that writes finds no memory for its bytes, the lines before it are printed.
+/// Each request is refused. Where a line finds no memory for its bytes or its name, the lines before it are printed.
 fn each_is_refused<A: Allocator + Copy>(rt: &impl Abort, alloc: A, run: Run) -> Result<(), Fail> {
     let subject = Subject::new(alloc, run);
     let seen = subject.refuse_each(rt)?;
@@ -224,7 +247,7 @@ fn each_is_refused<A: Allocator + Copy>(rt: &impl Abort, alloc: A, run: Run) -> 
     Ok(())
 }
 
-const RUNS: &[Run] = &[NOTHING_WAITS, A_WRITE_WAITS];
+const RUNS: &[Run] = &[NOTHING_WAITS, A_WRITE_WAITS, A_FILE_IS_TOLD_OF];
 
 #[test]
 fn each_request_is_refused(rt: HostRuntime) -> Result<(), Fail> {

@@ -1,6 +1,6 @@
 //! The text of each reply.
 use pl_model::{Errno, Mode, OpenFlags, Outcome};
-use pl_script::show;
+use pl_script::{show, show_file};
 use pl_testing::asked::Data::{Text, TwoRuns};
 use pl_testing::asked::Want::{
     self, Bytes, CallsSpent, Count, CountSigpipe, Fault, Fd, Fds, Flags, NoCall, NoProcess, Parked,
@@ -83,4 +83,31 @@ fn each_reply_is_shown(rt: HostRuntime) -> Result<(), Fail> {
         shows_reply(&rt, rt.alloc(), *want, text)?;
     }
     shows(&rt, rt.alloc(), &Outcome::NoMemory, "nomem")
+}
+
+/// What a line says of a file that holds these bytes, or of none.
+const FILES: &[(Option<&[u8]>, &str)] = &[
+    (None, "no file"),
+    (Some(b""), "file -"),
+    (Some(b"\n"), "file 0a"),
+    (Some(b"hello"), "file 68656c6c6f"),
+];
+
+fn shows_file(
+    rt: &impl Abort,
+    alloc: Global,
+    bytes: Option<&[u8]>,
+    text: &str,
+) -> Result<(), Fail> {
+    let shown = show_file(alloc, bytes)?;
+    assert!(rt; shown.as_str() == text, "{text:?} is shown");
+    Ok(())
+}
+
+#[test]
+fn each_file_is_shown(rt: HostRuntime) -> Result<(), Fail> {
+    for (bytes, text) in FILES {
+        shows_file(&rt, rt.alloc(), *bytes, text)?;
+    }
+    Ok(())
 }

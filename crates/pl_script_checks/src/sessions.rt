@@ -180,6 +180,58 @@ start => pid 1
 ";
 
 /// The name of each session, the number of its first call, and its lines.
+const A_SHARED_OFFSET: &str = "\
+start => pid 1
+1 open f rw creat,append => fd 0
+1 fork => pid 2
+1 write 0 6162 => count 2
+2 lseek 0 0 cur => offset 2
+2 lseek 0 0 set => offset 0
+1 write 0 63 => count 1
+1 lseek 0 5 set => offset 5
+1 setfl 0 - => ok
+2 write 0 64 => count 1
+file f => file 616263000064
+1 read 0 4 => data -
+1 unlink f => ok
+file f => no file
+1 lseek 0 0 set => offset 0
+2 read 0 2 => data 6162
+";
+
+const THE_END_OF_A_FILE: &str = "\
+start => pid 1
+1 open f rw creat => fd 0
+1 lseek 0 16777214 set => offset 16777214
+1 write 0 616263 => count 2
+1 write 0 61 => EFBIG
+1 write 0 - => count 0
+1 lseek 0 -1 set => EINVAL
+1 lseek 0 9223372036854775807 end => EOVERFLOW
+1 unlink f => ok
+1 lseek 0 0 end => offset 16777216
+file f => no file
+1 open f r => ENOENT
+";
+
+const NAMES_AND_FLAGS: &str = "\
+start => pid 1
+1 open - r => ENOENT
+1 open x w creat,excl => fd 0
+1 open x w creat,excl => EEXIST
+1 read 0 1 => EBADF
+1 getfl 0 => flags w -
+1 setfl 0 append,nonblock,trunc => ok
+1 getfl 0 => flags w append,nonblock
+1 write 0 6162 => count 2
+1 open x r trunc => fd 1
+1 read 1 9 => data 6162
+1 open x rw trunc => fd 2
+file x => file -
+file - => no file
+file %00 => no file
+";
+
 const SESSIONS: &[(&str, u64, &str)] = &[
     (
         "partial_and_whole_not_waiting",
@@ -222,6 +274,9 @@ const SESSIONS: &[(&str, u64, &str)] = &[
     ),
     ("an_exit_drops_parked_calls", 1, AN_EXIT_DROPS_PARKED_CALLS),
     ("outside_the_table", 1, OUTSIDE_THE_TABLE),
+    ("a_shared_offset", 1, A_SHARED_OFFSET),
+    ("the_end_of_a_file", 1, THE_END_OF_A_FILE),
+    ("names_and_flags", 1, NAMES_AND_FLAGS),
 ];
 
 /// The digits of a byte, so many times.
@@ -265,6 +320,7 @@ struct Session<A: Allocator = Global> {
     script: String<A>,
     output: String<A>,
     lines: u32,
+    steps: u32,
 }
 
 impl<A: Allocator + Copy> Session<A> {
@@ -274,6 +330,7 @@ impl<A: Allocator + Copy> Session<A> {
             script: String::new(alloc),
             output: String::new(alloc),
             lines: 0,
+            steps: 0,
         }
     }
 
@@ -281,6 +338,9 @@ impl<A: Allocator + Copy> Session<A> {
     fn push_asked(&mut self, asked: &str) -> Result<(), Fail> {
         self.script.push_str(asked)?;
         self.lines = self.lines.saturating_add(1);
+        if !asked.starts_with("file ") {
+            self.steps = self.steps.saturating_add(1);
+        }
         push_line_feed(&mut self.script)
     }
 
@@ -307,7 +367,7 @@ impl<A: Allocator + Copy> Session<A> {
             output: self.output.as_str(),
             end: Ok(Totals {
                 lines: self.lines,
-                steps: self.lines,
+                steps: self.steps,
                 nomem: 0,
             }),
         };

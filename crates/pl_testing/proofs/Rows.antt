@@ -1,8 +1,10 @@
 -- The bytes of a row, with one more of them, and the rows that take no memory.
 use Rattle.std.proofs.Common.{◌≡◌, ℕ, ◌+◌, ◌++◌, List, [], ◌∷◌, refl, false, ℤ, Bor}
 use native.Mathlib.Numerals.{unary_clauses}
+use Rattle.pl_model.specs.declared.calls.Whence.{Whence}
 use Rattle.pl_model.specs.declared.flags.OpenFlags.{OpenFlags}
 use Rattle.pl_model.specs.declared.replies.Errno.{Errno}
+use Rattle.pl_testing.specs.declared.asked.Data.{Data}
 use Rattle.pl_testing.specs.declared.asked.Ask.{Ask}
 use Rattle.pl_testing.specs.declared.asked.Ask.TheVariants as ask
 use Rattle.pl_testing.specs.declared.asked.Want.{Want}
@@ -28,16 +30,20 @@ pub no_frugal :
     ((p : ℕ) (f g : ℤ) → a ≡ ask.Dup2 p f g → ⊥) →
     ((p : ℕ) (f g : ℤ) → a ≡ ask.DupFd p f g → ⊥) →
     ((p : ℕ) (f : ℤ) → a ≡ ask.Close p f → ⊥) →
+    ((p : ℕ) (f : ℤ) (o : ℤ) (w : Whence) → a ≡ ask.Lseek p f o w → ⊥) →
     ((p : ℕ) (f : ℤ) → a ≡ ask.GetFl p f → ⊥) →
     ((p : ℕ) (f : ℤ) (flags : Bor (List OpenFlags)) → a ≡ ask.SetFl p f flags → ⊥) →
+    ((p : ℕ) (name : Data) → a ≡ ask.Unlink p name → ⊥) →
     ((p : ℕ) → a ≡ ask.Exit p → ⊥) →
     asks_none a ≡ false
-no_frugal (ask.Interrupt c) interrupt dup dup2 dup_fd close get_fl set_fl exit = absurd (interrupt c refl)
-no_frugal (ask.Dup p f) interrupt dup dup2 dup_fd close get_fl set_fl exit = absurd (dup p f refl)
-no_frugal (ask.Dup2 p f g) interrupt dup dup2 dup_fd close get_fl set_fl exit = absurd (dup2 p f g refl)
-no_frugal (ask.DupFd p f g) interrupt dup dup2 dup_fd close get_fl set_fl exit = absurd (dup_fd p f g refl)
-no_frugal (ask.Close p f) interrupt dup dup2 dup_fd close get_fl set_fl exit = absurd (close p f refl)
-no_frugal (ask.GetFl p f) interrupt dup dup2 dup_fd close get_fl set_fl exit = absurd (get_fl p f refl)
-no_frugal (ask.SetFl p f flags) interrupt dup dup2 dup_fd close get_fl set_fl exit = absurd (set_fl p f flags refl)
-no_frugal (ask.Exit p) interrupt dup dup2 dup_fd close get_fl set_fl exit = absurd (exit p refl)
-no_frugal other interrupt dup dup2 dup_fd close get_fl set_fl exit = refl
+no_frugal (ask.Interrupt c) interrupt dup dup2 dup_fd close lseek get_fl set_fl unlink exit = absurd (interrupt c refl)
+no_frugal (ask.Dup p f) interrupt dup dup2 dup_fd close lseek get_fl set_fl unlink exit = absurd (dup p f refl)
+no_frugal (ask.Dup2 p f g) interrupt dup dup2 dup_fd close lseek get_fl set_fl unlink exit = absurd (dup2 p f g refl)
+no_frugal (ask.DupFd p f g) interrupt dup dup2 dup_fd close lseek get_fl set_fl unlink exit = absurd (dup_fd p f g refl)
+no_frugal (ask.Close p f) interrupt dup dup2 dup_fd close lseek get_fl set_fl unlink exit = absurd (close p f refl)
+no_frugal (ask.Lseek p f o w) interrupt dup dup2 dup_fd close lseek get_fl set_fl unlink exit = absurd (lseek p f o w refl)
+no_frugal (ask.GetFl p f) interrupt dup dup2 dup_fd close lseek get_fl set_fl unlink exit = absurd (get_fl p f refl)
+no_frugal (ask.SetFl p f flags) interrupt dup dup2 dup_fd close lseek get_fl set_fl unlink exit = absurd (set_fl p f flags refl)
+no_frugal (ask.Unlink p name) interrupt dup dup2 dup_fd close lseek get_fl set_fl unlink exit = absurd (unlink p name refl)
+no_frugal (ask.Exit p) interrupt dup dup2 dup_fd close lseek get_fl set_fl unlink exit = absurd (exit p refl)
+no_frugal other interrupt dup dup2 dup_fd close lseek get_fl set_fl unlink exit = refl

@@ -45,14 +45,17 @@ module _ {A : Type 0} where
   asked (ask.Interrupt call) = Interrupt call
   asked (ask.Pipe pid) = Begin pid (Call.Pipe false)
   asked (ask.PipeNonblock pid) = Begin pid (Call.Pipe true)
+  asked (ask.Open pid name mode flags) = Begin pid (Call.OpenName (data_bytes name) mode (all_flags flags.now))
   asked (ask.Read pid fd n) = Begin pid (Call.Read fd n)
   asked (ask.Write pid fd bytes) = Begin pid (Call.Write fd (data_bytes bytes))
   asked (ask.Dup pid fd) = Begin pid (Call.Dup fd)
   asked (ask.Dup2 pid fd target) = Begin pid (Call.Dup2 fd target)
   asked (ask.DupFd pid fd least) = Begin pid (Call.DupFd fd least)
   asked (ask.Close pid fd) = Begin pid (Call.Close fd)
+  asked (ask.Lseek pid fd offset whence) = Begin pid (Call.Lseek fd offset whence)
   asked (ask.GetFl pid fd) = Begin pid (Call.GetFl fd)
   asked (ask.SetFl pid fd flags) = Begin pid (Call.SetFl fd (all_flags flags.now))
+  asked (ask.Unlink pid name) = Begin pid (Call.Unlink (data_bytes name))
   asked (ask.Fork pid) = Begin pid Call.Fork
   asked (ask.Exit pid) = Begin pid Call.Exit
 
@@ -64,6 +67,7 @@ module _ {A : Type 0} where
   wanted (want.Count n) = reply.Count n false
   wanted (want.CountSigpipe n) = reply.Count n true
   wanted (want.Bytes bytes) = reply.Bytes (data_bytes bytes)
+  wanted (want.Offset offset) = reply.Offset offset
   wanted (want.Flags mode flags) = reply.Flags mode (all_flags flags.now)
   wanted want.Unit = reply.Unit
   wanted (want.Fault errno) = reply.Fault errno

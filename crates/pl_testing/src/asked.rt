@@ -3,7 +3,7 @@ ghost use Rattle.std.specs.Prelude.{◌≡◌, IfOk};
 ghost use Rattle.pl_testing.specs.Asked.{data_bytes, all_flags, asked, wanted};
 
 use bitflags::Flags;
-use pl_model::{Bytes8, Call, Errno, Mode, OpenFlags, Outcome, Reply, Step};
+use pl_model::{Bytes8, Call, Errno, Mode, Name, OpenFlags, Outcome, Reply, Step, Whence};
 use std::alloc::{Allocator, Global};
 use std::test::Fail;
 
@@ -22,9 +22,9 @@ pub enum Data {
     Part(usize, usize),
 }
 
-/// A step whose bytes are still to be made. A call names its process, then its descriptor, and a read the most bytes that it
-/// takes; `Dup2` names its target last, `DupFd` the least descriptor, and `SetFl` the flags. `Resume` and `Interrupt` name a
-/// parked call by its number.
+/// A step whose bytes are still to be made. A call names its process, then its descriptor or the name of a file, and a read the
+/// most bytes that it takes; `Dup2` names its target last, `DupFd` the least descriptor, and `SetFl` the flags. `Resume` and
+/// `Interrupt` name a parked call by its number.
 #[derive(Clone, Copy, Debug)]
 pub enum Ask {
     Start,
@@ -32,14 +32,17 @@ pub enum Ask {
     Interrupt(u64),
     Pipe(u32),
     PipeNonblock(u32),
+    Open(u32, Data, Mode, &'static [OpenFlags]),
     Read(u32, i32, u32),
     Write(u32, i32, Data),
     Dup(u32, i32),
     Dup2(u32, i32, i32),
     DupFd(u32, i32, i32),
     Close(u32, i32),
+    Lseek(u32, i32, i64, Whence),
     GetFl(u32, i32),
     SetFl(u32, i32, &'static [OpenFlags]),
+    Unlink(u32, Data),
     Fork(u32),
     Exit(u32),
 }
@@ -54,6 +57,7 @@ pub enum Want {
     /// The count of a write whose rest nobody can read.
     CountSigpipe(u32),
     Bytes(Data),
+    Offset(u64),
     Flags(Mode, &'static [OpenFlags]),
     Unit,
     Fault(Errno),
@@ -64,10 +68,10 @@ pub enum Want {
 }
 
 impl Data {
-    fn bytes<A: Allocator>(self, alloc: A) -> Result<Bytes8<A>, Fail>
-        ensures { IfOk result (λ bytes. bytes ≡ data_bytes self) }
+    fn list<A: Allocator>(self, alloc: A) -> Result<Vec<u8, A>, Fail>
+        ensures { IfOk result (λ bytes. bytes.items ≡ data_bytes self) }
     {
-        let bytes = match self {
+        Ok(match self {
             Data::Text(text) => Vec::from_slice(alloc, text.as_bytes())?,
             Data::Many(byte, times) => Vec::from_elem(alloc, byte, times)?,
             Data::TwoRuns(first, times, second, more) => {
@@ -84,8 +88,20 @@ impl Data {
                 }
                 bytes
             }
-        };
+        })
+    }
+
+    fn bytes<A: Allocator>(self, alloc: A) -> Result<Bytes8<A>, Fail>
+        ensures { IfOk result (λ bytes. bytes ≡ data_bytes self) }
+    {
+        let bytes = self.list(alloc)?;
         Ok(Bytes8::from_vec(bytes).ok_or("more bytes than a call moves")?)
+    }
+
+    fn name<A: Allocator>(self, alloc: A) -> Result<Name<A>, Fail>
+        ensures { IfOk result (λ name. name ≡ data_bytes self) }
+    {
+        Ok(Name::from_vec(self.list(alloc)?))
     }
 }
 
@@ -111,6 +127,11 @@ impl Ask {
             Ask::Interrupt(call) => Step::Interrupt(call),
             Ask::Pipe(pid) => Step::Begin(pid, Call::Pipe { nonblock: false }),
             Ask::PipeNonblock(pid) => Step::Begin(pid, Call::Pipe { nonblock: true }),
+            Ask::Open(pid, name, mode, flags) => {
+                let name = name.name(alloc)?;
+                let flags = all_of(flags);
+                Step::Begin(pid, Call::OpenName { name, mode, flags })
+            }
             Ask::Read(pid, fd, n) => Step::Begin(pid, Call::Read { fd, n }),
             Ask::Write(pid, fd, data) => {
                 let bytes = data.bytes(alloc)?;
@@ -120,10 +141,17 @@ impl Ask {
             Ask::Dup2(pid, fd, target) => Step::Begin(pid, Call::Dup2 { fd, target }),
             Ask::DupFd(pid, fd, least) => Step::Begin(pid, Call::DupFd { fd, least }),
             Ask::Close(pid, fd) => Step::Begin(pid, Call::Close { fd }),
+            Ask::Lseek(pid, fd, offset, whence) => {
+                Step::Begin(pid, Call::Lseek { fd, offset, whence })
+            }
             Ask::GetFl(pid, fd) => Step::Begin(pid, Call::GetFl { fd }),
             Ask::SetFl(pid, fd, flags) => {
                 let flags = all_of(flags);
                 Step::Begin(pid, Call::SetFl { fd, flags })
+            }
+            Ask::Unlink(pid, name) => {
+                let name = name.name(alloc)?;
+                Step::Begin(pid, Call::Unlink { name })
             }
             Ask::Fork(pid) => Step::Begin(pid, Call::Fork),
             Ask::Exit(pid) => Step::Begin(pid, Call::Exit),
@@ -143,6 +171,7 @@ impl Want {
             Want::Count(n) => Reply::Count { n, sigpipe: false },
             Want::CountSigpipe(n) => Reply::Count { n, sigpipe: true },
             Want::Bytes(data) => Reply::Bytes(data.bytes(alloc)?),
+            Want::Offset(offset) => Reply::Offset(offset),
             Want::Flags(mode, flags) => {
                 let flags = all_of(flags);
                 Reply::Flags { mode, flags }

@@ -2,7 +2,7 @@
 ghost use Rattle.std.specs.Prelude.{◌≤◌};
 ghost use Rattle.pl_model.specs.Numbers.{most_file_bytes};
 
-use crate::asked::{Ask, Want};
+use crate::asked::{Ask, Data, Want};
 use pl_kernel::Kernel;
 use pl_model::numbers::MAX_PROCESSES;
 use pl_model::{Bytes8, Call, Limits, Outcome, Reply, Step};
@@ -138,11 +138,25 @@ impl<A: Allocator + Copy> Bench<A> {
         }
     }
 
-    /// Ends every process, and fails where bytes are kept in memory after that.
-    pub fn ends_empty(&mut self) -> Result<(), Fail> {
+    /// A process takes the names away, in order, and ends. It fails where one isn't there.
+    fn unlink_all(&mut self, names: &[Data]) -> Result<(), Fail> {
+        if names.is_empty() {
+            return Ok(());
+        }
+        self.answers(Ask::Start, Want::Pid(1))?;
+        for name in names {
+            self.answers(Ask::Unlink(1, *name), Want::Unit)?;
+        }
+        self.answers(Ask::Exit(1), Want::Unit)
+    }
+
+    /// Ends every process, and then takes the names away, which are all. It fails where one isn't there, and where bytes are kept
+    /// in memory after that.
+    pub fn ends_empty(&mut self, names: &[Data]) -> Result<(), Fail> {
         for pid in 1..=MAX_PROCESSES as u32 {
             let _reply = reply_to(&mut self.kernel, Step::Begin(pid, Call::Exit));
         }
+        self.unlink_all(names)?;
         let (name, segments) = (self.name, self.kernel.stats().segments);
         if segments == 0 {
             return Ok(());

@@ -1,12 +1,14 @@
 //! The worked examples that several crates of tests make: tables of steps with the replies that are wanted.
 use crate::asked::Ask::{
-    self, Close, Dup, Dup2, Exit, Fork, GetFl, Interrupt, Pipe, PipeNonblock, Read, Resume, SetFl,
-    Start, Write,
+    self, Close, Dup, Dup2, Exit, Fork, GetFl, Interrupt, Lseek, Open, Pipe, PipeNonblock, Read,
+    Resume, SetFl, Start, Unlink, Write,
 };
 use crate::asked::Data::{Many, Text, TwoRuns};
 use crate::asked::Want::{
-    self, Bytes, Count, CountSigpipe, Fault, Fd, Fds, Flags, NoCall, NoProcess, Parked, Pid, Unit,
+    self, Bytes, Count, CountSigpipe, Fault, Fd, Fds, Flags, NoCall, NoProcess, Offset, Parked,
+    Pid, Unit,
 };
+use pl_model::Whence::{Cur, End, Set};
 use pl_model::{Errno, Mode, OpenFlags};
 
 /// What was written is read, and then the file ends.
@@ -149,4 +151,85 @@ pub const AN_EXIT_DROPS_PARKED_CALLS: [(Ask, Want); 7] = [
     (Resume(1), NoCall),
     (Close(1, 0), NoProcess),
     (Start, Pid(1)),
+];
+
+/// Two processes share the offset of a file, and its status flags. A write at the end, one behind it, and reads without the name.
+pub const A_FILE_OF_TWO_PROCESSES: [(Ask, Want); 20] = [
+    (Start, Pid(1)),
+    (
+        Open(
+            1,
+            Text("f"),
+            Mode::Both,
+            &[OpenFlags::CREAT, OpenFlags::APPEND],
+        ),
+        Fd(0),
+    ),
+    (Fork(1), Pid(2)),
+    (Write(1, 0, Text("ab")), Count(2)),
+    (Lseek(2, 0, 0, Cur), Offset(2)),
+    (Lseek(2, 0, 0, Set), Offset(0)),
+    (Write(1, 0, Text("c")), Count(1)),
+    (Lseek(1, 0, 5, Set), Offset(5)),
+    (SetFl(1, 0, &[]), Unit),
+    (Write(2, 0, Text("d")), Count(1)),
+    // the bytes of the file
+    (Open(2, Text("f"), Mode::Read, &[]), Fd(1)),
+    (Read(2, 1, 9), Bytes(Text("abc\0\0d"))),
+    (Close(2, 1), Unit),
+    (Read(1, 0, 4), Bytes(Text(""))),
+    (Unlink(1, Text("f")), Unit),
+    (Open(1, Text("f"), Mode::Read, &[]), Fault(Errno::ENOENT)),
+    (Lseek(1, 0, 0, Set), Offset(0)),
+    (Read(2, 0, 2), Bytes(Text("ab"))),
+    (Exit(1), Unit),
+    (Exit(2), Unit),
+];
+
+/// A file takes bytes up to its limit, and an offset is at least 0 and at most the greatest.
+pub const THE_END_OF_A_FILE: [(Ask, Want); 11] = [
+    (Start, Pid(1)),
+    (Open(1, Text("f"), Mode::Both, &[OpenFlags::CREAT]), Fd(0)),
+    (Lseek(1, 0, 16_777_214, Set), Offset(16_777_214)),
+    (Write(1, 0, Text("abc")), Count(2)),
+    (Write(1, 0, Text("a")), Fault(Errno::EFBIG)),
+    (Write(1, 0, Text("")), Count(0)),
+    (Lseek(1, 0, -1, Set), Fault(Errno::EINVAL)),
+    (Lseek(1, 0, i64::MAX, End), Fault(Errno::EOVERFLOW)),
+    (Unlink(1, Text("f")), Unit),
+    (Lseek(1, 0, 0, End), Offset(16_777_216)),
+    (Open(1, Text("f"), Mode::Read, &[]), Fault(Errno::ENOENT)),
+];
+
+const NEW: &[OpenFlags] = &[OpenFlags::CREAT, OpenFlags::EXCL];
+
+const TRUNC: &[OpenFlags] = &[OpenFlags::TRUNC];
+
+/// What opens refuse, which flags a description keeps, and what an open empties. The name is left.
+pub const NAMES_AND_FLAGS: [(Ask, Want); 17] = [
+    (Start, Pid(1)),
+    (Open(1, Text(""), Mode::Read, &[]), Fault(Errno::ENOENT)),
+    (Open(1, Text("x"), Mode::Write, NEW), Fd(0)),
+    (Open(1, Text("x"), Mode::Write, NEW), Fault(Errno::EEXIST)),
+    (Read(1, 0, 1), Fault(Errno::EBADF)),
+    (GetFl(1, 0), Flags(Mode::Write, &[])),
+    (
+        SetFl(
+            1,
+            0,
+            &[OpenFlags::APPEND, OpenFlags::NONBLOCK, OpenFlags::TRUNC],
+        ),
+        Unit,
+    ),
+    (GetFl(1, 0), Flags(Mode::Write, APPEND_AND_NONBLOCK)),
+    (Write(1, 0, Text("ab")), Count(2)),
+    (Open(1, Text("x"), Mode::Read, TRUNC), Fd(1)),
+    (Read(1, 1, 9), Bytes(Text("ab"))),
+    (Open(1, Text("x"), Mode::Both, TRUNC), Fd(2)),
+    // no bytes are left
+    (Read(1, 2, 9), Bytes(Text(""))),
+    (Lseek(1, 1, 0, Set), Offset(0)),
+    (Read(1, 1, 9), Bytes(Text(""))),
+    (Lseek(1, 2, 0, End), Offset(0)),
+    (Exit(1), Unit),
 ];

@@ -2,7 +2,7 @@
 ghost use Rattle.std.specs.Prelude.{◌≤◌};
 ghost use Rattle.pl_model.specs.Numbers.{most_file_bytes};
 
-use crate::asked::{Ask, Want};
+use crate::asked::{Ask, Data, Want};
 use crate::bench::Bench;
 use pl_model::Limits;
 use std::alloc::Global;
@@ -23,6 +23,8 @@ pub struct Session {
     pub rows: &'static [(Ask, Want)],
     /// Steps behind those.
     pub more: &'static [(Ask, Want)],
+    /// The names of the files that are there at the end.
+    pub names: &'static [Data],
 }
 
 /// A session of a kernel without processes, whose calls are numbered from 1: it lacks its name and its rows.
@@ -33,11 +35,12 @@ pub const NEW_KERNEL: Session = Session {
     full_tables: 0,
     rows: &[],
     more: &[],
+    names: &[],
 };
 
 /// Makes each session on a kernel of its own, within the limits but for its first call. It fails at the first row that isn't
-/// answered as it says, which it names with its session, at a session whose bytes outlive its processes or that has no rows, and
-/// where there is no memory for the bytes of a row.
+/// answered as it says, which it names with its session, at a session whose bytes outlive its processes and names or that has no
+/// rows, and where there is no memory for the bytes of a row.
 pub fn each_answers(alloc: Global, limits: Limits, sessions: &[Session]) -> Result<(), Fail>
     requires { limits.file_max ≤ most_file_bytes }
 {
@@ -47,12 +50,12 @@ pub fn each_answers(alloc: Global, limits: Limits, sessions: &[Session]) -> Resu
     Ok(())
 }
 
-/// Makes all of the session, and ends its processes.
+/// Makes all of the session, ends its processes, and takes its names away.
 fn make(bench: &mut Bench, session: &Session) -> Result<(), Fail> {
     bench.prepare(session.processes, session.full_tables)?;
     bench.all_answer(session.rows)?;
     bench.all_answer(session.more)?;
-    bench.ends_empty()
+    bench.ends_empty(session.names)
 }
 
 fn session_answers(alloc: Global, limits: Limits, session: &Session) -> Result<(), Fail>

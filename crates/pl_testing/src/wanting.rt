@@ -2,7 +2,9 @@
 ghost use Rattle.std.specs.Prelude.{◌≡◌, ◌||◌};
 ghost use Rattle.pl_testing.specs.Frugal.{wants_refusal, asks_none};
 
-use crate::asked::Ask::{self, Close, Dup, Dup2, DupFd, Exit, GetFl, Interrupt, SetFl};
+use crate::asked::Ask::{
+    self, Close, Dup, Dup2, DupFd, Exit, GetFl, Interrupt, Lseek, SetFl, Unlink,
+};
 use crate::asked::Want::{self, CallsSpent, Fault, NoCall, NoProcess};
 use crate::refusing::Refusing;
 use std::alloc::Global;
@@ -11,8 +13,8 @@ use std::test::Fail;
 /// More requests for memory than any example or script of the tests makes.
 pub const MOST_REQUESTS: u64 = 1_000;
 
-/// Whether the step is to take no memory: a step that is refused, an interrupt, and each call on descriptors that neither makes
-/// something new nor moves bytes.
+/// Whether the step is to take no memory: a step that is refused, an interrupt, and each call on descriptors or names that neither
+/// makes something new nor moves bytes.
 pub fn takes_no_memory(ask: Ask, want: Want) -> bool
     ensures { result ≡ (wants_refusal want || asks_none ask) }
 {
@@ -24,8 +26,10 @@ pub fn takes_no_memory(ask: Ask, want: Want) -> bool
                 | Dup(..)
                 | Dup2(..)
                 | DupFd(..)
+                | Lseek(..)
                 | GetFl(..)
                 | SetFl(..)
+                | Unlink(..)
                 | Exit(_)
         )
 }

@@ -1,11 +1,13 @@
 //! Steps, and what the others come to where one of them finds no memory.
-use pl_model::Errno::{EBADF, EINTR, EPIPE};
+use pl_model::Errno::{EBADF, EINTR, EINVAL, ENOENT, EPIPE};
+use pl_model::Whence::{Cur, End, Set};
+use pl_model::{Mode, OpenFlags};
 use pl_testing::asked::Ask::{
-    self, Close, Exit, Fork, Interrupt, Pipe, Read, Resume, Start, Write,
+    self, Close, Exit, Fork, Interrupt, Lseek, Open, Pipe, Read, Resume, Start, Unlink, Write,
 };
-use pl_testing::asked::Data::{Many, Text};
+use pl_testing::asked::Data::{self, Many, Text};
 use pl_testing::asked::Want::{
-    self, Bytes, Count, Fault, Fds, NoCall, NoProcess, Parked, Pid, Unit,
+    self, Bytes, Count, Fault, Fd, Fds, NoCall, NoProcess, Offset, Parked, Pid, Unit,
 };
 use pl_testing::examples::{
     A_PARKED_CALL_KEEPS_ITS_END, A_SMALL_WRITE_AT_ITS_BOUNDARY, A_WAITING_WRITER_IS_A_WRITER,
@@ -16,9 +18,19 @@ const NOT_OPEN: Want = Fault(EBADF);
 
 const BROKEN: Want = Fault(EPIPE);
 
+const NO_SUCH_NAME: Want = Fault(ENOENT);
+
 const INTERRUPTED: Want = Fault(EINTR);
 
 const NOTHING: Want = Bytes(Text(""));
+
+const F: Data = Text("f");
+
+const G: Data = Text("g");
+
+const CREAT: &[OpenFlags] = &[OpenFlags::CREAT];
+
+const PLAIN: &[OpenFlags] = &[];
 
 const A: Want = Bytes(Text("a"));
 
@@ -342,6 +354,54 @@ const OTHERS: &[Steps] = &[
             (6, Unit),
             (6, NoProcess),
             (6, NOTHING),
+        ],
+    },
+    // An open that finds no memory leaves no name and no descriptor behind, a write no bytes and no gap, and neither it nor a read
+    // moves the offset.
+    Steps {
+        name: "an_open_leaves_no_name",
+        rows: &[
+            (Start, Pid(1)),
+            (Open(1, F, Mode::Both, CREAT), Fd(0)),
+            (Lseek(1, 0, 1, Set), Offset(1)),
+            (Write(1, 0, Text("a")), Count(1)),
+            (Lseek(1, 0, -1, End), Offset(1)),
+            (Read(1, 0, 9), A),
+            (Lseek(1, 0, 0, Cur), Offset(2)),
+            (Open(1, G, Mode::Read, PLAIN), NO_SUCH_NAME),
+            (Unlink(1, F), Unit),
+            (Open(1, F, Mode::Read, PLAIN), NO_SUCH_NAME),
+        ],
+        places: &[0, 1, 3, 5],
+        behind: &[
+            (0, NoProcess),
+            (0, NoProcess),
+            (0, NoProcess),
+            (0, NoProcess),
+            (0, NoProcess),
+            (0, NoProcess),
+            (0, NoProcess),
+            (0, NoProcess),
+            (0, NoProcess),
+            (1, NOT_OPEN),
+            (1, NOT_OPEN),
+            (1, NOT_OPEN),
+            (1, NOT_OPEN),
+            (1, NOT_OPEN),
+            (1, NO_SUCH_NAME),
+            (1, NO_SUCH_NAME),
+            (1, NO_SUCH_NAME),
+            // The file is empty: there is nothing 1 byte before its end, and the offset is 1 still.
+            (3, Fault(EINVAL)),
+            (3, NOTHING),
+            (3, Offset(1)),
+            (3, NO_SUCH_NAME),
+            (3, Unit),
+            (3, NO_SUCH_NAME),
+            (5, Offset(1)),
+            (5, NO_SUCH_NAME),
+            (5, Unit),
+            (5, NO_SUCH_NAME),
         ],
     },
 ];

@@ -1,7 +1,7 @@
 use Rattle.std.proofs.Common.{ap, ◌∙◌, ◌+◌, ◌++◌, [], ◌∷◌}
 use Rattle.pl_testing.specs.Asked.{part_byte, part_bytes}
 use Rattle.pl_testing.proofs.Rows.{part_more}
-use Rattle.pl_testing.proofs.asked.Data.bytes.Goals as goal
+use Rattle.pl_testing.proofs.asked.Data.list.Goals as goal
 
 pub loop-i-init : goal.loop-i-init
 unfolding part_bytes

@@ -1,6 +1,6 @@
 use Rattle.std.proofs.Common.{◌≡◌, ◌++◌, replicate}
 use Rattle.pl_testing.specs.Asked.{part_bytes}
-use Rattle.pl_testing.proofs.asked.Data.bytes.Given as goal
+use Rattle.pl_testing.proofs.asked.Data.list.Given as goal
 
 abbrev pub invariant-loop-place : goal.invariant-loop-place
 invariant-loop-place g l = l.bytes.items ≡ replicate l.times l.first ++ replicate l._place l.second
