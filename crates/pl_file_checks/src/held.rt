@@ -44,7 +44,8 @@ pub(crate) const SESSIONS: &[Session] = &[
         names: &[F, G],
         ..NEW_KERNEL
     },
-    // Calls that wait on pipes stay parked, whatever is done to files, and one that ends with its process leaves its files.
+    // Calls that wait on pipes stay parked, whatever is done to files, and keep their ends where a descriptor comes to
+    // name a file.
     Session {
         name: "files_beside_waiting_calls",
         rows: &[

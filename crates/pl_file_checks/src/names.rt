@@ -108,7 +108,7 @@ pub(crate) const SESSIONS: &[Session] = &[
         ],
         ..NEW_KERNEL
     },
-    // A name is of no process: all see it, and it stays as they end.
+    // A name is of no process: all see it, and it stays as they close the file.
     Session {
         name: "names_of_all_processes",
         rows: &[

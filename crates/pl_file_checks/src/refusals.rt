@@ -102,7 +102,7 @@ pub(crate) const SESSIONS: &[Session] = &[
             (Dup(17, 1), Fd(2)),
             (Close(17, 1), Unit),
             (Open(17, F, Mode::Read, PLAIN), Fault(ENFILE)),
-            // So does a file without a name.
+            // A file that lost its name keeps its descriptions live.
             (Unlink(17, F), Unit),
             (Open(17, F, Mode::Read, CREAT), Fault(ENFILE)),
             (Close(17, 2), Unit),

@@ -99,9 +99,9 @@ fn is_refused<A: Allocator + Copy>(
     heap.refuse(1);
     assert!(rt;
         kernel.file_bytes(&missing)?.is_none(),
-        "no name wants no memory"
+        "a missing file wants memory"
     );
-    assert!(rt; heap.requests() == 0, "a missing file asks for no memory");
+    assert!(rt; heap.requests() == 0, "a missing file asks for memory");
     assert!(rt;
         kernel.file_bytes(&file).is_err(),
         "the file is told of without memory"

@@ -67,8 +67,8 @@ impl<'a, B: Allocator> Scarce<'a, B> {
         self.bench.prepare(processes, full_tables)
     }
 
-    /// Ends every process, and takes the names away, which are all; no request for memory is refused. It fails where bytes are
-    /// kept after that.
+    /// Ends every process, and takes the names away, which are all; no request for memory is refused. It fails where one
+    /// isn't there, and where bytes are kept after that.
     pub(crate) fn ends_empty(&mut self, names: &[Data]) -> Result<(), Fail> {
         let counted = self.heap.pause();
         self.bench.ends_empty(names)?;

@@ -1,4 +1,4 @@
-//! Calls on names of files.
+//! Calls on names of files, and the bytes of the file of a name.
 #![tactic(auto)]
 
 mod naming;

@@ -20,7 +20,7 @@ pub enum ScriptFault {
     /// The line of this number, counted from 1, is the first bad one.
     #[error("line {0} is not a line of a script")]
     BadLine(u32),
-    /// There was no memory to hold the script, a line of it or its output. A step that finds none is no fault: it
+    /// There was no memory to hold the script, a line of it or its output. A step, or a line `file`, that finds none is no fault: it
     /// prints `nomem`.
     #[error("no memory")]
     NoMemory,

@@ -1,4 +1,4 @@
-//! Scripts: lists of lines that ask for steps of a kernel, and the text that their replies make.
+//! Scripts: lists of lines that ask for steps of a kernel or for what a file holds, and the text of what they are answered.
 //!
 //! `run_script` runs a whole script from a reader to a writer; `parse_line`, `show` and `show_file`, of `pl_lines`, are one line
 //! of it. What a script prints is defined in `pl_model`, in `specs/Script.antt`.

@@ -21,7 +21,7 @@ use std::alloc::{AllocError, Allocator};
 /// Output is written once so many bytes of it wait.
 const WAITING: usize = 65_536;
 
-// Makes a step and adds the line of its reply; tells whether it found no memory.
+/// Makes a step and adds the line of its reply; tells whether it found no memory.
 fn answer_step<A: Allocator + Copy>(
     alloc: A,
     kernel: &mut Kernel<A>,
@@ -44,7 +44,7 @@ fn answer_step<A: Allocator + Copy>(
     }
 }
 
-// Adds the line of what the file of a name holds; tells whether there was no memory to read it.
+/// Adds the line of what the file of a name holds; tells whether there was no memory to read it.
 fn answer_file<A: Allocator + Copy>(
     alloc: A,
     kernel: &Kernel<A>,
@@ -186,8 +186,8 @@ fn run_lines<A: Allocator + Copy, T: Sink>(
     run_each(alloc, &mut kernel, &mut out, totals, script, writer)
 }
 
-/// Reads a script to its end, runs it on a new kernel, and writes a line for each step before the first bad line. Answers
-/// what it counted.
+/// Reads a script to its end, runs it on a new kernel, and writes a line for each step and each line `file` before the first bad
+/// one. Answers what it counted.
 ///
 /// The reader is asked at most `MAX_READS` times. The script is held whole; the output is not, and is written in pieces of
 /// 65,536 bytes or more. `limits.file_max` is at most 16,777,216.

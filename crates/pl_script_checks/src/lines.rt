@@ -1,5 +1,5 @@
 //! What lines ask.
-use crate::shared_lines;
+use crate::{file_lines, shared_lines};
 use pl_model::Name;
 use pl_script::{Line, LineFault, parse_line};
 use pl_testing::asked::Ask::{
@@ -252,7 +252,8 @@ fn each_is_bad(rt: &impl Abort, alloc: Global, texts: &[&str]) {
 fn good_lines(rt: HostRuntime) -> Result<(), Fail> {
     each_asks(&rt, rt.alloc(), GOOD)?;
     each_asks(&rt, rt.alloc(), shared_lines::GOOD)?;
-    each_asks(&rt, rt.alloc(), shared_lines::FLAGS)
+    each_asks(&rt, rt.alloc(), shared_lines::FLAGS)?;
+    each_asks(&rt, rt.alloc(), file_lines::GOOD)
 }
 
 #[test]
@@ -275,4 +276,5 @@ fn lines_that_ask_nothing(rt: HostRuntime) {
 fn bad_lines(rt: HostRuntime) {
     each_is_bad(&rt, rt.alloc(), BAD);
     each_is_bad(&rt, rt.alloc(), shared_lines::BAD);
+    each_is_bad(&rt, rt.alloc(), file_lines::BAD);
 }

@@ -9,8 +9,8 @@ use std::alloc::{Allocator, Global};
 use std::process::Abort;
 use std::test::Fail;
 
-/// A script of seven steps, what it prints, what it prints where one step finds no memory, which then changes nothing, and what
-/// it has printed where a line that writes finds none for its bytes.
+/// A script of seven lines, how many of them ask for a step, what it prints, what it prints where one line finds no memory, which
+/// then changes nothing, and what it has printed where a line finds none for its bytes or its name.
 #[derive(Clone, Copy)]
 struct Run {
     script: &'static str,
@@ -53,7 +53,7 @@ const A_WRITE_WAITS: Run = Run {
     outputs_before_writes: &["pid 1\nfds 0 1\n"],
 };
 
-// A line that finds no memory to tell of a file is no step, and leaves the file.
+/// A line `file` is no step; where it finds no memory, the file stays as it is.
 const A_FILE_IS_TOLD_OF: Run = Run {
     script: "start\n1 open f w creat\n1 write 0 6162\nfile f\n1 unlink f\nfile f\n1 lseek 0 0 cur\n",
     steps: 5,
@@ -224,7 +224,8 @@ impl<A: Allocator + Copy> Subject<A> {
     }
 }
 
-/// A step found no memory in some run, and each output before a line that writes, or has a name, was printed by some run that found none to go on.
+/// A step found no memory in some run, and each output before a line that writes, or has a name, was printed by some run
+/// that found none to go on.
 fn are_seen(rt: &impl Abort, run: Run, seen: Seen) {
     assert!(rt; seen.has_printed_nomem, "no run printed nomem");
     let printed = seen.before_writes;

@@ -3,8 +3,8 @@ use pl_model::{Errno, Mode, OpenFlags, Outcome};
 use pl_script::{show, show_file};
 use pl_testing::asked::Data::{Text, TwoRuns};
 use pl_testing::asked::Want::{
-    self, Bytes, CallsSpent, Count, CountSigpipe, Fault, Fd, Fds, Flags, NoCall, NoProcess, Parked,
-    Pid, Unit,
+    self, Bytes, CallsSpent, Count, CountSigpipe, Fault, Fd, Fds, Flags, NoCall, NoProcess, Offset,
+    Parked, Pid, Unit,
 };
 use std::alloc::Global;
 use std::process::Abort;
@@ -21,6 +21,11 @@ const REPLIES: &[(Want, &str)] = &[
     (Count(0), "count 0"),
     (Count(16_777_216), "count 16777216"),
     (CountSigpipe(5), "count 5 sigpipe"),
+    (Offset(0), "offset 0"),
+    (
+        Offset(9_223_372_036_854_775_807),
+        "offset 9223372036854775807",
+    ),
     (Unit, "ok"),
     (Parked(7), "parked 7"),
     (Parked(u64::MAX), "parked 18446744073709551615"),

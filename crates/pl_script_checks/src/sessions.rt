@@ -179,7 +179,6 @@ start => pid 1
 1 dup -0 => fd 2
 ";
 
-/// The name of each session, the number of its first call, and its lines.
 const A_SHARED_OFFSET: &str = "\
 start => pid 1
 1 open f rw creat,append => fd 0
@@ -232,6 +231,7 @@ file - => no file
 file %00 => no file
 ";
 
+/// The name of each session, the number of its first call, and its lines.
 const SESSIONS: &[(&str, u64, &str)] = &[
     (
         "partial_and_whole_not_waiting",
@@ -313,7 +313,7 @@ fn push_line_feed<A: Allocator>(text: &mut String<A>) -> Result<(), Fail> {
     Ok(text.push('\n')?)
 }
 
-/// The scripts of sessions, what they print, and how many lines they have.
+/// The scripts of sessions, what they print, and how many lines they have and steps they ask for.
 #[derive(Drop)]
 struct Session<A: Allocator = Global> {
     alloc: A,
