@@ -1,9 +1,10 @@
-use Rattle.std.proofs.Common.{◌≡◌, ℕ, List, Some, None, Result, Ok, Err, sym, ap, subst, ◌∙◌, nat_eq, arith}
-use Rattle.std.specs.Prelude.{IsSome, IfSome, OnErr}
+use Rattle.std.proofs.Common.{◌≡◌, ℕ, List, Some, None, sym, ap, subst, ◌∙◌, nat_eq}
+use Rattle.std.specs.Prelude.{IsSome, IfSome}
 use Rattle.std.specs.Cmp.Lexicographic.{pointwise}
 use Rattle.pl_model.specs.declared.node.Node.TheVariants as node
 use Rattle.pl_model.specs.Map.{get}
 use Rattle.pl_desc.specs.Rows.{at}
+use Rattle.pl_nodes.proofs.Keyed.{on_err}
 use Rattle.pl_state.specs.Contents.{Contents, IsThere}
 use Rattle.pl_state.specs.KernelView.{view_of}
 use Rattle.pl_state.specs.Makes.{Tells, HasFile}
@@ -12,10 +13,6 @@ use Rattle.pl_naming.proofs.by_call.Telling.{tells_none, tells_none_of_pipe, tel
 use Rattle.pl_naming.proofs.naming.file_bytes.Given.{Over}
 use Rattle.pl_naming.proofs.naming.file_bytes.Goals.{In-File}
 use Rattle.pl_naming.proofs.naming.file_bytes.Goals as goal
-
-on_err : {X E P : Type 0} → (r : Result X E) → P → OnErr r P
-on_err (Ok x) p = tt
-on_err (Err e) p = p
 
 -- the name stands for a file
 module _ (g : Over) (c : In-File g) where
@@ -49,7 +46,7 @@ read_file-requires g c = there g (goal.at.read_file-requires g c).In-File
 pub returns-in_err-bytes-clause-wanted : goal.returns-in_err-bytes-clause-wanted
 returns-in_err-bytes-clause-wanted g c =
     let w = (goal.at.returns-in_err-bytes-clause-wanted g c).In-File in
-    on_err c.from_residual.result
+    on_err c.from_residual.result _
     (rw (← c.kernel.view_is) (subst (λ n. HasFile (view_of c.kernel.inside) n) c.as_slice.ensures (has_file (view_of c.kernel.inside) c.as_slice.result.now c.in-File.file (stood g w) (there g w))))
 
 pub unwrap-requires : goal.unwrap-requires
