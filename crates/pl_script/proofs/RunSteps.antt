@@ -1,6 +1,6 @@
 -- From one line of a script to the next.
 use Rattle.std.proofs.Common.{◌≡◌, ℕ, ◌+◌, ◌<◌, ◌≤◌, Bool, true, false, cond, ◌&&◌, List, [], ◌∷◌, ◌++◌, length, take, drop, Option, Some, None, Ok, Err, inr, refl, sym, ap, subst, ◌∙◌, append_assoc, arith}
-use Rattle.std.specs.Prelude.{count_by, replicate, not, is_some, IfSome, IsSome}
+use Rattle.std.specs.Prelude.{count_by, replicate, IfSome}
 use Rattle.std.specs.Io.KnownBytes.{Appends}
 use Rattle.std.proofs.KnownBytes.{Appends-nil, Appends-trans}
 use Rattle.std.proofs.lemmas.List.{append-nil, take-append-drop, length-append}
@@ -8,16 +8,14 @@ use Rattle.std.proofs.lemmas.List.Sums.{sum_by-cons, sum_by_push}
 use Rattle.pl_model.specs.declared.calls.Limits.{Limits}
 use Rattle.pl_model.specs.declared.calls.Step.{Step}
 use Rattle.pl_model.specs.declared.replies.Reply.{Reply}
-use Rattle.pl_model.specs.declared.replies.Outcome.TheVariants as Outcome
 use Rattle.pl_model.specs.declared.replies.Outcome.TheVariants.{Replied}
 use Rattle.pl_model.specs.declared.script.Line.{Line}
-use Rattle.pl_model.specs.declared.script.Line.TheVariants.{Do, File}
+use Rattle.pl_model.specs.declared.script.Line.TheVariants.{Do}
 use Rattle.pl_model.specs.declared.script.Totals.{Totals}
-use Rattle.pl_model.specs.State.{file_bytes}
 use Rattle.pl_model.specs.Numbered.{State, opening, step}
 use Rattle.pl_model.specs.Lines.{line}
 use Rattle.pl_model.specs.Numbers.{most_script_bytes}
-use Rattle.pl_model.specs.Shown.{outcome_text, file_text}
+use Rattle.pl_model.specs.Shown.{outcome_text}
 use Rattle.pl_model.specs.Script.{lines, asked, if_good, first_bad, number_if_bad, answers, answer, are_marks, never_marked, is_step}
 use Rattle.pl_script.specs.declared.fault.ScriptFault.TheVariants as faults
 use Rattle.pl_script.specs.declared.fault.ScriptFault.{ScriptFault}
@@ -86,24 +84,6 @@ module _ {A : Type 0} where
   replies old new asked x reply before after is made text = λ s stood.
       let done = made s stood in
       rw is (record { stands = done.1; text = text ∙ ap (λ r. before ++ (outcome_text (Replied r) ++ 10 ∷ [])) done.0; lawful = refl })
-
-  -- a line whose file was told of
-  pub tells : (Stands : State A → Type 0) (asked : Line A) (name : List ℕ) (told : Option (List ℕ)) (before after : List ℕ) → asked ≡ File name
-      → ((s : State A) → Stands s → told ≡ file_bytes s.core name) → after ≡ before ++ (file_text told ++ 10 ∷ [])
-      → IsAnswered Stands Stands asked false before after
-  tells Stands asked name told before after is held text = λ s stood.
-      rw is (record { stands = stood; text = text ∙ ap (λ o. before ++ (file_text o ++ 10 ∷ [])) (held s stood); lawful = refl })
-
-  -- a line for whose file there was no memory
-  pub finds_none : (Stands : State A → Type 0) (asked : Line A) (name : List ℕ) (before after : List ℕ) → asked ≡ File name
-      → ((s : State A) → Stands s → IsSome (file_bytes s.core name)) → after ≡ before ++ (outcome_text {A = A} Outcome.NoMemory ++ 10 ∷ [])
-      → IsAnswered Stands Stands asked true before after
-  finds_none Stands asked name before after is there text = λ s stood.
-      rw is (record { stands = stood; text = text; lawful = is_there (file_bytes s.core name) (there s stood) })
-    where
-      is_there : (o : Option (List ℕ)) → IsSome o → not (is_some o) ≡ false
-      is_there None h = absurd (cc)
-      is_there (Some bytes) h = refl
 
   -- as many marks as there are lines, none of them set
   abbrev no_marks : List (Line A) → List Bool
