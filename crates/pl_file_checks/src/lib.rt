@@ -24,6 +24,4 @@ mod rows;
 #[cfg(test)]
 mod sessions;
 #[cfg(test)]
-mod telling;
-#[cfg(test)]
 mod unlinked;
