@@ -1,12 +1,14 @@
--- That the machine's checks of a name and of an offset are the decisions on them.
+-- That the machine's checks of a name, of an offset and of a capacity are the decisions on them.
 use Rattle.std.proofs.Common.{◌≡◌, ℕ, Bool, true, false, cond, List, Option, Some, None, refl, length}
 use Rattle.std.specs.Prelude.{ℤ, pos, ◌+ℤ◌, ◌==◌, ◌&&◌, not, is_some, is_none, nat_lt, Ok, Err}
 use Rattle.std.specs.List.{list_any}
-use Rattle.pl_model.specs.declared.replies.Errno.TheVariants.{EEXIST, EINVAL, ENAMETOOLONG, ENOENT, EOVERFLOW}
-use Rattle.pl_model.specs.Numbers.{most_name_bytes, greatest_offset}
+use Rattle.pl_model.specs.declared.replies.Errno.TheVariants.{EBUSY, EEXIST, EINVAL, ENAMETOOLONG, ENOENT, EOVERFLOW, EPERM}
+use Rattle.pl_model.specs.Numbers.{most_name_bytes, most_capacity, greatest_offset}
 use Rattle.pl_model.specs.Keys.{Keys}
 use Rattle.pl_model.specs.Trial.{Begins, refuse_if, found}
+use Rattle.pl_model.specs.Capacity.{rounded_capacity}
 use Rattle.pl_model.specs.Begin.{check_name, is_never_in_name, unsigned}
+use Rattle.pl_decisions.specs.Capacities.{capacity_set}
 use Rattle.pl_decisions.specs.Names.{fault_of_name, fault_of_open, unless_fault}
 use Rattle.pl_decisions.specs.Offsets.{offset_sought, or_refused, within_offsets}
 
@@ -42,3 +44,13 @@ module _ {A : Type 0} {K : Keys} where
       by : (place : Option ℕ) → found place EINVAL (λ n. refuse_if (nat_lt greatest_offset n) EOVERFLOW (next n)) ≡ or_refused (within_offsets place) next
       by None = refl
       by (Some n) = past n (nat_lt greatest_offset n)
+
+  -- the last checks of a size
+  pub set_capacity-is : (size held : ℕ) (next : ℕ → Begins A K) →
+      refuse_if (nat_lt most_capacity size) EPERM (refuse_if (nat_lt (rounded_capacity size) held) EBUSY (next (rounded_capacity size))) ≡ or_refused (capacity_set size held) next
+  set_capacity-is size held next = by (nat_lt most_capacity size) (nat_lt (rounded_capacity size) held)
+    where
+      by : (large busy : Bool) → refuse_if large EPERM (refuse_if busy EBUSY (next (rounded_capacity size))) ≡ or_refused (cond large (Err EPERM) (cond busy (Err EBUSY) (Ok (rounded_capacity size)))) next
+      by true busy = refl
+      by false true = refl
+      by false false = refl

@@ -1,3 +1,4 @@
+pub mod Capacities
 pub mod Decided
 pub mod Names
 pub mod Offsets

@@ -2,12 +2,14 @@
 //! wrong one refused, without a kernel.
 #![tactic(auto)]
 
+mod capacities;
 mod closing;
 mod naming;
 mod opening;
 mod seeking;
 mod transfers;
 
+pub use capacities::capacity_for;
 pub use closing::hung_after_close;
 pub use naming::name_fault;
 pub use opening::open_fault;

@@ -8,7 +8,7 @@ use pl_descriptors::{close, dup, dup_fd, dup2, exit, fork, get_fl, set_fl, start
 use pl_model::{Call, Reply, Step};
 use pl_naming::{open_name, unlink};
 use pl_state::{KernelState, NoMemory};
-use pl_transfers::{interrupt, lseek, pipe, read, resume, write};
+use pl_transfers::{get_pipe_sz, interrupt, lseek, pipe, read, resume, set_pipe_sz, write};
 use std::alloc::Allocator;
 
 fn begin<A: Allocator + Copy>(
@@ -34,6 +34,8 @@ fn begin<A: Allocator + Copy>(
         Call::Lseek { fd, offset, whence } => Ok(lseek(kernel, pid, fd, offset, whence)),
         Call::GetFl { fd } => Ok(get_fl(kernel, pid, fd)),
         Call::SetFl { fd, flags } => Ok(set_fl(kernel, pid, fd, flags)),
+        Call::GetPipeSz { fd } => Ok(get_pipe_sz(kernel, pid, fd)),
+        Call::SetPipeSz { fd, size } => set_pipe_sz(kernel, pid, fd, size),
         Call::Unlink { name } => Ok(unlink(kernel, pid, &name)),
         Call::Fork => fork(kernel, pid),
         Call::Exit => Ok(exit(kernel, pid)),

@@ -6,7 +6,7 @@ use Rattle.pl_model.specs.declared.calls.Call.TheVariants as call
 use Rattle.pl_model.specs.declared.calls.Step.TheVariants as step
 use Rattle.pl_model.specs.declared.script.Line.{Line}
 use Rattle.pl_model.specs.declared.script.Line.TheVariants.{Do, File}
-use Rattle.pl_model.specs.Lines.{dup2_of, dup_fd_of, close_of, lseek_of, get_fl_of, set_fl_of, unlink_of, fork_of, exit_of}
+use Rattle.pl_model.specs.Lines.{dup2_of, dup_fd_of, close_of, lseek_of, get_fl_of, set_fl_of, get_pipe_sz_of, set_pipe_sz_of, unlink_of, fork_of, exit_of}
 use Rattle.pl_model.specs.Numbers.{most_bytes}
 use Rattle.pl_model.specs.Words.{◌>>=◌, number, signed, is_plain, hex_byte}
 use Rattle.pl_lines.specs.declared.fault.LineFault.{LineFault}
@@ -91,6 +91,8 @@ later_call_of name rest =
     else if bytes_eq name (codes "lseek") then lseek_of rest
     else if bytes_eq name (codes "getfl") then get_fl_of rest
     else if bytes_eq name (codes "setfl") then set_fl_of rest
+    else if bytes_eq name (codes "getsz") then get_pipe_sz_of rest
+    else if bytes_eq name (codes "setsz") then set_pipe_sz_of rest
     else if bytes_eq name (codes "unlink") then unlink_of rest
     else if bytes_eq name (codes "fork") then fork_of rest
     else if bytes_eq name (codes "exit") then exit_of rest

@@ -1,6 +1,6 @@
 //! The calls in lines.
 ghost use Rattle.pl_model.specs.Words.{words, mode_of, whence_of};
-ghost use Rattle.pl_model.specs.Lines.{pipe_of, open_name_of, read_of, write_of, dup_of, dup2_of, dup_fd_of, close_of, lseek_of, get_fl_of, set_fl_of, unlink_of, fork_of, exit_of, call_of};
+ghost use Rattle.pl_model.specs.Lines.{pipe_of, open_name_of, read_of, write_of, dup_of, dup2_of, dup_fd_of, close_of, lseek_of, get_fl_of, set_fl_of, get_pipe_sz_of, set_pipe_sz_of, unlink_of, fork_of, exit_of, call_of};
 ghost use Rattle.pl_lines.specs.Parsed.{Gives, GivesTaking, CallTakes, later_call_of};
 
 use crate::bytes::parse_bytes;
@@ -173,6 +173,26 @@ fn set_fl_call<A: Allocator + Copy>(rest: &[u8]) -> Result<Call<A>, LineFault>
     })
 }
 
+#[tactic(auto, unfolding(pl_model::specs::Lines::get_pipe_sz_of))]
+fn get_pipe_sz_call<A: Allocator + Copy>(rest: &[u8]) -> Result<Call<A>, LineFault>
+    ensures { Gives result (get_pipe_sz_of (words rest.now)) }
+{
+    Ok(Call::GetPipeSz {
+        fd: only_i32(rest)?,
+    })
+}
+
+#[tactic(auto, unfolding(pl_model::specs::Lines::set_pipe_sz_of))]
+fn set_pipe_sz_call<A: Allocator + Copy>(rest: &[u8]) -> Result<Call<A>, LineFault>
+    ensures { Gives result (set_pipe_sz_of (words rest.now)) }
+{
+    let (fd, size) = fd_and_word(rest)?;
+    Ok(Call::SetPipeSz {
+        fd,
+        size: parse_u32(size)?,
+    })
+}
+
 #[tactic(auto, unfolding(pl_model::specs::Lines::unlink_of))]
 fn unlink_call<A: Allocator + Copy>(alloc: A, rest: &[u8]) -> Result<Call<A>, LineFault>
     ensures { GivesTaking CallTakes result (unlink_of (words rest.now)) }
@@ -219,6 +239,10 @@ fn parse_later_call<A: Allocator + Copy>(
         get_fl_call(rest)
     } else if name == b"setfl".as_slice() {
         set_fl_call(rest)
+    } else if name == b"getsz".as_slice() {
+        get_pipe_sz_call(rest)
+    } else if name == b"setsz".as_slice() {
+        set_pipe_sz_call(rest)
     } else if name == b"unlink".as_slice() {
         unlink_call(alloc, rest)
     } else if name == b"fork".as_slice() {

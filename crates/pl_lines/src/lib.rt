@@ -6,8 +6,8 @@
 //!
 //! The lines are `start`, `resume C`, `interrupt C`, `file NAME`, `P pipe`, `P pipe nonblock`, `P read FD N`, `P write FD BYTES`,
 //! `P open NAME MODE`, `P open NAME MODE FLAGS`, `P lseek FD OFFSET WHENCE`, `P unlink NAME`, `P dup FD`, `P dup2 FD FD`,
-//! `P dupfd FD N`, `P close FD`, `P getfl FD`, `P setfl FD FLAGS`, `P fork` and `P exit`, and those that ask nothing: blank ones and
-//! comments, which begin with `#`.
+//! `P dupfd FD N`, `P close FD`, `P getfl FD`, `P setfl FD FLAGS`, `P getsz FD`, `P setsz FD N`, `P fork` and `P exit`, and those
+//! that ask nothing: blank ones and comments, which begin with `#`.
 #![tactic(auto)]
 
 mod bytes;

@@ -145,6 +145,7 @@ fn push_reply<A: Allocator + Copy>(
         Reply::Bytes(bytes) => push_bytes(alloc, text, "data ", bytes.as_slice()),
         Reply::Offset(offset) => push_number(text, "offset ", *offset),
         Reply::Flags { mode, flags } => push_flags(text, *mode, *flags),
+        Reply::Size(size) => push_number(text, "size ", *size),
         Reply::Unit => text.push_str("ok"),
         Reply::Fault(errno) => text.push_str(errno_text(*errno)),
         Reply::Parked(call) => push_number(text, "parked ", *call),

@@ -6,3 +6,5 @@ pub mod Examples
 pub mod PieceExamples
 -- The small examples of regular files, computed from the definitions.
 pub mod FileExamples
+-- The small examples of the capacities of pipes, computed from the definitions.
+pub mod CapacityExamples

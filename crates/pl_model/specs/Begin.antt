@@ -6,16 +6,17 @@ use Rattle.pl_model.specs.declared.calls.Mode.{Mode}
 use Rattle.pl_model.specs.declared.calls.Whence.{Whence}
 use Rattle.pl_model.specs.declared.calls.Whence.TheVariants.{Set, Cur, End}
 use Rattle.pl_model.specs.declared.flags.OpenFlags.{OpenFlags}
-use Rattle.pl_model.specs.declared.replies.Reply.TheVariants.{Pid, Fd, Fds, Bytes, Offset, Flags, Unit}
-use Rattle.pl_model.specs.declared.replies.Errno.TheVariants.{EAGAIN, EBADF, EEXIST, EINVAL, EMFILE, ENAMETOOLONG, ENFILE, ENOENT, ENXIO, EOVERFLOW, ESPIPE}
-use Rattle.pl_model.specs.Numbers.{open_max, most_descriptions, most_name_bytes, greatest_offset}
+use Rattle.pl_model.specs.declared.replies.Reply.TheVariants.{Pid, Fd, Fds, Bytes, Offset, Flags, Size, Unit}
+use Rattle.pl_model.specs.declared.replies.Errno.TheVariants.{EAGAIN, EBADF, EBUSY, EEXIST, EINVAL, EMFILE, ENAMETOOLONG, ENFILE, ENOENT, ENXIO, EOVERFLOW, EPERM, ESPIPE}
+use Rattle.pl_model.specs.Numbers.{open_max, most_descriptions, most_name_bytes, most_capacity, greatest_offset}
 use Rattle.pl_model.specs.Modes.{reads, writes, for_reading, for_writing}
 use Rattle.pl_model.specs.Flags.{has, creat, excl, trunc, nonblock, nonblock_if, status_flags}
 use Rattle.pl_model.specs.Keys.{Keys, Node, NewKeys, Draws, PipeNode, FileNode}
 use Rattle.pl_model.specs.State.{Core, Description, Open, described, named, row, set_file, set_pipe, set_description, empty_pipe}
 use Rattle.pl_model.specs.Live.{live_count}
-use Rattle.pl_model.specs.Trial.{Begins, Begun, Answered, answered, refused, tried, refuse_if, found}
+use Rattle.pl_model.specs.Trial.{Begins, Begun, Answered, pipe_at, answered, refused, tried, refuse_if, found}
 use Rattle.pl_model.specs.Transfer.{count, file_at, moved_to}
+use Rattle.pl_model.specs.Capacity.{rounded_capacity, pipe_of, set_capacity}
 use Rattle.pl_model.specs.Tables.{lowest, lowest_pid, install, close_row, describe, create_file, forget_name, fork}
 
 -- the place of an open descriptor in its table
@@ -180,6 +181,23 @@ module _ {A : Type 0} {K : Keys} where
   begin_set_fl s pid fd flags =
       found (open_fd s pid fd) EBADF (λ o.
       answered (set_description s o.key (record o.description { flags = status_flags flags })) Unit)
+
+  -- fcntl(2), F_GETPIPE_SZ: EBADF. That it is EBADF of what is no pipe too is our own choice. Either end may be named.
+  unfoldable pub begin_get_pipe_sz : Core A K → ℕ → ℤ → Begins A K
+  begin_get_pipe_sz s pid fd =
+      found (open_fd s pid fd) EBADF (λ o.
+      found (pipe_of o.description.node) EBADF (λ p.
+      answered s (Size (pipe_at s p).capacity)))
+
+  -- fcntl(2), F_SETPIPE_SZ: EBADF, EPERM above the greatest capacity, EBUSY where more bytes are held. That it is EBADF of what is
+  -- no pipe too is our own choice.
+  unfoldable pub begin_set_pipe_sz : Core A K → ℕ → ℤ → ℕ → Begins A K
+  begin_set_pipe_sz s pid fd size =
+      found (open_fd s pid fd) EBADF (λ o.
+      found (pipe_of o.description.node) EBADF (λ p.
+      refuse_if (nat_lt most_capacity size) EPERM
+      (refuse_if (nat_lt (rounded_capacity size) (length (pipe_at s p).bytes)) EBUSY
+      (answered (set_capacity s p (rounded_capacity size)) (Size (rounded_capacity size))))))
 
   -- POSIX.1-2017, unlink: ENOENT. What the name stood for lives on while it is open.
   unfoldable pub begin_unlink : Core A K → List ℕ → Begins A K

@@ -2,7 +2,7 @@
 use Rattle.std.specs.Prelude.{ℕ, ◌^◌, List, [], ◌∷◌, Bool, true, false, ◌==◌, if◌then◌else◌, Option, Some, None, codes}
 use Rattle.std.specs.Str.{bytes_eq}
 use Rattle.pl_model.specs.declared.calls.Call.{Call}
-use Rattle.pl_model.specs.declared.calls.Call.TheVariants.{Pipe, OpenName, Read, Write, Dup, Dup2, DupFd, Close, Lseek, GetFl, SetFl, Unlink, Fork, Exit}
+use Rattle.pl_model.specs.declared.calls.Call.TheVariants.{Pipe, OpenName, Read, Write, Dup, Dup2, DupFd, Close, Lseek, GetFl, SetFl, GetPipeSz, SetPipeSz, Unlink, Fork, Exit}
 use Rattle.pl_model.specs.declared.calls.Step.TheVariants.{Start, Begin, Resume, Interrupt}
 use Rattle.pl_model.specs.declared.script.Line.{Line}
 use Rattle.pl_model.specs.declared.script.Line.TheVariants.{Do, File}
@@ -92,6 +92,19 @@ module _ {A : Type 0} where
     Some (SetFl f fs)
   set_fl_of _ = None
 
+  -- `P getsz FD`
+  unfoldable pub get_pipe_sz_of : List (List ℕ) → Option (Call A)
+  get_pipe_sz_of (fd ∷ []) = signed fd >>= λ f. Some (GetPipeSz f)
+  get_pipe_sz_of _ = None
+
+  -- `P setsz FD N`
+  unfoldable pub set_pipe_sz_of : List (List ℕ) → Option (Call A)
+  set_pipe_sz_of (fd ∷ size ∷ []) = do
+    f ← signed fd
+    n ← number (2 ^ 32) size
+    Some (SetPipeSz f n)
+  set_pipe_sz_of _ = None
+
   -- `P unlink NAME`
   unfoldable pub unlink_of : List (List ℕ) → Option (Call A)
   unlink_of (name ∷ []) = name_of name >>= λ n. Some (Unlink n)
@@ -121,6 +134,8 @@ module _ {A : Type 0} where
       else if bytes_eq name (codes "lseek") then lseek_of rest
       else if bytes_eq name (codes "getfl") then get_fl_of rest
       else if bytes_eq name (codes "setfl") then set_fl_of rest
+      else if bytes_eq name (codes "getsz") then get_pipe_sz_of rest
+      else if bytes_eq name (codes "setsz") then set_pipe_sz_of rest
       else if bytes_eq name (codes "unlink") then unlink_of rest
       else if bytes_eq name (codes "fork") then fork_of rest
       else if bytes_eq name (codes "exit") then exit_of rest

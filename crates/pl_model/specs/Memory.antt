@@ -25,12 +25,14 @@ module _ {A : Type 0} where
   is_frugal_call (Call.GetFl fd) = true
   is_frugal_call (Call.SetFl fd flags) = true
   is_frugal_call (Call.Lseek fd offset whence) = true
+  is_frugal_call (Call.GetPipeSz fd) = true
   is_frugal_call (Call.Unlink name) = true
   is_frugal_call Call.Exit = true
   is_frugal_call (Call.Pipe nonblock) = false
   is_frugal_call (Call.OpenName name mode flags) = false
   is_frugal_call (Call.Read fd n) = false
   is_frugal_call (Call.Write fd bytes) = false
+  is_frugal_call (Call.SetPipeSz fd size) = false
   is_frugal_call Call.Fork = false
 
   abbrev pub is_frugal : Step A → Bool

@@ -10,6 +10,14 @@ pipe_buf = 4096
 abbrev pub first_capacity : ℕ
 first_capacity = 65536
 
+-- fcntl(2), F_SETPIPE_SZ: the fewest bytes that a pipe can be made to hold, those of a page.
+abbrev pub least_capacity : ℕ
+least_capacity = 4096
+
+-- pipe(7), /proc/sys/fs/pipe-max-size: the most bytes that a pipe can be made to hold.
+abbrev pub most_capacity : ℕ
+most_capacity = 1048576
+
 -- POSIX.1-2017, limits.h, OPEN_MAX: the descriptors of a process, numbered from 0.
 abbrev pub open_max : ℕ
 open_max = 256

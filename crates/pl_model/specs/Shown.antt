@@ -6,7 +6,7 @@ use Rattle.pl_model.specs.declared.flags.OpenFlags.{OpenFlags}
 use Rattle.pl_model.specs.declared.replies.Errno.{Errno}
 use Rattle.pl_model.specs.declared.replies.Errno.TheVariants.{EAGAIN, EBADF, EBUSY, EEXIST, EFBIG, EINTR, EINVAL, EMFILE, ENAMETOOLONG, ENFILE, ENOENT, ENXIO, EOVERFLOW, EPERM, EPIPE, ESPIPE}
 use Rattle.pl_model.specs.declared.replies.Reply.{Reply}
-use Rattle.pl_model.specs.declared.replies.Reply.TheVariants.{Pid, Fd, Fds, Count, Bytes, Offset, Flags, Unit, Fault, Parked, NoProcess, NoCall, CallsSpent}
+use Rattle.pl_model.specs.declared.replies.Reply.TheVariants.{Pid, Fd, Fds, Count, Bytes, Offset, Flags, Size, Unit, Fault, Parked, NoProcess, NoCall, CallsSpent}
 use Rattle.pl_model.specs.declared.replies.Outcome.{Outcome}
 use Rattle.pl_model.specs.declared.replies.Outcome.TheVariants.{Replied, NoMemory}
 use Rattle.pl_model.specs.Flags.{has, append, nonblock}
@@ -75,6 +75,7 @@ module _ {A : Type 0} where
   reply_text (Bytes bytes) = codes "data " ++ bytes_text bytes
   reply_text (Offset n) = codes "offset " ++ decimal n
   reply_text (Flags mode flags) = codes "flags " ++ (mode_text mode ++ (codes " " ++ flags_text flags))
+  reply_text (Size n) = codes "size " ++ decimal n
   reply_text Unit = codes "ok"
   reply_text (Fault errno) = errno_text errno
   reply_text (Parked c) = codes "parked " ++ decimal c

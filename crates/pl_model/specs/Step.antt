@@ -15,7 +15,7 @@ use Rattle.pl_model.specs.Settle.{settle}
 use Rattle.pl_model.specs.Tables.{lowest_pid, start, exit}
 use Rattle.pl_model.specs.Trial.{Trial, Flow, Done, Wait, still, flowed, Begun, Refused, Answered, Tried, Begins, answered}
 use Rattle.pl_model.specs.Transfer.{read_node, write_node, count}
-use Rattle.pl_model.specs.Begin.{begin_pipe, begin_read, begin_write, begin_dup, begin_dup2, begin_dup_fd, begin_open_name, begin_close, begin_lseek, begin_get_fl, begin_set_fl, begin_unlink, begin_fork}
+use Rattle.pl_model.specs.Begin.{begin_pipe, begin_read, begin_write, begin_dup, begin_dup2, begin_dup_fd, begin_open_name, begin_close, begin_lseek, begin_get_fl, begin_set_fl, begin_get_pipe_sz, begin_set_pipe_sz, begin_unlink, begin_fork}
 
 -- the state that a step leaves, its reply, and the bytes that it moved
 pub record Stepped (A : Type 0) (K : Keys) : Type 0 where
@@ -52,6 +52,8 @@ module _ {A : Type 0} {K : Keys} where
   begin s pid (Call.Lseek fd offset whence) = begin_lseek s pid fd offset whence
   begin s pid (Call.GetFl fd) = begin_get_fl s pid fd
   begin s pid (Call.SetFl fd flags) = begin_set_fl s pid fd flags
+  begin s pid (Call.GetPipeSz fd) = begin_get_pipe_sz s pid fd
+  begin s pid (Call.SetPipeSz fd size) = begin_set_pipe_sz s pid fd size
   begin s pid (Call.Unlink name) = begin_unlink s name
   begin s pid Call.Fork = begin_fork s pid
   begin s pid Call.Exit = answered (exit s pid) Unit

@@ -95,6 +95,16 @@ pub enum Call<A: Allocator = Global> {
         fd: i32,
         flags: OpenFlags,
     },
+    /// Tells how many bytes the pipe that a descriptor names can hold (Linux, fcntl(2), `F_GETPIPE_SZ`).
+    GetPipeSz {
+        fd: i32,
+    },
+    /// Sets how many bytes the pipe that a descriptor names, by either end, can hold: `size`, rounded up (Linux, fcntl(2),
+    /// `F_SETPIPE_SZ`).
+    SetPipeSz {
+        fd: i32,
+        size: u32,
+    },
     /// Takes a name away. What it stood for lives on while a description is open on it (POSIX.1-2017, unlink).
     Unlink {
         name: Name<A>,

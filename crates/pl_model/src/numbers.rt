@@ -1,12 +1,18 @@
 //! The numbers of the layer, for code. Contracts cite those of the definitions (`specs/Numbers.antt`), which these are.
 ghost use Rattle.std.specs.Prelude.{◌≡◌};
-ghost use Rattle.pl_model.specs.Numbers.{pipe_buf, first_capacity, open_max, most_descriptions, most_processes, most_bytes, most_file_bytes, most_name_bytes, greatest_offset, most_script_bytes, most_reads, last_call};
+ghost use Rattle.pl_model.specs.Numbers.{pipe_buf, first_capacity, least_capacity, most_capacity, open_max, most_descriptions, most_processes, most_bytes, most_file_bytes, most_name_bytes, greatest_offset, most_script_bytes, most_reads, last_call};
 
 /// The most bytes of a write that goes in whole or not at all (POSIX.1-2017, limits.h; pipe(7), PIPE_BUF).
 pub const PIPE_BUF: usize = 4_096;
 
 /// The bytes that a new pipe can hold (pipe(7), Pipe capacity).
 pub const FIRST_CAPACITY: usize = 65_536;
+
+/// The fewest bytes that a pipe can be made to hold: a page (pipe(7), Pipe capacity; fcntl(2), F_SETPIPE_SZ).
+pub const MIN_CAPACITY: u32 = 4_096;
+
+/// The most bytes that a pipe can be made to hold (pipe(7), /proc/sys/fs/pipe-max-size).
+pub const MAX_CAPACITY: u32 = 1_048_576;
 
 /// The descriptors of a process, numbered from 0 (POSIX.1-2017, limits.h, OPEN_MAX).
 pub const OPEN_MAX: usize = 256;
@@ -42,6 +48,8 @@ pub const LAST_CALL: u64 = u64::MAX;
 pub fn are_those_of_the_definitions()
     ensures pipe_buf { PIPE_BUF ≡ pipe_buf }
     ensures first_capacity { FIRST_CAPACITY ≡ first_capacity }
+    ensures least_capacity { MIN_CAPACITY ≡ least_capacity }
+    ensures most_capacity { MAX_CAPACITY ≡ most_capacity }
     ensures open_max { OPEN_MAX ≡ open_max }
     ensures most_descriptions { MAX_DESCRIPTIONS ≡ most_descriptions }
     ensures most_processes { MAX_PROCESSES ≡ most_processes }

@@ -42,6 +42,8 @@ pub enum Reply<A: Allocator = Global> {
     Offset(u64),
     /// The mode of an open file description, and those of its flags `APPEND` and `NONBLOCK` that are set.
     Flags { mode: Mode, flags: OpenFlags },
+    /// The bytes that a pipe can hold: a power of two from 4,096 to 1,048,576.
+    Size(u32),
     /// The call is done, and has nothing to tell.
     Unit,
     /// The call failed. `EPIPE` stands for the error and the signal `SIGPIPE`.

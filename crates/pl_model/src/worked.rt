@@ -1,6 +1,7 @@
 //! What the definitions answer in small examples. Each function does nothing: its contract is the example, computed.
 ghost use Rattle.pl_model.specs.Worked.{BytesBeforeEndOfFile, PartialAndWholeNotWaiting, ReadOfNothing, WriteOfNothing, LastWriterCloses, SmallWriteAtItsBoundary, InterruptedLargeWrite, ParkedCallKeepsItsEnd, LastReaderLeaves, CallNumbersSpent, InterleavingWithALargeWrite, ThreeNamesOfOneWriteEnd, FlagsOfSharedDescriptions, FullTable, DescriptorsThatAreNotOpen, ExitDropsParkedCalls, TableOfWrites, ScriptOfBytesBeforeEndOfFile, ScriptOfFlags, EmptyScript, ScriptWithoutLineFeed, ScriptOfNoProcess};
 ghost use Rattle.pl_model.specs.WorkedFiles.{EndOfAFile, BadNames, RefusalsOfAnOpen, FlagsOfAnOpen, AppendingAndSeeking, UnlinkedFileLivesOn, NamesKeepTheirFiles, PipesHaveNoOffset, ScriptOfFiles, NamesInWords};
+ghost use Rattle.pl_model.specs.WorkedCapacity.{SizesAreRoundedUp, OnlyPipesHaveACapacity, CapacityIsRoom, WaitingWriteGetsRoom, ScriptOfCapacities, LinesOfCapacities};
 ghost use Rattle.pl_model.specs.WorkedStream.{RunsInPieces};
 
 use std::alloc::Allocator;
@@ -45,6 +46,14 @@ pub fn files<A: Allocator>()
     ensures pipes_have_no_offset { PipesHaveNoOffset A }
 {}
 
+/// How many bytes a pipe can hold.
+pub fn capacities<A: Allocator>()
+    ensures sizes_are_rounded_up { SizesAreRoundedUp A }
+    ensures only_pipes_have_a_capacity { OnlyPipesHaveACapacity A }
+    ensures capacity_is_room { CapacityIsRoom A }
+    ensures waiting_write_gets_room { WaitingWriteGetsRoom A }
+{}
+
 /// The pieces in which the bytes of small runs go through a pipe, and what becomes of a write.
 pub fn pieces<A: Allocator>()
     ensures { RunsInPieces A }
@@ -64,4 +73,6 @@ pub fn scripts<A: Allocator>()
     ensures no_process { ScriptOfNoProcess A }
     ensures files { ScriptOfFiles A }
     ensures names { NamesInWords }
+    ensures capacities { ScriptOfCapacities A }
+    ensures lines_of_capacities { LinesOfCapacities A }
 {}

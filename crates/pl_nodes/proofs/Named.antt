@@ -1,6 +1,6 @@
 -- Whether a name stands for what is under a key.
-use Rattle.std.proofs.Common.{◌≡◌, ◌≢◌, ℕ, ◌+◌, Bool, true, false, cond, List, [], ◌∷◌, Option, Some, None, IsSome, refl, sym, ◌∙◌, ap, subst, inl, inr, nat_eq, nat_lt, slice_set, arith}
-use Rattle.std.specs.Prelude.{is_some, unwrap_or, count_by, ◌||◌}
+use Rattle.std.proofs.Common.{◌≡◌, ◌≢◌, ℕ, ◌+◌, Bool, true, false, cond, List, [], ◌∷◌, Option, Some, None, IsSome, refl, sym, ◌∙◌, ap, subst, inl, inr, nat_lt, slice_set, arith}
+use Rattle.std.specs.Prelude.{is_some, unwrap_or, ◌||◌}
 use Rattle.std.specs.declared.vec.Vec.{Vec}
 use Rattle.std.specs.declared.cmp.Ordering.{Ordering}
 use Rattle.std.specs.declared.cmp.Ordering.TheVariants.{Less, Equal, Greater}
@@ -9,7 +9,7 @@ use Rattle.std.specs.Cmp.Lexicographic.{slice_cmp}
 use Rattle.std.specs.List.{list_any}
 use Rattle.std.specs.Map.{lookup, remove_entry}
 use Rattle.std.specs.BTreeMap.{insert_entry, is_at}
-use Rattle.std.proofs.lemmas.Bool.{eq-eqb, ne_eqb}
+use Rattle.std.proofs.lemmas.Bool.{eq-eqb}
 use Rattle.std.proofs.lemmas.Bool.Decides.{eqb_tells}
 use Rattle.std.proofs.lemmas.List.{get_or-set_same, get_or-set_other}
 use Rattle.std.proofs.lemmas.List.Sums.{sum_by-cons}
@@ -19,7 +19,6 @@ use Rattle.pl_model.specs.Nodes.{key_of, same_node, has_name}
 use Rattle.pl_model.proofs.Counting.{some_counted, counts_one}
 use Rattle.pl_model.proofs.Nodes.{same_node-refl, same_node-is}
 use Rattle.pl_segments.specs.Segments.{at}
-use Rattle.pl_nodes.specs.declared.content.FileNode.{FileNode}
 use Rattle.pl_nodes.specs.declared.content.Content.{Content}
 use Rattle.pl_nodes.specs.declared.content.Content.TheVariants.{Pipe, File}
 use Rattle.pl_nodes.specs.Contents.{with_named}
@@ -122,41 +121,6 @@ module _ {A : Type 0} where
     pub named-is : (contents : List (Option (Content A))) → AreNamed es contents → (n : Node) → named_as n (at contents (key_of n)) ≡ has_name (names_of es) n
     named-is contents named n = sym (mapped-any n es ∙ ap (nat_lt 0) (named n) ∙ counts_one (named_as n (at contents (key_of n))))
 
-  -- a file with a new name comes
-  module _ (es : List (Vec ℕ A × Node)) (name : Vec ℕ A) (before after : List (Option (Content A))) (key : ℕ) (new : FileNode A)
-      (vacant : lookup (is_at (compares name.items)) es ≡ None) (others : (q : ℕ) → q ≢ key → at after q ≡ at before q)
-      (free : at before key ≡ None) (comes : at after key ≡ Some (File new)) (is : new.named ≡ true) (named : AreNamed es before) where
-    pub new-named : AreNamed (insert_entry (λ x y. slice_cmp nat_cmp x.items y.items) es name (node.File key)) after
-    new-named = by
-      where
-        pipe_same : (q : ℕ) → pipe_named (at after q) ≡ pipe_named (at before q)
-        pipe_same q = elim (eqb_tells q key) as (λ _. pipe_named (at after q) ≡ pipe_named (at before q)) [
-          | inl e ↦ ap (λ j. pipe_named (at after j)) e.1 ∙ ap pipe_named comes ∙ sym (ap (λ j. pipe_named (at before j)) e.1 ∙ ap pipe_named free)
-          | inr e ↦ ap pipe_named (others q e.1)
-        ]
-
-        here : names_on (insert_entry (λ x y. slice_cmp nat_cmp x.items y.items) es name (node.File key)) (node.File key) ≡ one_if (file_named (at after key))
-        here =
-            let more = came-one (node.File key) es name (node.File key) vacant in
-            let one : one_if (nat_eq key key) ≡ 1 = ap (λ b. one_if b) (eq-eqb key key refl) in
-            let was = named (node.File key) ∙ ap (λ o. one_if (file_named o)) free in
-            let now : one_if (file_named (at after key)) ≡ 1 = ap (λ o. one_if (file_named o)) comes ∙ ap (λ b. one_if b) is in
-            omega (arith, more, one, was, now)
-
-        by : AreNamed (insert_entry (λ x y. slice_cmp nat_cmp x.items y.items) es name (node.File key)) after
-        by (node.Pipe q) =
-            let more = came-one (node.Pipe q) es name (node.File key) vacant in
-            let was = named (node.Pipe q) ∙ ap (λ b. one_if b) (sym (pipe_same q)) in
-            omega (arith, more, was)
-        by (node.File q) = elim (eqb_tells q key) as (λ _. names_on (insert_entry (λ x y. slice_cmp nat_cmp x.items y.items) es name (node.File key)) (node.File q) ≡ one_if (file_named (at after q))) [
-          | inl e ↦ subst (λ j. names_on (insert_entry (λ x y. slice_cmp nat_cmp x.items y.items) es name (node.File key)) (node.File j) ≡ one_if (file_named (at after j))) (sym e.1) here
-          | inr e ↦
-              let more = came-one (node.File q) es name (node.File key) vacant in
-              let none : one_if (nat_eq key q) ≡ 0 = ap (λ b. one_if b) (ne_eqb key q (λ h. e.1 (sym h))) in
-              let was = named (node.File q) ∙ ap (λ o. one_if (file_named o)) (sym (others q e.1)) in
-              omega (arith, more, none, was)
-        ]
-
   unnamed : (n : Node) (x : Content A) → named_as n (Some (with_named false x)) ≡ false
   unnamed (node.Pipe q) (Pipe p) = refl
   unnamed (node.Pipe q) (File f) = refl
@@ -171,6 +135,39 @@ module _ {A : Type 0} where
   other-kind (node.Pipe p) (node.File q) (File y) is apart same = absurd (cc)
   other-kind (node.File p) (node.Pipe q) (Pipe y) is apart same = absurd (cc)
   other-kind (node.File p) (node.Pipe q) (File y) is apart same = refl
+
+  -- a node with a new name comes
+  module _ (es : List (Vec ℕ A × Node)) (name : Vec ℕ A) (before after : List (Option (Content A))) (v : Node) (new : Content A)
+      (vacant : lookup (is_at (compares name.items)) es ≡ None) (others : (q : ℕ) → q ≢ key_of v → at after q ≡ at before q)
+      (free : at before (key_of v) ≡ None) (comes : at after (key_of v) ≡ Some new) (is : named_as v (Some new) ≡ true) (named : AreNamed es before) where
+    -- nobody else is said to have a name who hadn't
+    others-alike : (n : Node) → same_node v n ≡ false → named_as n (at after (key_of n)) ≡ named_as n (at before (key_of n))
+    others-alike n apart = elim (eqb_tells (key_of n) (key_of v)) as (λ _. named_as n (at after (key_of n)) ≡ named_as n (at before (key_of n))) [
+      | inl e ↦
+          ap (λ j. named_as n (at after j)) e.1 ∙ ap (named_as n) comes ∙ other-kind v n new is apart e.1
+          ∙ sym (ap (λ j. named_as n (at before j)) e.1 ∙ ap (named_as n) free ∙ named-none A n)
+      | inr e ↦ ap (named_as n) (others (key_of n) e.1)
+    ]
+
+    here : names_on (insert_entry (λ x y. slice_cmp nat_cmp x.items y.items) es name v) v ≡ one_if (named_as v (at after (key_of v)))
+    here =
+        let more = came-one v es name v vacant in
+        let one : one_if (same_node v v) ≡ 1 = ap (λ b. one_if b) (same_node-refl v) in
+        let was : names_on es v ≡ 0 = named v ∙ ap (λ o. one_if (named_as v o)) free ∙ ap (λ b. one_if b) (named-none A v) in
+        let now : one_if (named_as v (at after (key_of v))) ≡ 1 = ap (λ o. one_if (named_as v o)) comes ∙ ap (λ b. one_if b) is in
+        omega (arith, more, one, was, now)
+
+    pub new-named : AreNamed (insert_entry (λ x y. slice_cmp nat_cmp x.items y.items) es name v) after
+    new-named n = by (same_node v n) refl
+      where
+        by : (b : Bool) → same_node v n ≡ b → names_on (insert_entry (λ x y. slice_cmp nat_cmp x.items y.items) es name v) n ≡ one_if (named_as n (at after (key_of n)))
+        by true same =
+            subst (λ m. names_on (insert_entry (λ x y. slice_cmp nat_cmp x.items y.items) es name v) m ≡ one_if (named_as m (at after (key_of m)))) (same_node-is v n same) here
+        by false apart =
+            let more = came-one n es name v vacant in
+            let none : one_if (same_node v n) ≡ 0 = ap (λ b. one_if b) apart in
+            let was = named n ∙ ap (λ b. one_if b) (sym (others-alike n apart)) in
+            omega (arith, more, none, was)
 
   named-there : (n : Node) (o : Option (Content A)) → named_as n o ≡ true → IsSome o
   named-there (node.Pipe q) None is = is

@@ -1,5 +1,5 @@
 -- A name goes from what it stood for.
-use Rattle.std.proofs.Common.{◌≡◌, ◌≤◌, ℕ, zero, suc, false, List, [], ◌∷◌, Option, Some, None, refl, sym, ◌∙◌, ap, subst, length, map, slice_set}
+use Rattle.std.proofs.Common.{◌≡◌, ◌≤◌, ℕ, zero, suc, false, List, [], ◌∷◌, Option, Some, refl, sym, ◌∙◌, ap, subst, length, map, slice_set}
 use Rattle.std.specs.declared.vec.Vec.{Vec}
 use Rattle.std.specs.BTreeMap.{BTreeMap}
 use Rattle.pl_model.specs.Numbers.{most_file_bytes}

@@ -12,4 +12,5 @@ mod nodes;
 pub use fault::{MakeFault, NoSuchName};
 pub use nodes::Nodes;
 pub use pl_file::WriteFault;
+pub use pl_ring::CapacityFault;
 pub use pl_segments::NoMemory;

@@ -11,6 +11,7 @@ use std::alloc::{Allocator, Global};
 use std::collections::BTreeMap;
 use std::marker::Model;
 
+mod fifos;
 mod files;
 mod names;
 mod pipes;

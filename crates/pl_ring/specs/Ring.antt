@@ -1,7 +1,7 @@
 -- A ring as contracts see it.
 use Rattle.std.specs.Prelude.{◌≡◌, ◌≢◌, ◌≤◌, ℕ, ◌%◌, List, [], Option, None, Some}
 use Rattle.circular_buffer.specs.Buffer.{Buffer, buffer}
-use Rattle.pl_model.specs.Numbers.{first_capacity}
+use Rattle.pl_model.specs.Numbers.{first_capacity, most_capacity}
 use Rattle.pl_segments.specs.declared.slice.Slice.{Slice}
 use Rattle.pl_segments.specs.Segments.{segment_size}
 
@@ -13,10 +13,6 @@ pub record Ring : Type 0 where
 -- the bytes of capacity for each place: two places for a segment
 abbrev pub place_size : ℕ
 place_size = 2048
-
--- Our own: the most bytes that a pipe may hold.
-abbrev pub most_capacity : ℕ
-most_capacity = 1048576
 
 -- what may be the capacity of a ring
 pub record IsCapacity (capacity : ℕ) : Type 0 where

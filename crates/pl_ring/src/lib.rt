@@ -9,4 +9,4 @@ mod push;
 mod ring;
 
 pub use fault::CapacityFault;
-pub use ring::{MAX_CAPACITY, Ring};
+pub use ring::Ring;

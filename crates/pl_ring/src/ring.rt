@@ -1,13 +1,13 @@
 //! The ring of a pipe.
 ghost use Rattle.std.specs.Prelude.{◌≡◌, ℕ, ◌+◌, ◌-◌, ◌*◌, ◌/◌, ◌<◌, ◌≤◌, ◌^◌, ◌↔◌, List, [], ◌++◌, length, take, drop, IfOk, OnOk, OnErr, Err};
-ghost use Rattle.pl_model.specs.Numbers.{first_capacity};
+ghost use Rattle.pl_model.specs.Numbers.{first_capacity, most_capacity};
 ghost use Rattle.pl_segments.specs.Segments.{segment_size, segment_at, holders, live_count};
 ghost use Rattle.pl_segments.specs.Slices.{AllLie, all_read};
 ghost use Rattle.pl_segments.specs.Turns.{Holds, Turns};
 ghost use Rattle.pl_segments.specs.Slots.{total, AllSolid, solid_of, drop_bytes, front_of};
 ghost use Rattle.pl_ring.specs.Merging.{lens, AreMerged, merges_onto, IsFront};
 ghost use Rattle.pl_ring.specs.Parts.{strange};
-ghost use Rattle.pl_ring.specs.Ring.{most_capacity, IsCapacity, IsBeside};
+ghost use Rattle.pl_ring.specs.Ring.{IsCapacity, IsBeside};
 
 use crate::fault::CapacityFault;
 use crate::front::{copy_front, drop_front, front_slices};
@@ -17,9 +17,6 @@ use pl_model::numbers::FIRST_CAPACITY;
 use pl_segments::{NoMemory, Slice, SliceList, Store};
 use std::alloc::{Allocator, Global};
 use std::marker::Model;
-
-/// The most bytes that a pipe may hold.
-pub const MAX_CAPACITY: usize = 1_048_576;
 
 /// The bytes of capacity for each place: two places for a segment.
 const PLACE_SIZE: usize = 2_048;

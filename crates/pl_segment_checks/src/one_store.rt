@@ -9,7 +9,8 @@ use crate::operation::MOST;
 use crate::plain::{Plain, same_bytes};
 use crate::reading::{add_file_keys, front, range_of, ring_agrees};
 use pl_file::{File, WriteFault};
-use pl_ring::{CapacityFault, MAX_CAPACITY, Ring};
+use pl_model::numbers::MAX_CAPACITY;
+use pl_ring::{CapacityFault, Ring};
 use pl_segments::{SEGMENT_SIZE, Store, len_of};
 use std::alloc::{Allocator, Global};
 use std::marker::Model;
@@ -19,7 +20,10 @@ use std::mem;
 fn checked(capacity: usize) -> Result<usize, Fault>
     ensures { IfOk result IsCapacity }
 {
-    if capacity % SEGMENT_SIZE != 0 || capacity < SEGMENT_SIZE || MAX_CAPACITY < capacity {
+    if capacity % SEGMENT_SIZE != 0
+        || capacity < SEGMENT_SIZE
+        || (MAX_CAPACITY as usize) < capacity
+    {
         return Err(Fault::Unfit);
     }
     Ok(capacity)

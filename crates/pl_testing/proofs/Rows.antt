@@ -33,17 +33,19 @@ pub no_frugal :
     ((p : ℕ) (f : ℤ) (o : ℤ) (w : Whence) → a ≡ ask.Lseek p f o w → ⊥) →
     ((p : ℕ) (f : ℤ) → a ≡ ask.GetFl p f → ⊥) →
     ((p : ℕ) (f : ℤ) (flags : Bor (List OpenFlags)) → a ≡ ask.SetFl p f flags → ⊥) →
+    ((p : ℕ) (f : ℤ) → a ≡ ask.GetPipeSz p f → ⊥) →
     ((p : ℕ) (name : Data) → a ≡ ask.Unlink p name → ⊥) →
     ((p : ℕ) → a ≡ ask.Exit p → ⊥) →
     asks_none a ≡ false
-no_frugal (ask.Interrupt c) interrupt dup dup2 dup_fd close lseek get_fl set_fl unlink exit = absurd (interrupt c refl)
-no_frugal (ask.Dup p f) interrupt dup dup2 dup_fd close lseek get_fl set_fl unlink exit = absurd (dup p f refl)
-no_frugal (ask.Dup2 p f g) interrupt dup dup2 dup_fd close lseek get_fl set_fl unlink exit = absurd (dup2 p f g refl)
-no_frugal (ask.DupFd p f g) interrupt dup dup2 dup_fd close lseek get_fl set_fl unlink exit = absurd (dup_fd p f g refl)
-no_frugal (ask.Close p f) interrupt dup dup2 dup_fd close lseek get_fl set_fl unlink exit = absurd (close p f refl)
-no_frugal (ask.Lseek p f o w) interrupt dup dup2 dup_fd close lseek get_fl set_fl unlink exit = absurd (lseek p f o w refl)
-no_frugal (ask.GetFl p f) interrupt dup dup2 dup_fd close lseek get_fl set_fl unlink exit = absurd (get_fl p f refl)
-no_frugal (ask.SetFl p f flags) interrupt dup dup2 dup_fd close lseek get_fl set_fl unlink exit = absurd (set_fl p f flags refl)
-no_frugal (ask.Unlink p name) interrupt dup dup2 dup_fd close lseek get_fl set_fl unlink exit = absurd (unlink p name refl)
-no_frugal (ask.Exit p) interrupt dup dup2 dup_fd close lseek get_fl set_fl unlink exit = absurd (exit p refl)
-no_frugal other interrupt dup dup2 dup_fd close lseek get_fl set_fl unlink exit = refl
+no_frugal (ask.Interrupt c) interrupt dup dup2 dup_fd close lseek get_fl set_fl get_pipe_sz unlink exit = absurd (interrupt c refl)
+no_frugal (ask.Dup p f) interrupt dup dup2 dup_fd close lseek get_fl set_fl get_pipe_sz unlink exit = absurd (dup p f refl)
+no_frugal (ask.Dup2 p f g) interrupt dup dup2 dup_fd close lseek get_fl set_fl get_pipe_sz unlink exit = absurd (dup2 p f g refl)
+no_frugal (ask.DupFd p f g) interrupt dup dup2 dup_fd close lseek get_fl set_fl get_pipe_sz unlink exit = absurd (dup_fd p f g refl)
+no_frugal (ask.Close p f) interrupt dup dup2 dup_fd close lseek get_fl set_fl get_pipe_sz unlink exit = absurd (close p f refl)
+no_frugal (ask.Lseek p f o w) interrupt dup dup2 dup_fd close lseek get_fl set_fl get_pipe_sz unlink exit = absurd (lseek p f o w refl)
+no_frugal (ask.GetFl p f) interrupt dup dup2 dup_fd close lseek get_fl set_fl get_pipe_sz unlink exit = absurd (get_fl p f refl)
+no_frugal (ask.SetFl p f flags) interrupt dup dup2 dup_fd close lseek get_fl set_fl get_pipe_sz unlink exit = absurd (set_fl p f flags refl)
+no_frugal (ask.GetPipeSz p f) interrupt dup dup2 dup_fd close lseek get_fl set_fl get_pipe_sz unlink exit = absurd (get_pipe_sz p f refl)
+no_frugal (ask.Unlink p name) interrupt dup dup2 dup_fd close lseek get_fl set_fl get_pipe_sz unlink exit = absurd (unlink p name refl)
+no_frugal (ask.Exit p) interrupt dup dup2 dup_fd close lseek get_fl set_fl get_pipe_sz unlink exit = absurd (exit p refl)
+no_frugal other interrupt dup dup2 dup_fd close lseek get_fl set_fl get_pipe_sz unlink exit = refl

@@ -55,6 +55,8 @@ module _ {A : Type 0} where
   asked (ask.Lseek pid fd offset whence) = Begin pid (Call.Lseek fd offset whence)
   asked (ask.GetFl pid fd) = Begin pid (Call.GetFl fd)
   asked (ask.SetFl pid fd flags) = Begin pid (Call.SetFl fd (all_flags flags.now))
+  asked (ask.GetPipeSz pid fd) = Begin pid (Call.GetPipeSz fd)
+  asked (ask.SetPipeSz pid fd size) = Begin pid (Call.SetPipeSz fd size)
   asked (ask.Unlink pid name) = Begin pid (Call.Unlink (data_bytes name))
   asked (ask.Fork pid) = Begin pid Call.Fork
   asked (ask.Exit pid) = Begin pid Call.Exit
@@ -69,6 +71,7 @@ module _ {A : Type 0} where
   wanted (want.Bytes bytes) = reply.Bytes (data_bytes bytes)
   wanted (want.Offset offset) = reply.Offset offset
   wanted (want.Flags mode flags) = reply.Flags mode (all_flags flags.now)
+  wanted (want.Size size) = reply.Size size
   wanted want.Unit = reply.Unit
   wanted (want.Fault errno) = reply.Fault errno
   wanted (want.Parked call) = reply.Parked call

@@ -23,6 +23,7 @@ asks_none (ask.Close pid fd) = true
 asks_none (ask.Lseek pid fd offset whence) = true
 asks_none (ask.GetFl pid fd) = true
 asks_none (ask.SetFl pid fd flags) = true
+asks_none (ask.GetPipeSz pid fd) = true
 asks_none (ask.Unlink pid name) = true
 asks_none (ask.Exit pid) = true
 asks_none other = false

@@ -23,8 +23,8 @@ pub enum Data {
 }
 
 /// A step whose bytes are still to be made. A call names its process, then its descriptor or the name of a file, and a read the
-/// most bytes that it takes; `Dup2` names its target last, `DupFd` the least descriptor, and `SetFl` the flags. `Resume` and
-/// `Interrupt` name a parked call by its number.
+/// most bytes that it takes; `Dup2` names its target last, `DupFd` the least descriptor, `SetFl` the flags, and `SetPipeSz` the
+/// size. `Resume` and `Interrupt` name a parked call by its number.
 #[derive(Clone, Copy, Debug)]
 pub enum Ask {
     Start,
@@ -42,6 +42,8 @@ pub enum Ask {
     Lseek(u32, i32, i64, Whence),
     GetFl(u32, i32),
     SetFl(u32, i32, &'static [OpenFlags]),
+    GetPipeSz(u32, i32),
+    SetPipeSz(u32, i32, u32),
     Unlink(u32, Data),
     Fork(u32),
     Exit(u32),
@@ -59,6 +61,7 @@ pub enum Want {
     Bytes(Data),
     Offset(u64),
     Flags(Mode, &'static [OpenFlags]),
+    Size(u32),
     Unit,
     Fault(Errno),
     Parked(u64),
@@ -149,6 +152,8 @@ impl Ask {
                 let flags = all_of(flags);
                 Step::Begin(pid, Call::SetFl { fd, flags })
             }
+            Ask::GetPipeSz(pid, fd) => Step::Begin(pid, Call::GetPipeSz { fd }),
+            Ask::SetPipeSz(pid, fd, size) => Step::Begin(pid, Call::SetPipeSz { fd, size }),
             Ask::Unlink(pid, name) => {
                 let name = name.name(alloc)?;
                 Step::Begin(pid, Call::Unlink { name })
@@ -176,6 +181,7 @@ impl Want {
                 let flags = all_of(flags);
                 Reply::Flags { mode, flags }
             }
+            Want::Size(size) => Reply::Size(size),
             Want::Unit => Reply::Unit,
             Want::Fault(errno) => Reply::Fault(errno),
             Want::Parked(call) => Reply::Parked(call),

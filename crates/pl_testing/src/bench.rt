@@ -60,6 +60,7 @@ fn moved<A: Allocator>(alloc: Global, reply: Reply<A>) -> Result<Reply, Fail> {
         }
         Reply::Offset(offset) => Reply::Offset(offset),
         Reply::Flags { mode, flags } => Reply::Flags { mode, flags },
+        Reply::Size(size) => Reply::Size(size),
         Reply::Unit => Reply::Unit,
         Reply::Fault(errno) => Reply::Fault(errno),
         Reply::Parked(call) => Reply::Parked(call),

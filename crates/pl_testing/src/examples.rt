@@ -1,12 +1,12 @@
 //! The worked examples that several crates of tests make: tables of steps with the replies that are wanted.
 use crate::asked::Ask::{
     self, Close, Dup, Dup2, Exit, Fork, GetFl, Interrupt, Lseek, Open, Pipe, PipeNonblock, Read,
-    Resume, SetFl, Start, Unlink, Write,
+    Resume, SetFl, SetPipeSz, Start, Unlink, Write,
 };
 use crate::asked::Data::{Many, Text, TwoRuns};
 use crate::asked::Want::{
     self, Bytes, Count, CountSigpipe, Fault, Fd, Fds, Flags, NoCall, NoProcess, Offset, Parked,
-    Pid, Unit,
+    Pid, Size, Unit,
 };
 use pl_model::Whence::{Cur, End, Set};
 use pl_model::{Errno, Mode, OpenFlags};
@@ -232,4 +232,16 @@ pub const NAMES_AND_FLAGS: [(Ask, Want); 17] = [
     (Read(1, 1, 9), Bytes(Text(""))),
     (Lseek(1, 2, 0, End), Offset(0)),
     (Exit(1), Unit),
+];
+
+/// A size is rounded up to a power of two; one above the greatest is refused, and so is one that is less than what is held.
+pub const SIZES_OF_A_PIPE: [(Ask, Want); 8] = [
+    (Start, Pid(1)),
+    (Pipe(1), Fds(0, 1)),
+    (SetPipeSz(1, 1, 1), Size(4_096)),
+    (SetPipeSz(1, 1, 65_537), Size(131_072)),
+    (SetPipeSz(1, 1, 1_048_577), Fault(Errno::EPERM)),
+    (Write(1, 1, Many(b'a', 5_000)), Count(5_000)),
+    (SetPipeSz(1, 1, 4_096), Fault(Errno::EBUSY)),
+    (SetPipeSz(1, 1, 5_000), Size(8_192)),
 ];

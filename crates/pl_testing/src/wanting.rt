@@ -3,7 +3,7 @@ ghost use Rattle.std.specs.Prelude.{◌≡◌, ◌||◌};
 ghost use Rattle.pl_testing.specs.Frugal.{wants_refusal, asks_none};
 
 use crate::asked::Ask::{
-    self, Close, Dup, Dup2, DupFd, Exit, GetFl, Interrupt, Lseek, SetFl, Unlink,
+    self, Close, Dup, Dup2, DupFd, Exit, GetFl, GetPipeSz, Interrupt, Lseek, SetFl, Unlink,
 };
 use crate::asked::Want::{self, CallsSpent, Fault, NoCall, NoProcess};
 use crate::refusing::Refusing;
@@ -29,6 +29,7 @@ pub fn takes_no_memory(ask: Ask, want: Want) -> bool
                 | Lseek(..)
                 | GetFl(..)
                 | SetFl(..)
+                | GetPipeSz(..)
                 | Unlink(..)
                 | Exit(_)
         )

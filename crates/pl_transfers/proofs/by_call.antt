@@ -12,6 +12,8 @@ pub mod Writing
 pub mod Resuming
 -- What a seek comes to at the kernel's keys.
 pub mod Seeking
+-- What the capacity of a pipe is, and is set to, at the kernel's keys.
+pub mod Sizing
 -- A call that waits at its first try is refused, or parked.
 pub mod Refusing
 -- A parked call is tried again and waits on, at the kernel's keys.

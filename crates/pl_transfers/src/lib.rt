@@ -1,12 +1,14 @@
-//! Reads, writes and seeks, and calls that wait.
+//! Reads, writes, seeks and the capacities of pipes, and calls that wait.
 #![tactic(auto)]
 
+mod capacities;
 mod files;
 mod offsets;
 mod parking;
 mod transfers;
 mod waiting;
 
+pub use capacities::{get_pipe_sz, set_pipe_sz};
 pub use offsets::lseek;
 pub use transfers::{pipe, read, write};
 pub use waiting::{interrupt, resume};

@@ -22,7 +22,7 @@ use Rattle.pl_model.specs.Settle.{settle}
 use Rattle.pl_model.specs.Trial.{Trial, Done, Wait, Flow, still, flowed, pipe_at, Begun, Begins, Refused, Answered, Tried, found, refuse_if}
 use Rattle.pl_model.specs.Transfer.{count, read_row, write_row, read_case, write_case, read_pipe, write_pipe, read_file, write_file, read_node, write_node}
 use Rattle.pl_model.specs.Tables.{lowest_pid}
-use Rattle.pl_model.specs.Begin.{open_named, begin_pipe, begin_open_name, begin_read, begin_write, begin_dup, begin_dup2, begin_dup_fd, begin_close, begin_lseek, begin_get_fl, begin_set_fl, begin_unlink, begin_fork}
+use Rattle.pl_model.specs.Begin.{open_named, begin_pipe, begin_open_name, begin_read, begin_write, begin_dup, begin_dup2, begin_dup_fd, begin_close, begin_lseek, begin_get_fl, begin_set_fl, begin_get_pipe_sz, begin_set_pipe_sz, begin_unlink, begin_fork}
 use Rattle.pl_model.specs.Step.{Stepped, with_kept, try, begin, begun, happen, core_step, ended, first_tried, interrupted, parked, resumed, started, stepped, tried_again, waiting, without_call}
 use Rattle.pl_model.specs.Numbered.{numbers, State, After, next_numbers, step_of, step}
 use Rattle.pl_model.specs.Refused.{is_refused, with_call_ended}
@@ -38,6 +38,7 @@ module _ {A : Type 0} where
   begin-refused pid call (Reply.Bytes bytes) = refl
   begin-refused pid call (Reply.Offset n) = refl
   begin-refused pid call (Reply.Flags mode flags) = refl
+  begin-refused pid call (Reply.Size n) = refl
   begin-refused pid call Reply.Unit = refl
   begin-refused pid call (Fault errno) = refl
   begin-refused pid call (Parked c) = refl
@@ -108,6 +109,8 @@ module _ {A : Type 0} {K : Keys} where
   try-fair s w (Call.Lseek fd offset whence) may_wait = tt
   try-fair s w (Call.GetFl fd) may_wait = tt
   try-fair s w (Call.SetFl fd flags) may_wait = tt
+  try-fair s w (Call.GetPipeSz fd) may_wait = tt
+  try-fair s w (Call.SetPipeSz fd size) may_wait = tt
   try-fair s w (Call.Unlink name) may_wait = tt
   try-fair s w Call.Fork may_wait = tt
   try-fair s w Call.Exit may_wait = tt
@@ -118,7 +121,7 @@ module _ {A : Type 0} {K : Keys} where
   open_named-plain new s pid fd name (Some (PipeNode p)) mode flags = search ways
 
   begin-plain : (new : NewKeys K) (s : Core A K) (pid : ℕ) (call : Call A) → LeadsTo new (IsPlainBegun s) (begin s pid call)
-  unfolding begin begin_pipe begin_open_name begin_read begin_write begin_dup begin_dup2 begin_dup_fd begin_close begin_lseek begin_get_fl begin_set_fl begin_unlink begin_fork
+  unfolding begin begin_pipe begin_open_name begin_read begin_write begin_dup begin_dup2 begin_dup_fd begin_close begin_lseek begin_get_fl begin_set_fl begin_get_pipe_sz begin_set_pipe_sz begin_unlink begin_fork
   begin-plain new s pid (Call.Pipe nonblock) = search (ways, refusable) depth 14
   begin-plain new s pid (Call.OpenName name mode flags) = search (ways, refusable, open_named-plain) depth 14
   begin-plain new s pid (Call.Read fd n) = search (ways, refusable) depth 14
@@ -130,6 +133,8 @@ module _ {A : Type 0} {K : Keys} where
   begin-plain new s pid (Call.Lseek fd offset whence) = search (ways, refusable) depth 14
   begin-plain new s pid (Call.GetFl fd) = search (ways, refusable) depth 14
   begin-plain new s pid (Call.SetFl fd flags) = search (ways, refusable) depth 14
+  begin-plain new s pid (Call.GetPipeSz fd) = search (ways, refusable) depth 14
+  begin-plain new s pid (Call.SetPipeSz fd size) = search (ways, refusable) depth 14
   begin-plain new s pid (Call.Unlink name) = search (ways, refusable) depth 14
   begin-plain new s pid Call.Fork = search (ways, refusable) depth 14
   begin-plain new s pid Call.Exit = search ways
@@ -150,6 +155,7 @@ module _ {A : Type 0} {K : Keys} where
   done-unchanged s u flow (Reply.Bytes bytes) fair r = absurd (cc)
   done-unchanged s u flow (Reply.Offset n) fair r = absurd (cc)
   done-unchanged s u flow (Reply.Flags mode flags) fair r = absurd (cc)
+  done-unchanged s u flow (Reply.Size n) fair r = absurd (cc)
   done-unchanged s u flow Reply.Unit fair r = absurd (cc)
   done-unchanged s u flow (Fault errno) fair r = ((λ i. flowed (fair.0 i) (fair.1 i)) ∙ flowed-still s, fair.1)
   done-unchanged s u flow (Parked c) fair r = absurd (cc)
@@ -183,6 +189,7 @@ module _ {A : Type 0} {K : Keys} where
     replied u flow (Reply.Bytes bytes) fair r = cc
     replied u flow (Reply.Offset n) fair r = cc
     replied u flow (Reply.Flags mode flags) fair r = cc
+    replied u flow (Reply.Size n) fair r = cc
     replied u flow Reply.Unit fair r = cc
     replied u flow (Fault errno) fair r = cc
     replied u flow (Parked n) fair r = cc
@@ -260,7 +267,7 @@ module _ {A : Type 0} {K : Keys} where
   open_named-first s pid fd name (Some (PipeNode p)) mode flags = search firsts
 
   begin-first : (s : Core A K) (pid : ℕ) (call : Call A) → RefusesFirst (begin s pid call)
-  unfolding begin begin_pipe begin_open_name begin_read begin_write begin_dup begin_dup2 begin_dup_fd begin_close begin_lseek begin_get_fl begin_set_fl begin_unlink begin_fork
+  unfolding begin begin_pipe begin_open_name begin_read begin_write begin_dup begin_dup2 begin_dup_fd begin_close begin_lseek begin_get_fl begin_set_fl begin_get_pipe_sz begin_set_pipe_sz begin_unlink begin_fork
   begin-first s pid (Call.Pipe nonblock) = search firsts depth 14
   begin-first s pid (Call.OpenName name mode flags) = search (firsts, open_named-first) depth 14
   begin-first s pid (Call.Read fd n) = search firsts depth 14
@@ -272,6 +279,8 @@ module _ {A : Type 0} {K : Keys} where
   begin-first s pid (Call.Lseek fd offset whence) = search firsts depth 14
   begin-first s pid (Call.GetFl fd) = search firsts depth 14
   begin-first s pid (Call.SetFl fd flags) = search firsts depth 14
+  begin-first s pid (Call.GetPipeSz fd) = search firsts depth 14
+  begin-first s pid (Call.SetPipeSz fd size) = search firsts depth 14
   begin-first s pid (Call.Unlink name) = search firsts depth 14
   begin-first s pid Call.Fork = search firsts depth 14
   begin-first s pid Call.Exit = search firsts

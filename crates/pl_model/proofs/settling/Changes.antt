@@ -1,5 +1,5 @@
 -- What the end of a step makes of each change that a call makes to a settled state.
-use Rattle.std.proofs.Common.{◌≡◌, ◌≢◌, ℕ, ◌+◌, ◌<◌, ◌≤◌, Bool, true, false, cond, List, Option, Some, None, refl, sym, ◌∙◌, ap, inl, inr, nat_eq}
+use Rattle.std.proofs.Common.{◌≡◌, ◌≢◌, ℕ, ◌+◌, ◌<◌, ◌≤◌, Bool, true, false, cond, Option, Some, None, refl, sym, ◌∙◌, ap, inl, inr, nat_eq}
 use Rattle.std.specs.Prelude.{◌||◌, ◌&&◌}
 use Rattle.std.specs.List.{list_any}
 use Rattle.std.proofs.Math.Path.{fun_ext}
@@ -21,20 +21,17 @@ use Rattle.pl_model.specs.Numbered.{numbers}
 use Rattle.pl_model.specs.StandsFor.{AreUnused}
 use Rattle.pl_model.specs.Laws.{IsSettled}
 use Rattle.pl_model.proofs.settling.Members.{or_left}
-use Rattle.pl_model.proofs.settling.FromSettled.{at_other, at_key, moved-settled}
+use Rattle.pl_model.proofs.settling.FromSettled.{at_other, at_key, changed-settled}
 use Rattle.pl_model.proofs.settling.WhoIsLive.{Row, row_live, live_same, is_on, has_end, end_passes, SameEnds, settled_pipe-is, tidy, settled-live, settled-kept, settled-file, kept-same, settled_pipe-same}
 
--- the bytes of a pipe with an end change
-module _ {A : Type 0} (c : Core A numbers) (settled : IsSettled c) (p : ℕ) (x : Pipe) (is : c.pipes p ≡ Some x) (held : is_open c (PipeNode p) ≡ true) (bytes : List ℕ) where
-  abbrev changed : Core A numbers
-  changed = set_pipe c p (record x { bytes = bytes })
-
-  same_live : (d : ℕ) → is_live changed d ≡ is_live c d
+-- a pipe with an end changes, and is hung as it was
+module _ {A : Type 0} (c : Core A numbers) (settled : IsSettled c) (p : ℕ) (x : Pipe) (is : c.pipes p ≡ Some x) (held : is_open c (PipeNode p) ≡ true) where
+  same_live : (z : Pipe) (d : ℕ) → is_live (set_pipe c p z) d ≡ is_live c d
   unfolding in_rows in_parked pids
-  same_live d = refl
+  same_live z d = refl
 
-  pub bytes-settled : settle c changed ≡ changed
-  bytes-settled = moved-settled c changed settled (record { descriptions = refl; files = refl; names = refl }) same_live p x is held bytes refl
+  pub put-settled : (z : Pipe) → z.hung ≡ x.hung → settle c (set_pipe c p z) ≡ set_pipe c p z
+  put-settled z same_hung = changed-settled c (set_pipe c p z) settled (record { descriptions = refl; files = refl; names = refl }) (same_live z) p x z is held same_hung refl
 
 -- a free descriptor comes to name what a row names
 module _ {A : Type 0} (c : Core A numbers) (pid fd d : ℕ) (free : c.rows pid fd ≡ None) (from : Row c d) where

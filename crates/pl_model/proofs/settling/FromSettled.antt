@@ -73,33 +73,34 @@ module _ {A : Type 0} (c u : Core A numbers) (settled : IsSettled c) (alike : Al
   pub same-settled : u.pipes ≡ c.pipes → settle c u ≡ u
   same-settled pipes = tidy c u described_live (λ q y e. pipe_kept q y (sym (λ i. pipes i q) ∙ e)) file_kept
 
-  -- the bytes of a pipe with an end changed
-  module _ (p : ℕ) (x : Pipe) (is : c.pipes p ≡ Some x) (held : is_open c (PipeNode p) ≡ true) (bytes : List ℕ)
-      (pipes : u.pipes ≡ set_at nat_eq c.pipes p (Some (record x { bytes = bytes }))) where
-    hung_only : (h : Bool) → record x { hung = h } ≡ x → record x { bytes = bytes; hung = h } ≡ record x { bytes = bytes }
-    hung_only h e = ap (λ (z : Pipe). record x { bytes = bytes; hung = z.hung }) e
-
-    here : settled_pipe c u p (record x { bytes = bytes }) ≡ record x { bytes = bytes }
+  -- a pipe with an end changed, and is hung as it was
+  module _ (p : ℕ) (x z : Pipe) (is : c.pipes p ≡ Some x) (held : is_open c (PipeNode p) ≡ true) (same_hung : z.hung ≡ x.hung)
+      (pipes : u.pipes ≡ set_at nat_eq c.pipes p (Some z)) where
+    here : settled_pipe c u p z ≡ z
     here =
         let had = is_hung (c.pipes p) || has_end c writes (PipeNode p) in
         let h = has_end c reads (PipeNode p) && (not (has_end c writes (PipeNode p)) && had) in
         let was : record x { hung = h } ≡ x = ap (λ b. cond b (record x { hung = h }) empty_pipe) (sym held) ∙ sym (settled_pipe-is c c p x) ∙ (settled-kept c settled p x is).1 in
-        settled_pipe-same c u alike.names p (record x { bytes = bytes }) (same_ends (PipeNode p))
-        ∙ settled_pipe-is c c p (record x { bytes = bytes })
-        ∙ ap (λ b. cond b (record x { bytes = bytes; hung = h }) empty_pipe) held
-        ∙ hung_only h was
+        settled_pipe-same c u alike.names p z (same_ends (PipeNode p))
+        ∙ settled_pipe-is c c p z
+        ∙ ap (λ b. cond b (record z { hung = h }) empty_pipe) held
+        ∙ ap (λ b. record z { hung = b }) (ap (λ (y : Pipe). y.hung) was ∙ sym same_hung)
 
     kept : (q : ℕ) (y : Pipe) → u.pipes q ≡ Some y → (is_kept u (PipeNode q) ≡ true) × (settled_pipe c u q y ≡ y)
     kept q y e = elim (eqb_tells p q) as (λ _. (is_kept u (PipeNode q) ≡ true) × (settled_pipe c u q y ≡ y)) [
       | inl t ↦
-          let set : set_at nat_eq c.pipes p (Some (record x { bytes = bytes })) q ≡ Some y = sym (λ i. pipes i q) ∙ e in
-          let y_is : record x { bytes = bytes } ≡ y = (let s : Some (record x { bytes = bytes }) ≡ Some y = ap (λ b. cond b (Some (record x { bytes = bytes })) (c.pipes q)) (sym t.0) ∙ set in cc) in
+          let set : set_at nat_eq c.pipes p (Some z) q ≡ Some y = sym (λ i. pipes i q) ∙ e in
+          let y_is : z ≡ y = (let s : Some z ≡ Some y = ap (λ b. cond b (Some z) (c.pipes q)) (sym t.0) ∙ set in cc) in
           (ap (λ k. is_kept u (PipeNode k)) (sym t.1) ∙ (pipe_kept p x is).0, ap (λ k. settled_pipe c u k y) (sym t.1) ∙ ap (settled_pipe c u p) (sym y_is) ∙ here ∙ y_is)
-      | inr t ↦ pipe_kept q y (sym (at_other c.pipes p q (Some (record x { bytes = bytes })) t.1) ∙ sym (λ i. pipes i q) ∙ e)
+      | inr t ↦ pipe_kept q y (sym (at_other c.pipes p q (Some z) t.1) ∙ sym (λ i. pipes i q) ∙ e)
     ]
 
-    pub moved-settled : settle c u ≡ u
-    moved-settled = tidy c u described_live kept file_kept
+    pub changed-settled : settle c u ≡ u
+    changed-settled = tidy c u described_live kept file_kept
+
+  -- the bytes of a pipe with an end changed
+  pub moved-settled : (p : ℕ) (x : Pipe) → c.pipes p ≡ Some x → is_open c (PipeNode p) ≡ true → (bytes : List ℕ) → u.pipes ≡ set_at nat_eq c.pipes p (Some (record x { bytes = bytes })) → settle c u ≡ u
+  moved-settled p x is held bytes pipes = changed-settled p x (record x { bytes = bytes }) is held refl pipes
 
 module _ {A : Type 0} (c u : Core A numbers) (gone : ℕ) where
   -- what is left of the descriptions

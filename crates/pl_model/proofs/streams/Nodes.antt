@@ -70,6 +70,7 @@ module _ {A : Type 0} (d : ℕ) (node : Node numbers) where
         describe = λ s n mode flags h. on_other s new.description _ apart h;
         set_description = λ s k x on h. on_set s k x on h;
         new_pipe = λ s h. h;
+        set_capacity = λ s p size h. h;
         set_file = λ s f bytes h. h;
         create_file = λ s name h. h;
         forget_name = λ s name h. h;

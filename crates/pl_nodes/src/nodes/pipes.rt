@@ -1,19 +1,20 @@
 //! Pipes.
-ghost use Rattle.std.specs.Prelude.{◌≡◌, ◌+◌, ◌-◌, ◌*◌, ◌/◌, ◌≤◌, ◌++◌, false, [], length, take, drop, slice_index_or, IfOk, OnErr, OnOk, IsSome, IfSome, Some, None, nat_eq};
+ghost use Rattle.std.specs.Prelude.{◌≡◌, ◌↔◌, ◌+◌, ◌-◌, ◌*◌, ◌/◌, ◌<◌, ◌≤◌, ◌++◌, false, [], length, take, drop, slice_index_or, IfOk, OnErr, OnOk, IsSome, IfSome, Some, None, Err, nat_eq};
+ghost use Rattle.pl_model.specs.Numbers.{most_capacity};
+ghost use Rattle.pl_model.specs.Capacity.{IsPipeCapacity};
 ghost use Rattle.pl_model.specs.State.{empty_pipe};
 ghost use Rattle.pl_model.specs.Transfer.{room};
 ghost use Rattle.pl_model.specs.Map.{set_at, change_at};
 ghost use Rattle.pl_model.specs.Nodes.{has_name};
 ghost use Rattle.pl_segments.specs.Segments.{segment_size, segment_at, at};
 ghost use Rattle.pl_segments.specs.Turns.{Holds, Turns};
-ghost use Rattle.pl_ring.specs.Ring.{most_capacity};
 ghost use Rattle.pl_nodes.specs.Nodes.{SameFiles};
 
 use super::Nodes;
 use crate::content::{Content, PipeNode};
 use pl_model::Node;
 use pl_model::numbers::FIRST_CAPACITY;
-use pl_ring::Ring;
+use pl_ring::{CapacityFault, Ring};
 use pl_segments::{NoMemory, Store};
 use std::alloc::Allocator;
 
@@ -67,7 +68,8 @@ impl<A: Allocator + Copy> Nodes<A> {
     /// How many bytes a pipe can hold.
     pub fn capacity(&self, key: usize) -> usize
         requires { IsSome (at self.now.pipes key) }
-        ensures { IfSome (at self.now.pipes key) (λ x. result ≡ x.capacity) }
+        ensures value { IfSome (at self.now.pipes key) (λ x. result ≡ x.capacity) }
+        ensures most { result ≤ most_capacity }
     {
         let Content::Pipe(node) = &self.contents[key] else {
             unreachable!()
@@ -149,6 +151,28 @@ impl<A: Allocator + Copy> Nodes<A> {
         let _capacity = node.ring.capacity();
         let _slots = node.ring.slots();
         Ok(())
+    }
+
+    /// Sets how many bytes a pipe can hold: a power of two, from 4,096 to 1,048,576 (fcntl(2), F_SETPIPE_SZ). An error leaves
+    /// all as it was.
+    ///
+    /// # Errors
+    ///
+    /// - `Busy` exactly where the pipe holds more bytes, whether or not there is memory.
+    /// - `NoMemory` where it holds no more, and there is no memory for a pipe of that capacity.
+    pub fn set_capacity(&mut self, key: usize, capacity: usize) -> Result<(), CapacityFault>
+        requires here { IsSome (at self.old.pipes key) }
+        requires capacity { IsPipeCapacity capacity }
+        ensures ok { OnOk result (at self.new.pipes ≡ change_at key (λ x. record x { capacity = capacity }) (at self.old.pipes)) }
+        ensures busy { (result ≡ Err CapacityFault.Busy) ↔ IfSome (at self.old.pipes key) (λ x. capacity < length x.bytes) }
+        ensures files { SameFiles self.old self.new }
+        ensures segments { self.new.segments ≡ self.old.segments }
+        ensures err { OnErr result (self.new ≡ self.old) }
+    {
+        let Some(node) = self.contents[key].as_pipe_mut() else {
+            unreachable!()
+        };
+        node.ring.set_capacity(capacity)
     }
 
     /// Makes a pipe what a new one is: empty, of 65,536 bytes of capacity, and not hung. So is a FIFO left by its last end, since

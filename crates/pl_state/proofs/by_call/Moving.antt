@@ -1,4 +1,4 @@
--- The bytes of a pipe change.
+-- A pipe changes, and is hung as it was.
 use Rattle.std.proofs.Common.{◌≡◌, ℕ, List, ◌++◌, drop, Option, Some, refl, sym, ◌∙◌, ap, nat_eq}
 use Rattle.std.specs.Prelude.{unwrap_or}
 use Rattle.pl_model.specs.declared.node.Node.TheVariants as node
@@ -6,7 +6,7 @@ use Rattle.pl_model.specs.Map.{set_at, change_at}
 use Rattle.pl_model.specs.State.{Pipe, empty_pipe, set_pipe}
 use Rattle.pl_model.specs.Settle.{settle}
 use Rattle.pl_model.specs.Trial.{still, loses, gains, flowed}
-use Rattle.pl_model.proofs.settling.Changes.{bytes-settled}
+use Rattle.pl_model.proofs.settling.Changes.{put-settled}
 use Rattle.pl_desc.specs.Rows.{at}
 use Rattle.pl_state.specs.Contents.{Contents, with_pipes, core_of}
 use Rattle.pl_state.specs.Opens.{OpenOn}
@@ -15,40 +15,52 @@ use Rattle.pl_nodes.proofs.Keyed.{change_at-is}
 use Rattle.pl_state.proofs.by_call.Begun.{pipe_held}
 use Rattle.pl_state.proofs.holders.There.{settled_after, there-put}
 
--- a pipe with an end has other bytes
-module _ {A : Type 0} (k : Contents A) (sound : IsSound A k) (d p : ℕ) (on : OpenOn k d (node.Pipe p)) (x : Pipe) (is : at k.nodes.pipes p ≡ Some x) (bytes : List ℕ) (pipes : List (Option Pipe))
-    (f : Pipe → Pipe) (gives : f x ≡ record x { bytes = bytes }) (after : at pipes ≡ change_at p f (at k.nodes.pipes)) where
+-- a pipe with an end is put in the place of what it was, and is hung as it was
+module _ {A : Type 0} (k : Contents A) (sound : IsSound A k) (d p : ℕ) (on : OpenOn k d (node.Pipe p)) (x : Pipe) (is : at k.nodes.pipes p ≡ Some x) (y : Pipe) (same_hung : y.hung ≡ x.hung) (pipes : List (Option Pipe))
+    (f : Pipe → Pipe) (gives : f x ≡ y) (after : at pipes ≡ change_at p f (at k.nodes.pipes)) where
   abbrev new : Contents A
   new = with_pipes k pipes
 
-  pub changed_pipes : at pipes ≡ set_at nat_eq (at k.nodes.pipes) p (Some (record x { bytes = bytes }))
-  changed_pipes = after ∙ change_at-is p f (at k.nodes.pipes) x is ∙ ap (λ y. set_at nat_eq (at k.nodes.pipes) p (Some y)) gives
+  put_pipes : at pipes ≡ set_at nat_eq (at k.nodes.pipes) p (Some y)
+  put_pipes = after ∙ change_at-is p f (at k.nodes.pipes) x is ∙ ap (λ z. set_at nat_eq (at k.nodes.pipes) p (Some z)) gives
 
-  pub changed_is : core_of new ≡ set_pipe (core_of k) p (record x { bytes = bytes })
+  pub put_is : core_of new ≡ set_pipe (core_of k) p y
   unfolding core_of
-  changed_is = ap (λ m. record (core_of k) { pipes = m }) changed_pipes
+  put_is = ap (λ m. record (core_of k) { pipes = m }) put_pipes
 
-  pub changed_core : core_of new ≡ settle (core_of k) (set_pipe (core_of k) p (record x { bytes = bytes }))
+  pub put_core : core_of new ≡ settle (core_of k) (set_pipe (core_of k) p y)
   unfolding core_of
-  changed_core = changed_is ∙ sym (settles is)
+  put_core = put_is ∙ sym (settles is)
     where
-      settles : at k.nodes.pipes p ≡ Some x → settle (core_of k) (set_pipe (core_of k) p (record x { bytes = bytes })) ≡ set_pipe (core_of k) p (record x { bytes = bytes })
-      settles is = bytes-settled (core_of k) sound.settled p x is (pipe_held k sound.whole d p on) bytes
+      settles : at k.nodes.pipes p ≡ Some x → settle (core_of k) (set_pipe (core_of k) p y) ≡ set_pipe (core_of k) p y
+      settles is = put-settled (core_of k) sound.settled p x is (pipe_held k sound.whole d p on) y same_hung
 
-  pub changed_sound : IsSound A new
-  changed_sound = record {
+  pub put_sound : IsSound A new
+  put_sound = record {
     whole = record {
       rise = sound.rise;
       numbered = sound.numbered;
-      there = there-put (at k.opened) k.nodes new.nodes p (record x { bytes = bytes }) changed_pipes refl refl sound.there;
+      there = there-put (at k.opened) k.nodes new.nodes p y put_pipes refl refl sound.there;
       limit = sound.limit;
       once = sound.once;
-      settled = settled_after (core_of new) (core_of k) (set_pipe (core_of k) p (record x { bytes = bytes })) changed_core;
+      settled = settled_after (core_of new) (core_of k) (set_pipe (core_of k) p y) put_core;
     };
     waiting = sound.waiting;
     belong = sound.belong;
     on_pipes = sound.on_pipes;
   }
+
+-- it has other bytes
+module _ {A : Type 0} (k : Contents A) (sound : IsSound A k) (d p : ℕ) (on : OpenOn k d (node.Pipe p)) (x : Pipe) (is : at k.nodes.pipes p ≡ Some x) (bytes : List ℕ) (pipes : List (Option Pipe))
+    (f : Pipe → Pipe) (gives : f x ≡ record x { bytes = bytes }) (after : at pipes ≡ change_at p f (at k.nodes.pipes)) where
+  pub changed_is : core_of (with_pipes k pipes) ≡ set_pipe (core_of k) p (record x { bytes = bytes })
+  changed_is = put_is k sound d p on x is (record x { bytes = bytes }) refl pipes f gives after
+
+  pub changed_core : core_of (with_pipes k pipes) ≡ settle (core_of k) (set_pipe (core_of k) p (record x { bytes = bytes }))
+  changed_core = put_core k sound d p on x is (record x { bytes = bytes }) refl pipes f gives after
+
+  pub changed_sound : IsSound A (with_pipes k pipes)
+  changed_sound = put_sound k sound d p on x is (record x { bytes = bytes }) refl pipes f gives after
 
 -- as a try moves them
 module _ {A : Type 0} (k : Contents A) (p : ℕ) (x : Pipe) (is : at k.nodes.pipes p ≡ Some x) where

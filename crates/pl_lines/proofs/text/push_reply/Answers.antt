@@ -19,6 +19,10 @@ pub returns-in-Flags : goal.returns-in-Flags
 unfolding reply_text
 returns-in-Flags g c = rw c.in-Flags.is c.push_flags.ensures
 
+pub returns-in-Size : goal.returns-in-Size
+unfolding reply_text
+returns-in-Size g c = rw c.in-Size.is c.push_number-in-Size.ensures
+
 pub returns-in-Unit : goal.returns-in-Unit
 unfolding reply_text
 returns-in-Unit g c = rw c.in-Unit.is (pushed _ _ _ _ c.push_str.ensures.bytes)

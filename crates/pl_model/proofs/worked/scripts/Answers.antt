@@ -1,5 +1,6 @@
 use Rattle.pl_model.proofs.computed.Examples.{script_of_bytes_before_end_of_file, script_of_flags, empty_script, script_without_line_feed, script_of_no_process}
 use Rattle.pl_model.proofs.computed.FileExamples.{script_of_files, names_in_words}
+use Rattle.pl_model.proofs.computed.CapacityExamples.{script_of_capacities, lines_of_capacities}
 use Rattle.pl_model.proofs.worked.scripts.Goals as goal
 
 pub returns-clause-bytes_before_end_of_file : goal.returns-clause-bytes_before_end_of_file
@@ -22,3 +23,9 @@ returns-clause-files g c = script_of_files _
 
 pub returns-clause-names : goal.returns-clause-names
 returns-clause-names g c = names_in_words
+
+pub returns-clause-capacities : goal.returns-clause-capacities
+returns-clause-capacities g c = script_of_capacities _
+
+pub returns-clause-lines_of_capacities : goal.returns-clause-lines_of_capacities
+returns-clause-lines_of_capacities g c = lines_of_capacities _

@@ -1,4 +1,4 @@
-use Rattle.std.proofs.Common.{◌≡◌, ◌∙◌, Some, refl, false, ap, sym, nat_eq}
+use Rattle.std.proofs.Common.{◌≡◌, ◌∙◌, Some, refl, false, ap, nat_eq}
 use Rattle.pl_model.specs.State.{empty_pipe}
 use Rattle.pl_model.specs.Map.{set_at}
 use Rattle.pl_segments.specs.Segments.{segment_at, at}
@@ -7,7 +7,7 @@ use Rattle.slab.specs.Slab.{Slab}
 use Rattle.pl_ring.specs.Ring.{Ring}
 use Rattle.pl_nodes.specs.declared.content.Content.TheVariants.{Pipe}
 use Rattle.pl_nodes.specs.Nodes.{Nodes}
-use Rattle.pl_nodes.proofs.OneChanged.{pipes_seen, files_seen, seen, seen-at, new-seen, new-unseen}
+use Rattle.pl_nodes.proofs.OneChanged.{pipes_seen, files_seen, seen, new-seen, new-unseen}
 use Rattle.pl_nodes.proofs.Coming.{came-shared, came-unnamed, came-sound, vacant-seen}
 use Rattle.pl_nodes.proofs.nodes.Nodes.make_pipe.Given.{Over}
 use Rattle.pl_nodes.proofs.nodes.Nodes.make_pipe.Goals.{After-insert_reserved}

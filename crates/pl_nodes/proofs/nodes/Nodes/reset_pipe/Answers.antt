@@ -1,8 +1,7 @@
-use Rattle.std.proofs.Common.{◌≡◌, ◌∙◌, [], refl, false, ap, subst, sym, length, arith}
-use Rattle.pl_model.specs.State.{Pipe as PipeState, empty_pipe}
+use Rattle.std.proofs.Common.{refl, false, ap, length, arith}
+use Rattle.pl_model.specs.State.{empty_pipe}
 use Rattle.pl_segments.specs.Segments.{segment_at}
 use Rattle.pl_segments.specs.Slices.{all_read}
-use Rattle.pl_segments.specs.Turns.{Turns}
 use Rattle.pl_ring.specs.Ring.{Ring}
 use Rattle.pl_nodes.specs.declared.content.Content.TheVariants.{Pipe}
 use Rattle.pl_nodes.proofs.AtKey.{pipe-there, held, still-sound}
