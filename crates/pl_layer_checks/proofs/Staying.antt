@@ -3,6 +3,7 @@ use Rattle.std.proofs.Common.{◌≡◌, ℕ, Bool, true, false, List, Option, S
 use Rattle.std.specs.Prelude.{IsSome, Result, Ok, Err, OnOk, OnErr, option_map, if◌then◌else◌}
 use Rattle.std.proofs.lemmas.Bool.{eq-eqb}
 use Rattle.pl_model.specs.Map.{set_at, change_at}
+use Rattle.pl_model.specs.State.{Pipe}
 use Rattle.pl_segments.specs.Segments.{at}
 use Rattle.pl_nodes.specs.Nodes.{Nodes}
 
@@ -34,3 +35,8 @@ module _ {V : Type 0} (key : ℕ) (m n : ℕ → Option V) where
 pub stays-written : {T E : Type 0} (r : Result T E) (key : ℕ) (old new : Nodes) (f : List ℕ → List ℕ) → OnOk r (at new.files ≡ change_at key f (at old.files)) → OnErr r (new ≡ old) → (q : ℕ) → IsSome (at old.files q) → IsSome (at new.files q)
 stays-written (Ok x) key old new f ok err = stays-changed key (at old.files) (at new.files) f ok
 stays-written (Err e) key old new f ok err = stays-same (at old.files) (at new.files) (ap (λ (v : Nodes). at v.files) err)
+
+-- a pipe whose capacity is set, or isn't
+pub stays-resized : {T E : Type 0} (r : Result T E) (key : ℕ) (old new : Nodes) (f : Pipe → Pipe) → OnOk r (at new.pipes ≡ change_at key f (at old.pipes)) → OnErr r (new ≡ old) → (q : ℕ) → IsSome (at old.pipes q) → IsSome (at new.pipes q)
+stays-resized (Ok x) key old new f ok err = stays-changed key (at old.pipes) (at new.pipes) f ok
+stays-resized (Err e) key old new f ok err = stays-same (at old.pipes) (at new.pipes) (ap (λ (v : Nodes). at v.pipes) err)

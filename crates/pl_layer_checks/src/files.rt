@@ -1,4 +1,4 @@
-//! A file and a pipe over one store of segments, and names of files, with memory and without.
+//! A file and a pipe over one store of segments, and names of files and FIFOs, with memory and without.
 use crate::equal::is;
 use crate::nodes::weight;
 use pl_model::Node;
@@ -259,11 +259,22 @@ fn a_file_goes_with_its_bytes(rt: HostRuntime) -> Result<(), Fail> {
 enum Naming {
     /// A file is made.
     Make(&'static str),
+    MakeFifo(&'static str),
     LookUp(&'static str),
     Unlink(&'static str),
 }
 
-/// Whether there is something of this name: a file is made where there isn't. What a name stood for has it until it is taken away.
+/// Whether there was something of the name already.
+fn stood(made: Result<usize, MakeFault>) -> Result<bool, NoMemory> {
+    match made {
+        Ok(_) => Ok(false),
+        Err(MakeFault::Exists) => Ok(true),
+        Err(MakeFault::NoMemory) => Err(NoMemory),
+    }
+}
+
+/// Whether there is something of this name: a file or a FIFO is made where there isn't. What a name stood for has it until it is
+/// taken away.
 fn name<A: Allocator + Copy>(
     nodes: &mut Nodes<A>,
     alloc: A,
@@ -272,11 +283,11 @@ fn name<A: Allocator + Copy>(
     match naming {
         Naming::Make(name) => {
             let name = Vec::from_slice(alloc, name.as_bytes())?;
-            match nodes.make_file(name) {
-                Ok(_) => Ok(false),
-                Err(MakeFault::Exists) => Ok(true),
-                Err(MakeFault::NoMemory) => Err(NoMemory),
-            }
+            stood(nodes.make_file(name))
+        }
+        Naming::MakeFifo(name) => {
+            let name = Vec::from_slice(alloc, name.as_bytes())?;
+            stood(nodes.make_fifo(name))
         }
         Naming::LookUp(name) => match nodes.look_up(name.as_bytes()) {
             Some(node) => Ok(nodes.has_name(node)),
@@ -307,6 +318,18 @@ const NAMES: &[(Naming, bool)] = &[
     (Naming::Unlink("b"), false),
     (Naming::Make("b"), false),
     (Naming::LookUp("b"), true),
+    // a FIFO isn't made where there is a file, nor a file or another FIFO where there is a FIFO
+    (Naming::Make("f"), false),
+    (Naming::MakeFifo("f"), true),
+    (Naming::MakeFifo("g"), false),
+    (Naming::Unlink("h"), false),
+    (Naming::MakeFifo("g"), true),
+    (Naming::Make("g"), true),
+    (Naming::LookUp("g"), true),
+    (Naming::Unlink("g"), true),
+    (Naming::LookUp("g"), false),
+    (Naming::MakeFifo("g"), false),
+    (Naming::LookUp("g"), true),
 ];
 
 /// Does it, and again where it is refused. Answers how often it was refused.
@@ -339,7 +362,7 @@ fn names<A: Allocator + Copy>(rt: &impl Abort, alloc: A) -> Result<u32, NoMemory
 }
 
 #[test]
-fn names_of_files(rt: HostRuntime) -> Result<(), Fail> {
+fn names_of_files_and_fifos(rt: HostRuntime) -> Result<(), Fail> {
     let heap = Refusing::new(rt.alloc());
     for chosen in 0..40u64 {
         heap.refuse(chosen);

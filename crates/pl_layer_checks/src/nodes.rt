@@ -1,7 +1,8 @@
-//! Two pipes over one store of segments, with memory and without.
+//! A FIFO and a pipe over one store of segments, with memory and without.
+use crate::capacities;
 use crate::equal::is;
 use pl_model::Node;
-use pl_nodes::{NoMemory, Nodes};
+use pl_nodes::{CapacityFault, NoMemory, Nodes};
 use pl_testing::refusing::Refusing;
 use std::alloc::{Allocator, Global};
 use std::marker::Model;
@@ -9,9 +10,9 @@ use std::mem;
 use std::process::Abort;
 use std::test::Fail;
 
-/// Two pipes, and what is done to the one in front.
+/// Two pipes, and what is done to the one in front. One of them is a FIFO, which is in front at first.
 #[derive(Drop)]
-struct TwoPipes<A: Allocator = Global> {
+pub(crate) struct TwoPipes<A: Allocator = Global> {
     alloc: A,
     nodes: Nodes<A>,
     front: usize,
@@ -48,19 +49,22 @@ enum Operation {
 
 /// What is told of the pipe in front, and of the segments of both.
 #[derive(Clone, Copy, Debug, PartialEq)]
-struct Told {
-    held: usize,
-    room: usize,
-    capacity: usize,
-    slots: usize,
+pub(crate) struct Told {
+    pub(crate) held: usize,
+    pub(crate) room: usize,
+    pub(crate) capacity: usize,
+    pub(crate) slots: usize,
     is_hung: bool,
     segments: usize,
 }
 
 impl<A: Allocator + Copy> TwoPipes<A> {
-    fn new(alloc: A) -> Result<TwoPipes<A>, NoMemory> {
+    pub(crate) fn new(alloc: A) -> Result<TwoPipes<A>, NoMemory> {
         let mut nodes = Nodes::new(alloc, 0);
-        let front = nodes.make_pipe()?;
+        let name = Vec::from_slice(alloc, b"fifo")?;
+        let Ok(front) = nodes.make_fifo(name) else {
+            return Err(NoMemory);
+        };
         let behind = nodes.make_pipe()?;
         Ok(TwoPipes {
             alloc,
@@ -77,8 +81,14 @@ impl<A: Allocator + Copy> TwoPipes<A> {
         Ok(())
     }
 
+    /// Writes so many of one byte, as far as there is room.
+    pub(crate) fn fill(&mut self, byte: u8, count: usize) -> Result<(), NoMemory> {
+        let bytes = vec![in self.alloc; byte; count]?;
+        self.write(bytes.as_slice())
+    }
+
     /// The first bytes, which are taken.
-    fn read(&mut self, count: usize) -> Result<Vec<u8, A>, NoMemory> {
+    pub(crate) fn read(&mut self, count: usize) -> Result<Vec<u8, A>, NoMemory> {
         let count = count.min(self.nodes.held(self.front));
         let bytes = self.nodes.read_pipe(self.front, count)?;
         Ok(bytes)
@@ -93,6 +103,23 @@ impl<A: Allocator + Copy> TwoPipes<A> {
         nodes.segments()
     }
 
+    /// Takes the FIFO's name away.
+    fn unlink(&mut self) {
+        let _fifo = self.nodes.unlink(b"fifo");
+    }
+
+    /// Sets how many bytes it can hold, and answers whether that is set: it isn't where it holds more, nor what is no capacity.
+    pub(crate) fn set_capacity(&mut self, capacity: usize) -> Result<bool, NoMemory> {
+        if capacity < 4_096 || 1_048_576 < capacity || capacity.next_power_of_two() != capacity {
+            return Ok(false);
+        }
+        match self.nodes.set_capacity(self.front, capacity) {
+            Ok(()) => Ok(true),
+            Err(CapacityFault::Busy) => Ok(false),
+            Err(CapacityFault::NoMemory) => Err(NoMemory),
+        }
+    }
+
     fn hang(&mut self, hung: bool) {
         self.nodes.set_hung(self.front, hung);
     }
@@ -105,7 +132,7 @@ impl<A: Allocator + Copy> TwoPipes<A> {
         mem::swap(&mut self.front, &mut self.behind);
     }
 
-    fn tell(&self) -> Told {
+    pub(crate) fn tell(&self) -> Told {
         Told {
             held: self.nodes.held(self.front),
             room: self.nodes.room(self.front),
@@ -120,10 +147,7 @@ impl<A: Allocator + Copy> TwoPipes<A> {
     fn make(&mut self, operation: Operation) -> Result<u32, NoMemory> {
         match operation {
             Operation::Write(bytes) => self.write(bytes)?,
-            Operation::Fill(byte, count) => {
-                let bytes = vec![in self.alloc; byte; count]?;
-                self.write(bytes.as_slice())?;
-            }
+            Operation::Fill(byte, count) => self.fill(byte, count)?,
             Operation::Read(count) => {
                 let bytes = self.read(count)?;
                 return Ok(weight(bytes.as_slice()));
@@ -214,7 +238,7 @@ fn insist<A: Allocator + Copy>(
     Ok(refusals)
 }
 
-/// All rows on two new pipes. Answers how many operations were refused, making pipes among them.
+/// All rows on two new pipes, and then those of capacities. Answers how many operations were refused, making pipes among them.
 fn session<A: Allocator + Copy>(rt: &impl Abort, alloc: A) -> Result<u32, NoMemory> {
     let mut refusals = 0u32;
     let mut pipes = match TwoPipes::new(alloc) {
@@ -227,7 +251,7 @@ fn session<A: Allocator + Copy>(rt: &impl Abort, alloc: A) -> Result<u32, NoMemo
     for row in ROWS {
         refusals = refusals.wrapping_add(insist(rt, &mut pipes, *row)?);
     }
-    Ok(refusals)
+    Ok(refusals.wrapping_add(capacities::insist_on_all(rt, &mut pipes)?))
 }
 
 #[test]
@@ -239,7 +263,7 @@ fn pipes_over_one_store(rt: HostRuntime) -> Result<(), Fail> {
 #[test]
 fn a_refused_operation_is_made_again(rt: HostRuntime) -> Result<(), Fail> {
     let heap = Refusing::new(rt.alloc());
-    for chosen in 1..100u64 {
+    for chosen in 1..150u64 {
         heap.refuse(chosen);
         let refusals = session(&rt, &heap)?;
         is(&rt, "refusals", refusals, heap.refused() as u32);
@@ -259,6 +283,16 @@ fn write_to_both(pipes: &mut TwoPipes) -> Result<(), NoMemory> {
 fn a_pipe_goes_with_its_bytes(rt: HostRuntime) -> Result<(), Fail> {
     let mut pipes = TwoPipes::new(rt.alloc())?;
     write_to_both(&mut pipes)?;
+    is(&rt, "segments", pipes.discard(), 1);
+    Ok(())
+}
+
+#[test]
+fn a_fifo_goes_once_it_has_no_name(rt: HostRuntime) -> Result<(), Fail> {
+    let mut pipes = TwoPipes::new(rt.alloc())?;
+    write_to_both(&mut pipes)?;
+    pipes.turn();
+    pipes.unlink();
     is(&rt, "segments", pipes.discard(), 1);
     Ok(())
 }

@@ -4,13 +4,14 @@ use pl_model::Whence::{Cur, End, Set};
 use pl_model::{Errno, Limits, Mode, OpenFlags};
 use pl_run::LIMITS;
 use pl_testing::asked::Ask::{
-    self, Close, Dup, Dup2, DupFd, Exit, Fork, GetFl, Interrupt, Lseek, Open, Pipe, PipeNonblock,
-    Read, Resume, SetFl, Start, Unlink, Write,
+    self, Close, Dup, Dup2, DupFd, Exit, Fork, GetFl, GetPipeSz, Interrupt, Lseek, Open, Pipe,
+    PipeNonblock, Read, Resume, SetFl, SetPipeSz, Start, Unlink, Write,
 };
 use pl_testing::asked::Data::{self, Many, Text};
 use pl_testing::asked::NEVER_GIVEN;
 use pl_testing::asked::Want::{
-    self, CallsSpent, Count, Fault, Fd, Fds, Flags, NoCall, NoProcess, Offset, Parked, Pid, Unit,
+    self, CallsSpent, Count, Fault, Fd, Fds, Flags, NoCall, NoProcess, Offset, Parked, Pid, Size,
+    Unit,
 };
 use pl_testing::refusing::Refusing;
 use pl_testing::sessions::{NEW_KERNEL, Session};
@@ -118,6 +119,36 @@ const SESSIONS: &[Session] = &[
             (Exit(1), Unit),
             (Resume(1), NoCall),
             (Dup(1, 0), NoProcess),
+        ],
+        ..NEW_KERNEL
+    },
+    // So does the telling of a capacity, at either end and where a call waits, and a capacity that is refused.
+    Session {
+        name: "calls_on_capacities",
+        rows: &[
+            (GetPipeSz(1, 0), NoProcess),
+            (SetPipeSz(1, 0, 4_096), NoProcess),
+            (Start, Pid(1)),
+            (GetPipeSz(1, 0), Fault(Errno::EBADF)),
+            (Pipe(1), Fds(0, 1)),
+            (GetPipeSz(1, 0), Size(65_536)),
+            (GetPipeSz(1, 1), Size(65_536)),
+            (SetPipeSz(1, 1, 1_048_577), Fault(Errno::EPERM)),
+            (SetPipeSz(1, 1, 4_096), Size(4_096)),
+            (GetPipeSz(1, 0), Size(4_096)),
+            (SetPipeSz(1, 0, 1_048_576), Size(1_048_576)),
+            (GetPipeSz(1, 1), Size(1_048_576)),
+            (Write(1, 1, Many(b'a', 1_048_577)), Parked(1)),
+            (SetPipeSz(1, 0, 524_288), Fault(Errno::EBUSY)),
+            (GetPipeSz(1, 0), Size(1_048_576)),
+            (Open(1, F, Mode::Both, NEW), Fd(2)),
+            (GetPipeSz(1, 2), Fault(Errno::EBADF)),
+            (SetPipeSz(1, 2, 4_096), Fault(Errno::EBADF)),
+            (Unlink(1, F), Unit),
+            (Close(1, 1), Unit),
+            (GetPipeSz(1, 1), Fault(Errno::EBADF)),
+            (GetPipeSz(1, 0), Size(1_048_576)),
+            (Exit(1), Unit),
         ],
         ..NEW_KERNEL
     },

@@ -2,6 +2,8 @@
 #![tactic(auto)]
 
 #[cfg(test)]
+mod capacities;
+#[cfg(test)]
 mod files;
 #[cfg(test)]
 mod frugal;

@@ -1,7 +1,9 @@
 //! Steps that find no memory: each is passed over, and the run goes on as if it had not been asked.
+mod capacities;
 mod tables;
 
 use crate::scarce::Scarce;
+use capacities::capacities;
 use pl_run::LIMITS;
 use pl_testing::asked::{Ask, Want};
 use pl_testing::refusing::Refusing;
@@ -103,6 +105,9 @@ fn each_step_is_passed_over(rt: HostRuntime) -> Result<(), Fail> {
         each_is_passed_over(rt.alloc(), steps)?;
     }
     for steps in others() {
+        each_is_passed_over(rt.alloc(), steps)?;
+    }
+    for steps in capacities() {
         each_is_passed_over(rt.alloc(), steps)?;
     }
     Ok(())

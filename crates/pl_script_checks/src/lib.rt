@@ -18,6 +18,8 @@ mod sessions;
 #[cfg(test)]
 mod shared_lines;
 #[cfg(test)]
+mod size_lines;
+#[cfg(test)]
 mod streams;
 #[cfg(test)]
 mod trickling;

@@ -4,7 +4,7 @@ use pl_script::{show, show_file};
 use pl_testing::asked::Data::{Text, TwoRuns};
 use pl_testing::asked::Want::{
     self, Bytes, CallsSpent, Count, CountSigpipe, Fault, Fd, Fds, Flags, NoCall, NoProcess, Offset,
-    Parked, Pid, Unit,
+    Parked, Pid, Size, Unit,
 };
 use std::alloc::Global;
 use std::process::Abort;
@@ -26,6 +26,8 @@ const REPLIES: &[(Want, &str)] = &[
         Offset(9_223_372_036_854_775_807),
         "offset 9223372036854775807",
     ),
+    (Size(4_096), "size 4096"),
+    (Size(1_048_576), "size 1048576"),
     (Unit, "ok"),
     (Parked(7), "parked 7"),
     (Parked(u64::MAX), "parked 18446744073709551615"),

@@ -231,6 +231,33 @@ file - => no file
 file %00 => no file
 ";
 
+const SIZES_OF_A_PIPE: &str = "\
+start => pid 1
+1 pipe => fds 0 1
+1 setsz 1 1 => size 4096
+1 setsz 1 65537 => size 131072
+1 setsz 1 1048577 => EPERM
+1 write 1 5000*61 => count 5000
+1 setsz 1 4096 => EBUSY
+1 setsz 1 5000 => size 8192
+";
+
+const RAISED_UNDER_A_WRITE: &str = "\
+start => pid 1
+1 pipe => fds 0 1
+1 getsz 0 => size 65536
+1 setsz 1 4096 => size 4096
+1 write 1 10000*61 => parked 1
+1 setsz 0 8192 => size 8192
+resume 1 => parked 1
+1 setsz 1 16384 => size 16384
+resume 1 => count 10000
+1 getsz 0 => size 16384
+1 getsz 2 => EBADF
+2 getsz 0 => no process
+1 read 0 20000 => data 10000*61
+";
+
 /// The name of each session, the number of its first call, and its lines.
 const SESSIONS: &[(&str, u64, &str)] = &[
     (
@@ -277,6 +304,8 @@ const SESSIONS: &[(&str, u64, &str)] = &[
     ("a_shared_offset", 1, A_SHARED_OFFSET),
     ("the_end_of_a_file", 1, THE_END_OF_A_FILE),
     ("names_and_flags", 1, NAMES_AND_FLAGS),
+    ("sizes_of_a_pipe", 1, SIZES_OF_A_PIPE),
+    ("raised_under_a_write", 1, RAISED_UNDER_A_WRITE),
 ];
 
 /// The digits of a byte, so many times.

@@ -1,11 +1,12 @@
 //! The tables of this crate.
-use crate::{duplicates, examples, flags, limits, processes};
+use crate::{capacities, duplicates, examples, flags, limits, processes};
 use pl_run::LIMITS;
 use pl_testing::sessions::each_answers;
 use std::test::Fail;
 
 #[test]
 fn each_session_answers(rt: HostRuntime) -> Result<(), Fail> {
+    each_answers(rt.alloc(), LIMITS, capacities::SESSIONS)?;
     each_answers(rt.alloc(), LIMITS, duplicates::SESSIONS)?;
     each_answers(rt.alloc(), LIMITS, examples::SESSIONS)?;
     each_answers(rt.alloc(), LIMITS, flags::SESSIONS)?;

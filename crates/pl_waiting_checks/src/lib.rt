@@ -4,6 +4,8 @@
 #[cfg(test)]
 mod call_numbers;
 #[cfg(test)]
+mod capacities;
+#[cfg(test)]
 mod kept_ends;
 #[cfg(test)]
 mod sessions;
