@@ -1,4 +1,5 @@
 //! Parked calls: their numbers, up to the last one, and what a want of memory leaves.
+mod opens;
 mod orders;
 
 ghost use Rattle.std.specs.Prelude.{◌≡◌, ◌+◌, []};

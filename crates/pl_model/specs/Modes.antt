@@ -1,5 +1,5 @@
 -- What the modes of an open description allow (POSIX.1-2017, open: O_RDONLY, O_WRONLY, O_RDWR).
-use Rattle.std.specs.Prelude.{Bool, true, false}
+use Rattle.std.specs.Prelude.{Bool, true, false, not, ◌&&◌, ◌||◌}
 use Rattle.pl_model.specs.declared.calls.Mode.{Mode}
 use Rattle.pl_model.specs.declared.calls.Mode.TheVariants.{Read, Write, Both}
 
@@ -12,6 +12,10 @@ abbrev pub writes : Mode → Bool
 writes Read = false
 writes Write = true
 writes Both = true
+
+-- a mode lacks an end that another has: it doesn't read where the other reads, or doesn't write where the other writes
+abbrev pub lacks_end_of : Mode → Mode → Bool
+lacks_end_of mode other = (reads other && not (reads mode)) || (writes other && not (writes mode))
 
 abbrev pub any_mode : Mode → Bool
 any_mode mode = true

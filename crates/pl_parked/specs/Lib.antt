@@ -2,3 +2,4 @@ pub mod Calls
 pub mod CallsView
 pub mod Counted
 pub mod Entries
+pub mod Meeting

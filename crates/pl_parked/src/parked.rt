@@ -5,11 +5,13 @@ ghost use Rattle.std.specs.List.{find};
 ghost use Rattle.pl_model.specs.Numbers.{last_call};
 ghost use Rattle.pl_model.specs.Map.{get, put, without};
 ghost use Rattle.pl_parked.specs.Calls.{Rise, is_of_from};
+ghost use Rattle.pl_parked.specs.Meeting.{all_marked};
 
 use crate::call::ParkedCall;
 use crate::counts::Counts;
-use crate::entries::{Entry, next_of, place_of};
+use crate::entries::{Entry, mark_met, next_of, place_of};
 use crate::fault::ParkFault;
+use pl_model::Mode;
 use pl_model::numbers::LAST_CALL;
 use std::alloc::{Allocator, Global};
 use std::marker::Model;
@@ -152,6 +154,14 @@ impl<A: Allocator> Parked<A> {
             unreachable!()
         };
         call.taken = taken;
+    }
+
+    /// Marks the opens that an open of a FIFO with this mode meets as it succeeds or begins to wait: those of the FIFO of this
+    /// pipe that lack an end that the mode has (fifo(7)). It takes no memory.
+    pub fn mark_met(&mut self, pipe: usize, mode: Mode)
+        ensures { self.new ≡ record self.old { calls = all_marked pipe mode self.old.calls } }
+    {
+        mark_met(&mut self.entries, pipe, mode);
     }
 
     // Moves the calls together once more than half of the entries are empty, so that fewer calls move than ended since the
