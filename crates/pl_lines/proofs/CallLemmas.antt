@@ -4,9 +4,9 @@ use Rattle.std.specs.Prelude.{Err}
 use Rattle.pl_model.specs.declared.calls.Call.TheVariants.{Lseek}
 use Rattle.pl_model.specs.Words.{◌>>=◌, signed, signed_long, whence_of}
 use Rattle.pl_model.specs.Lines.{lseek_of}
-use Rattle.pl_lines.specs.declared.fault.LineFault.{LineFault}
-use Rattle.pl_lines.specs.declared.fault.LineFault.TheVariants.{Bad, NoMemory}
-use Rattle.pl_lines.specs.Parsed.{Gives, only}
+use Rattle.pl_words.specs.declared.fault.LineFault.{LineFault}
+use Rattle.pl_words.specs.declared.fault.LineFault.TheVariants.{Bad, NoMemory}
+use Rattle.pl_words.specs.Parsed.{Gives, only}
 
 only_is : (ws : List (List ℕ)) (w : List ℕ) → only ws ≡ Some w → ws ≡ w ∷ []
 only_is [] w e = absurd cc

@@ -1,11 +1,4 @@
-pub mod Places
-pub mod WordLemmas
-pub mod NumberLemmas
-pub mod HexBytes
-pub mod Stars
 pub mod HexText
 pub mod Pushing
 pub mod LineLemmas
-pub mod FlagLemmas
-pub mod NameLemmas
 pub mod CallLemmas

@@ -3,7 +3,7 @@ use Rattle.std.proofs.Common.{◌≡◌, ℕ, suc, ◌+◌, ◌<◌, ◌≤◌, 
 use Rattle.std.specs.Prelude.{position, Some, None}
 use Rattle.std.specs.List.{position_or_len}
 use Rattle.pl_model.specs.Script.{lines, onto_first}
-use Rattle.pl_lines.proofs.Places.{place_of, nowhere}
+use Rattle.pl_words.proofs.Places.{place_of, nowhere}
 
 abbrev is_feed : ℕ → Bool
 is_feed c = eqb c 10

@@ -1,15 +1,14 @@
 //! The calls in lines.
 ghost use Rattle.pl_model.specs.Words.{words, mode_of, whence_of};
 ghost use Rattle.pl_model.specs.Lines.{pipe_of, open_name_of, read_of, write_of, dup_of, dup2_of, dup_fd_of, close_of, lseek_of, get_fl_of, set_fl_of, get_pipe_sz_of, set_pipe_sz_of, unlink_of, fork_of, exit_of, call_of};
-ghost use Rattle.pl_lines.specs.Parsed.{Gives, GivesTaking, CallTakes, later_call_of};
+ghost use Rattle.pl_words.specs.Parsed.{Gives, GivesTaking};
+ghost use Rattle.pl_lines.specs.Parsed.{CallTakes, later_call_of};
 
-use crate::bytes::parse_bytes;
-use crate::fault::LineFault;
-use crate::flags::{parse_flags_if_any, parse_flags_or_none};
-use crate::names::parse_name;
-use crate::numbers::{fd_and_word, only_i32, parse_i32, parse_i64, parse_u32};
-use crate::words::{end, next_word, only_word, word};
 use pl_model::{Call, Mode, Whence};
+use pl_words::{
+    LineFault, end, fd_and_word, next_word, only_i32, only_word, parse_bytes, parse_flags_if_any,
+    parse_flags_or_none, parse_i32, parse_i64, parse_name, parse_u32, word,
+};
 use std::alloc::Allocator;
 
 #[tactic(auto, unfolding(pl_model::specs::Lines::pipe_of))]

@@ -2,7 +2,7 @@
 //!
 //! `parse_line` reads one line, `next_line` parts the lines of a text, `show` and `push_line` give the text of an outcome, and
 //! `show_file` and `push_file_line` that of a file's bytes. What a line asks and what it is answered is defined in `pl_model`, in
-//! `specs/Lines.antt` and `specs/Shown.antt`.
+//! `specs/Lines.antt` and `specs/Shown.antt`. The words of a line are read by `pl_words`, whose `LineFault` is given on.
 //!
 //! The lines are `start`, `resume C`, `interrupt C`, `file NAME`, `P pipe`, `P pipe nonblock`, `P read FD N`, `P write FD BYTES`,
 //! `P open NAME MODE`, `P open NAME MODE FLAGS`, `P lseek FD OFFSET WHENCE`, `P unlink NAME`, `P dup FD`, `P dup2 FD FD`,
@@ -10,19 +10,12 @@
 //! that ask nothing: blank ones and comments, which begin with `#`.
 #![tactic(auto)]
 
-mod bytes;
 mod calls;
-mod fault;
-mod flags;
 mod lines;
-mod names;
-mod numbers;
 mod parse;
-mod search;
 mod text;
-mod words;
 
-pub use fault::LineFault;
 pub use lines::next_line;
 pub use parse::parse_line;
+pub use pl_words::LineFault;
 pub use text::{push_file_line, push_line, show, show_file};

@@ -2,7 +2,7 @@
 ghost use Rattle.std.specs.Prelude.{◌≡◌, ◌<◌, ◌∷◌, length};
 ghost use Rattle.pl_model.specs.Script.{lines};
 
-use crate::search::place_of;
+use pl_words::place_of;
 
 /// The first line, without its line feed, and what stands behind it.
 #[tactic(auto, using(crate::proofs::LineLemmas::line_to_end))]

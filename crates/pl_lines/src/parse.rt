@@ -2,14 +2,14 @@
 ghost use Rattle.std.specs.Prelude.{◌≡◌};
 ghost use Rattle.pl_model.specs.Words.{words};
 ghost use Rattle.pl_model.specs.Lines.{start_of, resume_of, interrupt_of, file_of, begin_of, words_line, is_comment, line};
-ghost use Rattle.pl_lines.specs.Parsed.{Gives, GivesTaking, LineTakes, LineAskedTakes};
+ghost use Rattle.pl_words.specs.Parsed.{Gives, GivesTaking};
+ghost use Rattle.pl_lines.specs.Parsed.{LineTakes, LineAskedTakes};
 
 use crate::calls::parse_call;
-use crate::fault::LineFault;
-use crate::names::parse_name;
-use crate::numbers::{only_u64, parse_u32};
-use crate::words::{end, next_word, only_word, without_return, word};
 use pl_model::{Line, Step};
+use pl_words::{
+    LineFault, end, next_word, only_u64, only_word, parse_name, parse_u32, without_return, word,
+};
 use std::alloc::Allocator;
 
 #[tactic(auto, unfolding(pl_model::specs::Lines::start_of))]

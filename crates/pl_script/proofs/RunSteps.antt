@@ -21,8 +21,8 @@ use Rattle.pl_script.specs.declared.fault.ScriptFault.TheVariants as faults
 use Rattle.pl_script.specs.declared.fault.ScriptFault.{ScriptFault}
 use Rattle.pl_script.specs.Running.{IsRun, IsCountedRun, Asks, WritesOutput, WritesFrontOfOutput, WritesAndCounts, WritesLinesBefore}
 use Rattle.pl_script.specs.LineByLine.{none_counted, IsAt, IsAnswered, Stops}
-use Rattle.pl_lines.specs.declared.fault.LineFault.{LineFault}
-use Rattle.pl_lines.specs.declared.fault.LineFault.TheVariants.{Bad, NoMemory}
+use Rattle.pl_words.specs.declared.fault.LineFault.{LineFault}
+use Rattle.pl_words.specs.declared.fault.LineFault.TheVariants.{Bad, NoMemory}
 use Rattle.pl_lines.proofs.LineLemmas.{length-lines}
 
 -- ---- the definitions, one line at a time

@@ -7,8 +7,8 @@ use Rattle.pl_model.specs.Numbered.{State, opening}
 use Rattle.pl_model.specs.Lines.{line}
 use Rattle.pl_model.specs.Script.{lines, asked, first_bad, answer, answers, never_marked, are_marks, is_step}
 use Rattle.pl_script.specs.Running.{Asks}
-use Rattle.pl_lines.specs.declared.fault.LineFault.{LineFault}
-use Rattle.pl_lines.specs.declared.fault.LineFault.TheVariants.{Bad, NoMemory}
+use Rattle.pl_words.specs.declared.fault.LineFault.{LineFault}
+use Rattle.pl_words.specs.declared.fault.LineFault.TheVariants.{Bad, NoMemory}
 
 abbrev pub none_counted : Totals
 none_counted = record { lines = 0; steps = 0; nomem = 0 }

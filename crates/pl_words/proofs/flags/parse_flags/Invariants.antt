@@ -1,0 +1,10 @@
+use Rattle.std.proofs.Common.{◌≡◌, length}
+use Rattle.pl_model.specs.Words.{flags_of}
+use Rattle.pl_words.proofs.FlagLemmas.{flags_in}
+use Rattle.pl_words.proofs.flags.parse_flags.Given as goal
+
+abbrev pub invariant-loop-comma : goal.invariant-loop-comma
+invariant-loop-comma l = flags_of l.names ≡ flags_in l.flags l.rest
+
+abbrev pub decreases-loop-comma : goal.decreases-loop-comma
+decreases-loop-comma l = length l.rest
