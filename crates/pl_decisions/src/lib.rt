@@ -12,6 +12,6 @@ mod transfers;
 pub use capacities::capacity_for;
 pub use closing::hung_after_close;
 pub use naming::name_fault;
-pub use opening::open_fault;
+pub use opening::{open_fault, opens_at_once};
 pub use seeking::sought;
 pub use transfers::{case_of_read, case_of_write};

@@ -6,7 +6,7 @@ ghost use Rattle.pl_state.specs.Makes.{MakesAtKeys, MayWantAtKeys};
 
 use pl_descriptors::{close, dup, dup_fd, dup2, exit, fork, get_fl, set_fl, start};
 use pl_model::{Call, Reply, Step};
-use pl_naming::{open_name, unlink};
+use pl_naming::{mkfifo, open_name, unlink};
 use pl_state::{KernelState, NoMemory};
 use pl_transfers::{get_pipe_sz, interrupt, lseek, pipe, read, resume, set_pipe_sz, write};
 use std::alloc::Allocator;
@@ -24,6 +24,7 @@ fn begin<A: Allocator + Copy>(
 {
     match call {
         Call::Pipe { nonblock } => pipe(kernel, pid, nonblock),
+        Call::Mkfifo { name } => mkfifo(kernel, pid, &name),
         Call::OpenName { name, mode, flags } => open_name(kernel, pid, &name, mode, flags),
         Call::Read { fd, n } => read(kernel, pid, fd, n),
         Call::Write { fd, bytes } => write(kernel, pid, fd, bytes),

@@ -12,6 +12,7 @@ use Rattle.pl_words.specs.Parsed.{BytesTake}
 -- of calls, those with bytes or a name alone
 abbrev pub CallTakes : {A : Type 0} → Call A → Type 0
 CallTakes (call.Write fd bytes) = BytesTake bytes
+CallTakes (call.Mkfifo name) = BytesTake name
 CallTakes (call.OpenName name mode flags) = BytesTake name
 CallTakes (call.Unlink name) = BytesTake name
 CallTakes _ = ⊥

@@ -1,6 +1,6 @@
 //! The calls in lines.
 ghost use Rattle.pl_model.specs.Words.{words, mode_of, whence_of};
-ghost use Rattle.pl_model.specs.Lines.{pipe_of, open_name_of, read_of, write_of, dup_of, dup2_of, dup_fd_of, close_of, lseek_of, get_fl_of, set_fl_of, get_pipe_sz_of, set_pipe_sz_of, unlink_of, fork_of, exit_of, call_of};
+ghost use Rattle.pl_model.specs.Lines.{pipe_of, mkfifo_of, open_name_of, read_of, write_of, dup_of, dup2_of, dup_fd_of, close_of, lseek_of, get_fl_of, set_fl_of, get_pipe_sz_of, set_pipe_sz_of, unlink_of, fork_of, exit_of, call_of};
 ghost use Rattle.pl_words.specs.Parsed.{Gives, GivesTaking};
 ghost use Rattle.pl_lines.specs.Parsed.{CallTakes, later_call_of};
 
@@ -26,6 +26,15 @@ fn pipe_call<A: Allocator + Copy>(rest: &[u8]) -> Result<Call<A>, LineFault>
             }
         }
     }
+}
+
+#[tactic(auto, unfolding(pl_model::specs::Lines::mkfifo_of))]
+fn mkfifo_call<A: Allocator + Copy>(alloc: A, rest: &[u8]) -> Result<Call<A>, LineFault>
+    ensures { GivesTaking CallTakes result (mkfifo_of (words rest.now)) }
+{
+    Ok(Call::Mkfifo {
+        name: parse_name(alloc, only_word(rest)?)?,
+    })
 }
 
 /// What a file is opened for.
@@ -264,6 +273,8 @@ pub(crate) fn parse_call<A: Allocator + Copy>(
 {
     if name == b"pipe".as_slice() {
         pipe_call(rest)
+    } else if name == b"mkfifo".as_slice() {
+        mkfifo_call(alloc, rest)
     } else if name == b"open".as_slice() {
         open_call(alloc, rest)
     } else if name == b"read".as_slice() {

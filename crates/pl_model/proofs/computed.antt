@@ -8,3 +8,5 @@ pub mod PieceExamples
 pub mod FileExamples
 -- The small examples of the capacities of pipes, computed from the definitions.
 pub mod CapacityExamples
+-- The small examples of FIFOs, computed from the definitions.
+pub mod FifoExamples

@@ -14,6 +14,8 @@ pub mod Changes
 pub mod Names
 -- What the end of a step makes of what calls do to files and their names.
 pub mod Files
+-- What the end of a step makes of what calls do to FIFOs.
+pub mod Fifos
 -- What the end of a step makes of a call that is parked, or tried again in vain.
 pub mod Parking
 -- What leaves in turn is settled as if it left at once.

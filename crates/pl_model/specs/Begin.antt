@@ -14,10 +14,11 @@ use Rattle.pl_model.specs.Flags.{has, creat, excl, trunc, nonblock, nonblock_if,
 use Rattle.pl_model.specs.Keys.{Keys, Node, NewKeys, Draws, PipeNode, FileNode}
 use Rattle.pl_model.specs.State.{Core, Description, Open, described, named, row, set_file, set_pipe, set_description, empty_pipe}
 use Rattle.pl_model.specs.Live.{live_count}
-use Rattle.pl_model.specs.Trial.{Begins, Begun, Answered, pipe_at, answered, refused, tried, refuse_if, found}
+use Rattle.pl_model.specs.Trial.{Begins, Begun, Answered, pipe_at, answered, tried, refuse_if, found}
 use Rattle.pl_model.specs.Transfer.{count, file_at, moved_to}
 use Rattle.pl_model.specs.Capacity.{rounded_capacity, pipe_of, set_capacity}
 use Rattle.pl_model.specs.Tables.{lowest, lowest_pid, install, close_row, describe, create_file, forget_name, fork}
+use Rattle.pl_model.specs.Fifo.{create_fifo, can_open}
 
 -- the place of an open descriptor in its table
 abbrev pub natural : ℤ → ℕ
@@ -92,14 +93,26 @@ module _ {A : Type 0} {K : Keys} where
   abbrev pub open_at : Core A K → K.Description → ℕ → ℕ → Node K → Mode → OpenFlags → Begun A K
   open_at s d pid fd node mode flags = Answered (install (describe s d node mode (status_flags flags)) pid fd d) (Fd (pos fd))
 
-  -- What a name stands for is opened, or made where it stands for nothing. No name stands for a pipe yet; one would answer as a
-  -- FIFO does that has no other end (POSIX.1-2017, open: ENXIO).
+  -- POSIX.1-2017, mkfifo: EEXIST.
+  unfoldable pub begin_mkfifo : Core A K → List ℕ → Begins A K
+  begin_mkfifo s name =
+      check_name name
+      (refuse_if (is_some (named s name)) EEXIST
+      (Draws (λ new. Answered (create_fifo s name new.pipe) Unit)))
+
+  -- POSIX.1-2017, open: ENXIO where a FIFO has no other end. No open waits for one yet, so one that would is refused so too.
+  abbrev pub open_fifo : Core A K → ℕ → ℕ → K.Pipe → Mode → OpenFlags → Begins A K
+  open_fifo s pid fd p mode flags =
+      refuse_if (not (can_open s p mode flags)) ENXIO
+      (Draws (λ new. open_at s new.description pid fd (PipeNode p) mode flags))
+
+  -- What a name stands for is opened, or made where it stands for nothing.
   abbrev pub open_named : Core A K → ℕ → ℕ → List ℕ → Option (Node K) → Mode → OpenFlags → Begins A K
   open_named s pid fd name None mode flags =
       Draws (λ new. open_at (create_file s name new.file) new.description pid fd (FileNode new.file) mode flags)
   open_named s pid fd name (Some (FileNode f)) mode flags =
       Draws (λ new. open_at (truncated s f mode flags) new.description pid fd (FileNode f) mode flags)
-  open_named s pid fd name (Some (PipeNode p)) mode flags = refused ENXIO
+  open_named s pid fd name (Some (PipeNode p)) mode flags = open_fifo s pid fd p mode flags
 
   -- POSIX.1-2017, open: EEXIST, ENOENT, EMFILE, ENFILE. That O_EXCL has no effect without O_CREAT is our own choice.
   unfoldable pub begin_open_name : Core A K → ℕ → List ℕ → Mode → OpenFlags → Begins A K

@@ -2,7 +2,7 @@
 use Rattle.std.specs.Prelude.{ℕ, ◌^◌, List, [], ◌∷◌, Bool, true, false, ◌==◌, if◌then◌else◌, Option, Some, None, codes}
 use Rattle.std.specs.Str.{bytes_eq}
 use Rattle.pl_model.specs.declared.calls.Call.{Call}
-use Rattle.pl_model.specs.declared.calls.Call.TheVariants.{Pipe, OpenName, Read, Write, Dup, Dup2, DupFd, Close, Lseek, GetFl, SetFl, GetPipeSz, SetPipeSz, Unlink, Fork, Exit}
+use Rattle.pl_model.specs.declared.calls.Call.TheVariants.{Pipe, Mkfifo, OpenName, Read, Write, Dup, Dup2, DupFd, Close, Lseek, GetFl, SetFl, GetPipeSz, SetPipeSz, Unlink, Fork, Exit}
 use Rattle.pl_model.specs.declared.calls.Step.TheVariants.{Start, Begin, Resume, Interrupt}
 use Rattle.pl_model.specs.declared.script.Line.{Line}
 use Rattle.pl_model.specs.declared.script.Line.TheVariants.{Do, File}
@@ -18,6 +18,11 @@ module _ {A : Type 0} where
   pipe_of [] = Some (Pipe false)
   pipe_of (flag ∷ []) = if bytes_eq flag (codes "nonblock") then Some (Pipe true) else None
   pipe_of _ = None
+
+  -- `P mkfifo NAME`
+  unfoldable pub mkfifo_of : List (List ℕ) → Option (Call A)
+  mkfifo_of (name ∷ []) = name_of name >>= λ n. Some (Mkfifo n)
+  mkfifo_of _ = None
 
   -- `P open NAME MODE [FLAGS]`
   unfoldable pub open_name_of : List (List ℕ) → Option (Call A)
@@ -124,6 +129,7 @@ module _ {A : Type 0} where
   unfoldable pub call_of : List ℕ → List (List ℕ) → Option (Call A)
   call_of name rest =
       if bytes_eq name (codes "pipe") then pipe_of rest
+      else if bytes_eq name (codes "mkfifo") then mkfifo_of rest
       else if bytes_eq name (codes "open") then open_name_of rest
       else if bytes_eq name (codes "read") then read_of rest
       else if bytes_eq name (codes "write") then write_of rest

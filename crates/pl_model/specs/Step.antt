@@ -15,7 +15,7 @@ use Rattle.pl_model.specs.Settle.{settle}
 use Rattle.pl_model.specs.Tables.{lowest_pid, start, exit}
 use Rattle.pl_model.specs.Trial.{Trial, Flow, Done, Wait, still, flowed, Begun, Refused, Answered, Tried, Begins, answered}
 use Rattle.pl_model.specs.Transfer.{read_node, write_node, count}
-use Rattle.pl_model.specs.Begin.{begin_pipe, begin_read, begin_write, begin_dup, begin_dup2, begin_dup_fd, begin_open_name, begin_close, begin_lseek, begin_get_fl, begin_set_fl, begin_get_pipe_sz, begin_set_pipe_sz, begin_unlink, begin_fork}
+use Rattle.pl_model.specs.Begin.{begin_pipe, begin_read, begin_write, begin_dup, begin_dup2, begin_dup_fd, begin_mkfifo, begin_open_name, begin_close, begin_lseek, begin_get_fl, begin_set_fl, begin_get_pipe_sz, begin_set_pipe_sz, begin_unlink, begin_fork}
 
 -- the state that a step leaves, its reply, and the bytes that it moved
 pub record Stepped (A : Type 0) (K : Keys) : Type 0 where
@@ -42,6 +42,7 @@ module _ {A : Type 0} {K : Keys} where
   -- the checks of a call, in order
   unfoldable pub begin : Core A K → ℕ → Call A → Begins A K
   begin s pid (Call.Pipe nonblock) = begin_pipe s pid nonblock
+  begin s pid (Call.Mkfifo name) = begin_mkfifo s name
   begin s pid (Call.OpenName name mode flags) = begin_open_name s pid name mode flags
   begin s pid (Call.Read fd n) = begin_read s pid fd n
   begin s pid (Call.Write fd bytes) = begin_write s pid fd bytes

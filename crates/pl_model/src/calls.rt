@@ -43,6 +43,10 @@ pub enum Call<A: Allocator = Global> {
     Pipe {
         nonblock: bool,
     },
+    /// Makes a FIFO: a pipe that the name stands for (POSIX.1-2017, mkfifo).
+    Mkfifo {
+        name: Name<A>,
+    },
     /// Opens what the name stands for, by the least free descriptor. With `CREAT` a name that stands for nothing comes to stand
     /// for an empty regular file (POSIX.1-2017, open).
     OpenName {

@@ -2,6 +2,7 @@
 ghost use Rattle.pl_model.specs.Worked.{BytesBeforeEndOfFile, PartialAndWholeNotWaiting, ReadOfNothing, WriteOfNothing, LastWriterCloses, SmallWriteAtItsBoundary, InterruptedLargeWrite, ParkedCallKeepsItsEnd, LastReaderLeaves, CallNumbersSpent, InterleavingWithALargeWrite, ThreeNamesOfOneWriteEnd, FlagsOfSharedDescriptions, FullTable, DescriptorsThatAreNotOpen, ExitDropsParkedCalls, TableOfWrites, ScriptOfBytesBeforeEndOfFile, ScriptOfFlags, EmptyScript, ScriptWithoutLineFeed, ScriptOfNoProcess};
 ghost use Rattle.pl_model.specs.WorkedFiles.{EndOfAFile, BadNames, RefusalsOfAnOpen, FlagsOfAnOpen, AppendingAndSeeking, UnlinkedFileLivesOn, NamesKeepTheirFiles, PipesHaveNoOffset, ScriptOfFiles, NamesInWords};
 ghost use Rattle.pl_model.specs.WorkedCapacity.{SizesAreRoundedUp, OnlyPipesHaveACapacity, CapacityIsRoom, WaitingWriteGetsRoom, ScriptOfCapacities, LinesOfCapacities};
+ghost use Rattle.pl_model.specs.WorkedFifo.{UnusedFifoForgets, OpensWithoutTheOtherEnd, LinesOfFifos};
 ghost use Rattle.pl_model.specs.WorkedStream.{RunsInPieces};
 
 use std::alloc::Allocator;
@@ -54,6 +55,12 @@ pub fn capacities<A: Allocator>()
     ensures waiting_write_gets_room { WaitingWriteGetsRoom A }
 {}
 
+/// FIFOs, their names and their ends.
+pub fn fifos<A: Allocator>()
+    ensures unused_fifo_forgets { UnusedFifoForgets A }
+    ensures opens_without_the_other_end { OpensWithoutTheOtherEnd A }
+{}
+
 /// The pieces in which the bytes of small runs go through a pipe, and what becomes of a write.
 pub fn pieces<A: Allocator>()
     ensures { RunsInPieces A }
@@ -75,4 +82,5 @@ pub fn scripts<A: Allocator>()
     ensures names { NamesInWords }
     ensures capacities { ScriptOfCapacities A }
     ensures lines_of_capacities { LinesOfCapacities A }
+    ensures lines_of_fifos { LinesOfFifos A }
 {}

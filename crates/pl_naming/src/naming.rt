@@ -1,4 +1,4 @@
-//! Names of files: how what they stand for is opened, and how they are taken away.
+//! Names: how what they stand for is opened, and how they are taken away.
 ghost use Rattle.std.specs.Prelude.{◌≡◌, ◌<◌, ◌&&◌, ℕ, List, IfOk, OnErr, IsSome, Some, None, MatchResult, [], if◌then◌else◌};
 ghost use Rattle.pl_model.specs.Map.{change_at};
 ghost use Rattle.pl_nodes.specs.Nodes.{SamePipes};
@@ -11,6 +11,7 @@ ghost use Rattle.pl_state.specs.Contents.{IsProcess};
 ghost use Rattle.pl_state.specs.Makes.{MakesAtKeys, MayWantAtKeys, Tells, HasFile};
 ghost use Rattle.pl_naming.specs.Openings.{IsRefused, MayOpen};
 
+use crate::fifos::open_fifo;
 use bitflags::Flags;
 use pl_decisions::{name_fault, open_fault};
 use pl_model::numbers::MAX_DESCRIPTIONS;
@@ -20,7 +21,7 @@ use pl_state::{KernelState, NoMemory, leave_unnamed, open_at};
 use std::alloc::Allocator;
 
 /// The flags that a description keeps (POSIX.1-2017, fcntl, `F_SETFL`).
-fn status_of(flags: OpenFlags) -> OpenFlags
+pub(crate) fn status_of(flags: OpenFlags) -> OpenFlags
     ensures { result ≡ status_flags flags }
 {
     flags.intersection(OpenFlags::APPEND.union(OpenFlags::NONBLOCK))
@@ -50,8 +51,8 @@ fn empty_if<A: Allocator + Copy>(nodes: &mut Nodes<A>, file: usize, is_emptied: 
 ///
 /// The reply is the least free descriptor, or, in this order: `ENOENT` of an empty name, `ENAMETOOLONG` of one above 255 bytes, `EINVAL` of
 /// one with a slash or a NUL; `EEXIST` under `CREAT` and `EXCL` where the name stands for something; `ENOENT` without `CREAT` where it
-/// stands for nothing; `EMFILE` where no descriptor is free; `ENFILE` at 4,096 descriptions. The only error is want of memory. All of
-/// these leave all as it was.
+/// stands for nothing; `EMFILE` where no descriptor is free; `ENFILE` at 4,096 descriptions; `ENXIO` of a FIFO without the other end that
+/// this open needs. The only error is want of memory. All of these leave all as it was.
 pub fn open_name<A: Allocator + Copy>(
     kernel: &mut KernelState<A>,
     pid: u32,
@@ -76,7 +77,7 @@ pub fn open_name<A: Allocator + Copy>(
     };
     match node {
         Node::File(file) => open_file(kernel, pid, fd, file, mode, flags),
-        Node::Pipe(_) => Ok(Reply::Fault(Errno::ENXIO)),
+        Node::Pipe(pipe) => open_fifo(kernel, pid, fd, pipe, mode, flags),
     }
 }
 

@@ -1,7 +1,7 @@
 -- A step that is refused leaves a settled state as it was.
 use Rattle.std.proofs.Common.{ap, sym, subst, ◌∙◌, ℕ, Bool, true, false, cond, Option, List, ◌≡◌, refl, nat_eq}
 use Rattle.std.specs.declared.option.Option.TheVariants.{None, Some}
-use Rattle.std.specs.Prelude.{◌==◌, nat_lt, length}
+use Rattle.std.specs.Prelude.{◌==◌, not, nat_lt, length, is_some}
 use Rattle.pl_model.specs.declared.calls.Call.{Call}
 use Rattle.pl_model.specs.declared.calls.Mode.{Mode}
 use Rattle.pl_model.specs.declared.calls.Step.{Step}
@@ -11,18 +11,19 @@ use Rattle.pl_model.specs.declared.cases.WriteCase.{WriteCase}
 use Rattle.pl_model.specs.declared.flags.OpenFlags.{OpenFlags}
 use Rattle.pl_model.specs.declared.replies.Reply.{Reply}
 use Rattle.pl_model.specs.declared.replies.Reply.TheVariants.{Fault, NoProcess, NoCall, CallsSpent, Parked}
-use Rattle.pl_model.specs.declared.replies.Errno.TheVariants.{EINTR}
+use Rattle.pl_model.specs.declared.replies.Errno.TheVariants.{EEXIST, EINTR, ENXIO}
 use Rattle.pl_model.specs.declared.replies.Errno.{Errno}
 use Rattle.pl_model.specs.Numbers.{last_call}
 use Rattle.pl_model.specs.Map.{get}
 use Rattle.pl_model.specs.Memory.{is_refusal}
 use Rattle.pl_model.specs.Keys.{Keys, Node, NewKeys, Drawing, PipeNode, FileNode, Plain, Draws, drawn, drawing_map}
-use Rattle.pl_model.specs.State.{Core, Pipe, Description, Open, Waiting}
+use Rattle.pl_model.specs.State.{Core, Pipe, Description, Open, Waiting, named}
 use Rattle.pl_model.specs.Settle.{settle}
 use Rattle.pl_model.specs.Trial.{Trial, Done, Wait, Flow, still, flowed, pipe_at, Begun, Begins, Refused, Answered, Tried, found, refuse_if}
 use Rattle.pl_model.specs.Transfer.{count, read_row, write_row, read_case, write_case, read_pipe, write_pipe, read_file, write_file, read_node, write_node}
 use Rattle.pl_model.specs.Tables.{lowest_pid}
-use Rattle.pl_model.specs.Begin.{open_named, begin_pipe, begin_open_name, begin_read, begin_write, begin_dup, begin_dup2, begin_dup_fd, begin_close, begin_lseek, begin_get_fl, begin_set_fl, begin_get_pipe_sz, begin_set_pipe_sz, begin_unlink, begin_fork}
+use Rattle.pl_model.specs.Fifo.{create_fifo, can_open}
+use Rattle.pl_model.specs.Begin.{check_name, open_named, begin_pipe, begin_mkfifo, begin_open_name, begin_read, begin_write, begin_dup, begin_dup2, begin_dup_fd, begin_close, begin_lseek, begin_get_fl, begin_set_fl, begin_get_pipe_sz, begin_set_pipe_sz, begin_unlink, begin_fork}
 use Rattle.pl_model.specs.Step.{Stepped, with_kept, try, begin, begun, happen, core_step, ended, first_tried, interrupted, parked, resumed, started, stepped, tried_again, waiting, without_call}
 use Rattle.pl_model.specs.Numbered.{numbers, State, After, next_numbers, step_of, step}
 use Rattle.pl_model.specs.Refused.{is_refused, with_call_ended}
@@ -101,6 +102,7 @@ module _ {A : Type 0} {K : Keys} where
   try-fair s w (Call.Read fd n) may_wait = fair_kept s _ _ (λ o. read_node-fair s o.key o.description o.description.node n)
   try-fair s w (Call.Write fd bytes) may_wait = fair_kept s _ _ (λ o. write_node-fair s o.key o.description o.description.node bytes w.taken may_wait)
   try-fair s w (Call.Pipe nonblock) may_wait = tt
+  try-fair s w (Call.Mkfifo name) may_wait = tt
   try-fair s w (Call.OpenName name mode flags) may_wait = tt
   try-fair s w (Call.Dup fd) may_wait = tt
   try-fair s w (Call.Dup2 fd target) may_wait = tt
@@ -121,8 +123,9 @@ module _ {A : Type 0} {K : Keys} where
   open_named-plain new s pid fd name (Some (PipeNode p)) mode flags = search ways
 
   begin-plain : (new : NewKeys K) (s : Core A K) (pid : ℕ) (call : Call A) → LeadsTo new (IsPlainBegun s) (begin s pid call)
-  unfolding begin begin_pipe begin_open_name begin_read begin_write begin_dup begin_dup2 begin_dup_fd begin_close begin_lseek begin_get_fl begin_set_fl begin_get_pipe_sz begin_set_pipe_sz begin_unlink begin_fork
+  unfolding begin begin_pipe begin_mkfifo begin_open_name begin_read begin_write begin_dup begin_dup2 begin_dup_fd begin_close begin_lseek begin_get_fl begin_set_fl begin_get_pipe_sz begin_set_pipe_sz begin_unlink begin_fork
   begin-plain new s pid (Call.Pipe nonblock) = search (ways, refusable) depth 14
+  begin-plain new s pid (Call.Mkfifo name) = search (ways, refusable) depth 14
   begin-plain new s pid (Call.OpenName name mode flags) = search (ways, refusable, open_named-plain) depth 14
   begin-plain new s pid (Call.Read fd n) = search (ways, refusable) depth 14
   begin-plain new s pid (Call.Write fd bytes) = search (ways, refusable) depth 14
@@ -264,11 +267,21 @@ module _ {A : Type 0} {K : Keys} where
   open_named-first : (s : Core A K) (pid fd : ℕ) (name : List ℕ) (node : Option (Node K)) (mode : Mode) (flags : OpenFlags) → RefusesFirst (open_named s pid fd name node mode flags)
   open_named-first s pid fd name None mode flags = search firsts
   open_named-first s pid fd name (Some (FileNode f)) mode flags = search firsts
-  open_named-first s pid fd name (Some (PipeNode p)) mode flags = search firsts
+  open_named-first s pid fd name (Some (PipeNode p)) mode flags = first_past (not (can_open s p mode flags)) ENXIO _ (first_draws _ (λ new. refl))
+
+  first_checked : (name : List ℕ) (next : Begins A K) → RefusesFirst next → RefusesFirst (check_name name next)
+  first_checked name next h = search first_past
+
+  mkfifo-first : (s : Core A K) (name : List ℕ) → RefusesFirst (begin_mkfifo s name)
+  unfolding begin_mkfifo
+  mkfifo-first s name =
+      let made = first_draws (λ new. Answered (create_fifo s name new.pipe) Reply.Unit) (λ new. refl) in
+      first_checked name (refuse_if (is_some (named s name)) EEXIST (Draws (λ new. Answered (create_fifo s name new.pipe) Reply.Unit))) (first_past (is_some (named s name)) EEXIST _ made)
 
   begin-first : (s : Core A K) (pid : ℕ) (call : Call A) → RefusesFirst (begin s pid call)
-  unfolding begin begin_pipe begin_open_name begin_read begin_write begin_dup begin_dup2 begin_dup_fd begin_close begin_lseek begin_get_fl begin_set_fl begin_get_pipe_sz begin_set_pipe_sz begin_unlink begin_fork
+  unfolding begin begin_pipe begin_mkfifo begin_open_name begin_read begin_write begin_dup begin_dup2 begin_dup_fd begin_close begin_lseek begin_get_fl begin_set_fl begin_get_pipe_sz begin_set_pipe_sz begin_unlink begin_fork
   begin-first s pid (Call.Pipe nonblock) = search firsts depth 14
+  begin-first s pid (Call.Mkfifo name) = mkfifo-first s name
   begin-first s pid (Call.OpenName name mode flags) = search (firsts, open_named-first) depth 14
   begin-first s pid (Call.Read fd n) = search firsts depth 14
   begin-first s pid (Call.Write fd bytes) = search firsts depth 14

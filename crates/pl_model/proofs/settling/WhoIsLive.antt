@@ -80,7 +80,7 @@ module _ {A : Type 0} (c u : Core A numbers) (same_parked : u.parked ≡ c.parke
 abbrev pub is_on : Node numbers → Option (Description numbers) → Bool
 is_on node o = is_end any_mode node o
 
-on_end : (test : Mode → Bool) (node : Node numbers) (o : Option (Description numbers)) → is_end test node o ≡ true → is_on node o ≡ true
+pub on_end : (test : Mode → Bool) (node : Node numbers) (o : Option (Description numbers)) → is_end test node o ≡ true → is_on node o ≡ true
 on_end test node None h = h
 on_end test node (Some x) h = (λ i. and_left (same_node x.node node) (test x.mode) h i && true)
 

@@ -55,6 +55,7 @@ module _ {A : Type 0} where
         set_capacity = λ u p size h. h;
         set_file = λ u f bytes h. h;
         create_file = λ u name h. h;
+        create_fifo = λ u name h. h;
         forget_name = λ u name h. h;
         fork = λ u pid child h. h;
         exit = λ u pid h. among_filter s u (λ c. not (nat_eq c.1.pid pid)) h;

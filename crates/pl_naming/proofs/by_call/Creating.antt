@@ -31,14 +31,15 @@ use Rattle.pl_state.specs.Makes.{MakesAtKeys}
 use Rattle.pl_naming.specs.Openings.{MayOpen}
 use Rattle.pl_state.proofs.Known.{Caller}
 use Rattle.pl_state.proofs.holders.There.{set_some}
-use Rattle.pl_naming.proofs.by_call.OpenedFile.{unused, free, left, opened_sound, opened_makes}
+use Rattle.pl_naming.proofs.by_call.OpenedNode.{free, left, opened_sound, opened_makes}
 use Rattle.pl_naming.proofs.by_call.Opening.{made}
+use Rattle.pl_naming.proofs.by_call.Unused.{unused}
 use Rattle.pl_naming.proofs.by_call.Unlinking.{keyed, get-keyed}
 
-abbrev put : Map (List ℕ) Node → List ℕ → Node → Map (List ℕ) Node
+abbrev pub put : Map (List ℕ) Node → List ℕ → Node → Map (List ℕ) Node
 put es name n = put_in_order (slice_cmp nat_cmp) es name n
 
-put-keyed : (es : Map (List ℕ) Node) (name : List ℕ) (n : Node) → keyed (put es name n) ≡ put_in_order (slice_cmp nat_cmp) (keyed es) name (node_of n)
+pub put-keyed : (es : Map (List ℕ) Node) (name : List ℕ) (n : Node) → keyed (put es name n) ≡ put_in_order (slice_cmp nat_cmp) (keyed es) name (node_of n)
 put-keyed [] name n = refl
 put-keyed (e ∷ es) name n = by (slice_cmp nat_cmp name e.0) (put-keyed es name n)
   where
@@ -49,7 +50,7 @@ put-keyed (e ∷ es) name n = by (slice_cmp nat_cmp name e.0) (put-keyed es name
     by Equal rest = refl
     by Greater rest = ap (λ z. (e.0, node_of e.1) ∷ z) rest
 
-put-all : (P : Node → Type 0) (es : Map (List ℕ) Node) (name : List ℕ) (n : Node) → P n → All (λ (e : List ℕ × Node). P e.1) es → All (λ (e : List ℕ × Node). P e.1) (put es name n)
+pub put-all : (P : Node → Type 0) (es : Map (List ℕ) Node) (name : List ℕ) (n : Node) → P n → All (λ (e : List ℕ × Node). P e.1) es → All (λ (e : List ℕ × Node). P e.1) (put es name n)
 put-all P [] name n h all zero x l = h
 put-all P [] name n h all (suc k) x l = absurd (omega (arith, l))
 put-all P (e ∷ es) name n h all i y m = by (slice_cmp nat_cmp name e.0) (put-all P es name n h (λ k x l. all (suc k) x (omega (arith, l)))) i y m
@@ -81,9 +82,9 @@ module _ {A : Type 0} (m : Caller A) (name : List ℕ) (mode : Mode) (flags : Op
     abbrev end : Core A numbers
     end = install (describe (create_file c name f) d (FileNode f) mode (status_flags flags)) pid fd d
 
-    left_is : left m fd may.lowest f d vacant mode (status_flags flags) (at nodes'.files) (keyed nodes'.names) ≡ end
+    left_is : left m fd may.lowest (node.File f) d vacant mode (status_flags flags) nodes' ≡ end
     unfolding core_of
-    left_is = λ i. left m fd may.lowest f d vacant mode (status_flags flags) (files_are i) ((ap keyed names_are ∙ put-keyed nodes.names name (node.File f)) i)
+    left_is = λ i. install (describe (record c { pipes = pipes_are i; files = files_are i; names = (ap keyed names_are ∙ put-keyed nodes.names name (node.File f)) i }) d (FileNode f) mode (status_flags flags)) pid fd d
 
     none : named c name ≡ None
     unfolding core_of
@@ -92,8 +93,8 @@ module _ {A : Type 0} (m : Caller A) (name : List ℕ) (mode : Mode) (flags : Op
     end_settled : settle c end ≡ end
     unfolding core_of
     end_settled =
-        let place = free m fd may.lowest f d vacant mode (status_flags flags) in
-        create-settled (core_of k) sound.settled f d pid fd (unused m fd may.lowest f d vacant mode (status_flags flags) d vacant) (pid_in descs.tables pid process).0
+        let place = free m fd may.lowest (node.File f) d vacant mode (status_flags flags) in
+        create-settled (core_of k) sound.settled f d pid fd (unused m d vacant) (pid_in descs.tables pid process).0
         (let h = (pid_in descs.tables pid process).1 in omega (arith, h, are.tidy.few)) process place.1 place.0 mode (status_flags flags) name none
 
     still : (n : Node) → IsThere nodes n → IsThere nodes' n
@@ -116,12 +117,12 @@ module _ {A : Type 0} (m : Caller A) (name : List ℕ) (mode : Mode) (flags : Op
     once : EachOnce (pointwise nat_eq) nodes'.names
     once = subst (EachOnce (pointwise nat_eq)) (sym names_are) (put-once nodes.names name (node.File f) sound.once may.named)
 
-    settles : settle c (left m fd may.lowest f d vacant mode (status_flags flags) (at nodes'.files) (keyed nodes'.names)) ≡ left m fd may.lowest f d vacant mode (status_flags flags) (at nodes'.files) (keyed nodes'.names)
-    settles = subst (λ z. settle c z ≡ z) (sym left_is) end_settled
+    settles : settle c end ≡ left m fd may.lowest (node.File f) d vacant mode (status_flags flags) nodes'
+    settles = end_settled ∙ sym left_is
 
     pub created : (IsSound A new) × (MakesAtKeys k (Begin pid (Call.OpenName name mode flags)) (Fd (pos fd)) new)
     created = (
-      opened_sound m fd may.lowest f d vacant mode (status_flags flags) descs' nodes' pids rows opened pipes_are file_max_is settles there here once,
-      opened_makes m fd may.lowest f d vacant mode (status_flags flags) descs' nodes' pids rows opened pipes_are file_max_is settles there here once
-          (Call.OpenName name mode flags) f vacant_file (made m name mode flags fd) may.begun (sym left_is),
+      opened_sound m fd may.lowest (node.File f) d vacant mode (status_flags flags) descs' nodes' pids rows opened file_max_is end settles there here once,
+      opened_makes m fd may.lowest (node.File f) d vacant mode (status_flags flags) descs' nodes' pids rows opened file_max_is end settles there here once
+          (Call.OpenName name mode flags) f vacant_file (made m name mode flags fd) may.begun refl,
     )

@@ -10,7 +10,7 @@ use Rattle.pl_model.specs.declared.node.Node.{Node}
 use Rattle.pl_model.specs.declared.node.Node.TheVariants as node
 use Rattle.pl_model.specs.declared.replies.Reply.TheVariants.{Fd, Fault}
 use Rattle.pl_model.specs.declared.replies.Errno.{Errno}
-use Rattle.pl_model.specs.declared.replies.Errno.TheVariants.{EEXIST, EMFILE, ENFILE, ENOENT, ENXIO}
+use Rattle.pl_model.specs.declared.replies.Errno.TheVariants.{EEXIST, EMFILE, ENFILE, ENOENT}
 use Rattle.pl_model.specs.Numbers.{most_descriptions}
 use Rattle.pl_model.specs.Flags.{has, creat, excl, status_flags}
 use Rattle.pl_model.specs.Map.{get}
@@ -35,7 +35,7 @@ use Rattle.pl_state.proofs.Known.{Caller}
 use Rattle.pl_state.proofs.by_call.Begun.{does_same, step-refused, step-draws}
 use Rattle.pl_naming.proofs.by_call.Unlinking.{get-keyed}
 
-some-is : (o : Option Node) → is_some (option_map node_of o) ≡ is_some o
+pub some-is : (o : Option Node) → is_some (option_map node_of o) ≡ is_some o
 some-is None = refl
 some-is (Some n) = refl
 
@@ -120,10 +120,6 @@ module _ {A : Type 0} (m : Caller A) (name : List ℕ) (mode : Mode) (flags : Op
   refused-makes errno is =
       does_same now sound (Begin pid (Call.OpenName name mode flags)) (stepped (core_of now) (Fault errno)) (Fault errno) (step-refused now pid (Call.OpenName name mode flags) process errno is) refl refl
 
-  -- a name that stands for a pipe answers as a FIFO does that has no other end
-  pub pipe-makes : (fd p : ℕ) → MayOpen now pid name mode flags fd (Some (node.Pipe p)) → MakesAtKeys now (Begin pid (Call.OpenName name mode flags)) (Fault ENXIO) now
-  pipe-makes fd p may = refused-makes ENXIO may.begun
-
   abbrev core : Core A numbers
   core = core_of now
 
@@ -134,7 +130,7 @@ module _ {A : Type 0} (m : Caller A) (name : List ℕ) (mode : Mode) (flags : Op
   abbrev pub made : (fd : ℕ) → NewKeys numbers → Core A numbers
   made fd new = install (describe (create_file core name new.file) new.description (FileNode new.file) mode (status_flags flags)) pid fd new.description
 
-  drawn-wants : (fd : ℕ) (left : NewKeys numbers → Core A numbers) → begin core pid (Call.OpenName name mode flags) ≡ Draws (λ new. Answered (left new) (Fd (pos fd))) → MayWantAtKeys now (Begin pid (Call.OpenName name mode flags))
+  pub drawn-wants : (fd : ℕ) (left : NewKeys numbers → Core A numbers) → begin core pid (Call.OpenName name mode flags) ≡ Draws (λ new. Answered (left new) (Fd (pos fd))) → MayWantAtKeys now (Begin pid (Call.OpenName name mode flags))
   drawn-wants fd left draws =
       λ new. ap (λ (a : Drawing numbers (Stepped A numbers)). is_refusal (drawn {X = Stepped A numbers} new a).reply) (step-draws now pid (Call.OpenName name mode flags) process (λ new. Answered (left new) (Fd (pos fd))) draws)
 

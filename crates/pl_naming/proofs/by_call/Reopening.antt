@@ -33,8 +33,9 @@ use Rattle.pl_state.specs.Makes.{MakesAtKeys}
 use Rattle.pl_naming.specs.Openings.{MayOpen}
 use Rattle.pl_state.proofs.Known.{Caller}
 use Rattle.pl_state.proofs.holders.There.{there-still}
-use Rattle.pl_naming.proofs.by_call.OpenedFile.{unused, free, left, opened_sound, opened_makes}
+use Rattle.pl_naming.proofs.by_call.OpenedNode.{free, left, opened_sound, opened_makes}
 use Rattle.pl_naming.proofs.by_call.Opening.{reopened}
+use Rattle.pl_naming.proofs.by_call.Unused.{unused}
 use Rattle.pl_naming.proofs.by_call.Unlinking.{keyed}
 use Rattle.pl_state.proofs.by_call.Piping.{past_end}
 use Rattle.pl_nodes.proofs.Keyed.{change_at-is}
@@ -63,13 +64,13 @@ module _ {A : Type 0} (m : Caller A) (name : List ℕ) (mode : Mode) (flags : Op
     end s = install (describe s d (FileNode f) mode (status_flags flags)) pid fd d
 
     abbrev place : (row_at descs.tables pid fd ≡ None) × (fd < open_max)
-    place = free m fd least f d vacant mode (status_flags flags)
+    place = free m fd least (node.File f) d vacant mode (status_flags flags)
 
     again : (b : Bool) → settle c (end (cond b (set_file c f []) c)) ≡ end (cond b (set_file c f []) c)
     unfolding core_of
-    again true = truncate-settled (core_of k) sound.settled f d pid fd (unused m fd least f d vacant mode (status_flags flags) d vacant) (pid_in descs.tables pid process).0
+    again true = truncate-settled (core_of k) sound.settled f d pid fd (unused m d vacant) (pid_in descs.tables pid process).0
         (let h = (pid_in descs.tables pid process).1 in omega (arith, h, are.tidy.few)) process place.1 place.0 mode (status_flags flags) held was
-    again false = reopen-settled (core_of k) sound.settled f d pid fd (unused m fd least f d vacant mode (status_flags flags) d vacant) (pid_in descs.tables pid process).0
+    again false = reopen-settled (core_of k) sound.settled f d pid fd (unused m d vacant) (pid_in descs.tables pid process).0
         (let h = (pid_in descs.tables pid process).1 in omega (arith, h, are.tidy.few)) process place.1 place.0 mode (status_flags flags)
 
     files_by : (b : Bool) → change_at f (λ bytes. cond b [] bytes) (at nodes.files) ≡ (cond b (set_file c f []) c).files
@@ -90,9 +91,9 @@ module _ {A : Type 0} (m : Caller A) (name : List ℕ) (mode : Mode) (flags : Op
       abbrev does : Bool
       does = has flags.0 trunc && writes mode
 
-      left_is : left m fd least f d vacant mode (status_flags flags) (at nodes'.files) (keyed nodes'.names) ≡ end (truncated c f mode flags)
+      left_is : left m fd least (node.File f) d vacant mode (status_flags flags) nodes' ≡ end (truncated c f mode flags)
       unfolding core_of
-      left_is = (λ i. left m fd least f d vacant mode (status_flags flags) ((files_are ∙ files_by does) i) (keyed (names_are i))) ∙ ap end (rest_by does)
+      left_is = (λ i. end (record c { pipes = pipes_are i; files = (files_are ∙ files_by does) i; names = keyed (names_are i) })) ∙ ap end (rest_by does)
 
       still : (n : Node) → IsThere nodes n → IsThere nodes' n
       still (node.Pipe p) h = subst (λ z. IsSome (z p)) (sym pipes_are) h
@@ -112,13 +113,13 @@ module _ {A : Type 0} (m : Caller A) (name : List ℕ) (mode : Mode) (flags : Op
       once : EachOnce (pointwise nat_eq) nodes'.names
       once = subst (EachOnce (pointwise nat_eq)) (sym names_are) sound.once
 
-      settles : settle c (left m fd least f d vacant mode (status_flags flags) (at nodes'.files) (keyed nodes'.names)) ≡ left m fd least f d vacant mode (status_flags flags) (at nodes'.files) (keyed nodes'.names)
-      settles = subst (λ z. settle c z ≡ z) (sym left_is) (again does)
+      settles : settle c (end (truncated c f mode flags)) ≡ left m fd least (node.File f) d vacant mode (status_flags flags) nodes'
+      settles = again does ∙ sym left_is
 
       pub reopened_sound : IsSound A new
-      reopened_sound = opened_sound m fd least f d vacant mode (status_flags flags) descs' nodes' pids rows opened pipes_are file_max_is settles there here once
+      reopened_sound = opened_sound m fd least (node.File f) d vacant mode (status_flags flags) descs' nodes' pids rows opened file_max_is (end (truncated c f mode flags)) settles there here once
 
       pub reopened_makes : MayOpen k pid name mode flags fd (Some (node.File f)) → MakesAtKeys k (Begin pid (Call.OpenName name mode flags)) (Fd (pos fd)) new
       reopened_makes may =
-          opened_makes m fd least f d vacant mode (status_flags flags) descs' nodes' pids rows opened pipes_are file_max_is settles there here once
-          (Call.OpenName name mode flags) (length nodes.files) (past_end nodes.files) (reopened m name mode flags fd f) may.begun (sym left_is)
+          opened_makes m fd least (node.File f) d vacant mode (status_flags flags) descs' nodes' pids rows opened file_max_is (end (truncated c f mode flags)) settles there here once
+          (Call.OpenName name mode flags) (length nodes.files) (past_end nodes.files) (reopened m name mode flags fd f) may.begun refl

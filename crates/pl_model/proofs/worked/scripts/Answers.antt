@@ -1,6 +1,7 @@
 use Rattle.pl_model.proofs.computed.Examples.{script_of_bytes_before_end_of_file, script_of_flags, empty_script, script_without_line_feed, script_of_no_process}
 use Rattle.pl_model.proofs.computed.FileExamples.{script_of_files, names_in_words}
 use Rattle.pl_model.proofs.computed.CapacityExamples.{script_of_capacities, lines_of_capacities}
+use Rattle.pl_model.proofs.computed.FifoExamples.{lines_of_fifos}
 use Rattle.pl_model.proofs.worked.scripts.Goals as goal
 
 pub returns-clause-bytes_before_end_of_file : goal.returns-clause-bytes_before_end_of_file
@@ -29,3 +30,6 @@ returns-clause-capacities g c = script_of_capacities _
 
 pub returns-clause-lines_of_capacities : goal.returns-clause-lines_of_capacities
 returns-clause-lines_of_capacities g c = lines_of_capacities _
+
+pub returns-clause-lines_of_fifos : goal.returns-clause-lines_of_fifos
+returns-clause-lines_of_fifos g c = lines_of_fifos _

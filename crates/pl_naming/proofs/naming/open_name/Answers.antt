@@ -3,9 +3,8 @@ use Rattle.std.specs.Prelude.{All}
 use Rattle.pl_model.specs.declared.node.Node.{Node}
 use Rattle.pl_model.specs.declared.node.Node.TheVariants as node
 use Rattle.pl_state.specs.Contents.{Contents, IsThere}
-use Rattle.pl_state.specs.KernelView.{view_of}
 use Rattle.pl_naming.specs.Openings.{IsRefused, MayOpen}
-use Rattle.pl_naming.proofs.by_call.Opening.{refused-makes, pipe-makes}
+use Rattle.pl_naming.proofs.by_call.Opening.{refused-makes}
 use Rattle.pl_naming.proofs.by_call.Unlinking.{named_has}
 use Rattle.pl_state.proofs.Known.{caller}
 use Rattle.pl_naming.proofs.naming.open_name.Goals as goal
@@ -32,9 +31,14 @@ pub create_file-requires-clause-may : goal.create_file-requires-clause-may
 create_file-requires-clause-may g c =
     subst (MayOpen c.args.kernel.now c.args.pid c.as_slice-bytes.result.now c.args.mode c.args.flags c.in-Ok.checked.0) c.in_default.is (c.in-Ok.ensures c.args.mode)
 
-pub returns-in-Pipe-clause-done : goal.returns-in-Pipe-clause-done
-returns-in-Pipe-clause-done g c =
-    let m = caller c.kernel.inside c.kernel.invariant c.args.kernel.now c.kernel.view_is c.args.pid c.requires in
-    let may = subst (λ (k : Contents g.row.A.Denot). MayOpen k c.args.pid c.as_slice-bytes.result.now c.args.mode c.args.flags c.in-Ok.checked.0 c.in-Ok.checked.1) (sym c.kernel.view_is) (c.in-Ok.ensures c.args.mode) in
-    let on_pipe = subst (MayOpen (view_of c.kernel.inside) c.args.pid c.as_slice-bytes.result.now c.args.mode c.args.flags c.in-Ok.checked.0) (c.in-Some.is ∙ ap (λ z. Some z) c.in-Pipe.is) may in
-    rw (← c.as_slice-bytes.ensures, ← c.kernel.view_is) (pipe-makes m c.as_slice-bytes.result.now c.args.mode c.args.flags c.in-Ok.checked.0 c.in-Pipe.field-0 on_pipe)
+pub open_fifo-requires-clause-lowest : goal.open_fifo-requires-clause-lowest
+open_fifo-requires-clause-lowest g c = (c.in-Ok.ensures c.args.mode).lowest
+
+pub open_fifo-requires-clause-few : goal.open_fifo-requires-clause-few
+open_fifo-requires-clause-few g c = (c.in-Ok.ensures c.args.mode).few
+
+pub open_fifo-requires-clause-there : goal.open_fifo-requires-clause-there
+open_fifo-requires-clause-there g c =
+    let all = subst (λ (k : Contents g.row.A.Denot). All (λ (e : List ℕ × Node). IsThere k.nodes e.1) k.nodes.names) c.kernel.view_is c.kernel.invariant.0.there.named in
+    named_has (IsThere c.args.kernel.now.nodes) c.args.kernel.now.nodes.names c.as_slice-bytes.result.now (node.Pipe c.in-Pipe.pipe) all
+    ((c.in-Ok.ensures c.args.mode).named ∙ c.in-Some.is ∙ ap (λ z. Some z) c.in-Pipe.is)

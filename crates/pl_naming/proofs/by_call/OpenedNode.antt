@@ -1,4 +1,4 @@
--- What a file that is opened leaves at the kernel's keys.
+-- What a node that is opened leaves at the kernel's keys.
 use Rattle.std.proofs.Common.{◌≡◌, ◌≢◌, ℕ, ◌+◌, ◌<◌, ◌≤◌, Bool, true, false, cond, List, [], ◌∷◌, length, map, Option, Some, None, IfSome, IsSome, refl, sym, ◌∙◌, ap, subst, inl, inr, nat_eq, suc, zero, arith, slice_index_or}
 use Rattle.std.specs.Prelude.{◌||◌, All, pos, option_map, is_some}
 use Rattle.std.specs.List.{list_any}
@@ -16,35 +16,30 @@ use Rattle.pl_model.specs.declared.node.Node.TheVariants as node
 use Rattle.pl_model.specs.declared.replies.Reply.TheVariants.{Fd}
 use Rattle.pl_model.specs.Numbers.{open_max, most_processes}
 use Rattle.pl_model.specs.Map.{Map, EachOnce, get, set_at}
-use Rattle.pl_model.specs.Keys.{NewKeys, Draws, FileNode}
-use Rattle.pl_model.specs.Keys.{Node as KeyNode}
+use Rattle.pl_model.specs.Keys.{NewKeys, Draws}
 use Rattle.pl_model.specs.State.{Core, Waiting}
 use Rattle.pl_model.specs.Settle.{settle}
 use Rattle.pl_model.specs.Tables.{install, describe}
 use Rattle.pl_model.specs.Trial.{Answered}
 use Rattle.pl_model.specs.Step.{begin}
 use Rattle.pl_model.specs.Numbered.{numbers}
-use Rattle.pl_model.specs.StandsFor.{AreUnused, IsUnusedDescription, Comes}
+use Rattle.pl_model.specs.StandsFor.{Comes}
 use Rattle.pl_model.proofs.settling.Parking.{keeps as machine_keeps}
 use Rattle.pl_model.proofs.settling.FromSettled.{at_other}
 use Rattle.pl_parked.specs.declared.call.ParkedCall.{ParkedCall}
 use Rattle.pl_desc.specs.Rows.{at, is_pid, row_at, lowest_of, with_row}
 use Rattle.pl_desc.specs.Descs.{Opened, Descs, fresh}
 use Rattle.pl_desc.proofs.RowLemmas.{pid_in}
-use Rattle.pl_state.specs.Contents.{Contents, Nodes, contents, description_of, parked_of, core_of}
+use Rattle.pl_state.specs.Contents.{Contents, Nodes, IsThere, contents, node_of, description_of, parked_of, core_of}
 use Rattle.pl_state.specs.Sound.{IsSound, IsPipe, AreThere, OnPipe, WaitOnPipes}
 use Rattle.pl_state.specs.Makes.{MakesAtKeys}
 use Rattle.pl_state.proofs.Known.{Caller}
 use Rattle.pl_state.proofs.holders.Belonging.{belong-same}
 use Rattle.pl_state.proofs.holders.There.{settled_after, there-added, map-set_at}
 use Rattle.pl_state.proofs.by_call.Begun.{step-draws}
-use Rattle.pl_state.proofs.by_call.Piping.{kept_live, lowest_found, no_value, past_end, unused_node}
+use Rattle.pl_state.proofs.by_call.Piping.{kept_live, lowest_found, no_value, past_end}
 use Rattle.pl_naming.proofs.by_call.Unlinking.{keyed}
-
-past : {X : Type 0} (xs : List (Option X)) (k : ℕ) → length xs ≤ k → at xs k ≡ None
-past [] k l = refl
-past (x ∷ xs) zero l = absurd (omega (arith, l))
-past (x ∷ xs) (suc k) l = past xs k (omega (arith, l))
+use Rattle.pl_naming.proofs.by_call.Unused.{keys, are_unused}
 
 both : {X : Type 0} (P Q R : X → Type 0) (o : Option X) → ((x : X) → P x → Q x → R x) → IfSome o P → IfSome o Q → IfSome o R
 both P Q R None f h k = h
@@ -81,8 +76,8 @@ module _ {A : Type 0} (d : ℕ) where
         | inr t ↦ subst (λ b. IfSome (cond b (Some o) (old (slice_index_or kept i z))) (λ o. IsPipe o.node)) (sym t.0) h
       ]
 
--- a description is opened on a file, at the least free descriptor
-module _ {A : Type 0} (m : Caller A) (fd : ℕ) (least : lowest_of m.descs.tables m.pid 0 ≡ Some fd) (f d : ℕ) (vacant : at m.descs.opened d ≡ None) (mode : Mode) (flags : OpenFlags) where
+-- a description is opened on a node, at the least free descriptor
+module _ {A : Type 0} (m : Caller A) (fd : ℕ) (least : lowest_of m.descs.tables m.pid 0 ≡ Some fd) (n : Node) (d : ℕ) (vacant : at m.descs.opened d ≡ None) (mode : Mode) (flags : OpenFlags) where
   open m use {kernel, descs, nodes, calls, limits, sound, are, pid, process}
 
   abbrev k : Contents A
@@ -92,17 +87,10 @@ module _ {A : Type 0} (m : Caller A) (fd : ℕ) (least : lowest_of m.descs.table
   c = core_of k
 
   abbrev end : Opened
-  end = fresh (node.File f) mode flags
+  end = fresh n mode flags
 
   pub free : (row_at descs.tables pid fd ≡ None) × (fd < open_max)
   free = let l = lowest_found descs.tables pid 0 fd least in (l.0, l.1)
-
-  no_kept : (q : ℕ) → at k.opened q ≡ None → All (λ (e : ℕ × Waiting A numbers). All (λ j. j ≢ q) e.1.kept) c.parked
-  no_kept q v = λ i w l. λ j z n. λ same.
-      let e = slice_index_or c.parked i w in
-      let member : is_member nat_eq e.1.kept q ≡ true = list_any_at (nat_eq q) e.1.kept j z n (eq-eqb q (slice_index_or e.1.kept j z) (sym same)) in
-      let kept : machine_keeps c.parked q ≡ true = list_any_at (λ (e : ℕ × Waiting A numbers). is_member nat_eq e.1.kept q) c.parked i w l member in
-      no_value (at k.opened q) v (kept_live kernel q kept)
 
   none_kept : list_any (λ (e : ℕ × ParkedCall A). is_member nat_eq e.1.kept d) calls.calls ≡ false
   unfolding core_of
@@ -112,43 +100,23 @@ module _ {A : Type 0} (m : Caller A) (fd : ℕ) (least : lowest_of m.descs.table
       by true e = absurd (no_value (at k.opened d) vacant (kept_live kernel d e))
       by false e = refl
 
-  pub unused : (q : ℕ) → at k.opened q ≡ None → IsUnusedDescription c q
-  unfolding core_of
-  unused q v = record { rows = λ p j e. no_value (at k.opened q) v (are.tidy.named p j q e); descriptions = ap (option_map description_of) v; parked = no_kept q v }
-
-  abbrev other : ℕ
-  other = length k.opened + suc d
-
-  abbrev pub keys : ℕ → NewKeys numbers
-  keys file = record { description = d; other_description = other; pipe = length k.nodes.pipes; file = file }
-
-  are_unused : (file : ℕ) → at k.nodes.files file ≡ None → AreUnused c (keys file)
-  unfolding core_of
-  are_unused file none = record {
-    description = unused d vacant;
-    other_description = unused other (past k.opened other (omega arith));
-    apart = λ e. absurd (omega (arith, e));
-    pipe = record { node = unused_node k sound.there (node.Pipe (length k.nodes.pipes)) (no_value (at k.nodes.pipes (length k.nodes.pipes)) (past_end k.nodes.pipes)); pipes = past_end k.nodes.pipes };
-    file = record { node = unused_node k sound.there (node.File file) (no_value (at k.nodes.files file) none); files = none };
-  }
-
-  abbrev pub left : (ℕ → Option (List ℕ)) → Map (List ℕ) (KeyNode numbers) → Core A numbers
-  left files names = install (describe (record c { files = files; names = names }) d (FileNode f) mode flags) pid fd d
+  abbrev pub left : Nodes → Core A numbers
+  left nodes' = install (describe (record c { pipes = at nodes'.pipes; files = at nodes'.files; names = keyed nodes'.names }) d (node_of n) mode flags) pid fd d
 
   module _ (descs' : Descs) (nodes' : Nodes) (pids : is_pid descs'.tables ≡ is_pid descs.tables) (rows : row_at descs'.tables ≡ with_row (row_at descs.tables) pid fd (Some d))
-      (opened : at descs'.opened ≡ set_at nat_eq (at descs.opened) d (Some end)) (pipes_are : at nodes'.pipes ≡ at nodes.pipes) (file_max_is : nodes'.file_max ≡ nodes.file_max)
-      (settles : settle c (left (at nodes'.files) (keyed nodes'.names)) ≡ left (at nodes'.files) (keyed nodes'.names)) (there : AreThere (at descs.opened) nodes') (here : IsSome (at nodes'.files f))
+      (opened : at descs'.opened ≡ set_at nat_eq (at descs.opened) d (Some end)) (file_max_is : nodes'.file_max ≡ nodes.file_max)
+      (u : Core A numbers) (settles : settle c u ≡ left nodes') (there : AreThere (at descs.opened) nodes') (here : IsThere nodes' n)
       (once : EachOnce (pointwise nat_eq) nodes'.names) where
     abbrev new : Contents A
     new = contents descs' nodes' calls limits
 
-    new_is : core_of new ≡ left (at nodes'.files) (keyed nodes'.names)
+    new_is : core_of new ≡ left nodes'
     unfolding core_of
     new_is = λ i. record {
       processes = pids i;
       rows = rows i;
       descriptions = (ap (λ (z : ℕ → Option Opened). λ q. option_map description_of (z q)) opened ∙ map-set_at description_of (at descs.opened) d (Some end)) i;
-      pipes = pipes_are i;
+      pipes = at nodes'.pipes;
       files = at nodes'.files;
       names = keyed nodes'.names;
       parked = parked_of calls.calls;
@@ -156,7 +124,7 @@ module _ {A : Type 0} (m : Caller A) (fd : ℕ) (least : lowest_of m.descs.table
       limits = limits;
     }
 
-    opened_core : core_of new ≡ settle c (left (at nodes'.files) (keyed nodes'.names))
+    opened_core : core_of new ≡ settle c u
     opened_core = new_is ∙ sym settles
 
     pub opened_sound : IsSound A new
@@ -167,7 +135,7 @@ module _ {A : Type 0} (m : Caller A) (fd : ℕ) (least : lowest_of m.descs.table
         there = subst (λ z. AreThere z nodes') (sym opened) (there-added (at descs.opened) nodes' there d end here);
         limit = file_max_is ∙ sound.limit;
         once = once;
-        settled = settled_after (core_of new) c (left (at nodes'.files) (keyed nodes'.names)) opened_core;
+        settled = settled_after (core_of new) c u opened_core;
       };
       waiting = sound.waiting;
       belong = belong-same calls.calls (is_pid descs.tables) (is_pid descs'.tables) sound.belong pids;
@@ -175,7 +143,7 @@ module _ {A : Type 0} (m : Caller A) (fd : ℕ) (least : lowest_of m.descs.table
     }
 
     pub opened_makes : (call : Call A) (file : ℕ) → at nodes.files file ≡ None → (g : NewKeys numbers → Core A numbers) → begin c pid call ≡ Draws (λ new. Answered (g new) (Fd (pos fd)))
-        → g (keys file) ≡ left (at nodes'.files) (keyed nodes'.names) → MakesAtKeys k (Begin pid call) (Fd (pos fd)) new
-    opened_makes call file none g draws same =
+        → g (keys m d (length nodes.pipes) file) ≡ u → MakesAtKeys k (Begin pid call) (Fd (pos fd)) new
+    opened_makes call file no_file g draws same =
         subst (λ a. Comes c a (Fd (pos fd)) (core_of new)) (sym (step-draws k pid call process (λ new. Answered (g new) (Fd (pos fd))) draws))
-        (keys file, are_unused file none, refl, opened_core ∙ sym (ap (settle c) same))
+        (keys m d (length nodes.pipes) file, are_unused m d (length nodes.pipes) file vacant (past_end nodes.pipes) no_file, refl, opened_core ∙ sym (ap (settle c) same))

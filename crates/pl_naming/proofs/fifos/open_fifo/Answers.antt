@@ -1,0 +1,88 @@
+use Rattle.std.proofs.Common.{◌≡◌, ℕ, List, Bool, true, false, cond, None, Some, IsSome, sym, ap, subst, ◌∙◌, nat_eq}
+use Rattle.std.specs.Prelude.{pos}
+use Rattle.pl_model.specs.declared.calls.Call.{Call}
+use Rattle.pl_model.specs.declared.calls.Step.TheVariants.{Begin}
+use Rattle.pl_model.specs.declared.replies.Reply.TheVariants.{Fd}
+use Rattle.pl_model.specs.Map.{change_at, set_at}
+use Rattle.pl_model.specs.State.{Pipe}
+use Rattle.pl_model.specs.Fifo.{can_open as machine_can_open}
+use Rattle.pl_model.specs.declared.node.Node.TheVariants as node
+use Rattle.pl_desc.specs.Rows.{at, is_pid, row_at, lowest_of, with_row, count_at}
+use Rattle.pl_desc.specs.Descs.{Descs, fresh}
+use Rattle.pl_state.specs.Contents.{Contents, contents, core_of, nodes_of}
+use Rattle.pl_state.specs.Makes.{MakesAtKeys}
+use Rattle.pl_state.specs.Sound.{IsSound, AreCounted}
+use Rattle.pl_state.proofs.by_call.Begun.{there}
+use Rattle.pl_state.specs.KernelView.{view_of}
+use Rattle.pl_naming.specs.Openings.{MayOpen}
+use Rattle.pl_nodes.proofs.Keyed.{on_err}
+use Rattle.pl_naming.proofs.by_call.FifoOpening.{fifo-lonely, fifo-wants, fifo_sound, fifo_makes}
+use Rattle.pl_state.proofs.by_call.Piping.{lowest_found, fits_place, to_z_place}
+use Rattle.pl_state.proofs.Known.{caller}
+use Rattle.pl_naming.proofs.fifos.open_fifo.Given.{Over}
+use Rattle.pl_naming.proofs.fifos.open_fifo.Goals.{After-can_open, After-open_at}
+use Rattle.pl_naming.proofs.fifos.open_fifo.Goals as goal
+
+-- whether it can be opened was asked of what the kernel holds
+asked : (g : Over) (c : After-can_open g) → machine_can_open (core_of {A = g.row.A.Denot} (view_of c.kernel.inside)) c.args.pipe c.args.mode c.args.flags ≡ c.can_open.result
+asked g c = sym (c.can_open.ensures ∙ ap (λ (k : Contents g.row.A.Denot). machine_can_open (core_of k) c.args.pipe c.args.mode c.args.flags) (sym c.kernel.view_is))
+
+pub returns-then-not-can_open-clause-done : goal.returns-then-not-can_open-clause-done
+returns-then-not-can_open-clause-done g c =
+    let m = caller c.kernel.inside c.kernel.invariant c.args.kernel.now c.kernel.view_is c.args.pid c.requires.process in
+    let v = (goal.at.returns-then-not-can_open-clause-done g c).After-can_open in
+    λ name may. rw (← c.kernel.view_is) (fifo-lonely m c.args.mode c.args.flags c.args.fd c.args.pipe name
+    (subst (λ (k : Contents g.row.A.Denot). MayOpen k c.args.pid name c.args.mode c.args.flags c.args.fd (Some (node.Pipe c.args.pipe))) (sym c.kernel.view_is) may) (asked g v ∙ c.if-not-can_open.true))
+
+pub returns-in_err-reserve-clause-wanted : goal.returns-in_err-reserve-clause-wanted
+returns-in_err-reserve-clause-wanted g c =
+    let m = caller c.kernel.inside c.kernel.invariant c.args.kernel.now c.kernel.view_is c.args.pid c.requires.process in
+    let v = (goal.at.returns-in_err-reserve-clause-wanted g c).After-can_open in
+    on_err c.from_residual.result _ (λ name may. rw (← c.kernel.view_is) (fifo-wants m c.args.mode c.args.flags c.args.fd c.args.pipe name
+    (subst (λ (k : Contents g.row.A.Denot). MayOpen k c.args.pid name c.args.mode c.args.flags c.args.fd (Some (node.Pipe c.args.pipe))) (sym c.kernel.view_is) may) (asked g v ∙ c.if-not-can_open.false)))
+
+pub open_at-requires-clause-place : goal.open_at-requires-clause-place
+open_at-requires-clause-place g c = (lowest_found c.args.kernel.now.tables c.args.pid 0 c.args.fd c.requires.lowest).1
+
+pub open_at-requires-clause-free : goal.open_at-requires-clause-free
+open_at-requires-clause-free g c =
+    ap (λ (z : Descs). row_at z.tables c.args.pid c.args.fd) c.reserve.ensures.kept ∙ ap (λ (z : Contents g.row.A.Denot). row_at z.tables c.args.pid c.args.fd) c.kernel.view_is
+    ∙ (lowest_found c.args.kernel.now.tables c.args.pid 0 c.args.fd c.requires.lowest).0
+
+pub overflow_cast-result : goal.overflow_cast-result
+overflow_cast-result g c = fits_place c.args.fd (lowest_found c.args.kernel.now.tables c.args.pid 0 c.args.fd c.requires.lowest).1
+
+-- what opening the FIFO comes to
+made : (g : Over) (c : After-open_at g) (can : machine_can_open (core_of {A = g.row.A.Denot} (view_of c.kernel.inside)) c.args.pipe c.args.mode c.args.flags ≡ true)
+    → (IsSound g.row.A.Denot (contents c.open_at.new.descs (nodes_of c.unhang_if.new.nodes) c.kernel.inside.parked c.kernel.inside.limits)) × (AreCounted g.row.A.Denot c.open_at.new.descs c.kernel.inside.parked.calls)
+    × ((name : List ℕ) → MayOpen (view_of c.kernel.inside) c.args.pid name c.args.mode c.args.flags c.args.fd (Some (node.Pipe c.args.pipe))
+    → MakesAtKeys (view_of c.kernel.inside) (Begin c.args.pid (Call.OpenName name c.args.mode c.args.flags)) (Fd (pos c.args.fd)) (contents c.open_at.new.descs (nodes_of c.unhang_if.new.nodes) c.kernel.inside.parked c.kernel.inside.limits))
+made g c can =
+    let m = caller c.kernel.inside c.kernel.invariant c.args.kernel.now c.kernel.view_is c.args.pid c.requires.process in
+    let least = subst (λ (k : Contents g.row.A.Denot). lowest_of k.tables c.args.pid 0 ≡ Some c.args.fd) (sym c.kernel.view_is) c.requires.lowest in
+    let held = there (at m.nodes.pipes c.args.pipe) (subst (λ (k : Contents g.row.A.Denot). IsSome (at k.nodes.pipes c.args.pipe)) (sym c.kernel.view_is) c.requires.there) in
+    let kept = c.reserve.ensures.kept in
+    let d = c.open_at.result in
+    let pipes = c.unhang_if.ensures.pipes ∙ (λ i. change_at c.args.pipe (λ (x : Pipe). record x { hung = cond (c.is_written.ensures i) false x.hung }) (at m.nodes.pipes)) in
+    let vacant : at m.descs.opened d ≡ None = ap (λ (z : Descs). at z.opened d) (sym kept) ∙ c.open_at.ensures.vacant in
+    let opened = c.open_at.ensures.opened ∙ (λ i. set_at nat_eq (at (kept i).opened) d (Some (fresh (node.Pipe c.args.pipe) c.args.mode (c.status_of.ensures i)))) in
+    let rows = c.open_at.ensures.rows ∙ ap (λ (z : Descs). with_row (row_at z.tables) c.args.pid c.args.fd (Some d)) kept in
+    let pids = c.open_at.ensures.pids ∙ ap (λ (z : Descs). is_pid z.tables) kept in
+    let same_holds : (q : ℕ) → count_at c.open_at.new.descs.loose q ≡ count_at m.descs.loose q = λ q. (λ i. c.open_at.ensures.loose i q) ∙ ap (λ (z : Descs). count_at z.loose q) kept in
+    let same = c.unhang_if.ensures.files in (
+      fifo_sound m c.args.mode c.args.flags c.args.fd c.args.pipe least d held.0 held.1 vacant c.open_at.new.descs (nodes_of c.unhang_if.new.nodes) pids rows opened pipes (ap at same.files) same.names same.file_max,
+      record { tidy = c.open_at.ensures.tidy; counted = λ q. same_holds q ∙ m.are.counted q },
+      λ name may. fifo_makes m c.args.mode c.args.flags c.args.fd c.args.pipe least d held.0 held.1 vacant c.open_at.new.descs (nodes_of c.unhang_if.new.nodes) pids rows opened pipes (ap at same.files) same.names same.file_max name may can,
+    )
+
+pub invariant_of-kernel-2 : goal.invariant_of-kernel-2
+invariant_of-kernel-2 g c =
+    let v = goal.at.invariant_of-kernel-2 g c in
+    let all = made g v.After-open_at (asked g v.After-can_open ∙ c.if-not-can_open.false) in (all.0, all.1)
+
+pub returns-clause-done : goal.returns-clause-done
+returns-clause-done g c =
+    let v = goal.at.returns-clause-done g c in
+    let all = made g v.After-open_at (asked g v.After-can_open ∙ c.if-not-can_open.false) in
+    λ name may. rw (← c.kernel.view_is, to_z_place c.args.fd (lowest_found c.args.kernel.now.tables c.args.pid 0 c.args.fd c.requires.lowest).1)
+    (all.2 name (subst (λ (k : Contents g.row.A.Denot). MayOpen k c.args.pid name c.args.mode c.args.flags c.args.fd (Some (node.Pipe c.args.pipe))) (sym c.kernel.view_is) may))
