@@ -9,13 +9,14 @@ use std::process::ExitCode;
 use std::{fs, io};
 
 /// A script is `NAME.script`, and what it prints `NAME.out`: its output, and the line of its fault.
-const NAMES: [&str; 12] = [
+const NAMES: [&str; 13] = [
     "bytes_before_end_of_file",
     "full_pipe",
     "parking",
     "shared",
     "files",
     "capacity",
+    "fifo",
     "end_of_file",
     "names_and_flags",
     "full_table",

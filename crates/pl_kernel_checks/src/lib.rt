@@ -6,6 +6,10 @@ mod capacities;
 #[cfg(test)]
 mod examples;
 #[cfg(test)]
+mod fifo_ends;
+#[cfg(test)]
+mod fifos;
+#[cfg(test)]
 mod first_use;
 #[cfg(test)]
 mod refusals;

@@ -1,5 +1,5 @@
 //! The tables of this crate.
-use crate::{capacities, examples, refusals, transfers};
+use crate::{capacities, examples, fifo_ends, fifos, refusals, transfers};
 use pl_run::LIMITS;
 use pl_testing::sessions::each_answers;
 use std::test::Fail;
@@ -8,6 +8,8 @@ use std::test::Fail;
 fn each_session_answers(rt: HostRuntime) -> Result<(), Fail> {
     each_answers(rt.alloc(), LIMITS, capacities::SESSIONS)?;
     each_answers(rt.alloc(), LIMITS, examples::SESSIONS)?;
+    each_answers(rt.alloc(), LIMITS, fifos::SESSIONS)?;
+    each_answers(rt.alloc(), LIMITS, fifo_ends::SESSIONS)?;
     each_answers(rt.alloc(), LIMITS, refusals::SESSIONS)?;
     each_answers(rt.alloc(), LIMITS, transfers::SESSIONS)
 }

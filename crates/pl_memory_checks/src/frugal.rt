@@ -4,8 +4,8 @@ use pl_model::Whence::{Cur, End, Set};
 use pl_model::{Errno, Limits, Mode, OpenFlags};
 use pl_run::LIMITS;
 use pl_testing::asked::Ask::{
-    self, Close, Dup, Dup2, DupFd, Exit, Fork, GetFl, GetPipeSz, Interrupt, Lseek, Open, Pipe,
-    PipeNonblock, Read, Resume, SetFl, SetPipeSz, Start, Unlink, Write,
+    self, Close, Dup, Dup2, DupFd, Exit, Fork, GetFl, GetPipeSz, Interrupt, Lseek, Mkfifo, Open,
+    Pipe, PipeNonblock, Read, Resume, SetFl, SetPipeSz, Start, Unlink, Write,
 };
 use pl_testing::asked::Data::{self, Many, Text};
 use pl_testing::asked::NEVER_GIVEN;
@@ -195,6 +195,53 @@ const SESSIONS: &[Session] = &[
             (Close(1, 0), Unit),
             (Pipe(1), Fds(0, 1)),
             (Lseek(1, 0, 0, Cur), Fault(Errno::ESPIPE)),
+        ],
+        ..NEW_KERNEL
+    },
+    // So do an open of a FIFO that is refused, the taking away of its name, and the close of its last end, with which its bytes go.
+    Session {
+        name: "calls_on_fifos",
+        rows: &[
+            (Mkfifo(1, F), NoProcess),
+            (Start, Pid(1)),
+            (Mkfifo(1, Text("")), Fault(Errno::ENOENT)),
+            (Mkfifo(1, Many(b'a', 256)), Fault(Errno::ENAMETOOLONG)),
+            (Mkfifo(1, Text("a/b")), Fault(Errno::EINVAL)),
+            (Mkfifo(1, F), Unit),
+            (Mkfifo(1, F), Fault(Errno::EEXIST)),
+            (Open(2, F, Mode::Both, CREAT), NoProcess),
+            (Open(1, F, Mode::Both, NEW), Fault(Errno::EEXIST)),
+            (Open(1, F, Mode::Write, CREAT), Fault(Errno::ENXIO)),
+            (Open(1, F, Mode::Read, APPEND), Fault(Errno::ENXIO)),
+            (Open(1, F, Mode::Both, APPEND), Fd(0)),
+            (GetFl(1, 0), Flags(Mode::Both, APPEND)),
+            (Lseek(1, 0, 0, Set), Fault(Errno::ESPIPE)),
+            (SetPipeSz(1, 0, 131_072), Size(131_072)),
+            (GetPipeSz(1, 0), Size(131_072)),
+            (Write(1, 0, Many(b'a', 100_000)), Count(100_000)),
+            (SetPipeSz(1, 0, 65_536), Fault(Errno::EBUSY)),
+            (Dup(1, 0), Fd(1)),
+            // the last close, which makes the FIFO new
+            (Close(1, 0), Unit),
+            (Close(1, 1), Unit),
+            (Open(1, F, Mode::Read, &[]), Fault(Errno::ENXIO)),
+            (Open(1, F, Mode::Both, &[]), Fd(0)),
+            (GetPipeSz(1, 0), Size(65_536)),
+            (Write(1, 0, Many(b'b', 70_000)), Parked(1)),
+            (Mkfifo(1, F), Fault(Errno::EEXIST)),
+            // without its name, it goes with the call that keeps it
+            (Unlink(1, F), Unit),
+            (Unlink(1, F), Fault(Errno::ENOENT)),
+            (Open(1, F, Mode::Both, &[]), Fault(Errno::ENOENT)),
+            (Close(1, 0), Unit),
+            (Interrupt(1), Count(65_536)),
+            (Mkfifo(1, F), Unit),
+            (Open(1, F, Mode::Both, &[]), Fd(0)),
+            (Write(1, 0, Many(b'c', 10_000)), Count(10_000)),
+            // and where it has its name, an exit makes it new
+            (Exit(1), Unit),
+            (Start, Pid(1)),
+            (Unlink(1, F), Unit),
         ],
         ..NEW_KERNEL
     },

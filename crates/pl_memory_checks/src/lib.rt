@@ -4,6 +4,8 @@
 #[cfg(test)]
 mod capacities;
 #[cfg(test)]
+mod fifos;
+#[cfg(test)]
 mod files;
 #[cfg(test)]
 mod frugal;

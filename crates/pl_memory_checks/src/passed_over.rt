@@ -1,9 +1,11 @@
 //! Steps that find no memory: each is passed over, and the run goes on as if it had not been asked.
 mod capacities;
+mod fifos;
 mod tables;
 
 use crate::scarce::Scarce;
 use capacities::capacities;
+use fifos::fifos;
 use pl_run::LIMITS;
 use pl_testing::asked::{Ask, Want};
 use pl_testing::refusing::Refusing;
@@ -108,6 +110,9 @@ fn each_step_is_passed_over(rt: HostRuntime) -> Result<(), Fail> {
         each_is_passed_over(rt.alloc(), steps)?;
     }
     for steps in capacities() {
+        each_is_passed_over(rt.alloc(), steps)?;
+    }
+    for steps in fifos() {
         each_is_passed_over(rt.alloc(), steps)?;
     }
     Ok(())

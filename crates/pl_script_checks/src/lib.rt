@@ -4,6 +4,8 @@
 #[cfg(test)]
 mod faults;
 #[cfg(test)]
+mod fifo_lines;
+#[cfg(test)]
 mod file_lines;
 #[cfg(test)]
 mod lines;

@@ -8,6 +8,8 @@ mod duplicates;
 #[cfg(test)]
 mod examples;
 #[cfg(test)]
+mod fifos;
+#[cfg(test)]
 mod flags;
 #[cfg(test)]
 mod limits;

@@ -45,6 +45,7 @@ module _ {A : Type 0} where
   asked (ask.Interrupt call) = Interrupt call
   asked (ask.Pipe pid) = Begin pid (Call.Pipe false)
   asked (ask.PipeNonblock pid) = Begin pid (Call.Pipe true)
+  asked (ask.Mkfifo pid name) = Begin pid (Call.Mkfifo (data_bytes name))
   asked (ask.Open pid name mode flags) = Begin pid (Call.OpenName (data_bytes name) mode (all_flags flags.now))
   asked (ask.Read pid fd n) = Begin pid (Call.Read fd n)
   asked (ask.Write pid fd bytes) = Begin pid (Call.Write fd (data_bytes bytes))

@@ -22,9 +22,9 @@ pub enum Data {
     Part(usize, usize),
 }
 
-/// A step whose bytes are still to be made. A call names its process, then its descriptor or the name of a file, and a read the
-/// most bytes that it takes; `Dup2` names its target last, `DupFd` the least descriptor, `SetFl` the flags, and `SetPipeSz` the
-/// size. `Resume` and `Interrupt` name a parked call by its number.
+/// A step whose bytes are still to be made. A call names its process, then its descriptor or the name of a file or FIFO, and a
+/// read the most bytes that it takes; `Dup2` names its target last, `DupFd` the least descriptor, `SetFl` the flags, and
+/// `SetPipeSz` the size. `Resume` and `Interrupt` name a parked call by its number.
 #[derive(Clone, Copy, Debug)]
 pub enum Ask {
     Start,
@@ -32,6 +32,7 @@ pub enum Ask {
     Interrupt(u64),
     Pipe(u32),
     PipeNonblock(u32),
+    Mkfifo(u32, Data),
     Open(u32, Data, Mode, &'static [OpenFlags]),
     Read(u32, i32, u32),
     Write(u32, i32, Data),
@@ -130,6 +131,10 @@ impl Ask {
             Ask::Interrupt(call) => Step::Interrupt(call),
             Ask::Pipe(pid) => Step::Begin(pid, Call::Pipe { nonblock: false }),
             Ask::PipeNonblock(pid) => Step::Begin(pid, Call::Pipe { nonblock: true }),
+            Ask::Mkfifo(pid, name) => {
+                let name = name.name(alloc)?;
+                Step::Begin(pid, Call::Mkfifo { name })
+            }
             Ask::Open(pid, name, mode, flags) => {
                 let name = name.name(alloc)?;
                 let flags = all_of(flags);

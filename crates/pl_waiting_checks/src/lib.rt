@@ -6,6 +6,8 @@ mod call_numbers;
 #[cfg(test)]
 mod capacities;
 #[cfg(test)]
+mod fifos;
+#[cfg(test)]
 mod kept_ends;
 #[cfg(test)]
 mod sessions;

@@ -1,5 +1,5 @@
 //! The tables of this crate.
-use crate::{call_numbers, capacities, kept_ends, turns, waiting};
+use crate::{call_numbers, capacities, fifos, kept_ends, turns, waiting};
 use pl_run::LIMITS;
 use pl_testing::sessions::each_answers;
 use std::test::Fail;
@@ -8,6 +8,7 @@ use std::test::Fail;
 fn each_session_answers(rt: HostRuntime) -> Result<(), Fail> {
     each_answers(rt.alloc(), LIMITS, call_numbers::SESSIONS)?;
     each_answers(rt.alloc(), LIMITS, capacities::SESSIONS)?;
+    each_answers(rt.alloc(), LIMITS, fifos::SESSIONS)?;
     each_answers(rt.alloc(), LIMITS, kept_ends::SESSIONS)?;
     each_answers(rt.alloc(), LIMITS, turns::SESSIONS)?;
     each_answers(rt.alloc(), LIMITS, waiting::SESSIONS)
