@@ -9,7 +9,7 @@ use std::process::ExitCode;
 use std::{fs, io};
 
 /// A script is `NAME.script`, and what it prints `NAME.out`: its output, and the line of its fault.
-const NAMES: [&str; 13] = [
+const NAMES: [&str; 14] = [
     "bytes_before_end_of_file",
     "full_pipe",
     "parking",
@@ -17,6 +17,7 @@ const NAMES: [&str; 13] = [
     "files",
     "capacity",
     "fifo",
+    "rendezvous",
     "end_of_file",
     "names_and_flags",
     "full_table",

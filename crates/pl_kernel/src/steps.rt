@@ -25,7 +25,7 @@ fn begin<A: Allocator + Copy>(
     match call {
         Call::Pipe { nonblock } => pipe(kernel, pid, nonblock),
         Call::Mkfifo { name } => mkfifo(kernel, pid, &name),
-        Call::OpenName { name, mode, flags } => open_name(kernel, pid, &name, mode, flags),
+        Call::OpenName { name, mode, flags } => open_name(kernel, pid, name, mode, flags),
         Call::Read { fd, n } => read(kernel, pid, fd, n),
         Call::Write { fd, bytes } => write(kernel, pid, fd, bytes),
         Call::Dup { fd } => Ok(dup(kernel, pid, fd)),

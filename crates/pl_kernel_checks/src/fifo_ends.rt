@@ -1,16 +1,20 @@
 //! FIFOs: flags, capacities, and what closes and unlinks leave.
-use crate::fifos::{ALONE, APPEND, CREAT, F, G, NEW, NONBLOCK, NOTHING, PLAIN, TRUNC};
+use crate::fifos::{
+    APPEND, CREAT, F, G, INTERRUPTED, NEW, NO_READER, NONBLOCK, NOTHING, PLAIN, TRUNC,
+};
 use pl_kernel::Kernel;
 use pl_model::Errno::{EAGAIN, EBADF, EBUSY, EEXIST, ENOENT, EPERM, EPIPE, ESPIPE};
 use pl_model::Whence::{Cur, End, Set};
 use pl_model::{Bytes8, Mode, Name, OpenFlags};
 use pl_run::LIMITS;
 use pl_testing::asked::Ask::{
-    self, Close, Exit, GetFl, GetPipeSz, Lseek, Mkfifo, Open, Pipe, Read, SetFl, SetPipeSz, Start,
-    Unlink, Write,
+    self, Close, Exit, GetFl, GetPipeSz, Interrupt, Lseek, Mkfifo, Open, Pipe, Read, SetFl,
+    SetPipeSz, Start, Unlink, Write,
 };
 use pl_testing::asked::Data::{Many, Text};
-use pl_testing::asked::Want::{Bytes, Count, Fault, Fd, Fds, Flags, Offset, Pid, Size, Unit};
+use pl_testing::asked::Want::{
+    Bytes, Count, Fault, Fd, Fds, Flags, Offset, Parked, Pid, Size, Unit,
+};
 use pl_testing::sessions::{NEW_KERNEL, Session};
 use std::alloc::Allocator;
 use std::test::Fail;
@@ -65,7 +69,9 @@ pub(crate) const SESSIONS: &[Session] = &[
             (Exit(1), Unit),
             (Start, Pid(1)),
             (Mkfifo(1, F), Fault(EEXIST)),
-            (Open(1, F, Mode::Read, PLAIN), ALONE),
+            (Open(1, F, Mode::Write, NONBLOCK), NO_READER),
+            (Open(1, F, Mode::Read, PLAIN), Parked(1)),
+            (Interrupt(1), INTERRUPTED),
             (Open(1, F, Mode::Both, NONBLOCK), Fd(0)),
             (Read(1, 0, 9), Fault(EAGAIN)),
             (GetPipeSz(1, 0), Size(65_536)),
@@ -194,8 +200,10 @@ pub(crate) const SESSIONS: &[Session] = &[
             (Read(1, 1, 1), Bytes(Text("o"))),
             // The old one's ends are none of the new one.
             (Mkfifo(1, F), Unit),
-            (Open(1, F, Mode::Read, PLAIN), ALONE),
-            (Open(1, F, Mode::Write, PLAIN), ALONE),
+            (Open(1, F, Mode::Read, PLAIN), Parked(1)),
+            (Interrupt(1), INTERRUPTED),
+            (Open(1, F, Mode::Write, PLAIN), Parked(2)),
+            (Interrupt(2), INTERRUPTED),
             (Open(1, F, Mode::Both, NONBLOCK), Fd(2)),
             (Read(1, 2, 9), Fault(EAGAIN)),
             (GetPipeSz(1, 2), Size(65_536)),
@@ -233,9 +241,11 @@ pub(crate) const SESSIONS: &[Session] = &[
             (Mkfifo(1, G), Unit),
             (Pipe(1), Fds(0, 1)),
             (Open(1, G, Mode::Read, NONBLOCK), Fd(2)),
-            (Open(1, F, Mode::Write, PLAIN), ALONE),
+            (Open(1, F, Mode::Write, PLAIN), Parked(1)),
+            (Interrupt(1), INTERRUPTED),
             (Open(1, F, Mode::Both, PLAIN), Fd(3)),
-            (Open(1, G, Mode::Read, PLAIN), ALONE),
+            (Open(1, G, Mode::Read, PLAIN), Parked(2)),
+            (Interrupt(2), INTERRUPTED),
             (Read(1, 2, 9), NOTHING),
             (Open(1, G, Mode::Write, PLAIN), Fd(4)),
             (SetPipeSz(1, 3, 4_096), Size(4_096)),

@@ -1,14 +1,16 @@
 //! FIFOs: their names, and opens of them.
 use pl_model::Errno::{
-    EAGAIN, EBADF, EEXIST, EINVAL, EMFILE, ENAMETOOLONG, ENFILE, ENOENT, ENXIO, EPIPE,
+    EAGAIN, EBADF, EEXIST, EINTR, EINVAL, EMFILE, ENAMETOOLONG, ENFILE, ENOENT, ENXIO, EPIPE,
 };
 use pl_model::Whence::End;
 use pl_model::{Mode, OpenFlags};
 use pl_testing::asked::Ask::{
-    Close, GetFl, Lseek, Mkfifo, Open, Read, SetFl, Start, Unlink, Write,
+    Close, GetFl, Interrupt, Lseek, Mkfifo, Open, Read, SetFl, Start, Unlink, Write,
 };
 use pl_testing::asked::Data::{self, Many, Text, TwoRuns};
-use pl_testing::asked::Want::{self, Bytes, Count, Fault, Fd, Flags, NoProcess, Offset, Pid, Unit};
+use pl_testing::asked::Want::{
+    self, Bytes, Count, Fault, Fd, Flags, NoProcess, Offset, Parked, Pid, Unit,
+};
 use pl_testing::sessions::{NEW_KERNEL, Session};
 
 pub(crate) const F: Data = Text("f");
@@ -33,8 +35,10 @@ pub(crate) const NONBLOCK: &[OpenFlags] = &[OpenFlags::NONBLOCK];
 
 pub(crate) const NOTHING: Want = Bytes(Text(""));
 
-/// What an open answers that would wait for the other end.
-pub(crate) const ALONE: Want = Fault(ENXIO);
+/// What an open for writing answers that may not wait for a reader.
+pub(crate) const NO_READER: Want = Fault(ENXIO);
+
+pub(crate) const INTERRUPTED: Want = Fault(EINTR);
 
 /// FIFOs that are made, opened and used.
 pub(crate) const SESSIONS: &[Session] = &[
@@ -106,7 +110,7 @@ pub(crate) const SESSIONS: &[Session] = &[
             (Unlink(1, G), Unit),
             (Mkfifo(1, F), Unit),
             (Open(1, G, Mode::Both, NEW), Fd(2)),
-            (Open(1, F, Mode::Write, PLAIN), ALONE),
+            (Open(1, F, Mode::Write, PLAIN), Parked(1)),
             (Lseek(1, 2, 0, End), Offset(0)),
             (Mkfifo(1, G), Fault(EEXIST)),
         ],
@@ -135,7 +139,7 @@ pub(crate) const SESSIONS: &[Session] = &[
             (Read(1, 3, 9), Fault(EAGAIN)),
             (Read(1, 2, 9), Bytes(Text("small"))),
             (Read(1, 0, 9), Bytes(Text("shorter"))),
-            (Open(1, Text(".."), Mode::Read, PLAIN), ALONE),
+            (Open(1, Text(".."), Mode::Read, PLAIN), Parked(1)),
             (Open(1, Text("."), Mode::Read, PLAIN), Fault(ENOENT)),
         ],
         names: &[
@@ -150,7 +154,8 @@ pub(crate) const SESSIONS: &[Session] = &[
         ..NEW_KERNEL
     },
     // Of several reasons to refuse an open the first is answered: there is no such process, the name, it is taken, the table is
-    // full, all descriptions are live, there is no other end. A FIFO is made also where nothing more can be opened.
+    // full, all descriptions are live, there is no reader. A FIFO is made also where nothing more can be opened. What waits holds a
+    // description, which may be the last.
     Session {
         name: "opens_of_fifos_refused_in_order",
         processes: 17,
@@ -179,15 +184,25 @@ pub(crate) const SESSIONS: &[Session] = &[
             (Close(1, 0), Unit),
             (Open(17, F, Mode::Write, NEW), Fault(EEXIST)),
             (Open(2, F, Mode::Write, PLAIN), Fault(EMFILE)),
-            (Open(17, F, Mode::Write, PLAIN), ALONE),
-            (Open(1, F, Mode::Write, NONBLOCK), ALONE),
-            (Open(1, F, Mode::Read, PLAIN), ALONE),
+            (Open(1, F, Mode::Write, NONBLOCK), NO_READER),
+            (Open(17, F, Mode::Write, PLAIN), Parked(1)),
+            (Open(17, F, Mode::Write, NEW), Fault(EEXIST)),
+            (Open(2, F, Mode::Read, PLAIN), Fault(EMFILE)),
+            (Open(1, F, Mode::Read, PLAIN), Fault(ENFILE)),
+            (Open(1, F, Mode::Write, NONBLOCK), Fault(ENFILE)),
+            (Open(17, F, Mode::Both, PLAIN), Fault(ENFILE)),
+            (Interrupt(1), INTERRUPTED),
+            (Open(1, F, Mode::Read, PLAIN), Parked(2)),
+            (Open(17, G, Mode::Read, PLAIN), Fault(ENFILE)),
+            (Interrupt(2), INTERRUPTED),
             (Open(17, F, Mode::Both, PLAIN), Fd(0)),
             // 4,096 again
             (Open(1, F, Mode::Read, PLAIN), Fault(ENFILE)),
             (Open(1, G, Mode::Write, PLAIN), Fault(ENFILE)),
             (Close(2, 9), Unit),
-            (Open(1, G, Mode::Write, PLAIN), ALONE),
+            (Open(1, G, Mode::Write, PLAIN), Parked(3)),
+            (Open(1, F, Mode::Read, PLAIN), Fault(ENFILE)),
+            (Interrupt(3), INTERRUPTED),
             (Open(1, F, Mode::Read, PLAIN), Fd(0)),
             (Open(2, F, Mode::Write, PLAIN), Fault(ENFILE)),
             (Close(3, 255), Unit),
@@ -210,8 +225,10 @@ pub(crate) const SESSIONS: &[Session] = &[
             (Close(1, 200), Unit),
             (Close(1, 7), Unit),
             (Close(1, 255), Unit),
-            // One that is refused takes none.
-            (Open(1, F, Mode::Write, PLAIN), ALONE),
+            // One that is refused takes none, and neither does one that waits.
+            (Open(1, F, Mode::Write, NONBLOCK), NO_READER),
+            (Open(1, F, Mode::Write, PLAIN), Parked(1)),
+            (Interrupt(1), INTERRUPTED),
             (Open(1, F, Mode::Both, PLAIN), Fd(7)),
             (Open(1, F, Mode::Read, PLAIN), Fd(200)),
             (Open(1, F, Mode::Write, PLAIN), Fd(255)),
@@ -297,22 +314,31 @@ pub(crate) const SESSIONS: &[Session] = &[
         names: &[F],
         ..NEW_KERNEL
     },
-    // An open for writing needs a reader, also one that may not wait; one for reading needs a writer, or may not wait.
+    // An open for writing needs a reader, and waits for one where it may; one for reading needs a writer, or may not wait.
     Session {
         name: "no_other_end",
         rows: &[
             (Start, Pid(1)),
             (Mkfifo(1, F), Unit),
-            (Open(1, F, Mode::Write, PLAIN), ALONE),
-            (Open(1, F, Mode::Write, NONBLOCK), ALONE),
-            (Open(1, F, Mode::Write, CREAT), ALONE),
-            (Open(1, F, Mode::Write, TRUNC), ALONE),
-            (Open(1, F, Mode::Read, PLAIN), ALONE),
-            (Open(1, F, Mode::Read, APPEND), ALONE),
-            (Open(1, F, Mode::Read, CREAT), ALONE),
+            (Open(1, F, Mode::Write, NONBLOCK), NO_READER),
+            (Open(1, F, Mode::Write, PLAIN), Parked(1)),
+            (Open(1, F, Mode::Write, CREAT), Parked(2)),
+            (Open(1, F, Mode::Write, TRUNC), Parked(3)),
+            // What waits is a writer, and no reader.
+            (Open(1, F, Mode::Write, NONBLOCK), NO_READER),
+            (Interrupt(1), INTERRUPTED),
+            (Interrupt(2), INTERRUPTED),
+            (Interrupt(3), INTERRUPTED),
+            (Open(1, F, Mode::Read, PLAIN), Parked(4)),
+            (Open(1, F, Mode::Read, APPEND), Parked(5)),
+            (Open(1, F, Mode::Read, CREAT), Parked(6)),
+            (Interrupt(4), INTERRUPTED),
+            (Interrupt(5), INTERRUPTED),
+            (Interrupt(6), INTERRUPTED),
             (Open(1, F, Mode::Read, NONBLOCK), Fd(0)),
             // A reader is no writer.
-            (Open(1, F, Mode::Read, PLAIN), ALONE),
+            (Open(1, F, Mode::Read, PLAIN), Parked(7)),
+            (Interrupt(7), INTERRUPTED),
             (Open(1, F, Mode::Read, NONBLOCK), Fd(1)),
             (Open(1, F, Mode::Write, PLAIN), Fd(2)),
             (Open(1, F, Mode::Write, NONBLOCK), Fd(3)),
@@ -322,8 +348,9 @@ pub(crate) const SESSIONS: &[Session] = &[
             (Write(1, 2, Text("a")), Count(1)),
             (Close(1, 4), Unit),
             // A writer is no reader.
-            (Open(1, F, Mode::Write, PLAIN), ALONE),
-            (Open(1, F, Mode::Write, NONBLOCK), ALONE),
+            (Open(1, F, Mode::Write, PLAIN), Parked(8)),
+            (Interrupt(8), INTERRUPTED),
+            (Open(1, F, Mode::Write, NONBLOCK), NO_READER),
             (Write(1, 2, Text("b")), Fault(EPIPE)),
             (Write(1, 3, Text("")), Count(0)),
             (Open(1, F, Mode::Read, PLAIN), Fd(0)),
@@ -331,13 +358,15 @@ pub(crate) const SESSIONS: &[Session] = &[
             (Close(1, 2), Unit),
             (Open(1, F, Mode::Read, PLAIN), Fd(1)),
             (Close(1, 3), Unit),
-            (Open(1, F, Mode::Read, PLAIN), ALONE),
+            (Open(1, F, Mode::Read, PLAIN), Parked(9)),
+            (Interrupt(9), INTERRUPTED),
             (Read(1, 1, 9), Bytes(Text("ac"))),
             (Read(1, 0, 9), NOTHING),
             (Close(1, 0), Unit),
             (Close(1, 1), Unit),
-            (Open(1, F, Mode::Write, NONBLOCK), ALONE),
-            (Open(1, F, Mode::Read, PLAIN), ALONE),
+            (Open(1, F, Mode::Write, NONBLOCK), NO_READER),
+            (Open(1, F, Mode::Read, PLAIN), Parked(10)),
+            (Interrupt(10), INTERRUPTED),
             // One that is open for both is a reader and a writer.
             (Open(1, F, Mode::Both, PLAIN), Fd(0)),
             (Open(1, F, Mode::Write, PLAIN), Fd(1)),
@@ -348,7 +377,7 @@ pub(crate) const SESSIONS: &[Session] = &[
             (Close(1, 1), Unit),
             (Open(1, F, Mode::Write, PLAIN), Fd(1)),
             (Close(1, 0), Unit),
-            (Open(1, F, Mode::Write, PLAIN), ALONE),
+            (Open(1, F, Mode::Write, PLAIN), Parked(11)),
             (Open(1, F, Mode::Both, PLAIN), Fd(0)),
         ],
         names: &[F],

@@ -1,10 +1,10 @@
 //! Want of memory where names stand for FIFOs.
 use crate::memory::refuse_each;
-use pl_model::Errno::{EAGAIN, EEXIST, ENOENT, ENXIO, EPIPE};
+use pl_model::Errno::{EAGAIN, EEXIST, EINTR, ENOENT, EPIPE};
 use pl_model::{Mode, OpenFlags};
 use pl_testing::asked::Ask::{
-    self, Close, Dup, Exit, Fork, GetPipeSz, Mkfifo, Open, Read, Resume, SetFl, SetPipeSz, Start,
-    Unlink, Write,
+    self, Close, Dup, Exit, Fork, GetPipeSz, Interrupt, Mkfifo, Open, Read, Resume, SetFl,
+    SetPipeSz, Start, Unlink, Write,
 };
 use pl_testing::asked::Data::{self, Many, Text};
 use pl_testing::asked::Want::{
@@ -25,8 +25,7 @@ const NONBLOCK: &[OpenFlags] = &[OpenFlags::NONBLOCK];
 
 const NOTHING: Want = Bytes(Text(""));
 
-/// What an open answers that would wait for the other end.
-const ALONE: Want = Fault(ENXIO);
+const INTERRUPTED: Want = Fault(EINTR);
 
 /// Each is refused every request for memory in turn.
 const SESSIONS: &[Session] = &[
@@ -46,7 +45,7 @@ const SESSIONS: &[Session] = &[
             (Read(1, 1, 9), Fault(EAGAIN)),
             (Mkfifo(1, Text("i")), Unit),
             (Mkfifo(1, Text("j")), Unit),
-            (Open(1, Text("j"), Mode::Write, PLAIN), ALONE),
+            (Open(1, Text("j"), Mode::Write, PLAIN), Parked(1)),
             (Open(1, Text("k"), Mode::Both, PLAIN), Fault(ENOENT)),
         ],
         names: &[F, Many(b'a', 255), G, Text("h"), Text("i"), Text("j")],
@@ -59,8 +58,10 @@ const SESSIONS: &[Session] = &[
             (Start, Pid(1)),
             (Mkfifo(1, F), Unit),
             (Mkfifo(1, G), Unit),
-            (Open(1, F, Mode::Write, PLAIN), ALONE),
-            (Open(1, F, Mode::Read, PLAIN), ALONE),
+            (Open(1, F, Mode::Write, PLAIN), Parked(1)),
+            (Interrupt(1), INTERRUPTED),
+            (Open(1, F, Mode::Read, PLAIN), Parked(2)),
+            (Interrupt(2), INTERRUPTED),
             (Open(1, F, Mode::Read, NONBLOCK), Fd(0)),
             (Read(1, 0, 9), NOTHING),
             (Open(1, F, Mode::Write, PLAIN), Fd(1)),
@@ -71,7 +72,8 @@ const SESSIONS: &[Session] = &[
             (Open(1, F, Mode::Read, PLAIN), Fd(3)),
             (Open(1, F, Mode::Write, NONBLOCK), Fd(4)),
             (Read(1, 3, 9), Bytes(Text("b"))),
-            (Open(1, G, Mode::Write, PLAIN), ALONE),
+            (Open(1, G, Mode::Write, PLAIN), Parked(3)),
+            (Interrupt(3), INTERRUPTED),
             (Open(1, G, Mode::Both, PLAIN), Fd(5)),
             (Open(1, G, Mode::Read, NONBLOCK), Fd(6)),
             (Fork(1), Pid(2)),
@@ -144,7 +146,7 @@ const SESSIONS: &[Session] = &[
             (Close(1, 0), Unit),
             (Close(1, 1), Unit),
             (Resume(2), CountSigpipe(66_536)),
-            (Open(1, F, Mode::Read, PLAIN), ALONE),
+            (Open(1, F, Mode::Read, PLAIN), Parked(3)),
             (Open(1, F, Mode::Both, NONBLOCK), Fd(0)),
             (Read(1, 0, 9), Fault(EAGAIN)),
         ],
@@ -161,7 +163,8 @@ const SESSIONS: &[Session] = &[
             (Write(1, 0, Text("old")), Count(3)),
             (Unlink(1, F), Unit),
             (Mkfifo(1, F), Unit),
-            (Open(1, F, Mode::Write, PLAIN), ALONE),
+            (Open(1, F, Mode::Write, PLAIN), Parked(1)),
+            (Interrupt(1), INTERRUPTED),
             (Open(1, F, Mode::Both, NONBLOCK), Fd(1)),
             (Write(1, 1, Text("new")), Count(3)),
             (Read(1, 0, 9), Bytes(Text("old"))),
@@ -176,6 +179,67 @@ const SESSIONS: &[Session] = &[
             (Exit(1), Unit),
         ],
         names: &[F],
+        ..NEW_KERNEL
+    },
+    // An open that finds no memory takes no number, is no end and meets nobody: all ends that come and go are those of other opens.
+    Session {
+        name: "opens_that_wait",
+        rows: &[
+            (Start, Pid(1)),
+            (Mkfifo(1, F), Unit),
+            (Open(1, F, Mode::Read, PLAIN), Parked(1)),
+            (Open(1, F, Mode::Read, PLAIN), Parked(2)),
+            (Open(1, F, Mode::Read, PLAIN), Parked(3)),
+            (Open(1, F, Mode::Read, PLAIN), Parked(4)),
+            (Resume(2), Parked(2)),
+            (Interrupt(2), INTERRUPTED),
+            (Open(1, F, Mode::Read, PLAIN), Parked(5)),
+            (Open(1, F, Mode::Write, PLAIN), Fd(0)),
+            (Resume(4), Fd(1)),
+            (Write(1, 0, Text("ab")), Count(2)),
+            (Close(1, 0), Unit),
+            (Resume(1), Fd(0)),
+            (Read(1, 0, 1), Bytes(Text("a"))),
+            (Interrupt(3), INTERRUPTED),
+            (Resume(5), Fd(2)),
+            (Read(1, 2, 9), Bytes(Text("b"))),
+            (Close(1, 0), Unit),
+            (Close(1, 1), Unit),
+            (Read(1, 2, 9), NOTHING),
+            (Close(1, 2), Unit),
+            (Open(1, F, Mode::Write, PLAIN), Parked(6)),
+            (Exit(1), Unit),
+            (Start, Pid(1)),
+            (Open(1, F, Mode::Read, PLAIN), Parked(7)),
+        ],
+        names: &[F],
+        ..NEW_KERNEL
+    },
+    // Of two FIFOs only that one is met of which an open finds memory.
+    Session {
+        name: "opens_that_wait_at_two_fifos",
+        rows: &[
+            (Start, Pid(1)),
+            (Mkfifo(1, F), Unit),
+            (Mkfifo(1, G), Unit),
+            (Open(1, F, Mode::Write, PLAIN), Parked(1)),
+            (Open(1, G, Mode::Read, PLAIN), Parked(2)),
+            (Unlink(1, F), Unit),
+            (Mkfifo(1, F), Unit),
+            (Open(1, F, Mode::Write, PLAIN), Parked(3)),
+            (Fork(1), Pid(2)),
+            (Open(2, F, Mode::Read, NONBLOCK), Fd(0)),
+            (Open(2, G, Mode::Both, PLAIN), Fd(1)),
+            (Write(2, 1, Text("ab")), Count(2)),
+            (Exit(2), Unit),
+            (Resume(1), Parked(1)),
+            (Resume(2), Fd(0)),
+            (Resume(3), Fd(1)),
+            (Write(1, 1, Text("c")), Fault(EPIPE)),
+            (Read(1, 0, 9), Bytes(Text("ab"))),
+            (Read(1, 0, 9), NOTHING),
+        ],
+        names: &[F, G],
         ..NEW_KERNEL
     },
 ];

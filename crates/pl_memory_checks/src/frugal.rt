@@ -25,6 +25,8 @@ const CREAT: &[OpenFlags] = &[OpenFlags::CREAT];
 
 const NEW: &[OpenFlags] = &[OpenFlags::CREAT, OpenFlags::EXCL];
 
+const NONBLOCK: &[OpenFlags] = &[OpenFlags::NONBLOCK];
+
 const F: Data = Text("f");
 
 /// Steps of which some are to take no memory.
@@ -54,6 +56,10 @@ const SESSIONS: &[Session] = &[
             (Close(1, 1), Unit),
             (Close(1, 0), Unit),
             (Close(1, 0), Fault(Errno::EBADF)),
+            (Mkfifo(1, F), Unit),
+            (Open(1, F, Mode::Read, &[]), CallsSpent),
+            (Open(1, F, Mode::Write, CREAT), CallsSpent),
+            (Open(1, F, Mode::Write, NONBLOCK), Fault(Errno::ENXIO)),
         ],
         ..NEW_KERNEL
     },
@@ -211,8 +217,7 @@ const SESSIONS: &[Session] = &[
             (Mkfifo(1, F), Fault(Errno::EEXIST)),
             (Open(2, F, Mode::Both, CREAT), NoProcess),
             (Open(1, F, Mode::Both, NEW), Fault(Errno::EEXIST)),
-            (Open(1, F, Mode::Write, CREAT), Fault(Errno::ENXIO)),
-            (Open(1, F, Mode::Read, APPEND), Fault(Errno::ENXIO)),
+            (Open(1, F, Mode::Write, NONBLOCK), Fault(Errno::ENXIO)),
             (Open(1, F, Mode::Both, APPEND), Fd(0)),
             (GetFl(1, 0), Flags(Mode::Both, APPEND)),
             (Lseek(1, 0, 0, Set), Fault(Errno::ESPIPE)),
@@ -224,7 +229,7 @@ const SESSIONS: &[Session] = &[
             // the last close, which makes the FIFO new
             (Close(1, 0), Unit),
             (Close(1, 1), Unit),
-            (Open(1, F, Mode::Read, &[]), Fault(Errno::ENXIO)),
+            (Open(1, F, Mode::Write, NONBLOCK), Fault(Errno::ENXIO)),
             (Open(1, F, Mode::Both, &[]), Fd(0)),
             (GetPipeSz(1, 0), Size(65_536)),
             (Write(1, 0, Many(b'b', 70_000)), Parked(1)),
@@ -242,6 +247,34 @@ const SESSIONS: &[Session] = &[
             (Exit(1), Unit),
             (Start, Pid(1)),
             (Unlink(1, F), Unit),
+        ],
+        ..NEW_KERNEL
+    },
+    // So do an interrupt of an open that waits, met or not, and an exit with which such opens go, and a FIFO with the last of them.
+    Session {
+        name: "calls_where_opens_wait",
+        rows: &[
+            (Start, Pid(1)),
+            (Start, Pid(2)),
+            (Mkfifo(1, F), Unit),
+            (Open(1, F, Mode::Write, CREAT), Parked(1)),
+            (Open(1, F, Mode::Write, APPEND), Parked(2)),
+            (Open(2, F, Mode::Write, NONBLOCK), Fault(Errno::ENXIO)),
+            (Interrupt(1), Fault(Errno::EINTR)),
+            (Interrupt(1), NoCall),
+            (Open(2, F, Mode::Both, &[]), Fd(0)),
+            (Write(2, 0, Many(b'a', 10_000)), Count(10_000)),
+            (Interrupt(2), Fault(Errno::EINTR)),
+            (Resume(2), NoCall),
+            (Open(2, F, Mode::Write, &[]), Fd(1)),
+            (Close(2, 0), Unit),
+            (Open(1, F, Mode::Write, &[]), Parked(3)),
+            (Open(1, F, Mode::Write, &[]), Parked(4)),
+            (Exit(2), Unit),
+            (Unlink(1, F), Unit),
+            (Exit(1), Unit),
+            (Resume(3), NoCall),
+            (Interrupt(4), NoCall),
         ],
         ..NEW_KERNEL
     },
@@ -283,7 +316,8 @@ fn each_session_takes_no_memory(rt: HostRuntime) -> Result<(), Fail> {
     Ok(())
 }
 
-/// The process, the descriptors, the descriptions and the file for which there is no place.
+/// The process, the descriptors, the descriptions and the file for which there is no place, and an open that was met and for which
+/// there is none.
 const NO_PLACE: &[(Ask, Want)] = &[
     (Start, Fault(Errno::EAGAIN)),
     (Fork(1), Fault(Errno::EAGAIN)),
@@ -293,6 +327,15 @@ const NO_PLACE: &[(Ask, Want)] = &[
     (Pipe(17), Fault(Errno::ENFILE)),
     (Open(17, F, Mode::Both, CREAT), Fault(Errno::ENFILE)),
     (Unlink(17, F), Fault(Errno::ENOENT)),
+    (Mkfifo(17, F), Unit),
+    (Close(1, 0), Unit),
+    (Close(1, 1), Unit),
+    (Open(1, F, Mode::Read, &[]), Parked(1)),
+    (Open(17, F, Mode::Write, &[]), Fd(0)),
+    (Open(17, F, Mode::Read, &[]), Fault(Errno::ENFILE)),
+    (Dup(1, 2), Fd(0)),
+    (Dup(1, 2), Fd(1)),
+    (Resume(1), Fault(Errno::EMFILE)),
 ];
 
 /// The tables are filled, and then no memory can be had.

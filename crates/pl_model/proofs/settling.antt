@@ -12,6 +12,8 @@ pub mod FromSettled
 pub mod Changes
 -- Names that stand once each.
 pub mod Names
+-- What the end of a step makes of a description that comes to be on a node.
+pub mod Opening
 -- What the end of a step makes of what calls do to files and their names.
 pub mod Files
 -- What the end of a step makes of what calls do to FIFOs.
@@ -22,5 +24,7 @@ pub mod Parking
 pub mod InTurn
 -- Descriptors that are closed, calls that are dropped and processes that end one after another are settled as if they went
 pub mod AtOnce
+-- What the end of a step makes of opens of FIFOs that meet those that wait, and of those that wait.
+pub mod Meeting
 -- The invariant of the machine's states, and what of it stands at the start.
 pub mod Sound

@@ -26,3 +26,5 @@ pub mod BegunRuns
 pub mod Orders
 -- The stream law of whole runs.
 pub mod WholeStream
+-- A parked call that met its other end has met it for good.
+pub mod StayingMet

@@ -1,5 +1,5 @@
 -- How each call begins: its checks in order, and then its answer or its first try.
-use Rattle.std.specs.Prelude.{ℕ, ℤ, pos, negsuc, ◌+◌, ◌-◌, ◌+ℤ◌, Bool, false, not, ◌==◌, ◌&&◌, ◌||◌, nat_lt, nat_le, List, [], ◌∷◌, length, Option, option_and_then, is_none, is_some, if◌then◌else◌}
+use Rattle.std.specs.Prelude.{ℕ, ℤ, pos, negsuc, ◌+◌, ◌-◌, ◌+ℤ◌, Bool, true, false, not, ◌==◌, ◌&&◌, ◌||◌, nat_lt, nat_le, List, [], ◌∷◌, length, Option, option_and_then, is_none, is_some, if◌then◌else◌}
 use Rattle.std.specs.List.{list_any}
 use Rattle.std.specs.declared.option.Option.TheVariants.{None, Some}
 use Rattle.pl_model.specs.declared.calls.Mode.{Mode}
@@ -8,17 +8,17 @@ use Rattle.pl_model.specs.declared.calls.Whence.TheVariants.{Set, Cur, End}
 use Rattle.pl_model.specs.declared.flags.OpenFlags.{OpenFlags}
 use Rattle.pl_model.specs.declared.replies.Reply.TheVariants.{Pid, Fd, Fds, Bytes, Offset, Flags, Size, Unit}
 use Rattle.pl_model.specs.declared.replies.Errno.TheVariants.{EAGAIN, EBADF, EBUSY, EEXIST, EINVAL, EMFILE, ENAMETOOLONG, ENFILE, ENOENT, ENXIO, EOVERFLOW, EPERM, ESPIPE}
-use Rattle.pl_model.specs.Numbers.{open_max, most_descriptions, most_name_bytes, most_capacity, greatest_offset}
+use Rattle.pl_model.specs.Numbers.{last_call, open_max, most_descriptions, most_name_bytes, most_capacity, greatest_offset}
 use Rattle.pl_model.specs.Modes.{reads, writes, for_reading, for_writing}
 use Rattle.pl_model.specs.Flags.{has, creat, excl, trunc, nonblock, nonblock_if, status_flags}
 use Rattle.pl_model.specs.Keys.{Keys, Node, NewKeys, Draws, PipeNode, FileNode}
 use Rattle.pl_model.specs.State.{Core, Description, Open, described, named, row, set_file, set_pipe, set_description, empty_pipe}
 use Rattle.pl_model.specs.Live.{live_count}
-use Rattle.pl_model.specs.Trial.{Begins, Begun, Answered, pipe_at, answered, tried, refuse_if, found}
+use Rattle.pl_model.specs.Trial.{Begins, Begun, Answered, Tried, pipe_at, answered, tried, refuse_if, found}
 use Rattle.pl_model.specs.Transfer.{count, file_at, moved_to}
 use Rattle.pl_model.specs.Capacity.{rounded_capacity, pipe_of, set_capacity}
 use Rattle.pl_model.specs.Tables.{lowest, lowest_pid, install, close_row, describe, create_file, forget_name, fork}
-use Rattle.pl_model.specs.Fifo.{create_fifo, can_open}
+use Rattle.pl_model.specs.Fifo.{create_fifo, can_open, meet}
 
 -- the place of an open descriptor in its table
 abbrev pub natural : ℤ → ℕ
@@ -100,11 +100,18 @@ module _ {A : Type 0} {K : Keys} where
       (refuse_if (is_some (named s name)) EEXIST
       (Draws (λ new. Answered (create_fifo s name new.pipe) Unit)))
 
-  -- POSIX.1-2017, open: ENXIO where a FIFO has no other end. No open waits for one yet, so one that would is refused so too.
+  -- The call waits, with the description that it opens, which counts as an end (our own). It meets the opens that wait for that end;
+  -- where no number is left for it, it meets none.
+  abbrev pub await_other_end : Core A K → K.Pipe → Mode → OpenFlags → Begins A K
+  await_other_end s p mode flags =
+      if s.next_call == last_call then tried s [] false true
+      else Draws (λ new. Tried (describe (meet s p mode) new.description (PipeNode p) mode (status_flags flags)) (new.description ∷ []) false true)
+
+  -- POSIX.1-2017, open: a FIFO without the other end that this open needs is waited for, or ENXIO with O_NONBLOCK.
   abbrev pub open_fifo : Core A K → ℕ → ℕ → K.Pipe → Mode → OpenFlags → Begins A K
   open_fifo s pid fd p mode flags =
-      refuse_if (not (can_open s p mode flags)) ENXIO
-      (Draws (λ new. open_at s new.description pid fd (PipeNode p) mode flags))
+      if can_open s p mode flags then Draws (λ new. open_at (meet s p mode) new.description pid fd (PipeNode p) mode flags)
+      else refuse_if (has flags.0 nonblock) ENXIO (await_other_end s p mode flags)
 
   -- What a name stands for is opened, or made where it stands for nothing.
   abbrev pub open_named : Core A K → ℕ → ℕ → List ℕ → Option (Node K) → Mode → OpenFlags → Begins A K

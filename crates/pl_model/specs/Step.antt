@@ -1,18 +1,18 @@
 -- One step of the machine.
-use Rattle.std.specs.Prelude.{ℕ, ◌+◌, Bool, true, false, ◌==◌, nat_eq, nat_lt, List, [], ◌∷◌, ◌++◌, Option, slice_get, option_and_then, if◌then◌else◌}
+use Rattle.std.specs.Prelude.{ℕ, pos, ◌+◌, Bool, true, false, ◌==◌, nat_eq, nat_lt, List, [], ◌∷◌, ◌++◌, Option, slice_get, option_and_then, if◌then◌else◌}
 use Rattle.std.specs.declared.option.Option.TheVariants.{None, Some}
 use Rattle.pl_model.specs.declared.calls.Call.{Call}
 use Rattle.pl_model.specs.declared.calls.Step.{Step}
 use Rattle.pl_model.specs.declared.calls.Step.TheVariants.{Start, Begin, Resume, Interrupt}
 use Rattle.pl_model.specs.declared.replies.Reply.{Reply}
-use Rattle.pl_model.specs.declared.replies.Reply.TheVariants.{Pid, Unit, Fault, Parked, NoProcess, NoCall, CallsSpent}
-use Rattle.pl_model.specs.declared.replies.Errno.TheVariants.{EAGAIN, EBADF, EINTR}
+use Rattle.pl_model.specs.declared.replies.Reply.TheVariants.{Pid, Fd, Unit, Fault, Parked, NoProcess, NoCall, CallsSpent}
+use Rattle.pl_model.specs.declared.replies.Errno.TheVariants.{EAGAIN, EBADF, EINTR, EMFILE}
 use Rattle.pl_model.specs.Numbers.{last_call}
 use Rattle.pl_model.specs.Map.{get, put, without}
 use Rattle.pl_model.specs.Keys.{Keys, Drawing, Plain, drawing_map}
 use Rattle.pl_model.specs.State.{Core, Open, described, Waiting}
 use Rattle.pl_model.specs.Settle.{settle}
-use Rattle.pl_model.specs.Tables.{lowest_pid, start, exit}
+use Rattle.pl_model.specs.Tables.{lowest, lowest_pid, install, start, exit}
 use Rattle.pl_model.specs.Trial.{Trial, Flow, Done, Wait, still, flowed, Begun, Refused, Answered, Tried, Begins, answered}
 use Rattle.pl_model.specs.Transfer.{read_node, write_node, count}
 use Rattle.pl_model.specs.Begin.{begin_pipe, begin_read, begin_write, begin_dup, begin_dup2, begin_dup_fd, begin_mkfifo, begin_open_name, begin_close, begin_lseek, begin_get_fl, begin_set_fl, begin_get_pipe_sz, begin_set_pipe_sz, begin_unlink, begin_fork}
@@ -33,10 +33,19 @@ module _ {A : Type 0} {K : Keys} where
   abbrev pub kept_at : Core A K → List K.Description → ℕ → Option (Open K)
   kept_at s kept i = option_and_then (described s) (slice_get kept i)
 
+  abbrev pub opened_by : Core A K → ℕ → K.Description → Option ℕ → Trial A K
+  opened_by s pid d None = Done s still (Fault EMFILE)
+  opened_by s pid d (Some fd) = Done (install s pid fd d) still (Fd (pos fd))
+
+  -- POSIX.1-2017, open: an open that met its other end gives its description the least free descriptor, or EMFILE.
+  abbrev pub try_open : Core A K → Waiting A K → Trial A K
+  try_open s w = if w.met then with_kept s (kept_at s w.kept 0) (λ o. opened_by s w.pid o.key (lowest s w.pid 0)) else Wait s still w.taken
+
   -- One try of a call, on the descriptions that it keeps. Only a call that can wait is ever tried.
   unfoldable pub try : Core A K → Waiting A K → Call A → Bool → Trial A K
   try s w (Call.Read fd n) may_wait = with_kept s (kept_at s w.kept 0) (λ o. read_node s o.key o.description o.description.node n)
   try s w (Call.Write fd bytes) may_wait = with_kept s (kept_at s w.kept 0) (λ o. write_node s o.key o.description o.description.node bytes w.taken may_wait)
+  try s w (Call.OpenName name mode flags) may_wait = try_open s w
   try s w call may_wait = Wait s still w.taken
 
   -- the checks of a call, in order

@@ -2,7 +2,7 @@
 ghost use Rattle.pl_model.specs.Worked.{BytesBeforeEndOfFile, PartialAndWholeNotWaiting, ReadOfNothing, WriteOfNothing, LastWriterCloses, SmallWriteAtItsBoundary, InterruptedLargeWrite, ParkedCallKeepsItsEnd, LastReaderLeaves, CallNumbersSpent, InterleavingWithALargeWrite, ThreeNamesOfOneWriteEnd, FlagsOfSharedDescriptions, FullTable, DescriptorsThatAreNotOpen, ExitDropsParkedCalls, TableOfWrites, ScriptOfBytesBeforeEndOfFile, ScriptOfFlags, EmptyScript, ScriptWithoutLineFeed, ScriptOfNoProcess};
 ghost use Rattle.pl_model.specs.WorkedFiles.{EndOfAFile, BadNames, RefusalsOfAnOpen, FlagsOfAnOpen, AppendingAndSeeking, UnlinkedFileLivesOn, NamesKeepTheirFiles, PipesHaveNoOffset, ScriptOfFiles, NamesInWords};
 ghost use Rattle.pl_model.specs.WorkedCapacity.{SizesAreRoundedUp, OnlyPipesHaveACapacity, CapacityIsRoom, WaitingWriteGetsRoom, ScriptOfCapacities, LinesOfCapacities};
-ghost use Rattle.pl_model.specs.WorkedFifo.{UnusedFifoForgets, OpensWithoutTheOtherEnd, LinesOfFifos};
+ghost use Rattle.pl_model.specs.WorkedFifo.{UnusedFifoForgets, OpensWithoutTheOtherEnd, ReadersWaitForAWriter, InterruptedOpen, MetThoughClosed, LastOpenThatWaits, LinesOfFifos};
 ghost use Rattle.pl_model.specs.WorkedStream.{RunsInPieces};
 
 use std::alloc::Allocator;
@@ -59,6 +59,10 @@ pub fn capacities<A: Allocator>()
 pub fn fifos<A: Allocator>()
     ensures unused_fifo_forgets { UnusedFifoForgets A }
     ensures opens_without_the_other_end { OpensWithoutTheOtherEnd A }
+    ensures readers_wait_for_a_writer { ReadersWaitForAWriter A }
+    ensures interrupted_open { InterruptedOpen A }
+    ensures met_though_closed { MetThoughClosed A }
+    ensures last_open_that_waits { LastOpenThatWaits A }
 {}
 
 /// The pieces in which the bytes of small runs go through a pipe, and what becomes of a write.

@@ -12,6 +12,8 @@ pub mod Reopening
 pub mod Making
 -- What a FIFO that is opened leaves at the kernel's keys.
 pub mod FifoOpening
+-- What an open of a FIFO that waits leaves at the kernel's keys.
+pub mod FifoWaiting
 -- What taking a name away comes to at the kernel's keys.
 pub mod Unlinking
 -- What the bytes of the file of a name are at the kernel's keys.

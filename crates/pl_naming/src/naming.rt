@@ -17,7 +17,7 @@ use pl_decisions::{name_fault, open_fault};
 use pl_model::numbers::MAX_DESCRIPTIONS;
 use pl_model::{Bytes8, Call, Errno, Mode, Name, Node, OpenFlags, Reply, Step};
 use pl_nodes::Nodes;
-use pl_state::{KernelState, NoMemory, leave_unnamed, open_at};
+use pl_state::{Access, KernelState, NoMemory, leave_unnamed, open_at};
 use std::alloc::Allocator;
 
 /// The flags that a description keeps (POSIX.1-2017, fcntl, `F_SETFL`).
@@ -32,7 +32,7 @@ pub(crate) fn status_of(flags: OpenFlags) -> OpenFlags
 fn does_truncate(mode: Mode, flags: OpenFlags) -> bool
     ensures { result ≡ (has flags.0 trunc && writes mode) }
 {
-    flags.contains(OpenFlags::TRUNC) && matches!(mode, Mode::Write | Mode::Both)
+    flags.contains(OpenFlags::TRUNC) && Access::Writing.is_allowed_by(mode)
 }
 
 // Empties a file, where it is to be.
@@ -51,19 +51,20 @@ fn empty_if<A: Allocator + Copy>(nodes: &mut Nodes<A>, file: usize, is_emptied: 
 ///
 /// The reply is the least free descriptor, or, in this order: `ENOENT` of an empty name, `ENAMETOOLONG` of one above 255 bytes, `EINVAL` of
 /// one with a slash or a NUL; `EEXIST` under `CREAT` and `EXCL` where the name stands for something; `ENOENT` without `CREAT` where it
-/// stands for nothing; `EMFILE` where no descriptor is free; `ENFILE` at 4,096 descriptions; `ENXIO` of a FIFO without the other end that
-/// this open needs. The only error is want of memory. All of these leave all as it was.
+/// stands for nothing; `EMFILE` where no descriptor is free; `ENFILE` at 4,096 descriptions. A FIFO without the other end that this open
+/// needs is waited for, and the reply is `Parked`; but `ENXIO` of an open for writing with `NONBLOCK`, and `CallsSpent` where no number is
+/// left for a call that waits (fifo(7)). The only error is want of memory. But for `Parked`, all of these leave all as it was.
 pub fn open_name<A: Allocator + Copy>(
     kernel: &mut KernelState<A>,
     pid: u32,
-    name: &Name<A>,
+    name: Name<A>,
     mode: Mode,
     flags: OpenFlags,
 ) -> Result<Reply<A>, NoMemory>
     requires { IsProcess kernel.old pid }
-    ensures done { IfOk result (λ reply. MakesAtKeys kernel.old (Step.Begin pid (Call.OpenName name.now mode flags)) reply kernel.new) }
+    ensures done { IfOk result (λ reply. MakesAtKeys kernel.old (Step.Begin pid (Call.OpenName name mode flags)) reply kernel.new) }
     ensures undone { OnErr result (kernel.new ≡ kernel.old) }
-    ensures wanted { OnErr result (MayWantAtKeys {A = A} kernel.old (Step.Begin pid (Call.OpenName name.now mode flags))) }
+    ensures wanted { OnErr result (MayWantAtKeys {A = A} kernel.old (Step.Begin pid (Call.OpenName name mode flags))) }
 {
     // A proof learns here that nothing is left to settle.
     let _ = &kernel.nodes;
@@ -77,7 +78,7 @@ pub fn open_name<A: Allocator + Copy>(
     };
     match node {
         Node::File(file) => open_file(kernel, pid, fd, file, mode, flags),
-        Node::Pipe(pipe) => open_fifo(kernel, pid, fd, pipe, mode, flags),
+        Node::Pipe(pipe) => open_fifo(kernel, pid, fd, name, pipe, mode, flags),
     }
 }
 

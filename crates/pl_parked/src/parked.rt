@@ -11,8 +11,8 @@ use crate::call::ParkedCall;
 use crate::counts::Counts;
 use crate::entries::{Entry, mark_met, next_of, place_of};
 use crate::fault::ParkFault;
-use pl_model::Mode;
 use pl_model::numbers::LAST_CALL;
+use pl_model::{KeyList, Mode};
 use std::alloc::{Allocator, Global};
 use std::marker::Model;
 
@@ -154,6 +154,18 @@ impl<A: Allocator> Parked<A> {
             unreachable!()
         };
         call.taken = taken;
+    }
+
+    /// Says which descriptions the call of a number keeps. It takes no memory.
+    pub fn set_kept(&mut self, number: u64, kept: KeyList<A>)
+        requires { IsSome (get nat_eq self.old.calls number) }
+        ensures { IfSome (get nat_eq self.old.calls number) (λ call. self.new ≡ record self.old { calls = put nat_eq self.old.calls number (record call { kept = kept }) }) }
+    {
+        let place = place_of(&self.entries, number).unwrap();
+        let Some(call) = &mut self.entries[place].1 else {
+            unreachable!()
+        };
+        call.kept = kept;
     }
 
     /// Marks the opens that an open of a FIFO with this mode meets as it succeeds or begins to wait: those of the FIFO of this

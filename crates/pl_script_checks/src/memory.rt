@@ -73,6 +73,26 @@ const A_FILE_IS_TOLD_OF: Run = Run {
     ],
 };
 
+/// Where the first open finds no memory, the second waits in its place.
+const AN_OPEN_WAITS: Run = Run {
+    script: "start\n1 mkfifo q\n1 open q r\n1 open q w\n1 write 0 6162\nresume 1\n1 read 1 9\n",
+    steps: 7,
+    output: "pid 1\nok\nparked 1\nfd 0\ncount 2\nfd 1\ndata 6162\n",
+    outputs_with_nomem: &[
+        "nomem\nno process\nno process\nno process\nno process\nno call\nno process\n",
+        "pid 1\nnomem\nENOENT\nENOENT\nEBADF\nno call\nEBADF\n",
+        "pid 1\nok\nnomem\nparked 1\nEBADF\nparked 1\nEBADF\n",
+        "pid 1\nok\nparked 1\nfd 0\nnomem\nfd 1\nparked 2\n",
+        "pid 1\nok\nparked 1\nfd 0\ncount 2\nfd 1\nnomem\n",
+    ],
+    outputs_before_writes: &[
+        "pid 1\n",
+        "pid 1\nok\n",
+        "pid 1\nok\nparked 1\n",
+        "pid 1\nok\nparked 1\nfd 0\n",
+    ],
+};
+
 /// Which request of a run is refused, and what the run printed.
 #[derive(Clone, Copy, Debug)]
 struct At<'a> {
@@ -248,7 +268,12 @@ fn each_is_refused<A: Allocator + Copy>(rt: &impl Abort, alloc: A, run: Run) -> 
     Ok(())
 }
 
-const RUNS: &[Run] = &[NOTHING_WAITS, A_WRITE_WAITS, A_FILE_IS_TOLD_OF];
+const RUNS: &[Run] = &[
+    NOTHING_WAITS,
+    A_WRITE_WAITS,
+    A_FILE_IS_TOLD_OF,
+    AN_OPEN_WAITS,
+];
 
 #[test]
 fn each_request_is_refused(rt: HostRuntime) -> Result<(), Fail> {

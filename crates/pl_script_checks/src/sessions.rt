@@ -1,5 +1,6 @@
 //! Sessions: scripts of calls that wait and of descriptors that share, line by line with what each prints.
 use super::trickling::{Coming, Script, prints};
+use crate::fifo_lines;
 use pl_model::Totals;
 use pl_testing::asked::NEVER_GIVEN;
 use std::alloc::{Allocator, Global};
@@ -216,6 +217,9 @@ file f => no file
 const NAMES_AND_FLAGS: &str = "\
 start => pid 1
 1 open - r => ENOENT
+1 mkfifo a%2fb => EINVAL
+1 mkfifo aaaaaaaaaaaaaaaaaaaaaaaaaaaaaaaaaaaaaaaaaaaaaaaaaaaaaaaaaaaaaaaaaaaaaaaaaaaaaaaaaaaaaaaaaaaaaaaaaaaaaaaaaaaaaaaaaaaaaaaaaaaaaaaa\
+aaaaaaaaaaaaaaaaaaaaaaaaaaaaaaaaaaaaaaaaaaaaaaaaaaaaaaaaaaaaaaaaaaaaaaaaaaaaaaaaaaaaaaaaaaaaaaaaaaaaaaaaaaaaaaaaaaaaaaaaaaaaaaaa => ENAMETOOLONG
 1 open x w creat,excl => fd 0
 1 open x w creat,excl => EEXIST
 1 read 0 1 => EBADF
@@ -423,6 +427,9 @@ fn sessions() -> &'static [(&'static str, u64, &'static str)] {
 #[test]
 fn each_session_is_printed(rt: HostRuntime) -> Result<(), Fail> {
     for row in sessions() {
+        is_session_printed(&rt, rt.alloc(), *row)?;
+    }
+    for row in fifo_lines::sessions() {
         is_session_printed(&rt, rt.alloc(), *row)?;
     }
     Ok(())

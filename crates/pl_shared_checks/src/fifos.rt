@@ -1,5 +1,5 @@
 //! FIFOs whose descriptions several descriptors share.
-use pl_model::Errno::{EAGAIN, EBADF, EBUSY, EEXIST, EMFILE, ENOENT, ENXIO, EPIPE};
+use pl_model::Errno::{EAGAIN, EBADF, EBUSY, EEXIST, EINTR, EMFILE, ENOENT, ENXIO, EPIPE};
 use pl_model::{Mode, OpenFlags};
 use pl_testing::asked::Ask::{
     self, Close, Dup, Dup2, DupFd, Exit, Fork, GetFl, GetPipeSz, Interrupt, Mkfifo, Open, Pipe,
@@ -19,8 +19,7 @@ const NONBLOCK: &[OpenFlags] = &[OpenFlags::NONBLOCK];
 
 const NOTHING: Want = Bytes(Text(""));
 
-/// What an open answers that would wait for the other end.
-const ALONE: Want = Fault(ENXIO);
+const INTERRUPTED: Want = Fault(EINTR);
 
 /// FIFOs that are opened once and named several times.
 pub(crate) const SESSIONS: &[Session] = &[
@@ -48,7 +47,8 @@ pub(crate) const SESSIONS: &[Session] = &[
             (Read(1, 0, 1), Fault(EAGAIN)),
             (Close(1, 9), Unit),
             (Read(1, 0, 1), NOTHING),
-            (Open(1, F, Mode::Read, PLAIN), ALONE),
+            (Open(1, F, Mode::Read, PLAIN), Parked(1)),
+            (Interrupt(1), INTERRUPTED),
             (Close(1, 0), Unit),
             // A reader is left, by its second name.
             (Open(1, F, Mode::Write, PLAIN), Fd(0)),
@@ -56,7 +56,7 @@ pub(crate) const SESSIONS: &[Session] = &[
             (Dup2(1, 0, 1), Fd(1)),
             // None is left where its last name comes to name another end.
             (Write(1, 1, Text("d")), Fault(EPIPE)),
-            (Open(1, F, Mode::Write, NONBLOCK), ALONE),
+            (Open(1, F, Mode::Write, NONBLOCK), Fault(ENXIO)),
             (Open(1, F, Mode::Read, PLAIN), Fd(2)),
             (Read(1, 2, 9), Bytes(Text("c"))),
         ],
@@ -145,8 +145,10 @@ pub(crate) const SESSIONS: &[Session] = &[
             (GetPipeSz(2, 0), Size(4_096)),
             (Exit(2), Unit),
             (Start, Pid(1)),
-            (Open(1, F, Mode::Read, PLAIN), ALONE),
-            (Open(1, F, Mode::Write, PLAIN), ALONE),
+            (Open(1, F, Mode::Read, PLAIN), Parked(1)),
+            (Interrupt(1), INTERRUPTED),
+            (Open(1, F, Mode::Write, PLAIN), Parked(2)),
+            (Interrupt(2), INTERRUPTED),
             (Open(1, F, Mode::Read, NONBLOCK), Fd(0)),
             (Read(1, 0, 9), NOTHING),
             (GetPipeSz(1, 0), Size(65_536)),
@@ -170,17 +172,18 @@ pub(crate) const SESSIONS: &[Session] = &[
             (Read(2, 1, 60_000), Bytes(Many(b'a', 60_000))),
             (Exit(1), Unit),
             (Resume(1), NoCall),
-            (Open(2, F, Mode::Read, PLAIN), ALONE),
+            (Open(2, F, Mode::Read, PLAIN), Parked(2)),
+            (Interrupt(2), INTERRUPTED),
             (Read(2, 1, 9_000), Bytes(Many(b'a', 5_536))),
             (Read(2, 1, 9_000), NOTHING),
             // The bytes go with a call that keeps them alone.
             (Close(2, 1), Unit),
             (Open(2, F, Mode::Both, PLAIN), Fd(0)),
             (SetPipeSz(2, 0, 4_096), Size(4_096)),
-            (Write(2, 0, Many(b'b', 5_000)), Parked(2)),
+            (Write(2, 0, Many(b'b', 5_000)), Parked(3)),
             (Close(2, 0), Unit),
             (Exit(2), Unit),
-            (Interrupt(2), NoCall),
+            (Interrupt(3), NoCall),
             (Start, Pid(1)),
             (Open(1, F, Mode::Read, NONBLOCK), Fd(0)),
             (Read(1, 0, 9), NOTHING),
@@ -205,8 +208,82 @@ pub(crate) const SESSIONS: &[Session] = &[
             (Read(1, 1, 9), Fault(EAGAIN)),
             (Exit(1), Unit),
             (Read(2, 0, 1), Bytes(Text("a"))),
-            (Open(2, F, Mode::Write, PLAIN), ALONE),
+            (Open(2, F, Mode::Write, PLAIN), Parked(1)),
             (Exit(2), Unit),
+        ],
+        names: &[F],
+        ..NEW_KERNEL
+    },
+    // A call that waits is its process's alone, and the descriptor that it gives is shared by whom the process forks then.
+    Session {
+        name: "forks_while_an_open_waits",
+        rows: &[
+            (Start, Pid(1)),
+            (Mkfifo(1, F), Unit),
+            (Open(1, F, Mode::Read, PLAIN), Parked(1)),
+            (Fork(1), Pid(2)),
+            (Exit(2), Unit),
+            (Resume(1), Parked(1)),
+            (Fork(1), Pid(2)),
+            (Open(2, F, Mode::Write, NONBLOCK), Fd(0)),
+            (Fork(1), Pid(3)),
+            (Resume(1), Fd(0)),
+            (GetFl(3, 0), Fault(EBADF)),
+            (Exit(3), Unit),
+            (Fork(1), Pid(3)),
+            (Write(2, 0, Text("ab")), Count(2)),
+            (Read(1, 0, 1), Bytes(Text("a"))),
+            (Exit(1), Unit),
+            (Read(3, 0, 1), Bytes(Text("b"))),
+            (Write(2, 0, Text("c")), Count(1)),
+            (Exit(3), Unit),
+            (Write(2, 0, Text("d")), Fault(EPIPE)),
+        ],
+        names: &[F],
+        ..NEW_KERNEL
+    },
+    // An open that waits goes with the process that made it, and its child has no end by it. The calls of the child stay.
+    Session {
+        name: "the_exit_of_a_parent_whose_open_waits",
+        rows: &[
+            (Start, Pid(1)),
+            (Mkfifo(1, F), Unit),
+            (Open(1, F, Mode::Write, PLAIN), Parked(1)),
+            (Fork(1), Pid(2)),
+            (Open(2, F, Mode::Write, PLAIN), Parked(2)),
+            (Exit(1), Unit),
+            (Resume(1), NoCall),
+            (Resume(2), Parked(2)),
+            (Interrupt(2), INTERRUPTED),
+            (Open(2, F, Mode::Read, PLAIN), Parked(3)),
+            (Interrupt(3), INTERRUPTED),
+        ],
+        names: &[F],
+        ..NEW_KERNEL
+    },
+    // An end is there for an open as long as any process names it.
+    Session {
+        name: "an_open_and_a_shared_end",
+        rows: &[
+            (Start, Pid(1)),
+            (Mkfifo(1, F), Unit),
+            (Open(1, F, Mode::Both, PLAIN), Fd(0)),
+            (Open(1, F, Mode::Write, PLAIN), Fd(1)),
+            (Fork(1), Pid(2)),
+            (Exit(1), Unit),
+            (Close(2, 0), Unit),
+            (Start, Pid(1)),
+            (Open(1, F, Mode::Read, PLAIN), Fd(0)),
+            (Dup(2, 1), Fd(0)),
+            (Close(2, 1), Unit),
+            (Open(1, F, Mode::Read, PLAIN), Fd(1)),
+            (Close(2, 0), Unit),
+            (Open(1, F, Mode::Read, PLAIN), Parked(1)),
+            (Fork(2), Pid(3)),
+            (Open(3, F, Mode::Write, PLAIN), Fd(0)),
+            (Exit(3), Unit),
+            (Resume(1), Fd(2)),
+            (Read(1, 2, 9), NOTHING),
         ],
         names: &[F],
         ..NEW_KERNEL

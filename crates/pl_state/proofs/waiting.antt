@@ -8,3 +8,7 @@ pub mod InOrder
 pub mod ParkedCalls
 -- A parked call ends, at the kernel's keys.
 pub mod Ending
+-- The opens that another open meets are those that it meets in the machine.
+pub mod Marking
+-- A kernel in which opens met is sound.
+pub mod Met

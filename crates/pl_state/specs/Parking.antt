@@ -2,6 +2,8 @@
 use Rattle.std.specs.Prelude.{◌≡◌, ℕ, ℤ, ◌+◌, ◌==◌, Bool, false, if◌then◌else◌, List, [], ◌∷◌, ◌++◌, length, nat_eq, Option, Some, None}
 use Rattle.pl_model.specs.declared.calls.Call.{Call}
 use Rattle.pl_model.specs.declared.calls.Call.TheVariants as variant
+use Rattle.pl_model.specs.declared.calls.Mode.{Mode}
+use Rattle.pl_model.specs.declared.flags.OpenFlags.{OpenFlags}
 use Rattle.pl_model.specs.declared.replies.Reply.{Reply}
 use Rattle.pl_model.specs.declared.replies.Reply.TheVariants.{Fault, CallsSpent}
 use Rattle.pl_model.specs.declared.replies.Errno.TheVariants.{EAGAIN}
@@ -52,3 +54,15 @@ module _ {A : Type 0} where
     pub whole : size ≡ length (written call.call)
     pub kept : call.kept ≡ key ∷ []
     pub taken_so_far : call.taken ≡ taken
+
+  -- the call of the number is an open of the process, which waits with the description of the key, and met its other end or didn't
+  pub record OpenWaits (k : Contents A) (number pid key : ℕ) (met : Bool) : Type 0 where
+    pub name : List ℕ
+    pub mode : Mode
+    pub flags : OpenFlags
+    pub call : ParkedCall A
+    pub here : get nat_eq k.calls.calls number ≡ Some call
+    pub asked : call.call ≡ variant.OpenName name mode flags
+    pub of : call.pid ≡ pid
+    pub kept : call.kept ≡ key ∷ []
+    pub met_so_far : call.met ≡ met

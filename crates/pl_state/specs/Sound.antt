@@ -1,5 +1,5 @@
 -- What holds of all that a kernel holds.
-use Rattle.std.specs.Prelude.{◌≡◌, ◌≤◌, ℕ, Bool, IsTrue, List, [], ◌∷◌, length, nat_eq, Option, IfSome, All, ⊤, count_by}
+use Rattle.std.specs.Prelude.{◌≡◌, ◌≤◌, ℕ, Bool, IsTrue, List, [], ◌∷◌, length, nat_eq, Option, Some, IfSome, All, ⊤, count_by}
 use Rattle.std.specs.List.{sum_by}
 use Rattle.std.specs.Cmp.Lexicographic.{pointwise}
 use Rattle.pl_model.specs.declared.calls.Call.{Call}
@@ -15,11 +15,12 @@ use Rattle.pl_desc.specs.Rows.{at, is_pid, count_at}
 use Rattle.pl_desc.specs.Descs.{Opened, Descs, IsTidy}
 use Rattle.pl_state.specs.Contents.{Contents, Nodes, IsThere, core_of}
 
--- What may wait, with so many bytes taken: a read takes none, a write no more than it has, and none where it is to go in
--- whole.
+-- What may wait, with so many bytes taken: a read and an open take none, a write no more than it has, and none where it is to go
+-- in whole.
 abbrev pub MayWait : {A : Type 0} → Call A → ℕ → Type 0
 MayWait (call.Read fd n) taken = taken ≡ 0
 MayWait (call.Write fd bytes) taken = (taken ≤ length bytes) × (length bytes ≤ pipe_buf → taken ≡ 0)
+MayWait (call.OpenName name mode flags) taken = taken ≡ 0
 MayWait other taken = ⊥
 
 -- Our own: the descriptions that one call keeps.
@@ -30,10 +31,11 @@ most_kept = 256
 abbrev pub IsOnly : ℕ → List ℕ → Type 0
 IsOnly key kept = kept ≡ key ∷ []
 
--- What a call keeps as it waits: a read and a write the one description that they try.
+-- What a call keeps as it waits: a read and a write the one description that they try, an open the one that it opens.
 abbrev pub Keeps : {A : Type 0} → Call A → List ℕ → Type 0
 Keeps (call.Read fd n) kept = (key : ℕ) × IsOnly key kept
 Keeps (call.Write fd bytes) kept = (key : ℕ) × IsOnly key kept
+Keeps (call.OpenName name mode flags) kept = (key : ℕ) × IsOnly key kept
 Keeps other kept = ⊥
 
 -- A parked call, which keeps no more descriptions than one call may name.
@@ -69,13 +71,23 @@ abbrev pub IsPipe : Node → Type 0
 IsPipe (node.Pipe p) = ⊤
 IsPipe (node.File f) = ⊥
 
--- the description of a key, where there is one, is on a pipe
-abbrev pub OnPipe : (ℕ → Option Opened) → ℕ → Type 0
-OnPipe opened key = IfSome (opened key) (λ o. IsPipe o.node)
+-- an open is said to wait at the pipe of its FIFO
+abbrev pub IsAt : {A : Type 0} → Call A → Option ℕ → ℕ → Type 0
+IsAt (call.OpenName name mode flags) fifo p = fifo ≡ Some p
+IsAt other fifo p = ⊤
 
--- What a call that waits keeps is on a pipe: on a regular file no call waits.
+-- what a call that waits may keep a description of: a pipe, as on a regular file no call waits
+abbrev pub MayKeep : {A : Type 0} → ParkedCall A → Node → Type 0
+MayKeep w (node.Pipe p) = IsAt w.call w.fifo p
+MayKeep w (node.File f) = ⊥
+
+-- the description of a key, where there is one, is on a pipe that the call may wait on
+abbrev pub OnPipe : {A : Type 0} → (ℕ → Option Opened) → ParkedCall A → ℕ → Type 0
+OnPipe opened w key = IfSome (opened key) (λ o. MayKeep w o.node)
+
+-- What a call that waits keeps is on a pipe.
 abbrev pub WaitOnPipes : {A : Type 0} → Map ℕ (ParkedCall A) → (ℕ → Option Opened) → Type 0
-WaitOnPipes calls opened = (number : ℕ) → IfSome (get nat_eq calls number) (λ w. All (OnPipe opened) w.kept)
+WaitOnPipes calls opened = (number : ℕ) → IfSome (get nat_eq calls number) (λ w. All (OnPipe opened w) w.kept)
 
 -- The kernel's invariant, of what it holds.
 pub record IsSound (A : Type 0) (k : Contents A) : Type 0 where

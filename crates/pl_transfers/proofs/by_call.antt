@@ -10,6 +10,8 @@ pub mod Reading
 pub mod Writing
 -- What a resume or an interrupt comes to at the kernel's keys.
 pub mod Resuming
+-- What an open that waits comes to as it is tried again, at the kernel's keys.
+pub mod OpensAgain
 -- What a seek comes to at the kernel's keys.
 pub mod Seeking
 -- What the capacity of a pipe is, and is set to, at the kernel's keys.

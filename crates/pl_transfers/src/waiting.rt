@@ -1,5 +1,5 @@
 //! Calls that wait: how they are parked, tried again, interrupted, and end.
-ghost use Rattle.std.specs.Prelude.{◌≡◌, ◌≤◌, nat_eq, length, take, IfOk, OnOk, OnErr, IsSome, IfSome};
+ghost use Rattle.std.specs.Prelude.{◌≡◌, ◌≤◌, true, nat_eq, length, take, IfOk, OnOk, OnErr, IsSome, IfSome};
 ghost use Rattle.pl_model.specs.Numbers.{last_call, most_bytes};
 ghost use Rattle.pl_model.specs.Map.{get};
 ghost use Rattle.pl_model.specs.Settle.{settle};
@@ -8,8 +8,8 @@ ghost use Rattle.pl_model.specs.Transfer.{room};
 ghost use Rattle.pl_desc.specs.Rows.{at};
 ghost use Rattle.pl_state.specs.Contents.{IsProcess, core_of};
 ghost use Rattle.pl_state.specs.Opens.{OpenOn};
-ghost use Rattle.pl_state.specs.Sound.{MayWait, OnPipe};
-ghost use Rattle.pl_state.specs.Parking.{written, refusal, call_on, with_call, Adds, ReadWaits, WriteWaits};
+ghost use Rattle.pl_state.specs.Sound.{IsPipe, MayKeep, MayWait, OnPipe};
+ghost use Rattle.pl_state.specs.Parking.{written, refusal, call_on, with_call, Adds, OpenWaits, ReadWaits, WriteWaits};
 ghost use Rattle.pl_state.specs.Makes.{MakesAtKeys, MayWantAtKeys};
 
 use crate::parking::park_call;
@@ -56,7 +56,7 @@ pub(crate) fn park<A: Allocator + Copy>(
     requires process { IsProcess kernel.old pid }
     requires left { ¬ (kernel.old.calls.next ≡ last_call) }
     requires here { IsSome (at kernel.old.opened key) }
-    requires pipe { OnPipe (at kernel.old.opened) key }
+    requires pipe { OnPipe (at kernel.old.opened) (call_on key pid call taken) key }
     requires may { MayWait call taken }
     ensures number { IfOk result (λ number. number ≡ kernel.old.calls.next) }
     ensures ok { OnOk result (kernel.new ≡ with_call kernel.old (call_on key pid call taken)) }
@@ -79,6 +79,7 @@ pub(crate) fn park_write<A: Allocator + Copy>(
     requires left { ¬ (kernel.old.calls.next ≡ last_call) }
     requires on { OpenOn kernel.old end.key (Node.Pipe end.pipe) }
     requires may { MayWait call taken }
+    requires keeps { MayKeep (call_on end.key pid call taken) (Node.Pipe end.pipe) }
     requires taken { taken ≤ length (written call) }
     requires room { IfSome (at kernel.old.nodes.pipes end.pipe) (λ x. taken ≤ room x) }
     ensures number { IfOk result (λ number. number ≡ kernel.old.calls.next) }
@@ -110,7 +111,7 @@ pub(crate) fn park_write<A: Allocator + Copy>(
 // The pipe that a description is open on.
 fn pipe_of<A: Allocator + Copy>(kernel: &KernelState<A>, key: usize) -> usize
     requires here { IsSome (at kernel.now.opened key) }
-    requires pipe { OnPipe (at kernel.now.opened) key }
+    requires pipe { IfSome (at kernel.now.opened key) (λ o. IsPipe o.node) }
     ensures { OpenOn kernel.now key (Node.Pipe result) }
 {
     match kernel.descs.node(key) {
@@ -192,6 +193,26 @@ fn resume_write<A: Allocator + Copy>(
     }
 }
 
+// An open that met its other end gets the least free descriptor of its process (POSIX.1-2017, open).
+fn resume_open<A: Allocator + Copy>(
+    kernel: &mut KernelState<A>,
+    number: u64,
+    pid: u32,
+    key: usize,
+) -> Reply<A>
+    requires { OpenWaits kernel.old number pid key true }
+    ensures { MakesAtKeys kernel.old (Step.Resume number) result kernel.new }
+{
+    let Some(fd) = kernel.descs.lowest(pid, 0) else {
+        end_call(kernel, number);
+        return Reply::Fault(Errno::EMFILE);
+    };
+    // The hold of the call becomes that of the descriptor.
+    kernel.parked.take(number);
+    kernel.descs.install(pid, fd, key);
+    Reply::Fd(fd as i32)
+}
+
 /// Tries the parked call of a number again. The reply is what it comes to, its number where it waits on, or `NoCall` where there is none.
 ///
 /// The only error is want of memory, which leaves all as it was, the call parked.
@@ -216,6 +237,14 @@ pub fn resume<A: Allocator + Copy>(
             let length = bytes.as_slice().len();
             let taken = call.taken;
             resume_write(kernel, number, key, length, taken)
+        }
+        Call::OpenName { .. } => {
+            let pid = call.pid;
+            let has_met = call.met;
+            if !has_met {
+                return Ok(Reply::Parked(number));
+            }
+            Ok(resume_open(kernel, number, pid, key))
         }
         _ => unreachable!(),
     }

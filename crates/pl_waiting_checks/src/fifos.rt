@@ -20,8 +20,7 @@ const NONBLOCK: &[OpenFlags] = &[OpenFlags::NONBLOCK];
 
 const NOTHING: Want = Bytes(Text(""));
 
-/// What an open answers that would wait for the other end.
-const ALONE: Want = Fault(ENXIO);
+const INTERRUPTED: Want = Fault(EINTR);
 
 /// Calls that wait, and what opens and closes do to them.
 pub(crate) const SESSIONS: &[Session] = &[
@@ -53,7 +52,7 @@ pub(crate) const SESSIONS: &[Session] = &[
             (Resume(2), NOTHING),
             (Open(2, F, Mode::Write, PLAIN), Fd(0)),
             (Read(1, 0, 9), Parked(3)),
-            (Interrupt(3), Fault(EINTR)),
+            (Interrupt(3), INTERRUPTED),
             (Interrupt(3), NoCall),
         ],
         names: &[F],
@@ -120,14 +119,15 @@ pub(crate) const SESSIONS: &[Session] = &[
             (Read(1, 0, 2), Parked(1)),
             (Close(1, 0), Unit),
             (Close(1, 1), Unit),
-            (Open(1, F, Mode::Read, PLAIN), ALONE),
+            (Open(1, F, Mode::Read, PLAIN), Parked(2)),
+            (Interrupt(2), INTERRUPTED),
             (Open(1, F, Mode::Write, PLAIN), Fd(0)),
             (Resume(1), Parked(1)),
             (Write(1, 0, Text("abc")), Count(3)),
             (Resume(1), Bytes(Text("ab"))),
             // It was the last.
             (Write(1, 0, Text("d")), Fault(EPIPE)),
-            (Open(1, F, Mode::Write, PLAIN), ALONE),
+            (Open(1, F, Mode::Write, PLAIN), Parked(3)),
             (Open(1, F, Mode::Read, PLAIN), Fd(1)),
             (Read(1, 1, 9), Bytes(Text("c"))),
         ],
@@ -147,15 +147,16 @@ pub(crate) const SESSIONS: &[Session] = &[
             (Close(2, 0), Unit),
             (Close(1, 0), Unit),
             // no reader, and the bytes stay
-            (Open(1, F, Mode::Write, PLAIN), ALONE),
+            (Open(1, F, Mode::Write, PLAIN), Parked(2)),
+            (Interrupt(2), INTERRUPTED),
             (Open(1, F, Mode::Read, PLAIN), Fd(0)),
             (Resume(1), Parked(1)),
             (Read(1, 0, 1_000), Bytes(Many(b'a', 1_000))),
             (Resume(1), Parked(1)),
             (Read(1, 0, 70_000), Bytes(Many(b'a', 65_536))),
-            (Read(1, 0, 1), Parked(2)),
+            (Read(1, 0, 1), Parked(3)),
             (Resume(1), Count(70_000)),
-            (Resume(2), Bytes(Text("a"))),
+            (Resume(3), Bytes(Text("a"))),
             (Read(1, 0, 9_000), Bytes(Many(b'a', 3_463))),
             (Read(1, 0, 9_000), NOTHING),
         ],
@@ -232,7 +233,7 @@ pub(crate) const SESSIONS: &[Session] = &[
             (Read(1, 0, 1_000), Bytes(Many(b'a', 1_000))),
             (Close(1, 0), Unit),
             (Resume(1), Count(5_000)),
-            (Open(1, F, Mode::Read, PLAIN), ALONE),
+            (Open(1, F, Mode::Read, PLAIN), Parked(2)),
             (Open(1, F, Mode::Both, NONBLOCK), Fd(0)),
             (Read(1, 0, 9_000), Fault(EAGAIN)),
             (Write(1, 0, Many(b'b', 70_000)), Count(65_536)),
@@ -254,7 +255,8 @@ pub(crate) const SESSIONS: &[Session] = &[
             (Unlink(1, F), Unit),
             (Open(2, F, Mode::Write, PLAIN), Fault(ENOENT)),
             (Mkfifo(2, F), Unit),
-            (Open(2, F, Mode::Write, PLAIN), ALONE),
+            (Open(2, F, Mode::Write, PLAIN), Parked(2)),
+            (Interrupt(2), INTERRUPTED),
             (Open(2, F, Mode::Both, NONBLOCK), Fd(1)),
             (Write(2, 1, Text("new")), Count(3)),
             (Resume(1), Parked(1)),
@@ -268,15 +270,17 @@ pub(crate) const SESSIONS: &[Session] = &[
         names: &[F],
         ..NEW_KERNEL
     },
-    // No open of a FIFO gets a number, and a call that would wait where none is left is refused.
+    // A call that would wait where no number is left is refused, and an open among them is no end.
     Session {
         name: "a_fifo_where_all_numbers_are_spent",
         first_call: NEVER_GIVEN,
         rows: &[
             (Start, Pid(1)),
             (Mkfifo(1, F), Unit),
-            (Open(1, F, Mode::Read, PLAIN), ALONE),
-            (Open(1, F, Mode::Write, PLAIN), ALONE),
+            (Open(1, F, Mode::Read, PLAIN), CallsSpent),
+            (Open(1, F, Mode::Write, NONBLOCK), Fault(ENXIO)),
+            (Open(1, F, Mode::Write, PLAIN), CallsSpent),
+            (Open(1, F, Mode::Read, PLAIN), CallsSpent),
             (Open(1, F, Mode::Both, PLAIN), Fd(0)),
             (Open(1, F, Mode::Read, PLAIN), Fd(1)),
             (Open(1, F, Mode::Write, PLAIN), Fd(2)),

@@ -10,6 +10,12 @@ mod fifos;
 #[cfg(test)]
 mod kept_ends;
 #[cfg(test)]
+mod open_ends;
+#[cfg(test)]
+mod open_limits;
+#[cfg(test)]
+mod opens;
+#[cfg(test)]
 mod sessions;
 #[cfg(test)]
 mod turns;

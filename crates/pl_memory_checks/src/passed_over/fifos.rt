@@ -2,9 +2,11 @@
 use super::tables::Steps;
 use pl_model::Errno::{EAGAIN, EBADF, ENOENT, ENXIO};
 use pl_model::{Mode, OpenFlags};
-use pl_testing::asked::Ask::{self, Mkfifo, Open, Read, Start, Unlink, Write};
+use pl_testing::asked::Ask::{self, Close, Mkfifo, Open, Read, Resume, Start, Unlink, Write};
 use pl_testing::asked::Data::{self, Text};
-use pl_testing::asked::Want::{self, Bytes, Count, Fault, Fd, NoProcess, Pid, Unit};
+use pl_testing::asked::Want::{
+    self, Bytes, Count, Fault, Fd, NoCall, NoProcess, Parked, Pid, Unit,
+};
 
 const NOT_OPEN: Want = Fault(EBADF);
 
@@ -12,8 +14,7 @@ const NO_SUCH_NAME: Want = Fault(ENOENT);
 
 const EMPTY: Want = Fault(EAGAIN);
 
-/// What an open answers that would wait for the other end.
-const ALONE: Want = Fault(ENXIO);
+const NO_READER: Want = Fault(ENXIO);
 
 const NOTHING: Want = Bytes(Text(""));
 
@@ -71,16 +72,115 @@ const FIFOS: &[Steps] = &[
             (2, EMPTY),
             (2, Fd(4)),
             (2, Unit),
-            // The FIFO has no writer: it is at its end, and an open for reading would wait.
+            // The FIFO has no writer: it is at its end, and an open for reading waits.
             (6, NOT_OPEN),
             (6, NOTHING),
-            (6, ALONE),
+            (6, Parked(1)),
             (6, Unit),
             (7, EMPTY),
             (7, Fd(5)),
             (7, Unit),
             (8, Fd(5)),
             (8, Unit),
+        ],
+    },
+    // An open that finds no memory to wait takes no number, is no end, and is met by none.
+    Steps {
+        name: "an_open_that_waits",
+        rows: &[
+            (Start, Pid(1)),
+            (Mkfifo(1, F), Unit),
+            (Open(1, F, Mode::Read, PLAIN), Parked(1)),
+            (Open(1, F, Mode::Write, NONBLOCK), Fd(0)),
+            (Write(1, 0, Text("ab")), Count(2)),
+            (Resume(1), Fd(1)),
+            (Read(1, 1, 9), Bytes(Text("ab"))),
+            (Close(1, 0), Unit),
+            (Open(1, F, Mode::Read, PLAIN), Parked(2)),
+        ],
+        places: &[0, 1, 2, 4, 6, 8],
+        behind: &[
+            (0, NoProcess),
+            (0, NoProcess),
+            (0, NoProcess),
+            (0, NoProcess),
+            (0, NoCall),
+            (0, NoProcess),
+            (0, NoProcess),
+            (0, NoProcess),
+            (1, NO_SUCH_NAME),
+            (1, NO_SUCH_NAME),
+            (1, NOT_OPEN),
+            (1, NoCall),
+            (1, NOT_OPEN),
+            (1, NOT_OPEN),
+            (1, NO_SUCH_NAME),
+            (2, NO_READER),
+            (2, NOT_OPEN),
+            (2, NoCall),
+            (2, NOT_OPEN),
+            (2, NOT_OPEN),
+            (2, Parked(1)),
+            // Nothing was written, and the read waits for the writer.
+            (4, Fd(1)),
+            (4, Parked(2)),
+            (4, Unit),
+            (4, Parked(3)),
+            (6, Unit),
+            (6, Parked(2)),
+        ],
+    },
+    // An open that finds no memory meets nobody: who waited for it waits on.
+    Steps {
+        name: "an_open_that_meets",
+        rows: &[
+            (Start, Pid(1)),
+            (Mkfifo(1, F), Unit),
+            (Open(1, F, Mode::Read, PLAIN), Parked(1)),
+            (Open(1, F, Mode::Read, PLAIN), Parked(2)),
+            (Open(1, F, Mode::Read, PLAIN), Parked(3)),
+            (Open(1, F, Mode::Read, PLAIN), Parked(4)),
+            (Open(1, F, Mode::Write, PLAIN), Fd(0)),
+            (Resume(4), Fd(1)),
+            (Resume(1), Fd(2)),
+        ],
+        places: &[0, 1, 2, 3, 4, 5, 6],
+        behind: &[
+            (0, NoProcess),
+            (0, NoProcess),
+            (0, NoProcess),
+            (0, NoProcess),
+            (0, NoProcess),
+            (0, NoProcess),
+            (0, NoCall),
+            (0, NoCall),
+            (1, NO_SUCH_NAME),
+            (1, NO_SUCH_NAME),
+            (1, NO_SUCH_NAME),
+            (1, NO_SUCH_NAME),
+            (1, NO_SUCH_NAME),
+            (1, NoCall),
+            (1, NoCall),
+            (2, Parked(1)),
+            (2, Parked(2)),
+            (2, Parked(3)),
+            (2, Fd(0)),
+            (2, NoCall),
+            (2, Fd(1)),
+            (3, Parked(2)),
+            (3, Parked(3)),
+            (3, Fd(0)),
+            (3, NoCall),
+            (3, Fd(1)),
+            (4, Parked(3)),
+            (4, Fd(0)),
+            (4, NoCall),
+            (4, Fd(1)),
+            (5, Fd(0)),
+            (5, NoCall),
+            (5, Fd(1)),
+            (6, Parked(4)),
+            (6, Parked(1)),
         ],
     },
 ];

@@ -1,7 +1,7 @@
 -- A step that is refused leaves a settled state as it was.
-use Rattle.std.proofs.Common.{ap, sym, subst, ◌∙◌, ℕ, Bool, true, false, cond, Option, List, ◌≡◌, refl, nat_eq}
+use Rattle.std.proofs.Common.{ap, sym, subst, ◌∙◌, ℕ, Bool, true, false, cond, Option, List, [], ◌∷◌, ◌≡◌, refl, nat_eq}
 use Rattle.std.specs.declared.option.Option.TheVariants.{None, Some}
-use Rattle.std.specs.Prelude.{◌==◌, not, nat_lt, length, is_some}
+use Rattle.std.specs.Prelude.{◌==◌, nat_lt, length, is_some}
 use Rattle.pl_model.specs.declared.calls.Call.{Call}
 use Rattle.pl_model.specs.declared.calls.Mode.{Mode}
 use Rattle.pl_model.specs.declared.calls.Step.{Step}
@@ -11,7 +11,7 @@ use Rattle.pl_model.specs.declared.cases.WriteCase.{WriteCase}
 use Rattle.pl_model.specs.declared.flags.OpenFlags.{OpenFlags}
 use Rattle.pl_model.specs.declared.replies.Reply.{Reply}
 use Rattle.pl_model.specs.declared.replies.Reply.TheVariants.{Fault, NoProcess, NoCall, CallsSpent, Parked}
-use Rattle.pl_model.specs.declared.replies.Errno.TheVariants.{EEXIST, EINTR, ENXIO}
+use Rattle.pl_model.specs.declared.replies.Errno.TheVariants.{EEXIST, EINTR}
 use Rattle.pl_model.specs.declared.replies.Errno.{Errno}
 use Rattle.pl_model.specs.Numbers.{last_call}
 use Rattle.pl_model.specs.Map.{get}
@@ -21,10 +21,11 @@ use Rattle.pl_model.specs.State.{Core, Pipe, Description, Open, Waiting, named}
 use Rattle.pl_model.specs.Settle.{settle}
 use Rattle.pl_model.specs.Trial.{Trial, Done, Wait, Flow, still, flowed, pipe_at, Begun, Begins, Refused, Answered, Tried, found, refuse_if}
 use Rattle.pl_model.specs.Transfer.{count, read_row, write_row, read_case, write_case, read_pipe, write_pipe, read_file, write_file, read_node, write_node}
-use Rattle.pl_model.specs.Tables.{lowest_pid}
-use Rattle.pl_model.specs.Fifo.{create_fifo, can_open}
-use Rattle.pl_model.specs.Begin.{check_name, open_named, begin_pipe, begin_mkfifo, begin_open_name, begin_read, begin_write, begin_dup, begin_dup2, begin_dup_fd, begin_close, begin_lseek, begin_get_fl, begin_set_fl, begin_get_pipe_sz, begin_set_pipe_sz, begin_unlink, begin_fork}
-use Rattle.pl_model.specs.Step.{Stepped, with_kept, try, begin, begun, happen, core_step, ended, first_tried, interrupted, parked, resumed, started, stepped, tried_again, waiting, without_call}
+use Rattle.pl_model.specs.Tables.{lowest, lowest_pid, describe}
+use Rattle.pl_model.specs.Flags.{status_flags}
+use Rattle.pl_model.specs.Fifo.{create_fifo, meet}
+use Rattle.pl_model.specs.Begin.{check_name, await_other_end, open_named, begin_pipe, begin_mkfifo, begin_open_name, begin_read, begin_write, begin_dup, begin_dup2, begin_dup_fd, begin_close, begin_lseek, begin_get_fl, begin_set_fl, begin_get_pipe_sz, begin_set_pipe_sz, begin_unlink, begin_fork}
+use Rattle.pl_model.specs.Step.{Stepped, with_kept, opened_by, try, try_open, begin, begun, happen, core_step, ended, first_tried, interrupted, parked, resumed, started, stepped, tried_again, waiting, without_call}
 use Rattle.pl_model.specs.Numbered.{numbers, State, After, next_numbers, step_of, step}
 use Rattle.pl_model.specs.Refused.{is_refused, with_call_ended}
 use Rattle.pl_model.specs.Laws.{IsSettled}
@@ -60,14 +61,14 @@ module _ {A : Type 0} {K : Keys} where
   IsFair s (Done u flow reply) = Fair s u flow reply
   IsFair s (Wait u flow taken) = Unit {0}
 
-  -- what the checks of a call may lead to: an answer that is no refusal, or a try in the state of before
-  abbrev IsPlainBegun : Core A K → Begun A K → Type 0
-  IsPlainBegun s (Refused errno) = Unit {0}
-  IsPlainBegun s (Answered u reply) = is_refusal reply ≡ false
-  IsPlainBegun s (Tried u kept met may_wait) = u ≡ s
+  -- what the checks of a call may lead to: an answer that is no refusal, or a try that refuses nothing but in the state of before
+  abbrev IsPlainBegun : Core A K → ℕ → Call A → Begun A K → Type 0
+  IsPlainBegun s pid call (Refused errno) = Unit {0}
+  IsPlainBegun s pid call (Answered u reply) = is_refusal reply ≡ false
+  IsPlainBegun s pid call (Tried u kept met may_wait) = IsFair s (try u (waiting pid call kept met) call may_wait)
 
-  refusable : (s : Core A K) → Refusable (IsPlainBegun s)
-  refusable s = record { refused = λ errno. tt }
+  refusable : (s : Core A K) (pid : ℕ) (call : Call A) → Refusable (IsPlainBegun s pid call)
+  refusable s pid call = record { refused = λ errno. tt }
 
   fair_kept : (s : Core A K) (o : Option (Open K)) (next : Open K → Trial A K) → ((x : Open K) → IsFair s (next x)) → IsFair s (with_kept s o next)
   fair_kept s None next h = (refl, refl)
@@ -97,13 +98,20 @@ module _ {A : Type 0} {K : Keys} where
   write_node-fair s d description (PipeNode p) bytes t w = write_row-fair s p bytes t (write_case (length bytes) t _ _ w)
   write_node-fair s d description (FileNode f) bytes t w = search fair_if
 
+  opened_by-fair : (s : Core A K) (pid : ℕ) (d : K.Description) (place : Option ℕ) → IsFair s (opened_by s pid d place)
+  opened_by-fair s pid d None = (refl, refl)
+  opened_by-fair s pid d (Some fd) = tt
+
+  try_open-fair : (s : Core A K) (w : Waiting A K) → IsFair s (try_open s w)
+  try_open-fair s w = fair_if s w.met _ _ (fair_kept s _ _ (λ o. opened_by-fair s w.pid o.key (lowest s w.pid 0))) tt
+
   try-fair : (s : Core A K) (w : Waiting A K) (call : Call A) (may_wait : Bool) → IsFair s (try s w call may_wait)
   unfolding try
   try-fair s w (Call.Read fd n) may_wait = fair_kept s _ _ (λ o. read_node-fair s o.key o.description o.description.node n)
   try-fair s w (Call.Write fd bytes) may_wait = fair_kept s _ _ (λ o. write_node-fair s o.key o.description o.description.node bytes w.taken may_wait)
   try-fair s w (Call.Pipe nonblock) may_wait = tt
   try-fair s w (Call.Mkfifo name) may_wait = tt
-  try-fair s w (Call.OpenName name mode flags) may_wait = tt
+  try-fair s w (Call.OpenName name mode flags) may_wait = try_open-fair s w
   try-fair s w (Call.Dup fd) may_wait = tt
   try-fair s w (Call.Dup2 fd target) may_wait = tt
   try-fair s w (Call.DupFd fd least) may_wait = tt
@@ -117,18 +125,27 @@ module _ {A : Type 0} {K : Keys} where
   try-fair s w Call.Fork may_wait = tt
   try-fair s w Call.Exit may_wait = tt
 
-  open_named-plain : (new : NewKeys K) (s : Core A K) (pid fd : ℕ) (name : List ℕ) (node : Option (Node K)) (mode : Mode) (flags : OpenFlags) → LeadsTo new (IsPlainBegun s) (open_named s pid fd name node mode flags)
+  -- a try in the state of before is fair
+  tries-plain : (s : Core A K) (pid : ℕ) (call : Call A) (kept : List K.Description) (met may_wait : Bool) → IsPlainBegun s pid call (Tried s kept met may_wait)
+  tries-plain s pid call kept met may_wait = try-fair s (waiting pid call kept met) call may_wait
+
+  -- an open that waits answers nothing yet
+  open_waits-plain : (s u : Core A K) (pid : ℕ) (name : List ℕ) (mode : Mode) (flags : OpenFlags) (kept : List K.Description) → IsPlainBegun s pid (Call.OpenName name mode flags) (Tried u kept false true)
+  unfolding try
+  open_waits-plain s u pid name mode flags kept = tt
+
+  open_named-plain : (new : NewKeys K) (s : Core A K) (pid fd : ℕ) (name : List ℕ) (node : Option (Node K)) (mode : Mode) (flags : OpenFlags) → LeadsTo new (IsPlainBegun s pid (Call.OpenName name mode flags)) (open_named s pid fd name node mode flags)
   open_named-plain new s pid fd name None mode flags = search ways
   open_named-plain new s pid fd name (Some (FileNode f)) mode flags = search ways
-  open_named-plain new s pid fd name (Some (PipeNode p)) mode flags = search ways
+  open_named-plain new s pid fd name (Some (PipeNode p)) mode flags = search (ways, refusable, open_waits-plain) depth 14
 
-  begin-plain : (new : NewKeys K) (s : Core A K) (pid : ℕ) (call : Call A) → LeadsTo new (IsPlainBegun s) (begin s pid call)
+  begin-plain : (new : NewKeys K) (s : Core A K) (pid : ℕ) (call : Call A) → LeadsTo new (IsPlainBegun s pid call) (begin s pid call)
   unfolding begin begin_pipe begin_mkfifo begin_open_name begin_read begin_write begin_dup begin_dup2 begin_dup_fd begin_close begin_lseek begin_get_fl begin_set_fl begin_get_pipe_sz begin_set_pipe_sz begin_unlink begin_fork
   begin-plain new s pid (Call.Pipe nonblock) = search (ways, refusable) depth 14
   begin-plain new s pid (Call.Mkfifo name) = search (ways, refusable) depth 14
   begin-plain new s pid (Call.OpenName name mode flags) = search (ways, refusable, open_named-plain) depth 14
-  begin-plain new s pid (Call.Read fd n) = search (ways, refusable) depth 14
-  begin-plain new s pid (Call.Write fd bytes) = search (ways, refusable) depth 14
+  begin-plain new s pid (Call.Read fd n) = search (ways, refusable, tries-plain) depth 14
+  begin-plain new s pid (Call.Write fd bytes) = search (ways, refusable, tries-plain) depth 14
   begin-plain new s pid (Call.Dup fd) = search (ways, refusable) depth 14
   begin-plain new s pid (Call.Dup2 fd target) = search (ways, refusable) depth 14
   begin-plain new s pid (Call.DupFd fd least) = search (ways, refusable) depth 14
@@ -174,12 +191,11 @@ module _ {A : Type 0} {K : Keys} where
     spent true r = (refl, refl)
     spent false r = absurd (cc)
 
-  begun-unchanged : (before : Core A K) (pid : ℕ) (call : Call A) (b : Begun A K) → IsPlainBegun before b → NoChange before (Begin pid call) (begun before pid call b)
+  begun-unchanged : (before : Core A K) (pid : ℕ) (call : Call A) (b : Begun A K) → IsPlainBegun before pid call b → NoChange before (Begin pid call) (begun before pid call b)
   begun-unchanged before pid call (Refused errno) plain r = (refl, refl)
   begun-unchanged before pid call (Answered u reply) plain r = (let e : true ≡ false = sym r ∙ begin-refused pid call reply ∙ plain in absurd (cc))
   begun-unchanged before pid call (Tried u kept met may_wait) plain r =
-      first_tried-unchanged before pid call (waiting pid call kept met) may_wait _
-      (subst (λ z. IsFair z (try u (waiting pid call kept met) call may_wait)) plain (try-fair u (waiting pid call kept met) call may_wait)) r
+      first_tried-unchanged before pid call (waiting pid call kept met) may_wait _ plain r
 
   resumed-unchanged : (s : Core A K) (c : ℕ) (w : Option (Waiting A K)) → NoChange s (Resume c) (resumed s c w)
   resumed-unchanged s c None r = (refl, refl)
@@ -219,7 +235,7 @@ module _ {A : Type 0} {K : Keys} where
   unfolding happen LeadsTo
   happen-unchanged new s Start r = started-unchanged s (lowest_pid s) r
   happen-unchanged new s (Begin pid call) r = there (s.processes pid) r where
-    drawn-unchanged : (b : Begins A K) → LeadsTo new (IsPlainBegun s) b → NoChange s (Begin pid call) (drawn new (drawing_map (begun s pid call) b))
+    drawn-unchanged : (b : Begins A K) → LeadsTo new (IsPlainBegun s pid call) b → NoChange s (Begin pid call) (drawn new (drawing_map (begun s pid call) b))
     drawn-unchanged (Plain b) plain r = begun-unchanged s pid call b plain r
     drawn-unchanged (Draws f) plain r = begun-unchanged s pid call (f new) plain r
 
@@ -231,57 +247,68 @@ module _ {A : Type 0} {K : Keys} where
 
 -- Nothing is refused once new keys are taken, so a refused step takes none.
 module _ {A : Type 0} {K : Keys} where
-  abbrev IsMade : Begun A K → Type 0
-  IsMade (Refused errno) = ⊥
-  IsMade (Answered s reply) = is_refusal reply ≡ false
-  IsMade (Tried s kept met may_wait) = ⊥
+  abbrev IsMade : Core A K → ℕ → Call A → Begun A K → Type 0
+  IsMade s pid call b = is_refused (Begin pid call) (begun s pid call b).reply ≡ false
 
-  unfoldable RefusesFirst : Begins A K → Type 0
-  RefusesFirst (Plain b) = Unit {0}
-  RefusesFirst (Draws f) = (new : NewKeys K) → IsMade (f new)
+  unfoldable RefusesFirst : Core A K → ℕ → Call A → Begins A K → Type 0
+  RefusesFirst s pid call (Plain b) = Unit {0}
+  RefusesFirst s pid call (Draws f) = (new : NewKeys K) → IsMade s pid call (f new)
 
-  first_found : {X : Type 0} (o : Option X) (errno : Errno) (next : X → Begins A K) → ((x : X) → RefusesFirst (next x)) → RefusesFirst (found o errno next)
+  first_found : {X : Type 0} (s : Core A K) (pid : ℕ) (call : Call A) (o : Option X) (errno : Errno) (next : X → Begins A K) → ((x : X) → RefusesFirst s pid call (next x)) → RefusesFirst s pid call (found o errno next)
   unfolding RefusesFirst
-  first_found None errno next h = tt
-  first_found (Some x) errno next h = h x
+  first_found s pid call None errno next h = tt
+  first_found s pid call (Some x) errno next h = h x
 
-  first_if : (b : Bool) (x y : Begins A K) → RefusesFirst x → RefusesFirst y → RefusesFirst (cond b x y)
-  first_if true x y f g = f
-  first_if false x y f g = g
+  first_if : (s : Core A K) (pid : ℕ) (call : Call A) (b : Bool) (x y : Begins A K) → (b ≡ true → RefusesFirst s pid call x) → (b ≡ false → RefusesFirst s pid call y) → RefusesFirst s pid call (cond b x y)
+  first_if s pid call true x y f g = f refl
+  first_if s pid call false x y f g = g refl
 
-  first_past : (b : Bool) (errno : Errno) (next : Begins A K) → RefusesFirst next → RefusesFirst (refuse_if b errno next)
+  first_past : (s : Core A K) (pid : ℕ) (call : Call A) (b : Bool) (errno : Errno) (next : Begins A K) → RefusesFirst s pid call next → RefusesFirst s pid call (refuse_if b errno next)
   unfolding RefusesFirst
-  first_past true errno next h = tt
-  first_past false errno next h = h
+  first_past s pid call true errno next h = tt
+  first_past s pid call false errno next h = h
 
-  first_plain : (b : Begun A K) → RefusesFirst (Plain b)
+  first_plain : (s : Core A K) (pid : ℕ) (call : Call A) (b : Begun A K) → RefusesFirst s pid call (Plain b)
   unfolding RefusesFirst
-  first_plain b = tt
+  first_plain s pid call b = tt
 
-  first_draws : (f : NewKeys K → Begun A K) → ((new : NewKeys K) → IsMade (f new)) → RefusesFirst (Draws f)
+  first_draws : (s : Core A K) (pid : ℕ) (call : Call A) (f : NewKeys K → Begun A K) → ((new : NewKeys K) → IsMade s pid call (f new)) → RefusesFirst s pid call (Draws f)
   unfolding RefusesFirst
-  first_draws f h = h
+  first_draws s pid call f h = h
 
   ruleset firsts = (first_found, first_if, first_past, first_plain, first_draws)
 
-  open_named-first : (s : Core A K) (pid fd : ℕ) (name : List ℕ) (node : Option (Node K)) (mode : Mode) (flags : OpenFlags) → RefusesFirst (open_named s pid fd name node mode flags)
+  -- a call that waits is parked where a number is left for it
+  parked-first : (s u : Core A K) (pid : ℕ) (call : Call A) (w : Waiting A K) (taken : ℕ) → (s.next_call == last_call) ≡ false → is_refused (Begin pid call) (first_tried s w true (Wait u still taken)).reply ≡ false
+  parked-first s u pid call w taken e =
+      ap (λ (b : Bool). is_refused (Begin pid call) (cond b (stepped s CallsSpent) (record { state = parked (flowed u still) (record w { taken = taken }); reply = Parked s.next_call; flow = still })).reply) e
+
+  await-first : (s : Core A K) (pid : ℕ) (name : List ℕ) (p : K.Pipe) (mode : Mode) (flags : OpenFlags) → RefusesFirst s pid (Call.OpenName name mode flags) (await_other_end s p mode flags)
+  unfolding try
+  await-first s pid name p mode flags =
+      let call = Call.OpenName name mode flags in
+      first_if s pid call (s.next_call == last_call) _ _ (λ e. first_plain s pid call _)
+      (λ e. first_draws s pid call _ (λ new. parked-first s (describe (meet s p mode) new.description (PipeNode p) mode (status_flags flags)) pid call (waiting pid call (new.description ∷ []) false) 0 e))
+
+  open_named-first : (s : Core A K) (pid fd : ℕ) (name : List ℕ) (node : Option (Node K)) (mode : Mode) (flags : OpenFlags) → RefusesFirst s pid (Call.OpenName name mode flags) (open_named s pid fd name node mode flags)
   open_named-first s pid fd name None mode flags = search firsts
   open_named-first s pid fd name (Some (FileNode f)) mode flags = search firsts
-  open_named-first s pid fd name (Some (PipeNode p)) mode flags = first_past (not (can_open s p mode flags)) ENXIO _ (first_draws _ (λ new. refl))
+  open_named-first s pid fd name (Some (PipeNode p)) mode flags = search (firsts, await-first) depth 14
 
-  first_checked : (name : List ℕ) (next : Begins A K) → RefusesFirst next → RefusesFirst (check_name name next)
-  first_checked name next h = search first_past
+  first_checked : (s : Core A K) (pid : ℕ) (call : Call A) (name : List ℕ) (next : Begins A K) → RefusesFirst s pid call next → RefusesFirst s pid call (check_name name next)
+  first_checked s pid call name next h = search first_past
 
-  mkfifo-first : (s : Core A K) (name : List ℕ) → RefusesFirst (begin_mkfifo s name)
+  mkfifo-first : (s : Core A K) (pid : ℕ) (name : List ℕ) → RefusesFirst s pid (Call.Mkfifo name) (begin_mkfifo s name)
   unfolding begin_mkfifo
-  mkfifo-first s name =
-      let made = first_draws (λ new. Answered (create_fifo s name new.pipe) Reply.Unit) (λ new. refl) in
-      first_checked name (refuse_if (is_some (named s name)) EEXIST (Draws (λ new. Answered (create_fifo s name new.pipe) Reply.Unit))) (first_past (is_some (named s name)) EEXIST _ made)
+  mkfifo-first s pid name =
+      let call = Call.Mkfifo name in
+      let made = first_draws s pid call (λ new. Answered (create_fifo s name new.pipe) Reply.Unit) (λ new. refl) in
+      first_checked s pid call name (refuse_if (is_some (named s name)) EEXIST (Draws (λ new. Answered (create_fifo s name new.pipe) Reply.Unit))) (first_past s pid call (is_some (named s name)) EEXIST _ made)
 
-  begin-first : (s : Core A K) (pid : ℕ) (call : Call A) → RefusesFirst (begin s pid call)
+  begin-first : (s : Core A K) (pid : ℕ) (call : Call A) → RefusesFirst s pid call (begin s pid call)
   unfolding begin begin_pipe begin_mkfifo begin_open_name begin_read begin_write begin_dup begin_dup2 begin_dup_fd begin_close begin_lseek begin_get_fl begin_set_fl begin_get_pipe_sz begin_set_pipe_sz begin_unlink begin_fork
   begin-first s pid (Call.Pipe nonblock) = search firsts depth 14
-  begin-first s pid (Call.Mkfifo name) = mkfifo-first s name
+  begin-first s pid (Call.Mkfifo name) = mkfifo-first s pid name
   begin-first s pid (Call.OpenName name mode flags) = search (firsts, open_named-first) depth 14
   begin-first s pid (Call.Read fd n) = search firsts depth 14
   begin-first s pid (Call.Write fd bytes) = search firsts depth 14
@@ -302,18 +329,13 @@ module _ {A : Type 0} {K : Keys} where
   MadeIfDrawn x (Plain h) = Unit {0}
   MadeIfDrawn x (Draws f) = (new : NewKeys K) → is_refused x (f new).reply ≡ false
 
-  made-begun : (s : Core A K) (pid : ℕ) (call : Call A) (b : Begun A K) → IsMade b → is_refused (Begin pid call) (begun s pid call b).reply ≡ false
-  made-begun s pid call (Refused errno) made = absurd made
-  made-begun s pid call (Answered u reply) made = begin-refused pid call reply ∙ made
-  made-begun s pid call (Tried u kept met may_wait) made = absurd made
-
   happen-first : (s : Core A K) (x : Step A) → MadeIfDrawn x (happen s x)
   unfolding happen RefusesFirst
   happen-first s Start = tt
   happen-first s (Begin pid call) = there (s.processes pid) where
-    drawn-first : (b : Begins A K) → RefusesFirst b → MadeIfDrawn (Begin pid call) (drawing_map (begun s pid call) b)
+    drawn-first : (b : Begins A K) → RefusesFirst s pid call b → MadeIfDrawn (Begin pid call) (drawing_map (begun s pid call) b)
     drawn-first (Plain b) first = tt
-    drawn-first (Draws f) first = λ new. made-begun s pid call (f new) (first new)
+    drawn-first (Draws f) first = first
 
     there : (b : Bool) → MadeIfDrawn (Begin pid call) (cond b (drawing_map (begun s pid call) (begin s pid call)) (Plain (stepped s NoProcess)))
     there true = drawn-first (begin s pid call) (begin-first s pid call)

@@ -65,6 +65,7 @@ module _ {A : Type 0} where
         set_capacity = λ s p size h. put_capacity s p _ (rounded-capacity size) h;
         set_file = λ s f bytes h. h;
         create_file = λ s name h. h;
+        meet = λ s p mode h. h;
         create_fifo = λ s name h. put_capacity s new.pipe empty_pipe first-capacity h;
         forget_name = λ s name h. h;
         fork = λ s pid child h. h;

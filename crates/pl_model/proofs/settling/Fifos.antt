@@ -8,10 +8,10 @@ use Rattle.pl_model.specs.declared.calls.Mode.TheVariants.{Read, Write, Both}
 use Rattle.pl_model.specs.declared.flags.OpenFlags.{OpenFlags}
 use Rattle.pl_model.specs.Numbers.{open_max, most_processes}
 use Rattle.pl_model.specs.Modes.{any_mode, reads, writes}
-use Rattle.pl_model.specs.Map.{set_at}
+use Rattle.pl_model.specs.Map.{Map, set_at}
 use Rattle.pl_model.specs.Keys.{Node, PipeNode, FileNode, same_node}
-use Rattle.pl_model.specs.State.{Core, Description, Pipe, empty_pipe, named, set_pipe}
-use Rattle.pl_model.specs.Live.{in_rows, in_parked, pids, readers, writers}
+use Rattle.pl_model.specs.State.{Core, Description, Pipe, Waiting, empty_pipe, named, set_pipe}
+use Rattle.pl_model.specs.Live.{in_rows, in_parked, pids, is_live, readers, writers}
 use Rattle.pl_model.specs.Settle.{settle, settled_pipe, is_kept, is_hung, hangs, with_ends}
 use Rattle.pl_model.specs.Tables.{install, describe}
 use Rattle.pl_model.specs.Fifo.{create_fifo}
@@ -21,7 +21,8 @@ use Rattle.pl_model.specs.Laws.{IsSettled}
 use Rattle.pl_model.proofs.settling.Members.{and_left, or_right}
 use Rattle.pl_model.proofs.settling.FromSettled.{at_other}
 use Rattle.pl_model.proofs.settling.WhoIsLive.{is_on, on_end, has_end, end_found, end_passes, settled_pipe-is, tidy, settled-live, settled-kept, settled-file}
-use Rattle.pl_model.proofs.settling.Files.{same_is, ends_is, opened-settled, put-others, put-here}
+use Rattle.pl_model.proofs.settling.Files.{put-others, put-here}
+use Rattle.pl_model.proofs.settling.Opening.{same_is, row-old, row-new, ends_is, opened-settled}
 
 -- a name that stands for nothing comes to stand for a new pipe, which its name alone keeps
 module _ {A : Type 0} (c : Core A numbers) (settled : IsSettled c) (name : List ℕ) (p : ℕ) (none : named c name ≡ None) (unused : IsUnusedPipe c p) where
@@ -85,6 +86,37 @@ hangs_opened Write true writer hung quiet = refl
 hangs_opened Write false writer hung quiet = refl
 hangs_opened Both reader writer hung quiet = refl
 
+-- A pipe that is there is opened: a row or a parked call comes to name the new description, and what they name else they named.
+module _ {A : Type 0} (c : Core A numbers) (settled : IsSettled c) (p d : ℕ) (unused : IsUnusedDescription c d) (mode : Mode) (flags : OpenFlags) (x : Pipe) (there : c.pipes p ≡ Some x) where
+  abbrev left_open : Pipe
+  left_open = record x { hung = cond (writes mode) false x.hung }
+
+  module _ (rows : ℕ → ℕ → Option ℕ) (calls : Map ℕ (Waiting A numbers)) (next : ℕ) where
+    abbrev fifo_opened : Core A numbers
+    fifo_opened = record (describe c d (PipeNode p) mode flags) { rows = rows; parked = calls; next_call = next }
+
+    module _ (old_live : (z : ℕ) → z ≢ d → is_live fifo_opened z ≡ is_live c z) (new_live : is_live fifo_opened d ≡ true) where
+      ends : (test : Mode → Bool) → has_end fifo_opened test (PipeNode p) ≡ (test mode || has_end c test (PipeNode p))
+      ends test = ends_is c settled c.files c.names (PipeNode p) (λ other off. refl) (λ g off. refl) d unused mode flags rows calls next old_live new_live test
+
+      at_pipe : settled_pipe c fifo_opened p x ≡ left_open
+      at_pipe =
+          settled_pipe-is c fifo_opened p x
+          ∙ (λ i. with_ends (ends any_mode i) (ends reads i) (ends writes i) (is_hung (there i) || has_end c writes (PipeNode p)) x)
+          ∙ ap (λ b. record x { hung = b }) (hangs_opened mode (has_end c reads (PipeNode p)) (has_end c writes (PipeNode p)) x.hung (quiet c settled p x there))
+
+      at_key_of : (q : ℕ) → nat_eq p q ≡ true → option_map (settled_pipe c fifo_opened q) (c.pipes q) ≡ set_at nat_eq c.pipes p (Some left_open) q
+      at_key_of q on =
+          (λ i. option_map (settled_pipe c fifo_opened (sym (eqb-true p q on) i)) (c.pipes (sym (eqb-true p q on) i)))
+          ∙ ap (option_map (settled_pipe c fifo_opened p)) there
+          ∙ ap (λ y. Some y) at_pipe
+          ∙ sym (ap (λ b. cond b (Some left_open) (c.pipes q)) on)
+
+      pub fifo-settled : settle c fifo_opened ≡ record (describe (set_pipe c p left_open) d (PipeNode p) mode flags) { rows = rows; parked = calls; next_call = next }
+      fifo-settled =
+          opened-settled c settled c.files c.names (PipeNode p) (λ other off. refl) (λ g off. refl) d unused mode flags rows calls next old_live new_live
+          (set_at nat_eq c.pipes p (Some left_open)) at_key_of (λ q off. ap (λ b. cond b (Some left_open) (c.pipes q)) off)
+
 -- a pipe that is there is opened by its name
 module _ {A : Type 0} (c : Core A numbers) (settled : IsSettled c) (p d pid fd : ℕ) (unused : IsUnusedDescription c d) (low : 1 ≤ pid) (high : pid < 1 + most_processes)
     (process : c.processes pid ≡ true) (within : fd < open_max) (free : c.rows pid fd ≡ None) (mode : Mode) (flags : OpenFlags) (x : Pipe) (there : c.pipes p ≡ Some x) where
@@ -94,23 +126,8 @@ module _ {A : Type 0} (c : Core A numbers) (settled : IsSettled c) (p d pid fd :
   abbrev left : Pipe
   left = record x { hung = cond (writes mode) false x.hung }
 
-  ends : (test : Mode → Bool) → has_end opened test (PipeNode p) ≡ (test mode || has_end c test (PipeNode p))
-  ends test = ends_is c settled c.files c.names (PipeNode p) (λ other off. refl) (λ g off. refl) d unused pid fd low high process within free mode flags test
-
-  at_pipe : settled_pipe c opened p x ≡ left
-  at_pipe =
-      settled_pipe-is c opened p x
-      ∙ (λ i. with_ends (ends any_mode i) (ends reads i) (ends writes i) (is_hung (there i) || has_end c writes (PipeNode p)) x)
-      ∙ ap (λ b. record x { hung = b }) (hangs_opened mode (has_end c reads (PipeNode p)) (has_end c writes (PipeNode p)) x.hung (quiet c settled p x there))
-
-  at_key_of : (q : ℕ) → nat_eq p q ≡ true → option_map (settled_pipe c opened q) (c.pipes q) ≡ set_at nat_eq c.pipes p (Some left) q
-  at_key_of q on =
-      (λ i. option_map (settled_pipe c opened (sym (eqb-true p q on) i)) (c.pipes (sym (eqb-true p q on) i)))
-      ∙ ap (option_map (settled_pipe c opened p)) there
-      ∙ ap (λ y. Some y) at_pipe
-      ∙ sym (ap (λ b. cond b (Some left) (c.pipes q)) on)
-
   pub open_fifo-settled : settle c opened ≡ install (describe (set_pipe c p left) d (PipeNode p) mode flags) pid fd d
   open_fifo-settled =
-      opened-settled c settled c.files c.names (PipeNode p) (λ other off. refl) (λ g off. refl) d unused pid fd low high process within free mode flags
-      (set_at nat_eq c.pipes p (Some left)) at_key_of (λ q off. ap (λ b. cond b (Some left) (c.pipes q)) off)
+      fifo-settled c settled p d unused mode flags x there opened.rows c.parked c.next_call
+      (row-old c pid fd d free low high process within opened.descriptions c.pipes c.files c.names)
+      (row-new c pid fd d free low high process within opened.descriptions c.pipes c.files c.names)

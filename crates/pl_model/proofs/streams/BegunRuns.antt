@@ -151,7 +151,7 @@ module _ {A : Type 0} (p q place : ℕ) (s : State A) (xs : List (Step A × Bool
         at true to = quiet_says CallsSpent to refl spent
         at false to =
             let a = among_flowed s.core u flow k in
-            let free : get nat_eq (flowed u flow).parked s.core.next_call ≡ None = nothing_there _ (λ v e. late (order.below s.core.next_call v (a.from s.core.next_call v e))) in
+            let free : get nat_eq (flowed u flow).parked s.core.next_call ≡ None = nothing_there _ (λ v e. let f = a.from s.core.next_call v e in late (order.below s.core.next_call (record v { met = f.0 }) f.1)) in
             let here : get nat_eq (step s x).state.core.parked s.core.next_call ≡ Some (record w { taken = t }) =
             ap (λ m. get nat_eq m s.core.next_call) to.parked
             ∙ (append_new (flowed u flow).parked (flowed u flow).next_call s.core.next_call (record w { taken = t }) free

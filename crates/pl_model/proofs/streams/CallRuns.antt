@@ -93,6 +93,8 @@ module _ {A : Type 0} (p q : ℕ) (Inv : Core A numbers → Waiting A numbers �
   -- What has to be known of a kind of call, for pipes p (out) and q (in).
   pub record Course : Type 0 where
     pub stays : (s : State A) (x : Step A) (w : Waiting A numbers) → All (λ k. k ≢ s.next_description) w.kept → All (λ k. k ≢ s.next_description + 1) w.kept → Inv s.core w → Inv (step s x).state.core w
+    pub met : (s : Core A numbers) (w : Waiting A numbers) (met : Bool) → Inv s w → Inv s (record w { met = met })
+    pub says_met : (w : Waiting A numbers) (met : Bool) (ins outs : List (List ℕ)) (end : Fate A) → Says w ins outs end → Says (record w { met = met }) ins outs end
     pub waits : (s : Core A numbers) (w : Waiting A numbers) → Inv s w → Says w [] [] (record { ending = Waits; taken = w.taken })
     pub drops : (s : Core A numbers) (w : Waiting A numbers) → Inv s w → Says w [] [] (record { ending = Dropped; taken = w.taken })
     pub interrupted : (s : Core A numbers) (w : Waiting A numbers) → Inv s w → Says w [] [] (record { ending = Interrupted (interrupt_reply w); taken = taken_with w.taken (interrupt_reply w) })
@@ -135,12 +137,16 @@ module _ {A : Type 0} (p q : ℕ) (Inv : Core A numbers → Waiting A numbers �
         where
           at : (o : Option (Waiting A numbers)) → get nat_eq (step s x).state.core.parked c ≡ o → Whole place s ((x, false) ∷ xs) c w
           at (Some v) g =
-              let same : v ≡ w = some_same (sym (a.from v g) ∙ here) in
+              let f = a.from v g in
+              let same : record v { met = f.0 } ≡ w = some_same v f.0 (sym f.1 ∙ here) in
+              let inv_v : Inv s.core v = course.met s.core (record v { met = f.0 }) v.met (subst (Inv s.core) (sym same) inv) in
               says_as w _ _ _ _ _ _ (of_none (OfCall c) (piece_added q place s x) _ (a.chunks place q)) (of_none (OfCall c) (pieces_left p place s x) _ (a.outs place p)) (fate_goes x v g)
-              (rest w (g ∙ ap (λ z. Some z) same) (stays_so x w refl inv))
+              (subst (Whole (place + 1) (step s x).state xs c) same
+              (course.says_met v f.0 (of (OfCall c) (pieces_from (piece_added q) (place + 1) (step s x).state xs)) (of (OfCall c) (pieces_from (pieces_left p) (place + 1) (step s x).state xs)) (fate (step s x).state xs c)
+              (rest v g (stays_so x v (ap (λ (z : Waiting A numbers). z.kept) same) inv_v))))
             where
-              some_same : Some v ≡ Some w → v ≡ w
-              some_same z = cc
+              some_same : (v : Waiting A numbers) (met : Bool) → Some (record v { met = met }) ≡ Some w → record v { met = met } ≡ w
+              some_same v met z = cc
           at None g =
               let n = gone x g in
               says_as w _ [] _ [] _ (record { ending = Dropped; taken = w.taken }) (of_none (OfCall c) (piece_added q place s x) _ (a.chunks place q) ∙ n.0) (of_none (OfCall c) (pieces_left p place s x) _ (a.outs place p) ∙ n.1)

@@ -63,14 +63,14 @@ module _ {A : Type 0} where
       }
 
   does_order : (s : Core A numbers) (x : Step A) (h : Stepped A numbers) → Does s x h → AreInOrder s → AreInOrder h.state
-  does_order s x h (Quiet k e) o = in_order h.state h.state.parked s.next_call refl k.next k.once (λ c w g. (o.below c w (k.from c w g), o.taken c w (k.from c w g)))
-  does_order s x h (Answers k e) o = in_order h.state h.state.parked s.next_call refl k.next k.once (λ c w g. (o.below c w (k.from c w g), o.taken c w (k.from c w g)))
-  does_order s x h (Ends d w e here k) o = in_order h.state h.state.parked s.next_call refl k.next k.once (λ c w g. (o.below c w (k.from c w g), o.taken c w (k.from c w g)))
+  does_order s x h (Quiet k e) o = in_order h.state h.state.parked s.next_call refl k.next k.once (λ c w g. let f = k.from c w g in (o.below c (record w { met = f.0 }) f.1, o.taken c (record w { met = f.0 }) f.1))
+  does_order s x h (Answers k e) o = in_order h.state h.state.parked s.next_call refl k.next k.once (λ c w g. let f = k.from c w g in (o.below c (record w { met = f.0 }) f.1, o.taken c (record w { met = f.0 }) f.1))
+  does_order s x h (Ends d w e here k) o = in_order h.state h.state.parked s.next_call refl k.next k.once (λ c w g. let f = k.from c w g in (o.below c (record w { met = f.0 }) f.1, o.taken c (record w { met = f.0 }) f.1))
   does_order s x h (Parks u w k e n has t) o =
       in_order h.state (u.parked ++ (s.next_call, w) ∷ []) (s.next_call + 1) e n (append_once u.parked s.next_call w k.once free) (λ c v g. at c v g (eqb_tells s.next_call c))
     where
       free : get nat_eq u.parked s.next_call ≡ None
-      free = nothing_there _ (λ v g. late (o.below s.next_call v (k.from s.next_call v g)))
+      free = nothing_there _ (λ v g. let f = k.from s.next_call v g in late (o.below s.next_call (record v { met = f.0 }) f.1))
         where
           late : s.next_call < s.next_call → ⊥
           late l = omega (arith, l)
@@ -85,7 +85,7 @@ module _ {A : Type 0} where
           some_same z = cc
       at c v g (inr y) =
           let old = k.from c v (sym (append_other u.parked s.next_call c w y.1) ∙ g) in
-          (omega (arith, o.below c v old), o.taken c v old)
+          (omega (arith, o.below c (record v { met = old.0 }) old.1), o.taken c (record v { met = old.0 }) old.1)
   does_order s x h (Again d w now e here u k p n has) o =
       in_order h.state (put nat_eq u.parked d now) s.next_call p n (put_once u.parked d now k.once) (λ c v g. at c v g (eqb_tells d c))
     where
@@ -98,7 +98,7 @@ module _ {A : Type 0} where
           some_same z = cc
       at c v g (inr y) =
           let old = k.from c v (sym (put_other u.parked d c now y.1) ∙ g) in
-          (o.below c v old, o.taken c v old)
+          (o.below c (record v { met = old.0 }) old.1, o.taken c (record v { met = old.0 }) old.1)
 
   pub step_order : (s : State A) (x : Step A) → AreInOrder s.core → AreInOrder (step s x).state.core
   step_order s x o =
@@ -108,7 +108,7 @@ module _ {A : Type 0} where
 
   -- a step of others: the call c has from it no new number and no bytes
   record Apart (s : Core A numbers) (x : Step A) (h : Stepped A numbers) (c : ℕ) : Type 0 where
-    from : (w : Waiting A numbers) → get nat_eq h.state.parked c ≡ Some w → get nat_eq s.parked c ≡ Some w
+    from : (w : Waiting A numbers) → get nat_eq h.state.parked c ≡ Some w → (met : Bool) × (get nat_eq s.parked c ≡ Some (record w { met = met }))
     quiet : (place : ℕ) → (same_tag (tag_of place x h.reply) (OfCall c) ≡ false) ⊎ (h.flow ≡ still)
 
   apart : (s : Core A numbers) (x : Step A) (h : Stepped A numbers) (c : ℕ) → Does s x h → ((w : Waiting A numbers) → x ≡ Resume c → get nat_eq s.parked c ≡ Some w → ⊥) →
@@ -154,7 +154,7 @@ module _ {A : Type 0} where
 
   -- the same of a whole step
   pub record StepApart (s : State A) (x : Step A) (c : ℕ) : Type 0 where
-    pub from : (w : Waiting A numbers) → get nat_eq (step s x).state.core.parked c ≡ Some w → get nat_eq s.core.parked c ≡ Some w
+    pub from : (w : Waiting A numbers) → get nat_eq (step s x).state.core.parked c ≡ Some w → (met : Bool) × (get nat_eq s.core.parked c ≡ Some (record w { met = met }))
     pub chunks : (place q : ℕ) → of (OfCall c) (piece_added q place s x) ≡ []
     pub outs : (place p : ℕ) → of (OfCall c) (pieces_left p place s x) ≡ []
 
@@ -189,7 +189,7 @@ module _ {A : Type 0} where
   absent place p q s ((x, true) ∷ xs) c o none given = absent (place + 1) p q s xs c o none given
   absent place p q s ((x, false) ∷ xs) c o none given =
       let a = step_apart s x c o (λ w e g. here w g) (λ e j. not_new given e j) in
-      let r = absent (place + 1) p q (step s x).state xs c (step_order s x o) (nothing_there _ (λ w g. here w (a.from w g))) (later given) in (
+      let r = absent (place + 1) p q (step s x).state xs c (step_order s x o) (nothing_there _ (λ w g. let f = a.from w g in here (record w { met = f.0 }) f.1)) (later given) in (
         of_none (OfCall c) (piece_added q place s x) (pieces_from (piece_added q) (place + 1) (step s x).state xs) (a.chunks place q) ∙ r.0,
         of_none (OfCall c) (pieces_left p place s x) (pieces_from (pieces_left p) (place + 1) (step s x).state xs) (a.outs place p) ∙ r.1,
       )

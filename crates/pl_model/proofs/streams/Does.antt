@@ -1,6 +1,6 @@
 -- What one step does to the parked calls, and whose bytes it moves.
 use Rattle.std.proofs.Common.{◌≡◌, ℕ, ℤ, ◌+◌, Bool, true, false, cond, Option, List, [], ◌∷◌, ◌++◌, length, refl, sym, ◌∙◌, ap, subst, nat_eq, arith}
-use Rattle.std.specs.Prelude.{◌==◌, nat_lt, not}
+use Rattle.std.specs.Prelude.{◌==◌, nat_lt, not, map}
 use Rattle.std.specs.declared.option.Option.TheVariants.{None, Some}
 use Rattle.std.specs.List.{filter}
 use Rattle.pl_model.specs.declared.calls.Call.{Call}
@@ -17,8 +17,9 @@ use Rattle.pl_model.specs.State.{Core, Description, Open, Waiting}
 use Rattle.pl_model.specs.Live.{readers}
 use Rattle.pl_model.specs.Trial.{Trial, Done, Wait, Flow, still, flowed, lost, gained, pipe_at, Begun, Begins, Refused, Answered, Tried}
 use Rattle.pl_model.specs.Transfer.{room, read_case, read_row, read_pipe, read_file, write_case, write_row, write_pipe, write_file, write_node, read_node}
-use Rattle.pl_model.specs.Tables.{lowest_pid}
-use Rattle.pl_model.specs.Step.{Stepped, try, with_kept, kept_at, begin, begun, happen, first_tried, interrupted, parked, resumed, started, stepped, tried_again, waiting}
+use Rattle.pl_model.specs.Tables.{lowest, lowest_pid}
+use Rattle.pl_model.specs.Fifo.{meets}
+use Rattle.pl_model.specs.Step.{Stepped, try, try_open, opened_by, with_kept, kept_at, begin, begun, happen, first_tried, interrupted, parked, resumed, started, stepped, tried_again, waiting}
 use Rattle.pl_model.specs.Numbered.{numbers}
 use Rattle.pl_model.specs.Chunks.{OfCall, AtPlace, tag_answered, tag_of}
 use Rattle.pl_model.specs.InOrder.{HasTaken, AreInOrder}
@@ -28,17 +29,55 @@ use Rattle.pl_model.proofs.streams.Maps.{filter_from, filter_once}
 use Rattle.pl_model.proofs.streams.Writes.{CaseSays, case_says, says_parked}
 
 module _ {A : Type 0} where
-  -- the parked calls are among those of before
+  -- the parked calls are among those of before, but that an open of them may have met its other end
   pub record AmongCalls (before : Map ℕ (Waiting A numbers)) (next_before : ℕ) (now : Map ℕ (Waiting A numbers)) (next_now : ℕ) : Type 0 where
     pub once : EachOnce nat_eq now
     pub next : next_now ≡ next_before
-    pub from : (c : ℕ) (w : Waiting A numbers) → get nat_eq now c ≡ Some w → get nat_eq before c ≡ Some w
+    pub from : (c : ℕ) (w : Waiting A numbers) → get nat_eq now c ≡ Some w → (met : Bool) × (get nat_eq before c ≡ Some (record w { met = met }))
 
   abbrev pub Among : Core A numbers → Core A numbers → Type 0
   Among s u = AmongCalls s.parked s.next_call u.parked u.next_call
 
   pub among_same : (s : Core A numbers) → EachOnce nat_eq s.parked → Among s s
-  among_same s once = record { once = once; next = refl; from = λ c w h. h }
+  among_same s once = record { once = once; next = refl; from = λ c w h. (w.met, h) }
+
+  -- the calls with some of them met
+  module _ (meets : Waiting A numbers → Bool) where
+    abbrev marked : ℕ × Waiting A numbers → ℕ × Waiting A numbers
+    marked e = (e.0, cond (meets e.1) (record e.1 { met = true }) e.1)
+
+    unmarked : (x w : Waiting A numbers) (b : Bool) → Some (cond b (record x { met = true }) x) ≡ Some w → (met : Bool) × (Some x ≡ Some (record w { met = met }))
+    unmarked x w true h = (x.met, (let same : record x { met = true } ≡ w = cc in ap (λ (z : Waiting A numbers). Some (record z { met = x.met })) same))
+    unmarked x w false h = (w.met, h)
+
+    marked_from : (es : Map ℕ (Waiting A numbers)) (c : ℕ) (w : Waiting A numbers) → get nat_eq (map marked es) c ≡ Some w → (met : Bool) × (get nat_eq es c ≡ Some (record w { met = met }))
+    marked_from [] c w h = absurd (cc)
+    marked_from (e ∷ es) c w h = at (nat_eq e.0 c) h (marked_from es c w)
+      where
+        at : (b : Bool) → cond b (Some (marked e).1) (get nat_eq (map marked es) c) ≡ Some w → (get nat_eq (map marked es) c ≡ Some w → (met : Bool) × (get nat_eq es c ≡ Some (record w { met = met })))
+            → (met : Bool) × (cond b (Some e.1) (get nat_eq es c) ≡ Some (record w { met = met }))
+        at true h rest = unmarked e.1 w (meets e.1) h
+        at false h rest = rest h
+
+    marked_none : (es : Map ℕ (Waiting A numbers)) (c : ℕ) → get nat_eq es c ≡ None → get nat_eq (map marked es) c ≡ None
+    marked_none [] c h = refl
+    marked_none (e ∷ es) c h = at (nat_eq e.0 c) h (marked_none es c)
+      where
+        at : (b : Bool) → cond b (Some e.1) (get nat_eq es c) ≡ None → (get nat_eq es c ≡ None → get nat_eq (map marked es) c ≡ None) → cond b (Some (marked e).1) (get nat_eq (map marked es) c) ≡ None
+        at true h rest = absurd (cc)
+        at false h rest = rest h
+
+    marked_once : (es : Map ℕ (Waiting A numbers)) → EachOnce nat_eq es → EachOnce nat_eq (map marked es)
+    marked_once [] h = tt
+    marked_once (e ∷ es) h = (marked_none es e.0 h.0, marked_once es h.1)
+
+    among_marked : (before : Map ℕ (Waiting A numbers)) (m n : ℕ) (es : Map ℕ (Waiting A numbers)) → AmongCalls before m es n → AmongCalls before m (map marked es) n
+    among_marked before m n es h =
+        record {
+          once = marked_once es h.once;
+          next = h.next;
+          from = λ c w g. let f = marked_from es c w g in h.from c (record w { met = f.0 }) f.1;
+        }
 
   among_filter : (s u : Core A numbers) (t : ℕ × Waiting A numbers → Bool) → Among s u → AmongCalls s.parked s.next_call (filter t u.parked) u.next_call
   among_filter s u t h = record { once = filter_once t u.parked h.once; next = h.next; from = λ c w g. h.from c w (filter_from t u.parked c w h.once g) }
@@ -56,12 +95,13 @@ module _ {A : Type 0} where
         set_file = λ u f bytes h. h;
         create_file = λ u name h. h;
         create_fifo = λ u name h. h;
+        meet = λ u p mode h. among_marked (meets u p mode) s.parked s.next_call u.next_call u.parked h;
         forget_name = λ u name h. h;
         fork = λ u pid child h. h;
         exit = λ u pid h. among_filter s u (λ c. not (nat_eq c.1.pid pid)) h;
       }
 
-  flowed_parked : (u : Core A numbers) (flow : Flow numbers) → (flowed u flow).parked ≡ u.parked
+  pub flowed_parked : (u : Core A numbers) (flow : Flow numbers) → (flowed u flow).parked ≡ u.parked
   unfolding flowed
   flowed_parked u flow = into (lost u flow.out) flow.into ∙ out flow.out
     where
@@ -122,6 +162,17 @@ module _ {A : Type 0} where
       write_fine s p fd bytes t may_wait (write_case (length bytes) t _ _ may_wait) (case_says (length bytes) t (room (pipe_at s p)) (nat_lt 0 (readers s p)) may_wait has.0 has.1 none)
   write_node_fine s d x (FileNode f) fd bytes t may_wait has none = search (fine_if)
 
+  opened_fine : (s : Core A numbers) (pid d : ℕ) (place : Option ℕ) (call : Call A) → TrialFine call (opened_by s pid d place)
+  opened_fine s pid d None call = refl
+  opened_fine s pid d (Some fd) call = refl
+
+  open_fine : (s : Core A numbers) (w : Waiting A numbers) (call : Call A) → HasTaken call w.taken → TrialFine call (try_open s w)
+  open_fine s w call has = fine_if call w.met _ _ (at (kept_at s w.kept 0)) has
+    where
+      at : (o : Option (Open numbers)) → TrialFine call (with_kept s o (λ o. opened_by s w.pid o.key (lowest s w.pid 0)))
+      at None = refl
+      at (Some o) = opened_fine s w.pid o.key (lowest s w.pid 0) call
+
   pub try_fine : (s : Core A numbers) (w : Waiting A numbers) (call : Call A) (may_wait : Bool) → HasTaken call w.taken → (may_wait ≡ false → w.taken ≡ 0) → TrialFine call (try s w call may_wait)
   unfolding try
   try_fine s w (Call.Read fd n) may_wait has none = at (kept_at s w.kept 0) where
@@ -132,6 +183,7 @@ module _ {A : Type 0} where
     at : (o : Option (Open numbers)) → TrialFine (Call.Write fd bytes) (with_kept s o (λ o. write_node s o.key o.description o.description.node bytes w.taken may_wait))
     at None = refl
     at (Some o) = write_node_fine s o.key o.description o.description.node fd bytes w.taken may_wait has none
+  try_fine s w (Call.OpenName name mode flags) may_wait has none = open_fine s w (Call.OpenName name mode flags) has
   try_fine s w call may_wait has none = has
 
   pub has_none : (call : Call A) → HasTaken call 0

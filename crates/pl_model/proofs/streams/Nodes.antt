@@ -73,6 +73,7 @@ module _ {A : Type 0} (d : ℕ) (node : Node numbers) where
         set_capacity = λ s p size h. h;
         set_file = λ s f bytes h. h;
         create_file = λ s name h. h;
+        meet = λ s p mode h. h;
         create_fifo = λ s name h. h;
         forget_name = λ s name h. h;
         fork = λ s pid child h. h;

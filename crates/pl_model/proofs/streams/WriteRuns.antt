@@ -81,6 +81,8 @@ module _ {A : Type 0} (p q : ℕ) (fd : ℤ) (bytes : List ℕ) where
   write_course =
       record {
         stays = λ s x w first second is. (is.0, is.1, keeps_step s x w.kept q first second is.2);
+        met = λ s w met is. is;
+        says_met = λ w met ins outs end says. says;
         waits = λ s w is. adds_no true bytes w.taken w.taken Waits is.1.0 refl refl (λ n e. cc);
         drops = λ s w is. adds_no true bytes w.taken w.taken Dropped is.1.0 refl refl (λ n e. cc);
         interrupted = λ s w is. adds_no true bytes w.taken _ (Interrupted (interrupt_reply w)) is.1.0 (reply_taken w (nat_lt 0 w.taken)) refl (λ n e. cc);
@@ -133,6 +135,8 @@ module _ {A : Type 0} (p q : ℕ) (fd : ℤ) (k : ℕ) where
   read_course =
       record {
         stays = λ s x w first second is. (is.0, keeps_step s x w.kept p first second is.1);
+        met = λ s w met is. is;
+        says_met = λ w met ins outs end says. says;
         waits = λ s w is. refl;
         drops = λ s w is. refl;
         interrupted = λ s w is. refl;

@@ -1,5 +1,5 @@
 -- What a file that is made leaves at the kernel's keys.
-use Rattle.std.proofs.Common.{◌≡◌, ℕ, ◌<◌, List, [], ◌∷◌, length, Option, Some, None, IfSome, IsSome, refl, sym, ◌∙◌, ap, subst, nat_eq, suc, zero, arith, slice_index_or}
+use Rattle.std.proofs.Common.{◌≡◌, ℕ, List, [], ◌∷◌, Option, Some, None, IfSome, IsSome, refl, sym, ◌∙◌, ap, subst, nat_eq, suc, zero, arith, slice_index_or}
 use Rattle.std.specs.Prelude.{All, pos, option_map}
 use Rattle.std.specs.declared.cmp.Ordering.{Ordering}
 use Rattle.std.specs.declared.cmp.Ordering.TheVariants.{Less, Equal, Greater}
@@ -13,7 +13,7 @@ use Rattle.pl_model.specs.declared.node.Node.{Node}
 use Rattle.pl_model.specs.declared.node.Node.TheVariants as node
 use Rattle.pl_model.specs.declared.replies.Reply.TheVariants.{Fd}
 use Rattle.pl_model.specs.Flags.{status_flags}
-use Rattle.pl_model.specs.Map.{Map, EachOnce, get, put_in_order, set_at}
+use Rattle.pl_model.specs.Map.{Map, EachOnce, put_in_order, set_at}
 use Rattle.pl_model.specs.Keys.{FileNode}
 use Rattle.pl_model.specs.State.{Core, named}
 use Rattle.pl_model.specs.Settle.{settle}
@@ -82,7 +82,7 @@ module _ {A : Type 0} (m : Caller A) (name : List ℕ) (mode : Mode) (flags : Op
     abbrev end : Core A numbers
     end = install (describe (create_file c name f) d (FileNode f) mode (status_flags flags)) pid fd d
 
-    left_is : left m fd may.lowest (node.File f) d vacant mode (status_flags flags) nodes' ≡ end
+    left_is : left m calls sound are fd may.lowest (node.File f) d vacant mode (status_flags flags) nodes' ≡ end
     unfolding core_of
     left_is = λ i. install (describe (record c { pipes = pipes_are i; files = files_are i; names = (ap keyed names_are ∙ put-keyed nodes.names name (node.File f)) i }) d (FileNode f) mode (status_flags flags)) pid fd d
 
@@ -93,7 +93,7 @@ module _ {A : Type 0} (m : Caller A) (name : List ℕ) (mode : Mode) (flags : Op
     end_settled : settle c end ≡ end
     unfolding core_of
     end_settled =
-        let place = free m fd may.lowest (node.File f) d vacant mode (status_flags flags) in
+        let place = free m calls sound are fd may.lowest (node.File f) d vacant mode (status_flags flags) in
         create-settled (core_of k) sound.settled f d pid fd (unused m d vacant) (pid_in descs.tables pid process).0
         (let h = (pid_in descs.tables pid process).1 in omega (arith, h, are.tidy.few)) process place.1 place.0 mode (status_flags flags) name none
 
@@ -117,12 +117,12 @@ module _ {A : Type 0} (m : Caller A) (name : List ℕ) (mode : Mode) (flags : Op
     once : EachOnce (pointwise nat_eq) nodes'.names
     once = subst (EachOnce (pointwise nat_eq)) (sym names_are) (put-once nodes.names name (node.File f) sound.once may.named)
 
-    settles : settle c end ≡ left m fd may.lowest (node.File f) d vacant mode (status_flags flags) nodes'
+    settles : settle c end ≡ left m calls sound are fd may.lowest (node.File f) d vacant mode (status_flags flags) nodes'
     settles = end_settled ∙ sym left_is
 
     pub created : (IsSound A new) × (MakesAtKeys k (Begin pid (Call.OpenName name mode flags)) (Fd (pos fd)) new)
     created = (
-      opened_sound m fd may.lowest (node.File f) d vacant mode (status_flags flags) descs' nodes' pids rows opened file_max_is end settles there here once,
-      opened_makes m fd may.lowest (node.File f) d vacant mode (status_flags flags) descs' nodes' pids rows opened file_max_is end settles there here once
+      opened_sound m calls sound are fd may.lowest (node.File f) d vacant mode (status_flags flags) descs' nodes' pids rows opened file_max_is end settles there here once,
+      opened_makes m calls sound are fd may.lowest (node.File f) d vacant mode (status_flags flags) descs' nodes' pids rows opened file_max_is end settles there here once
           (Call.OpenName name mode flags) f vacant_file (made m name mode flags fd) may.begun refl,
     )

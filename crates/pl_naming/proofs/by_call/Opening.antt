@@ -1,5 +1,5 @@
 -- What an open of a name comes to at the kernel's keys.
-use Rattle.std.proofs.Common.{◌≡◌, ℕ, ◌<◌, ◌≤◌, Bool, true, false, List, Option, Some, None, refl, sym, ◌∙◌, ap, nat_eq, arith}
+use Rattle.std.proofs.Common.{◌≡◌, ℕ, ◌<◌, ◌≤◌, Bool, true, false, List, Option, Some, None, refl, ◌∙◌, ap, nat_eq, arith}
 use Rattle.std.specs.Prelude.{pos, ◌&&◌, not, is_none, is_some, nat_le, option_map}
 use Rattle.std.specs.Cmp.Lexicographic.{pointwise}
 use Rattle.pl_model.specs.declared.calls.Call.{Call}

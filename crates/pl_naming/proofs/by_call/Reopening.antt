@@ -1,10 +1,7 @@
 -- What a file that is opened again leaves at the kernel's keys.
-use Rattle.std.proofs.Common.{◌≡◌, Bool, true, false, cond, ℕ, ◌<◌, List, [], ◌∷◌, length, Option, Some, None, IfSome, IsSome, refl, sym, ◌∙◌, ap, subst, nat_eq, suc, zero, arith, slice_index_or}
-use Rattle.std.specs.Prelude.{◌&&◌, All, pos, option_map}
-use Rattle.std.specs.declared.cmp.Ordering.{Ordering}
-use Rattle.std.specs.declared.cmp.Ordering.TheVariants.{Less, Equal, Greater}
-use Rattle.std.specs.Ordering.{nat_cmp, match_ordering}
-use Rattle.std.specs.Cmp.Lexicographic.{pointwise, slice_cmp}
+use Rattle.std.proofs.Common.{◌≡◌, Bool, true, false, cond, ℕ, ◌<◌, List, [], length, Option, Some, None, IsSome, refl, sym, ◌∙◌, ap, subst, nat_eq, arith}
+use Rattle.std.specs.Prelude.{◌&&◌, pos, option_map}
+use Rattle.std.specs.Cmp.Lexicographic.{pointwise}
 use Rattle.pl_model.specs.declared.calls.Call.{Call}
 use Rattle.pl_model.specs.declared.calls.Mode.{Mode}
 use Rattle.pl_model.specs.declared.calls.Step.TheVariants.{Begin}
@@ -15,19 +12,18 @@ use Rattle.pl_model.specs.declared.replies.Reply.TheVariants.{Fd}
 use Rattle.pl_model.specs.Flags.{has, trunc, status_flags}
 use Rattle.pl_model.specs.Modes.{writes}
 use Rattle.pl_model.specs.Begin.{truncated}
-use Rattle.pl_model.specs.Map.{Map, EachOnce, get, set_at, change_at}
+use Rattle.pl_model.specs.Map.{EachOnce, set_at, change_at}
 use Rattle.pl_model.specs.Keys.{FileNode}
 use Rattle.pl_model.specs.State.{Core, set_file}
 use Rattle.pl_model.specs.Settle.{settle}
 use Rattle.pl_model.specs.Tables.{install, describe}
 use Rattle.pl_model.specs.Numbered.{numbers}
 use Rattle.pl_model.proofs.settling.Files.{reopen-settled, truncate-settled}
-use Rattle.pl_model.proofs.settling.FromSettled.{at_key}
 use Rattle.pl_model.specs.Numbers.{open_max}
 use Rattle.pl_desc.specs.Rows.{at, is_pid, row_at, lowest_of, with_row}
-use Rattle.pl_desc.specs.Descs.{Opened, Descs, fresh}
+use Rattle.pl_desc.specs.Descs.{Descs, fresh}
 use Rattle.pl_desc.proofs.RowLemmas.{pid_in}
-use Rattle.pl_state.specs.Contents.{Contents, Nodes, IsThere, contents, node_of, core_of}
+use Rattle.pl_state.specs.Contents.{Contents, Nodes, IsThere, contents, core_of}
 use Rattle.pl_state.specs.Sound.{IsSound, AreThere}
 use Rattle.pl_state.specs.Makes.{MakesAtKeys}
 use Rattle.pl_naming.specs.Openings.{MayOpen}
@@ -64,7 +60,7 @@ module _ {A : Type 0} (m : Caller A) (name : List ℕ) (mode : Mode) (flags : Op
     end s = install (describe s d (FileNode f) mode (status_flags flags)) pid fd d
 
     abbrev place : (row_at descs.tables pid fd ≡ None) × (fd < open_max)
-    place = free m fd least (node.File f) d vacant mode (status_flags flags)
+    place = free m calls sound are fd least (node.File f) d vacant mode (status_flags flags)
 
     again : (b : Bool) → settle c (end (cond b (set_file c f []) c)) ≡ end (cond b (set_file c f []) c)
     unfolding core_of
@@ -91,7 +87,7 @@ module _ {A : Type 0} (m : Caller A) (name : List ℕ) (mode : Mode) (flags : Op
       abbrev does : Bool
       does = has flags.0 trunc && writes mode
 
-      left_is : left m fd least (node.File f) d vacant mode (status_flags flags) nodes' ≡ end (truncated c f mode flags)
+      left_is : left m calls sound are fd least (node.File f) d vacant mode (status_flags flags) nodes' ≡ end (truncated c f mode flags)
       unfolding core_of
       left_is = (λ i. end (record c { pipes = pipes_are i; files = (files_are ∙ files_by does) i; names = keyed (names_are i) })) ∙ ap end (rest_by does)
 
@@ -113,13 +109,13 @@ module _ {A : Type 0} (m : Caller A) (name : List ℕ) (mode : Mode) (flags : Op
       once : EachOnce (pointwise nat_eq) nodes'.names
       once = subst (EachOnce (pointwise nat_eq)) (sym names_are) sound.once
 
-      settles : settle c (end (truncated c f mode flags)) ≡ left m fd least (node.File f) d vacant mode (status_flags flags) nodes'
+      settles : settle c (end (truncated c f mode flags)) ≡ left m calls sound are fd least (node.File f) d vacant mode (status_flags flags) nodes'
       settles = again does ∙ sym left_is
 
       pub reopened_sound : IsSound A new
-      reopened_sound = opened_sound m fd least (node.File f) d vacant mode (status_flags flags) descs' nodes' pids rows opened file_max_is (end (truncated c f mode flags)) settles there here once
+      reopened_sound = opened_sound m calls sound are fd least (node.File f) d vacant mode (status_flags flags) descs' nodes' pids rows opened file_max_is (end (truncated c f mode flags)) settles there here once
 
       pub reopened_makes : MayOpen k pid name mode flags fd (Some (node.File f)) → MakesAtKeys k (Begin pid (Call.OpenName name mode flags)) (Fd (pos fd)) new
       reopened_makes may =
-          opened_makes m fd least (node.File f) d vacant mode (status_flags flags) descs' nodes' pids rows opened file_max_is (end (truncated c f mode flags)) settles there here once
+          opened_makes m calls sound are fd least (node.File f) d vacant mode (status_flags flags) descs' nodes' pids rows opened file_max_is (end (truncated c f mode flags)) settles there here once
           (Call.OpenName name mode flags) (length nodes.files) (past_end nodes.files) (reopened m name mode flags fd f) may.begun refl

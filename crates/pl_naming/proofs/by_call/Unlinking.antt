@@ -35,7 +35,7 @@ use Rattle.pl_desc.specs.Rows.{at}
 use Rattle.pl_desc.specs.Descs.{Opened, ends_on}
 use Rattle.pl_decisions.specs.Names.{fault_of_name, unless_fault}
 use Rattle.pl_decisions.proofs.Deciding.{check_name-is}
-use Rattle.pl_state.specs.Contents.{Contents, Nodes, IsThere, contents, node_of, description_of, core_of}
+use Rattle.pl_state.specs.Contents.{Contents, Nodes, IsThere, contents, node_of, core_of}
 use Rattle.pl_state.specs.LastHold.{Leaves, is_kept, ended_pipe, pipes_left, files_left}
 use Rattle.pl_state.specs.Sound.{IsSound, AreThere}
 use Rattle.pl_state.specs.Makes.{MakesAtKeys}

@@ -22,6 +22,7 @@ use Rattle.std.specs.Prelude.{All, slice_index_or}
 use Rattle.std.proofs.lemmas.List.Folds.{list_any_at}
 use Rattle.pl_model.specs.State.{Core, Waiting, Description, Pipe, empty_pipe}
 use Rattle.pl_model.specs.Live.{live_count, in_rows}
+use Rattle.std.specs.List.{list_any}
 use Rattle.std.specs.Set.{is_member}
 use Rattle.pl_model.specs.Settle.{settle}
 use Rattle.pl_model.specs.Trial.{Begins, Begun, Answered, found, refuse_if}
@@ -35,13 +36,14 @@ use Rattle.pl_model.proofs.settling.Members.{or_right}
 use Rattle.pl_model.proofs.settling.Parking.{live-is}
 use Rattle.pl_model.proofs.settling.Parking.{keeps as machine_keeps}
 use Rattle.pl_model.proofs.settling.Changes.{pipe-settled}
+use Rattle.pl_parked.specs.declared.call.ParkedCall.{ParkedCall}
 use Rattle.pl_desc.specs.Rows.{at, Tables, is_pid, row_at, lowest_of, with_row}
 use Rattle.pl_desc.specs.Descs.{Opened, Descs, fresh}
 use Rattle.pl_desc.specs.Descs.{live_count as opened_count}
 use Rattle.pl_desc.proofs.RowLemmas.{pid_in}
 use Rattle.pl_desc.proofs.First.{first_found}
 use Rattle.pl_state.specs.Contents.{Contents, Nodes, contents, node_of, description_of, parked_of, core_of, IsThere}
-use Rattle.pl_state.specs.Sound.{IsSound, AreThere}
+use Rattle.pl_state.specs.Sound.{IsSound, AreThere, WaitOnPipes}
 use Rattle.pl_state.specs.Makes.{MakesAtKeys, MayWantAtKeys}
 use Rattle.pl_state.proofs.Known.{Known, Caller}
 use Rattle.pl_state.proofs.holders.Ends.{live_count-is}
@@ -50,7 +52,7 @@ use Rattle.pl_state.proofs.holders.Staying.{opened-live}
 use Rattle.pl_state.proofs.by_call.Begun.{does_same, step-refused, step-draws}
 use Rattle.pl_model.proofs.settling.FromSettled.{at_key}
 use Rattle.pl_state.proofs.holders.There.{settled_after, there-put, there-added, map-set_at}
-use Rattle.pl_state.proofs.holders.OnPipes.{wait-more}
+use Rattle.pl_state.proofs.holders.OnPipes.{keeps-map, wait-beside}
 
 module _ {A : Type 0} (m : Known A) where
   open m use {descs, nodes, calls, limits, are}
@@ -74,6 +76,15 @@ lowest_found tables pid least fd h = (let f = first_found (λ fd. is_none (row_a
 pub no_value : {X : Type 0} (o : Option X) → o ≡ None → IsSome o → ⊥
 no_value None e h = cc
 no_value (Some y) e h = cc
+
+-- no parked call keeps a description that isn't there
+pub none_kept : {A : Type 0} (m : Known A) (d : ℕ) → at m.descs.opened d ≡ None → list_any (λ (e : ℕ × ParkedCall A). is_member nat_eq e.1.kept d) m.calls.calls ≡ false
+unfolding core_of
+none_kept m d vacant = sym (keeps-map d m.calls.calls) ∙ by (machine_keeps (state m).parked d) refl
+  where
+    by : (b : Bool) → machine_keeps (state m).parked d ≡ b → b ≡ false
+    by true e = absurd (no_value (at m.descs.opened d) vacant (kept_live m d e))
+    by false e = refl
 
 pub past_end : {X : Type 0} (xs : List (Option X)) → at xs (length xs) ≡ None
 past_end [] = refl
@@ -252,8 +263,8 @@ module _ {A : Type 0} (m : Caller A) (nonblock : Bool) where
                 };
                 waiting = sound.waiting;
                 belong = belong-same calls.calls (is_pid k.tables) (is_pid new.tables) sound.belong pids;
-                on_pipes = wait-more calls.calls (set_at nat_eq (at k.opened) d (Some reader)) (at descs'.opened) d' writer tt opened
-                    (wait-more calls.calls (at k.opened) (set_at nat_eq (at k.opened) d (Some reader)) d reader tt refl sound.on_pipes);
+                on_pipes = subst (WaitOnPipes calls.calls) (sym opened) (wait-beside d' calls.calls (set_at nat_eq (at k.opened) d (Some reader)) writer (none_kept kernel d' vacant')
+                    (wait-beside d calls.calls (at k.opened) reader (none_kept kernel d vacant) sound.on_pipes));
               }
 
           -- the kernel is sound, and made the step

@@ -1,5 +1,5 @@
 -- Where no process is and no name, nothing is.
-use Rattle.std.proofs.Common.{◌≡◌, ℕ, Bool, true, false, cond, List, [], ◌∷◌, ◌++◌, Option, Some, None, IfSome, refl, sym, ◌∙◌, ap, subst, map, nat_eq}
+use Rattle.std.proofs.Common.{◌≡◌, ℕ, Bool, true, false, cond, List, [], ◌∷◌, ◌++◌, Some, None, IfSome, refl, sym, ◌∙◌, ap, subst, map, nat_eq}
 use Rattle.std.specs.Prelude.{IsTrue, ◌||◌, option_map}
 use Rattle.std.specs.List.{list_any, filter, filter_map, flat_map}
 use Rattle.std.proofs.lemmas.Bool.{eq-eqb}
@@ -10,7 +10,7 @@ use Rattle.pl_model.specs.Map.{Map, get, kept_if}
 use Rattle.pl_model.specs.Keys.{PipeNode, FileNode, same_node}
 use Rattle.pl_model.specs.Keys.{Node as KeyNode}
 use Rattle.pl_model.specs.State.{Core, Waiting}
-use Rattle.pl_model.specs.Live.{pids, in_rows, in_parked, in_use, is_open, is_end, has_name}
+use Rattle.pl_model.specs.Live.{pids, in_rows, in_parked, in_use, is_end}
 use Rattle.pl_model.specs.Settle.{settle, settled_pipe, is_kept}
 use Rattle.pl_model.specs.Numbered.{numbers, State}
 use Rattle.pl_model.specs.Renaming.{rename_node}

@@ -94,7 +94,7 @@ times_most (key ∷ keys) d = let all = times-cons key keys d in let rest = time
 
 -- The calls that keep a key, through each change of them.
 module _ {A : Type 0} where
-  keeping-cons : (n : ℕ) (c : ParkedCall A) (calls : Map ℕ (ParkedCall A)) (d : ℕ) → keeping ((n, c) ∷ calls) d ≡ times c.kept d + keeping calls d
+  pub keeping-cons : (n : ℕ) (c : ParkedCall A) (calls : Map ℕ (ParkedCall A)) (d : ℕ) → keeping ((n, c) ∷ calls) d ≡ times c.kept d + keeping calls d
   keeping-cons n c calls d = sum_by-cons (λ (e : ℕ × ParkedCall A). times e.1.kept d) (n, c) calls
 
   pub keeping_more : (calls : Map ℕ (ParkedCall A)) (n : ℕ) (c : ParkedCall A) (d : ℕ) → keeping (calls ++ (n, c) ∷ []) d ≡ keeping calls d + times c.kept d

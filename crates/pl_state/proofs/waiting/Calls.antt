@@ -14,7 +14,7 @@ module _ {X Y : Type 0} (f : X → Y) where
   abbrev each : Map ℕ X → Map ℕ Y
   each es = map (λ e. (e.0, f e.1)) es
 
-  get-each : (es : Map ℕ X) (n : ℕ) → get nat_eq (each es) n ≡ option_map f (get nat_eq es n)
+  pub get-each : (es : Map ℕ X) (n : ℕ) → get nat_eq (each es) n ≡ option_map f (get nat_eq es n)
   get-each [] n = refl
   get-each (e ∷ es) n = by (nat_eq e.0 n) (get-each es n)
     where
@@ -38,7 +38,7 @@ module _ {X Y : Type 0} (f : X → Y) where
       by true rest = rest
       by false rest = ap (λ ys. (e.0, f e.1) ∷ ys) rest
 
-  more-each : (es : Map ℕ X) (n : ℕ) (x : X) → each (es ++ (n, x) ∷ []) ≡ each es ++ (n, f x) ∷ []
+  pub more-each : (es : Map ℕ X) (n : ℕ) (x : X) → each (es ++ (n, x) ∷ []) ≡ each es ++ (n, f x) ∷ []
   more-each [] n x = refl
   more-each (e ∷ es) n x = ap (λ ys. (e.0, f e.1) ∷ ys) (more-each es n x)
 

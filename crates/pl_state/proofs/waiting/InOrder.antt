@@ -1,11 +1,11 @@
 -- The parked calls of a sound kernel are in order.
-use Rattle.std.proofs.Common.{◌≡◌, ℕ, ◌+◌, ◌<◌, ◌≤◌, Bool, true, false, cond, Option, [], ◌∷◌, refl, sym, ◌∙◌, ap, subst, nat_eq, IfSome, arith}
+use Rattle.std.proofs.Common.{◌≡◌, ℕ, ◌+◌, ◌<◌, ◌≤◌, Bool, true, false, cond, Option, [], ◌∷◌, ◌++◌, refl, sym, ◌∙◌, ap, subst, nat_eq, IfSome, arith}
 use Rattle.std.specs.Prelude.{option_map}
 use Rattle.std.specs.declared.option.Option.TheVariants.{None, Some}
-use Rattle.std.proofs.lemmas.Bool.{eqb-true}
+use Rattle.std.proofs.lemmas.Bool.{eq-eqb, eqb-true, ne_eqb}
 use Rattle.pl_model.specs.declared.calls.Call.{Call}
 use Rattle.pl_model.specs.declared.calls.Call.TheVariants as call
-use Rattle.pl_model.specs.Map.{Map, get, EachOnce}
+use Rattle.pl_model.specs.Map.{Map, get, put, EachOnce}
 use Rattle.pl_model.specs.State.{Waiting}
 use Rattle.pl_model.specs.Numbered.{numbers}
 use Rattle.pl_model.specs.InOrder.{AreInOrder, HasTaken}
@@ -28,10 +28,22 @@ module _ {A : Type 0} where
     at true i g rest = omega (arith, eqb-true e.0 n i, rise_low (e.0 + 1) next es r.1)
     at false i g rest = rest g
 
-  rise_once : (low next : ℕ) (es : Map ℕ (ParkedCall A)) → Rise low next es → EachOnce nat_eq (parked_of es)
+  pub rise_once : (low next : ℕ) (es : Map ℕ (ParkedCall A)) → Rise low next es → EachOnce nat_eq (parked_of es)
   rise_once low next [] r = tt
   rise_once low next (e ∷ es) r =
       (get-parked es e.0 ∙ ap (option_map waiting_of) (absent_low (e.0 + 1) next e.0 es r.1 (omega arith)), rise_once (e.0 + 1) next es r.1)
+
+  -- the call of the next number stands last
+  pub get_last : (low next : ℕ) (es : Map ℕ (ParkedCall A)) → Rise low next es → (w : ParkedCall A) → get nat_eq (es ++ (next, w) ∷ []) next ≡ Some w
+  get_last low next [] r w = ap (λ b. cond b (Some w) None) (eq-eqb next next refl)
+  get_last low next (e ∷ es) r w = let below = rise_low (e.0 + 1) next es r.1 in
+      ap (λ b. cond b (Some e.1) (get nat_eq (es ++ (next, w) ∷ []) next)) (ne_eqb e.0 next (λ same. omega (arith, same, below))) ∙ get_last (e.0 + 1) next es r.1 w
+
+  pub put_last : (low next : ℕ) (es : Map ℕ (ParkedCall A)) → Rise low next es → (w v : ParkedCall A) → put nat_eq (es ++ (next, w) ∷ []) next v ≡ es ++ (next, v) ∷ []
+  put_last low next [] r w v = ap (λ b. cond b ((next, v) ∷ []) ((next, w) ∷ put nat_eq [] next v)) (eq-eqb next next refl)
+  put_last low next (e ∷ es) r w v = let below = rise_low (e.0 + 1) next es r.1 in
+      ap (λ b. cond b ((next, v) ∷ es ++ (next, w) ∷ []) (e ∷ put nat_eq (es ++ (next, w) ∷ []) next v)) (ne_eqb e.0 next (λ same. omega (arith, same, below)))
+      ∙ ap (λ ys. e ∷ ys) (put_last (e.0 + 1) next es r.1 w v)
 
   may_has : (x : Call A) (t : ℕ) → MayWait x t → HasTaken x t
   may_has (call.Write fd bytes) t h = h

@@ -23,7 +23,7 @@ use Rattle.pl_desc.specs.Descs.{Opened, Descs, IsTidy}
 use Rattle.pl_state.specs.Contents.{Contents, with_pipes, contents, waiting_of, core_of}
 use Rattle.pl_state.specs.Opens.{OpenOn}
 use Rattle.pl_state.specs.Parking.{call_on, with_call, Adds}
-use Rattle.pl_state.specs.Sound.{IsSound, IsWaiting, AreCounted, MayWait, Keeps, most_kept, times, keeping, OnPipe, IsPipe}
+use Rattle.pl_state.specs.Sound.{IsSound, IsWaiting, AreCounted, MayWait, Keeps, most_kept, times, keeping, OnPipe, MayKeep}
 use Rattle.pl_state.proofs.Known.{Known}
 use Rattle.pl_state.proofs.waiting.Calls.{more-parked, get_more}
 use Rattle.pl_state.proofs.by_call.Begun.{there, lives, pipe_held}
@@ -36,11 +36,11 @@ use Rattle.pl_state.proofs.holders.OnPipes.{keeps-pipe}
 pub only_one : (key d : ℕ) → is_member nat_eq (key ∷ []) d ≡ true → d ≡ key
 only_one key d h = or_elim (nat_eq d key) false (λ e. eqb-true d key e) (λ f. absurd (cc)) h
 
-not_last : (n : ℕ) → n ≤ last_call → n ≢ last_call → n + 1 ≤ last_call
+pub not_last : (n : ℕ) → n ≤ last_call → n ≢ last_call → n + 1 ≤ last_call
 not_last n few not_it = grind (arith, few, not_it)
 
 -- a call is parked, which keeps descriptions that are open
-module _ {A : Type 0} (k : Contents A) (sound : IsSound A k) (w : ParkedCall A) (waits : IsWaiting A w) (open_ones : (d : ℕ) → is_member nat_eq w.kept d ≡ true → IsSome (at k.opened d)) (left : k.calls.next ≢ last_call) (on_pipes : All (OnPipe (at k.opened)) w.kept) (process : IsTrue (is_pid k.tables w.pid)) where
+module _ {A : Type 0} (k : Contents A) (sound : IsSound A k) (w : ParkedCall A) (waits : IsWaiting A w) (open_ones : (d : ℕ) → is_member nat_eq w.kept d ≡ true → IsSome (at k.opened d)) (left : k.calls.next ≢ last_call) (on_pipes : All (OnPipe (at k.opened) w) w.kept) (process : IsTrue (is_pid k.tables w.pid)) where
   abbrev before : Core A numbers
   before = core_of k
 
@@ -66,17 +66,18 @@ module _ {A : Type 0} (k : Contents A) (sound : IsSound A k) (w : ParkedCall A) 
     };
     waiting = λ n. get_more k.calls.calls k.calls.next w (IsWaiting A) waits n (sound.waiting n);
     belong = λ n. get_more k.calls.calls k.calls.next w (λ y. IsTrue (is_pid k.tables y.pid)) process n (sound.belong n);
-    on_pipes = λ n. get_more k.calls.calls k.calls.next w (λ y. All (OnPipe (at k.opened)) y.kept) on_pipes n (sound.on_pipes n);
+    on_pipes = λ n. get_more k.calls.calls k.calls.next w (λ y. All (OnPipe (at k.opened) y) y.kept) on_pipes n (sound.on_pipes n);
   }
 
 -- what may wait keeps the description that it tries
-keeps_one : {A : Type 0} (key : ℕ) (call : Call A) (taken : ℕ) → MayWait call taken → Keeps call (key ∷ [])
+pub keeps_one : {A : Type 0} (key : ℕ) (call : Call A) (taken : ℕ) → MayWait call taken → Keeps call (key ∷ [])
 keeps_one key (call.Read fd n) taken may = (key, refl)
 keeps_one key (call.Write fd bytes) taken may = (key, refl)
+keeps_one key (call.OpenName name mode flags) taken may = (key, refl)
 keeps_one key other taken may = absurd may
 
 -- and which keeps one
-module _ {A : Type 0} (k : Contents A) (sound : IsSound A k) (key : ℕ) (o : Opened) (here : at k.opened key ≡ Some o) (pipe : IsPipe o.node) (left : k.calls.next ≢ last_call) (pid : ℕ) (call : Call A) (taken : ℕ) (may : MayWait call taken) (process : IsTrue (is_pid k.tables pid)) where
+module _ {A : Type 0} (k : Contents A) (sound : IsSound A k) (key : ℕ) (o : Opened) (here : at k.opened key ≡ Some o) (left : k.calls.next ≢ last_call) (pid : ℕ) (call : Call A) (taken : ℕ) (may : MayWait call taken) (process : IsTrue (is_pid k.tables pid)) (pipe : MayKeep (call_on key pid call taken) o.node) where
   abbrev c : Core A numbers
   c = core_of k
 
@@ -92,8 +93,8 @@ module _ {A : Type 0} (k : Contents A) (sound : IsSound A k) (key : ℕ) (o : Op
   open_one : (d : ℕ) → is_member nat_eq (key ∷ []) d ≡ true → IsSome (at k.opened d)
   open_one d h = subst (λ z. IsSome z) (sym (ap (at k.opened) (only_one key d h) ∙ here)) refl
 
-  on_pipe : All (OnPipe (at k.opened)) (key ∷ [])
-  on_pipe = keeps-pipe (at k.opened) key (subst (λ o. IfSome o (λ o. IsPipe o.node)) (sym here) pipe)
+  on_pipe : All (OnPipe (at k.opened) w) (key ∷ [])
+  on_pipe = keeps-pipe (at k.opened) w key (subst (λ o. IfSome o (λ o. MayKeep w o.node)) (sym here) pipe)
 
   pub park_is : core_of with_it ≡ parked c (waiting_of w)
   park_is = call_is k sound w waits open_one left on_pipe process

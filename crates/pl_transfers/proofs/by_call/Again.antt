@@ -83,7 +83,7 @@ module _ {A : Type 0} (k : Contents A) (o : CallOnPipe k) (taken : ℕ) (may : M
     };
     waiting = λ m. get_put k.calls.calls n now (IsWaiting A) (record { few = waits.few; keeps = waits.keeps; may = may }) m (sound.waiting m);
     belong = λ m. get_put k.calls.calls n now (λ y. IsTrue (is_pid k.tables y.pid)) (subst (λ o. IfSome o (λ y. IsTrue (is_pid k.tables y.pid))) here (sound.belong n)) m (sound.belong m);
-    on_pipes = λ m. get_put k.calls.calls n now (λ y. All (OnPipe (at k.opened)) y.kept) (subst (λ o. IfSome o (λ y. All (OnPipe (at k.opened)) y.kept)) here (sound.on_pipes n)) m (sound.on_pipes m);
+    on_pipes = λ m. get_put k.calls.calls n now (λ y. All (OnPipe (at k.opened) y) y.kept) (subst (λ o. IfSome o (λ y. All (OnPipe (at k.opened) y) y.kept)) here (sound.on_pipes n)) m (sound.on_pipes m);
   }
 
   -- the same calls keep each description

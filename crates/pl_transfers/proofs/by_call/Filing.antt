@@ -1,6 +1,6 @@
 -- What a read and a write of a regular file come to at the kernel's keys.
-use Rattle.std.proofs.Common.{◌≡◌, ◌≤◌, ◌<◌, ◌^◌, arith, ℕ, ◌+◌, ◌-◌, Bool, true, false, cond, List, [], ◌∷◌, ◌++◌, replicate, inl, inr, Option, Some, None, IfSome, refl, sym, ◌∙◌, ap, subst, length, take, drop, nat_eq}
-use Rattle.std.specs.Prelude.{if◌then◌else◌, not, ◌==◌, nat_le, ℤ, option_map, unwrap_or}
+use Rattle.std.proofs.Common.{◌≡◌, ◌≤◌, ◌<◌, ◌^◌, arith, ℕ, ◌+◌, ◌-◌, Bool, true, false, cond, List, [], ◌∷◌, ◌++◌, replicate, inl, inr, Some, IfSome, refl, sym, ◌∙◌, ap, subst, length, take, drop}
+use Rattle.std.specs.Prelude.{if◌then◌else◌, ◌==◌, nat_le, ℤ, option_map, unwrap_or}
 use Rattle.std.proofs.lemmas.Bool.Decides.{nat_tests, leb_tells}
 use Rattle.std.proofs.lemmas.List.{length-take, length-drop, append_assoc}
 use Rattle.pl_model.specs.Numbers.{most_file_bytes}
@@ -12,13 +12,13 @@ use Rattle.pl_model.specs.declared.node.Node.TheVariants as node
 use Rattle.pl_model.specs.declared.replies.Reply.TheVariants.{Bytes, Count, Fault}
 use Rattle.pl_model.specs.declared.replies.Errno.TheVariants.{EFBIG}
 use Rattle.pl_model.specs.Modes.{reads, writes}
-use Rattle.pl_model.specs.Keys.{Plain, FileNode}
+use Rattle.pl_model.specs.Keys.{Plain}
 use Rattle.pl_model.specs.State.{Core, Description, Waiting, set_file}
 use Rattle.pl_model.specs.Map.{change_at}
 use Rattle.pl_model.specs.Trial.{Trial, Done, answered, tried, still, flowed}
-use Rattle.pl_model.specs.Transfer.{count, moved_to, start_of, put_bytes, file_at, read_file, read_node, write_file, write_node}
+use Rattle.pl_model.specs.Transfer.{count, moved_to, put_bytes, file_at, read_file, read_node, write_file, write_node}
 use Rattle.pl_model.specs.Begin.{may_block}
-use Rattle.pl_model.specs.Step.{core_step, ended, stepped, first_tried, waiting, try, with_kept, kept_at}
+use Rattle.pl_model.specs.Step.{core_step, ended, first_tried, waiting, try, with_kept, kept_at}
 use Rattle.pl_model.specs.Numbered.{numbers}
 use Rattle.pl_desc.specs.Rows.{at}
 use Rattle.pl_desc.specs.Descs.{Opened}

@@ -11,7 +11,7 @@ use Rattle.pl_model.proofs.settling.Changes.{replace-settled}
 use Rattle.pl_model.proofs.settling.Files.{write-settled}
 use Rattle.pl_desc.specs.Rows.{at}
 use Rattle.pl_desc.specs.Descs.{Opened}
-use Rattle.pl_state.specs.Contents.{Contents, Nodes, IsThere, node_of, description_of, core_of}
+use Rattle.pl_state.specs.Contents.{Contents, IsThere, node_of, description_of, core_of}
 use Rattle.pl_state.specs.Sound.{IsSound, AreThere}
 use Rattle.pl_nodes.proofs.Keyed.{change_at-is}
 use Rattle.pl_state.proofs.holders.OnPipes.{wait-changed}

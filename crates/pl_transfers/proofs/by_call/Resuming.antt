@@ -40,7 +40,7 @@ module _ {A : Type 0} (k : Contents A) (sound : IsSound A k) (n : ℕ) where
   abbrev c : Core A numbers
   c = core_of k
 
-  parked-is : (o : Option (ParkedCall A)) → get nat_eq k.calls.calls n ≡ o → get nat_eq c.parked n ≡ option_map waiting_of o
+  pub parked-is : (o : Option (ParkedCall A)) → get nat_eq k.calls.calls n ≡ o → get nat_eq c.parked n ≡ option_map waiting_of o
   unfolding core_of
   parked-is o e = get-parked k.calls.calls n ∙ ap (option_map waiting_of) e
 
@@ -57,12 +57,12 @@ module _ {A : Type 0} (k : Contents A) (sound : IsSound A k) (n : ℕ) where
     unfolding core_step happen
     interrupt-ends new is = does_plain k new (Interrupt n) _ _ (ap (λ o. Plain (ended c (interrupted c n o))) (parked-is (Some w) here)) refl is
 
-    came : (t : Trial A numbers) → try c (waiting_of w) w.call true ≡ t → core_step c (Resume n) ≡ Plain (ended c (tried_again n (waiting_of w) t))
+    pub came : (t : Trial A numbers) → try c (waiting_of w) w.call true ≡ t → core_step c (Resume n) ≡ Plain (ended c (tried_again n (waiting_of w) t))
     unfolding core_step happen
     came t e = ap (λ o. Plain (ended c (resumed c n o))) (parked-is (Some w) here) ∙ ap (λ z. Plain (ended c (tried_again n (waiting_of w) z))) e
 
     -- a try that moved no bytes ends the call
-    ends_still : (reply : Reply A) (new : Contents A) → try c (waiting_of w) w.call true ≡ Done c still reply → core_of new ≡ settle c (without_call c n) → MakesAtKeys k (Resume n) reply new
+    pub ends_still : (reply : Reply A) (new : Contents A) → try c (waiting_of w) w.call true ≡ Done c still reply → core_of new ≡ settle c (without_call c n) → MakesAtKeys k (Resume n) reply new
     ends_still reply new e is = does_plain k new (Resume n) _ reply (came (Done c still reply) e) refl (is ∙ ap (λ z. settle c (without_call z n)) (sym (flowed-still k)))
 
     -- so does one that moved some

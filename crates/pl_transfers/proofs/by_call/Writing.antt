@@ -24,7 +24,7 @@ use Rattle.pl_state.specs.Contents.{Contents, with_pipes, contents, description_
 use Rattle.pl_state.specs.Opens.{Opens, of_end}
 use Rattle.pl_state.specs.LastHold.{has_reader}
 use Rattle.pl_state.specs.Parking.{refusal, call_on, with_call, Adds}
-use Rattle.pl_state.specs.Sound.{MayWait, IsPipe}
+use Rattle.pl_state.specs.Sound.{MayWait, MayKeep}
 use Rattle.pl_state.specs.Makes.{MakesAtKeys, MayWantAtKeys}
 use Rattle.pl_state.proofs.Known.{Caller}
 use Rattle.pl_state.proofs.by_call.Begun.{open-found, may_block-is, does_plain, does_same, wants_plain, step-refused, step-answered, step-tried}
@@ -104,7 +104,7 @@ module _ {A : Type 0} (m : Caller A) (fd : ℤ) (bytes : List ℕ) where
               ∙ ap (λ z. Plain (ended c z)) (parks k w o.nonblock c (gains o.pipe part) to left ∙ ap (λ z. record { state = parked z (record w { taken = to }); reply = Parked k.calls.next; flow = gains o.pipe part }) (flowed-in k o.pipe p is part))
 
           pub write-waits : (new : Contents A) → MayWait {A = A} (Call.Write fd bytes) to → Adds (with_call k (call_on o.key pid call to)) o.pipe part new → MakesAtKeys k x (Parked k.calls.next) new
-          write-waits new within adds = does_plain k new x _ (Parked k.calls.next) waits refl (park_moves k sound o.key opens.on.opened opens.on.here (subst IsPipe (sym opens.on.node) tt) (is_left o.nonblock k.calls.next left) pid call to within process o.pipe opens.on p is part new adds)
+          write-waits new within adds = does_plain k new x _ (Parked k.calls.next) waits refl (park_moves k sound o.key opens.on.opened opens.on.here (is_left o.nonblock k.calls.next left) pid call to within process (subst (MayKeep (call_on o.key pid call to)) (sym opens.on.node) tt) o.pipe opens.on p is part new adds)
 
           pub write-waits-wants : MayWantAtKeys k x
           write-waits-wants = wants_plain k k x _ waits refl

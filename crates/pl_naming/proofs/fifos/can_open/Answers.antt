@@ -1,9 +1,5 @@
-use Rattle.std.proofs.Common.{◌≡◌, sym, ap, ◌∙◌, nat_lt}
-use Rattle.pl_model.specs.declared.node.Node.TheVariants as node
-use Rattle.pl_model.specs.Modes.{reads, writes}
-use Rattle.pl_model.specs.Flags.{has, nonblock}
+use Rattle.std.proofs.Common.{sym, ◌∙◌, nat_lt}
 use Rattle.pl_model.specs.Fifo.{opens_at_once}
-use Rattle.pl_desc.specs.Descs.{ends_on}
 use Rattle.pl_state.specs.KernelView.{view_of}
 use Rattle.pl_naming.proofs.by_call.FifoOpening.{can_open-is}
 use Rattle.pl_naming.proofs.fifos.can_open.Goals as goal

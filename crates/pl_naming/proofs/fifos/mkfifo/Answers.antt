@@ -1,18 +1,16 @@
-use Rattle.std.proofs.Common.{◌≡◌, ℕ, List, Option, None, Some, refl, sym, ap, subst, ◌∙◌, nat_eq, false}
+use Rattle.std.proofs.Common.{◌≡◌, ℕ, List, Option, None, Some, refl, sym, ◌∙◌, nat_eq, false}
 use Rattle.std.specs.Prelude.{is_some}
 use Rattle.std.specs.Ordering.{nat_cmp}
 use Rattle.std.specs.Cmp.Lexicographic.{pointwise, slice_cmp}
 use Rattle.pl_model.specs.declared.calls.Call.{Call}
 use Rattle.pl_model.specs.declared.calls.Step.TheVariants.{Begin}
-use Rattle.pl_model.specs.declared.replies.Reply.{Reply}
 use Rattle.pl_model.specs.declared.replies.Reply.TheVariants.{Unit}
 use Rattle.pl_model.specs.declared.node.Node.{Node}
 use Rattle.pl_model.specs.declared.node.Node.TheVariants as node
 use Rattle.pl_model.specs.Map.{get, put_in_order}
-use Rattle.pl_desc.specs.Rows.{at}
 use Rattle.pl_decisions.specs.Names.{fault_of_name}
 use Rattle.pl_nodes.proofs.Keyed.{on_err}
-use Rattle.pl_state.specs.Contents.{Contents, contents, nodes_of}
+use Rattle.pl_state.specs.Contents.{contents, nodes_of}
 use Rattle.pl_state.specs.KernelView.{view_of}
 use Rattle.pl_state.specs.Sound.{IsSound}
 use Rattle.pl_state.specs.Makes.{MakesAtKeys, MayWantAtKeys}

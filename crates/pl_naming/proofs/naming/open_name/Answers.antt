@@ -1,4 +1,4 @@
-use Rattle.std.proofs.Common.{◌≡◌, List, None, Some, sym, ap, subst, ◌∙◌, ℕ}
+use Rattle.std.proofs.Common.{List, Some, sym, ap, subst, ◌∙◌, ℕ}
 use Rattle.std.specs.Prelude.{All}
 use Rattle.pl_model.specs.declared.node.Node.{Node}
 use Rattle.pl_model.specs.declared.node.Node.TheVariants as node
@@ -31,11 +31,11 @@ pub create_file-requires-clause-may : goal.create_file-requires-clause-may
 create_file-requires-clause-may g c =
     subst (MayOpen c.args.kernel.now c.args.pid c.as_slice-bytes.result.now c.args.mode c.args.flags c.in-Ok.checked.0) c.in_default.is (c.in-Ok.ensures c.args.mode)
 
-pub open_fifo-requires-clause-lowest : goal.open_fifo-requires-clause-lowest
-open_fifo-requires-clause-lowest g c = (c.in-Ok.ensures c.args.mode).lowest
-
-pub open_fifo-requires-clause-few : goal.open_fifo-requires-clause-few
-open_fifo-requires-clause-few g c = (c.in-Ok.ensures c.args.mode).few
+pub open_fifo-requires-clause-may : goal.open_fifo-requires-clause-may
+open_fifo-requires-clause-may g c =
+    let found = c.in-Some.is ∙ ap (λ z. Some z) c.in-Pipe.is in
+    subst (λ name. MayOpen c.args.kernel.now c.args.pid name c.args.mode c.args.flags c.in-Ok.checked.0 (Some (node.Pipe c.in-Pipe.pipe))) c.as_slice-bytes.ensures
+    (subst (MayOpen c.args.kernel.now c.args.pid c.as_slice-bytes.result.now c.args.mode c.args.flags c.in-Ok.checked.0) found (c.in-Ok.ensures c.args.mode))
 
 pub open_fifo-requires-clause-there : goal.open_fifo-requires-clause-there
 open_fifo-requires-clause-there g c =

@@ -53,7 +53,7 @@ invariant_of-kernel g c =
         belong =
             let same = drops_process (view_of c.kernel.inside) (contents descs (nodes g w) (record c.kernel.inside.parked { calls = without nat_eq c.kernel.inside.parked.calls n }) c.kernel.inside.limits) n (ended (parts g v) n call (here g v) descs (nodes g w) (released g w)) in
             λ q. get_without c.kernel.inside.parked.calls n (λ y. IsTrue (is_pid descs.tables y.pid)) q (belong-same c.kernel.inside.parked.calls (is_pid c.kernel.inside.descs.tables) (is_pid descs.tables) c.kernel.invariant.0.belong same q);
-        on_pipes = λ q. get_without c.kernel.inside.parked.calls n (λ y. All (OnPipe (at descs.opened)) y.kept) q
+        on_pipes = λ q. get_without c.kernel.inside.parked.calls n (λ y. All (OnPipe (at descs.opened) y) y.kept) q
             (wait-released-all c.kernel.inside.parked.calls call.kept c.kernel.inside.descs descs (nodes_of c.kernel.inside.nodes) (nodes g w) (released g w) c.kernel.invariant.0.on_pipes q);
       },
       ended_held (parts g v) n call (here g v) descs (nodes g w) (released g w),

@@ -13,10 +13,10 @@ use Rattle.pl_state.specs.Contents.{Contents, core_of}
 use Rattle.pl_state.specs.LastHold.{has_writer}
 use Rattle.pl_state.specs.Makes.{MakesAtKeys}
 use Rattle.pl_state.specs.Parking.{ReadWaits}
-use Rattle.pl_state.specs.Sound.{IsSound, MayWait, IsWaiting, OnPipe}
+use Rattle.pl_state.specs.Sound.{IsSound, MayWait, IsWaiting, IsPipe, OnPipe}
 use Rattle.pl_nodes.proofs.Keyed.{on_err}
 use Rattle.pl_state.proofs.by_call.Begun.{pipe_there}
-use Rattle.pl_state.proofs.holders.OnPipes.{kept-pipe}
+use Rattle.pl_state.proofs.holders.OnPipes.{is-pipe, kept-pipe}
 use Rattle.pl_state.proofs.waiting.Ending.{kept_there}
 use Rattle.pl_state.proofs.by_call.Moving.{changed_sound}
 use Rattle.pl_transfers.proofs.by_call.Resuming.{resume-read-gives, resume-read-wants, resume-read-end, resume-read-waits}
@@ -66,8 +66,9 @@ pipe_of-pipe-requires-clause-here g c =
 pub pipe_of-pipe-requires-clause-pipe : goal.pipe_of-pipe-requires-clause-pipe
 pipe_of-pipe-requires-clause-pipe g c =
     let w = waits g c in
-    let all : All (OnPipe (at c.kernel.inside.descs.opened)) w.call.kept = subst (λ o. IfSome o (λ y. All (OnPipe (at c.kernel.inside.descs.opened)) y.kept)) w.here (c.kernel.invariant.0.on_pipes c.args.number) in
-    subst (λ z. OnPipe (at z.opened) c.args.key) c.kernel.view_is (kept-pipe (at c.kernel.inside.descs.opened) c.args.key w.call.kept w.kept all)
+    let all : All (OnPipe (at c.kernel.inside.descs.opened) w.call) w.call.kept = subst (λ o. IfSome o (λ y. All (OnPipe (at c.kernel.inside.descs.opened) y) y.kept)) w.here (c.kernel.invariant.0.on_pipes c.args.number) in
+    let on = kept-pipe (at c.kernel.inside.descs.opened) w.call c.args.key w.call.kept w.kept all in
+    subst (λ z. IfSome (at z.opened c.args.key) (λ o. IsPipe o.node)) c.kernel.view_is (is-pipe w.call (at c.kernel.inside.descs.opened c.args.key) on)
 
 pub returns-in_err-bytes-in-Gives-clause-wanted : goal.returns-in_err-bytes-in-Gives-clause-wanted
 returns-in_err-bytes-in-Gives-clause-wanted g c =
