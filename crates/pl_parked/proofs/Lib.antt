@@ -2,6 +2,8 @@ pub mod CountLemmas
 pub mod EntryLemmas
 pub mod Finding
 pub mod Keeping
+pub mod Listed
 pub mod Meeting
 pub mod Rising
 pub mod Searched
+pub mod Waiting

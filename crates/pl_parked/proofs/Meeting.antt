@@ -1,77 +1,83 @@
--- Calls that are met, and what their entries keep.
-use Rattle.std.proofs.Common.{◌≡◌, ℕ, zero, suc, ◌+◌, ◌<◌, ◌≤◌, List, [], ◌∷◌, ◌++◌, Option, Some, None, true, false, cond, refl, sym, ◌∙◌, ap, map, take, drop, length, slice_set, slice_index_or, nat_eq, arith}
-use Rattle.std.specs.Prelude.{option_map}
+-- Calls that are met one by one.
+use Rattle.std.proofs.Common.{◌≡◌, ℕ, ◌+◌, Bool, true, false, not, cond, [], ◌∷◌, Option, Some, None, IfSome, refl, sym, ◌∙◌, ap, inl, inr, nat_eq, arith}
+use Rattle.std.specs.Prelude.{IsSomeAnd}
+use Rattle.std.specs.List.{count_by}
+use Rattle.std.proofs.lemmas.Bool.Decides.{eqb_tells}
 use Rattle.std.proofs.lemmas.List.Sums.{sum_by-cons}
 use Rattle.pl_model.specs.declared.calls.Mode.{Mode}
-use Rattle.pl_model.specs.Map.{Map}
+use Rattle.pl_model.specs.Map.{Map, get, put}
 use Rattle.pl_parked.specs.declared.call.ParkedCall.{ParkedCall}
-use Rattle.pl_parked.specs.Calls.{Rise}
-use Rattle.pl_parked.specs.CallsView.{IsSound}
-use Rattle.pl_parked.specs.Counted.{calls_at, place_of}
-use Rattle.pl_parked.specs.Entries.{calls_in, empties, is_empty}
-use Rattle.pl_parked.specs.Meeting.{meets, marked, all_marked, marked_entry}
+use Rattle.pl_parked.specs.Calls.{Calls, Rise}
+use Rattle.pl_parked.specs.Meeting.{meets, marked, all_marked}
+use Rattle.pl_parked.proofs.Rising.{get_first, get_later, get-low, put_first, put_later}
 
-module _ {X : Type 0} (f : X → X) where
-  -- the first ones are changed, and now the next one
-  pub one-more : (i : ℕ) (xs : List X) (d : X) → i < length xs
-      → slice_set (map f (take i xs) ++ drop i xs) i (f (slice_index_or (map f (take i xs) ++ drop i xs) i d)) ≡ map f (take (suc i) xs) ++ drop (suc i) xs
-  one-more i [] d l = absurd (omega (arith, l))
-  one-more zero (x ∷ xs) d l = refl
-  one-more (suc i) (x ∷ xs) d l = ap (λ ys. f x ∷ ys) (one-more i xs d (omega (arith, l)))
+module _ {A : Type 0} where
+  -- how many calls weren't met
+  abbrev pub unmet : Map ℕ (ParkedCall A) → ℕ
+  unmet calls = count_by (λ e. not e.1.met) calls
 
-  pub changes-next : (i : ℕ) (xs es now : List X) (d y : X) → es ≡ map f (take i xs) ++ drop i xs → i < length xs → now ≡ slice_set es i y → y ≡ f (slice_index_or es i d)
-      → now ≡ map f (take (i + 1) xs) ++ drop (i + 1) xs
-  changes-next i xs es now d y is l n v =
-      n ∙ ap (slice_set es i) v ∙ ap (λ zs. slice_set zs i (f (slice_index_or zs i d))) is ∙ one-more i xs d l ∙ ap (λ k. map f (take k xs) ++ drop k xs) (let e : suc i ≡ i + 1 = omega arith in e)
+  -- one call less
+  pub fewer-unmet : (n : ℕ) (es : Map ℕ (ParkedCall A)) (x : ParkedCall A) → get nat_eq es n ≡ Some x → x.met ≡ false → unmet (put nat_eq es n (record x { met = true })) + 1 ≡ unmet es
+  fewer-unmet n [] x h f = absurd (cc)
+  fewer-unmet n (e ∷ es) x h f = elim (eqb_tells e.0 n) as (λ _. unmet (put nat_eq (e ∷ es) n (record x { met = true })) + 1 ≡ unmet (e ∷ es)) [
+    | inl t ↦
+        let is : Some e.1 ≡ Some x = sym (get_first n e es t.1) ∙ h in
+        let own : e.1 ≡ x = cc in
+        let one : ◌≡◌ {A = ℕ} (cond (not e.1.met) 1 0) 1 = ap (λ b. cond (not b) 1 0) (ap (λ (z : ParkedCall A). z.met) own ∙ f) in
+        let after = ap (λ ys. unmet ys) (put_first n e es (record x { met = true }) t.1) ∙ sum_by-cons (λ z. cond (not z.1.met) 1 0) (n, record x { met = true }) es in
+        omega (arith, one, after, sum_by-cons (λ (z : ℕ × ParkedCall A). cond (not z.1.met) 1 0) e es)
+    | inr t ↦
+        let rest = fewer-unmet n es x (sym (get_later n e es t.1) ∙ h) f in
+        let after = ap (λ ys. unmet ys) (put_later n e es (record x { met = true }) t.1) ∙ sum_by-cons (λ z. cond (not z.1.met) 1 0) e (put nat_eq es n (record x { met = true })) in
+        omega (arith, rest, after, sum_by-cons (λ (z : ℕ × ParkedCall A). cond (not z.1.met) 1 0) e es)
+  ]
 
-  pub all-changed : (i : ℕ) (xs : List X) → length xs ≤ i → map f (take i xs) ++ drop i xs ≡ map f xs
-  all-changed zero [] l = refl
-  all-changed (suc i) [] l = refl
-  all-changed zero (x ∷ xs) l = absurd (omega (arith, l))
-  all-changed (suc i) (x ∷ xs) l = ap (λ ys. f x ∷ ys) (all-changed i xs (omega (arith, l)))
+  module _ (pipe : ℕ) (mode : Mode) where
+    marked-is : (x : ParkedCall A) → meets pipe mode x ≡ true → marked pipe mode x ≡ record x { met = true }
+    marked-is x t = ap (λ b. cond b (record x { met = true }) x) t
 
-module _ {A : Type 0} (pipe : ℕ) (mode : Mode) where
-  -- what becomes of one entry
-  pub marks-it : (e : ℕ × Option (ParkedCall A)) (x : ParkedCall A) → e.1 ≡ Some x → meets pipe mode x ≡ true → (e.0, Some (record x { met = true })) ≡ marked_entry pipe mode e
-  marks-it e x is t = sym (ap (λ o. (e.0, option_map (marked pipe mode) o)) is ∙ ap (λ b. (e.0, Some (cond b (record x { met = true }) x))) t)
+    -- a call that is met as the others are to be
+    pub marked-first : (n : ℕ) (es : Map ℕ (ParkedCall A)) (x : ParkedCall A) → get nat_eq es n ≡ Some x → meets pipe mode x ≡ true → all_marked pipe mode (put nat_eq es n (record x { met = true })) ≡ all_marked pipe mode es
+    marked-first n [] x h t = absurd (cc)
+    marked-first n (e ∷ es) x h t = elim (eqb_tells e.0 n) as (λ _. all_marked pipe mode (put nat_eq (e ∷ es) n (record x { met = true })) ≡ all_marked pipe mode (e ∷ es)) [
+      | inl s ↦
+          let is : Some e.1 ≡ Some x = sym (get_first n e es s.1) ∙ h in
+          let own : e.1 ≡ x = cc in
+          ap (all_marked pipe mode) (put_first n e es (record x { met = true }) s.1)
+          ∙ ap (λ y. (n, y) ∷ all_marked pipe mode es) (marked-is (record x { met = true }) t ∙ sym (marked-is x t) ∙ ap (marked pipe mode) (sym own))
+          ∙ ap (λ m. (m, marked pipe mode e.1) ∷ all_marked pipe mode es) (sym s.1)
+      | inr s ↦ ap (all_marked pipe mode) (put_later n e es (record x { met = true }) s.1) ∙ ap (λ ys. (e.0, marked pipe mode e.1) ∷ ys) (marked-first n es x (sym (get_later n e es s.1) ∙ h) t)
+    ]
 
-  pub leaves-it : (e : ℕ × Option (ParkedCall A)) (x : ParkedCall A) → e.1 ≡ Some x → meets pipe mode x ≡ false → (e.0, Some x) ≡ marked_entry pipe mode e
-  leaves-it e x is t = sym (ap (λ o. (e.0, option_map (marked pipe mode) o)) is ∙ ap (λ b. (e.0, Some (cond b (record x { met = true }) x))) t)
+    stays : (x : ParkedCall A) → (meets pipe mode x ≡ true → x.met ≡ true) → marked pipe mode x ≡ x
+    stays x h = by (meets pipe mode x) h
+      where
+        by : (b : Bool) → (b ≡ true → x.met ≡ true) → cond b (record x { met = true }) x ≡ x
+        by true h = λ i. record x { met = sym (h refl) i }
+        by false h = refl
 
-  pub leaves-empty : (e : ℕ × Option (ParkedCall A)) → e.1 ≡ None → e ≡ marked_entry pipe mode e
-  leaves-empty e is = ap (λ o. (e.0, o)) is ∙ sym (ap (λ o. (e.0, option_map (marked pipe mode) o)) is)
+    -- where none is left
+    pub none-left : (low next : ℕ) (es : Map ℕ (ParkedCall A)) → Rise low next es → ((n : ℕ) (x : ParkedCall A) → get nat_eq es n ≡ Some x → meets pipe mode x ≡ true → x.met ≡ true) → all_marked pipe mode es ≡ es
+    none-left low next [] r h = refl
+    none-left low next (e ∷ es) r h = λ i. (e.0, stays e.1 (h e.0 e.1 (get_first e.0 e es refl)) i) ∷ none-left (e.0 + 1) next es r.1 later i
+      where
+        later : (n : ℕ) (x : ParkedCall A) → get nat_eq es n ≡ Some x → meets pipe mode x ≡ true → x.met ≡ true
+        later n x is t = elim (eqb_tells e.0 n) as (λ _. x.met ≡ true) [
+          | inl s ↦ let none = get-low n (e.0 + 1) next es r.1 (let a = s.1 in omega arith) in absurd (cc)
+          | inr s ↦ h n x (get_later n e es s.1 ∙ is) t
+        ]
 
-  marked-rise : (low next : ℕ) (es : Map ℕ (Option (ParkedCall A))) → Rise low next es → Rise low next (map (marked_entry pipe mode) es)
-  marked-rise low next [] r = r
-  marked-rise low next (e ∷ es) r = (r.0, marked-rise (e.0 + 1) next es r.1)
-
-  marked-empties : (es : Map ℕ (Option (ParkedCall A))) → empties (map (marked_entry pipe mode) es) ≡ empties es
-  marked-empties [] = refl
-  marked-empties ((n, None) ∷ es) =
-      sum_by-cons (λ e. cond (is_empty e) 1 0) (n, None) (map (marked_entry pipe mode) es) ∙ ap (λ k. 1 + k) (marked-empties es) ∙ sym (sum_by-cons (λ e. cond (is_empty e) 1 0) (n, None) es)
-  marked-empties ((n, Some x) ∷ es) =
-      sum_by-cons (λ e. cond (is_empty e) 1 0) (n, Some (marked pipe mode x)) (map (marked_entry pipe mode) es) ∙ ap (λ k. 0 + k) (marked-empties es) ∙ sym (sum_by-cons (λ e. cond (is_empty e) 1 0) (n, Some x) es)
-
-  pub marked-calls : (es : Map ℕ (Option (ParkedCall A))) → calls_in (map (marked_entry pipe mode) es) ≡ all_marked pipe mode (calls_in es)
-  marked-calls [] = refl
-  marked-calls ((n, None) ∷ es) = marked-calls es
-  marked-calls ((n, Some x) ∷ es) = ap (λ ys. (n, marked pipe mode x) ∷ ys) (marked-calls es)
-
-  -- the process is the same
-  marked-pid : (x : ParkedCall A) → (marked pipe mode x).pid ≡ x.pid
-  marked-pid x = elim (meets pipe mode x) as (λ b. (cond b (record x { met = true }) x).pid ≡ x.pid) [ true ↦ refl | false ↦ refl ]
-
-  marked-counted : (place : ℕ) (es : Map ℕ (ParkedCall A)) → calls_at (all_marked pipe mode es) place ≡ calls_at es place
-  marked-counted place [] = refl
-  marked-counted place (e ∷ es) =
-      sum_by-cons (λ z. cond (nat_eq (place_of z.1.pid) place) 1 0) (e.0, marked pipe mode e.1) (all_marked pipe mode es)
-      ∙ ap (λ p. cond (nat_eq (place_of p) place) 1 0 + calls_at (all_marked pipe mode es) place) (marked-pid e.1)
-      ∙ ap (λ k. cond (nat_eq (place_of e.1.pid) place) 1 0 + k) (marked-counted place es)
-      ∙ sym (sum_by-cons (λ z. cond (nat_eq (place_of z.1.pid) place) 1 0) e es)
-
-  pub keeps-marked : (es : Map ℕ (Option (ParkedCall A))) (empty next : ℕ) (list : List ℕ) → IsSound es empty list next → IsSound (map (marked_entry pipe mode) es) empty list next
-  keeps-marked es empty next list s = record {
-    rise = marked-rise 0 next es s.rise;
-    empty_ones = s.empty_ones ∙ sym (marked-empties es);
-    counted = λ place. s.counted place ∙ sym (ap (λ (calls : Map ℕ (ParkedCall A)). calls_at calls place) (marked-calls es) ∙ marked-counted place (calls_in es));
-  }
+    -- a call of those that are to be met, once it is met
+    pub marks-one : (old new : Calls A) (n : ℕ) → IsSomeAnd (get nat_eq old.calls n) (λ x. (meets pipe mode x ≡ true) × (x.met ≡ false))
+        → IfSome (get nat_eq old.calls n) (λ x. new ≡ record old { calls = put nat_eq old.calls n (record x { met = true }) })
+        → (record new { calls = all_marked pipe mode new.calls } ≡ record old { calls = all_marked pipe mode old.calls }) × (unmet new.calls + 1 ≡ unmet old.calls)
+    marks-one old new n = by (get nat_eq old.calls n) refl
+      where
+        by : (o : Option (ParkedCall A)) → get nat_eq old.calls n ≡ o → IsSomeAnd o (λ x. (meets pipe mode x ≡ true) × (x.met ≡ false))
+            → IfSome o (λ x. new ≡ record old { calls = put nat_eq old.calls n (record x { met = true }) })
+            → (record new { calls = all_marked pipe mode new.calls } ≡ record old { calls = all_marked pipe mode old.calls }) × (unmet new.calls + 1 ≡ unmet old.calls)
+        by None is h m = absurd h
+        by (Some x) is h m = (
+          ap (λ (v : Calls A). record v { calls = all_marked pipe mode v.calls }) m ∙ ap (λ calls. record old { calls = calls }) (marked-first n old.calls x is h.0),
+          ap (λ (v : Calls A). unmet v.calls + 1) m ∙ fewer-unmet n old.calls x is h.1,
+        )

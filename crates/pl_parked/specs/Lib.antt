@@ -3,3 +3,4 @@ pub mod CallsView
 pub mod Counted
 pub mod Entries
 pub mod Meeting
+pub mod Waiting

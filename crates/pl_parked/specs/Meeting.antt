@@ -1,5 +1,5 @@
 -- Opens of a FIFO that wait for its other end (fifo(7); POSIX.1-2017, open, O_RDONLY and O_WRONLY).
-use Rattle.std.specs.Prelude.{ℕ, Bool, true, false, ◌&&◌, map, if◌then◌else◌, nat_eq, Option, option_map}
+use Rattle.std.specs.Prelude.{ℕ, Bool, true, false, ◌&&◌, map, if◌then◌else◌, nat_eq}
 use Rattle.std.specs.declared.option.Option.TheVariants.{Some}
 use Rattle.std.specs.Option.{option_eq}
 use Rattle.pl_model.specs.declared.calls.Call.{Call}
@@ -25,7 +25,3 @@ marked pipe mode call = if meets pipe mode call then record call { met = true } 
 -- the calls, each met where it meets the open
 abbrev pub all_marked : {A : Type 0} → ℕ → Mode → Map ℕ (ParkedCall A) → Map ℕ (ParkedCall A)
 all_marked pipe mode calls = map (λ e. (e.0, marked pipe mode e.1)) calls
-
--- an entry, its call met where it meets the open
-abbrev pub marked_entry : {A : Type 0} → ℕ → Mode → ℕ × Option (ParkedCall A) → ℕ × Option (ParkedCall A)
-marked_entry pipe mode e = (e.0, option_map (marked pipe mode) e.1)

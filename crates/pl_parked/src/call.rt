@@ -1,8 +1,8 @@
 //! A call that waits.
 ghost use Rattle.std.specs.Prelude.{◌≡◌};
-ghost use Rattle.pl_model.specs.Modes.{lacks_end_of};
-ghost use Rattle.pl_parked.specs.Meeting.{meets};
+ghost use Rattle.pl_parked.specs.Waiting.{reads_alone, opens_to_read, waiting_open};
 
+use crate::opens::WaitingOpen;
 use pl_model::{Call, KeyList, Mode};
 use std::alloc::{Allocator, Global};
 
@@ -23,24 +23,41 @@ pub struct ParkedCall<A: Allocator = Global> {
     pub met: bool,
 }
 
-// Whether a mode lacks an end that the other has.
-fn lacks_end_of(mode: Mode, other: Mode) -> bool
-    ensures { result ≡ lacks_end_of mode other }
+// Whether an open of a mode that lacks an end reads or writes.
+fn reads_alone(mode: Mode) -> Option<bool>
+    ensures { result ≡ reads_alone mode }
 {
-    match (mode, other) {
-        (Mode::Read, Mode::Write | Mode::Both) | (Mode::Write, Mode::Read | Mode::Both) => true,
-        _ => false,
+    match mode {
+        Mode::Read => Some(true),
+        Mode::Write => Some(false),
+        Mode::Both => None,
     }
 }
 
 impl<A: Allocator> ParkedCall<A> {
-    /// Whether it is an open of the FIFO of this pipe that lacks an end that the mode has.
-    pub(crate) fn meets(&self, pipe: usize, mode: Mode) -> bool
-        ensures { result ≡ meets pipe mode self.now }
+    /// How it is listed under this number, if it is an open that waits and wasn't met.
+    pub(crate) fn waiting_open(&self, number: u64) -> Option<WaitingOpen>
+        ensures { result ≡ waiting_open number self.now }
+    {
+        if self.met {
+            return None;
+        }
+        let reads = self.opens_to_read()?;
+        let pipe = self.fifo?;
+        Some(WaitingOpen {
+            pipe,
+            reads,
+            number,
+        })
+    }
+
+    // Whether an open that lacks an end reads or writes, if it is one.
+    fn opens_to_read(&self) -> Option<bool>
+        ensures { result ≡ opens_to_read self.now.call }
     {
         match &self.call {
-            Call::OpenName { mode: own, .. } => self.fifo == Some(pipe) && lacks_end_of(*own, mode),
-            _ => false,
+            Call::OpenName { mode, .. } => reads_alone(*mode),
+            _ => None,
         }
     }
 }

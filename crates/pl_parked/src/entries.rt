@@ -1,13 +1,11 @@
 //! The entries in which parked calls stand, in rising order of number. An entry is empty once its call ended.
-ghost use Rattle.std.specs.Prelude.{◌≡◌, ℕ, IfSome, IfNone, Some, None, nat_eq, option_map, map};
+ghost use Rattle.std.specs.Prelude.{◌≡◌, ℕ, IfSome, IfNone, Some, None, nat_eq, option_map};
 ghost use Rattle.std.specs.List.{find};
 ghost use Rattle.pl_model.specs.Map.{get};
 ghost use Rattle.pl_parked.specs.Calls.{Rise, number_at, is_of_from};
 ghost use Rattle.pl_parked.specs.Entries.{calls_in, has_call_of};
-ghost use Rattle.pl_parked.specs.Meeting.{marked_entry};
 
 use crate::call::ParkedCall;
-use pl_model::Mode;
 use std::alloc::Allocator;
 
 /// A number, and its call, if that didn't end.
@@ -41,17 +39,4 @@ fn has_call_of<A: Allocator>(entry: &Entry<A>, pid: u32) -> bool
     ensures { result ≡ has_call_of pid entry.now }
 {
     matches!(&entry.1, Some(call) if call.pid == pid)
-}
-
-/// Marks each open of the FIFO of this pipe that lacks an end that the mode has.
-pub(crate) fn mark_met<A: Allocator>(entries: &mut [Entry<A>], pipe: usize, mode: Mode)
-    ensures { entries.new ≡ map (marked_entry pipe mode) entries.old }
-{
-    for entry in entries.iter_mut() {
-        if let Some(call) = &mut entry.1 {
-            if call.meets(pipe, mode) {
-                call.met = true;
-            }
-        }
-    }
 }

@@ -7,6 +7,7 @@ mod call;
 mod counts;
 mod entries;
 mod fault;
+mod opens;
 mod parked;
 
 pub use call::ParkedCall;

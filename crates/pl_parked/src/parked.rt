@@ -1,16 +1,17 @@
 //! The calls that wait, by number.
-ghost use Rattle.std.specs.Prelude.{ℕ, ◌≡◌, ◌+◌, ◌≤◌, ◌++◌, ◌==◌, [], ◌∷◌, ◌↔◌, IfOk, OnOk, OnErr, IfSome, IfNone, IsSome, IsSomeAnd, Some, None, nat_eq, length, slice_get, option_map};
+ghost use Rattle.std.specs.Prelude.{ℕ, ◌≡◌, ◌+◌, ◌≤◌, ◌++◌, ◌==◌, [], ◌∷◌, ◌↔◌, IfOk, OnOk, OnErr, IfSome, IfNone, IsSome, IsSomeAnd, Some, None, true, false, nat_eq, length, slice_get, option_map};
 ghost use Rattle.std.specs.Option.{option_copied};
 ghost use Rattle.std.specs.List.{find};
 ghost use Rattle.pl_model.specs.Numbers.{last_call};
 ghost use Rattle.pl_model.specs.Map.{get, put, without};
 ghost use Rattle.pl_parked.specs.Calls.{Rise, is_of_from};
-ghost use Rattle.pl_parked.specs.Meeting.{all_marked};
+ghost use Rattle.pl_parked.specs.Meeting.{meets, all_marked};
 
 use crate::call::ParkedCall;
 use crate::counts::Counts;
-use crate::entries::{Entry, mark_met, next_of, place_of};
+use crate::entries::{Entry, next_of, place_of};
 use crate::fault::ParkFault;
+use crate::opens::Opens;
 use pl_model::numbers::LAST_CALL;
 use pl_model::{KeyList, Mode};
 use std::alloc::{Allocator, Global};
@@ -24,6 +25,8 @@ pub struct Parked<A: Allocator = Global> {
     /// How many entries are empty.
     empty: usize,
     counts: Counts<A>,
+    /// The calls that are opens of FIFOs which wait and weren't met.
+    opens: Opens<A>,
     next: u64,
 }
 
@@ -36,7 +39,7 @@ impl<A: Allocator> Model for Parked<A> {
 
     ghost view = { view_of };
 
-    ghost invariant = { λ p. IsSound p.entries.items p.empty p.counts.list.items p.next };
+    ghost invariant = { λ p. IsSound p.entries.items p.empty p.counts.list.items p.opens.set p.next };
 }
 
 impl<A: Allocator + Copy> Parked<A> {
@@ -48,8 +51,38 @@ impl<A: Allocator + Copy> Parked<A> {
             entries: Vec::new(alloc),
             empty: 0,
             counts: Counts::new(alloc),
+            opens: Opens::new(alloc),
             next: first,
         }
+    }
+
+    /// Parks a call under the next number, and answers that number. An error leaves all as it was.
+    ///
+    /// # Errors
+    ///
+    /// - `CallsSpent` exactly where no number is left: the next would be 18,446,744,073,709,551,615, which is never given. It
+    ///   takes no memory.
+    /// - `NoMemory` where a number is left, and there is no memory for one call more.
+    pub fn park(&mut self, call: ParkedCall<A>) -> Result<u64, ParkFault>
+        ensures number { IfOk result (λ number. number ≡ self.old.next) }
+        ensures ok { OnOk result (self.new ≡ record { calls = self.old.calls ++ (self.old.next, call) ∷ []; next = self.old.next + 1 }) }
+        ensures spent { (result ≡ Err ParkFault.CallsSpent) ↔ (self.old.next ≡ last_call) }
+        ensures err { OnErr result (self.new ≡ self.old) }
+    {
+        if self.spent() {
+            return Err(ParkFault::CallsSpent);
+        }
+        let number = self.next;
+        if self.counts.reserve(call.pid).is_err()
+            || self.entries.try_reserve(1).is_err()
+            || self.opens.list(&call, number).is_err()
+        {
+            return Err(ParkFault::NoMemory);
+        }
+        self.counts.add(call.pid);
+        self.entries.push_reserved((number, Some(call)));
+        self.next = number + 1;
+        Ok(number)
     }
 }
 
@@ -69,32 +102,6 @@ impl<A: Allocator> Parked<A> {
         self.next
     }
 
-    /// Parks a call under the next number, and answers that number. An error leaves all as it was.
-    ///
-    /// # Errors
-    ///
-    /// - `CallsSpent` exactly where no number is left: the next would be 18,446,744,073,709,551,615, which is never given. It
-    ///   takes no memory.
-    /// - `NoMemory` where a number is left, and there is no memory for one call more.
-    pub fn park(&mut self, call: ParkedCall<A>) -> Result<u64, ParkFault>
-        ensures number { IfOk result (λ number. number ≡ self.old.next) }
-        ensures ok { OnOk result (self.new ≡ record { calls = self.old.calls ++ (self.old.next, call) ∷ []; next = self.old.next + 1 }) }
-        ensures spent { (result ≡ Err ParkFault.CallsSpent) ↔ (self.old.next ≡ last_call) }
-        ensures err { OnErr result (self.new ≡ self.old) }
-    {
-        if self.spent() {
-            return Err(ParkFault::CallsSpent);
-        }
-        if self.counts.reserve(call.pid).is_err() || self.entries.try_reserve(1).is_err() {
-            return Err(ParkFault::NoMemory);
-        }
-        let number = self.next;
-        self.counts.add(call.pid);
-        self.entries.push_reserved((number, Some(call)));
-        self.next = number + 1;
-        Ok(number)
-    }
-
     /// Takes back the call that was parked last, and gives its number to the next call. It takes no memory.
     pub fn unpark(&mut self, number: u64) -> ParkedCall<A>
         requires last { number + 1 ≡ self.old.next }
@@ -104,6 +111,7 @@ impl<A: Allocator> Parked<A> {
     {
         let (_, entry) = self.entries.pop().unwrap();
         let call = entry.unwrap();
+        self.opens.unlist(&call, number);
         self.counts.remove(call.pid);
         self.next = number;
         call
@@ -124,6 +132,7 @@ impl<A: Allocator> Parked<A> {
     {
         let place = place_of(&self.entries, number)?;
         let call = self.entries[place].1.take()?;
+        self.opens.unlist(&call, number);
         self.counts.remove(call.pid);
         self.empty += 1;
         self.close_gaps();
@@ -169,11 +178,35 @@ impl<A: Allocator> Parked<A> {
     }
 
     /// Marks the opens that an open of a FIFO with this mode meets as it succeeds or begins to wait: those of the FIFO of this
-    /// pipe that lack an end that the mode has (fifo(7)). It takes no memory.
+    /// pipe that lack an end that the mode has (fifo(7)). It goes over none but those that weren't met before, and takes no
+    /// memory.
     pub fn mark_met(&mut self, pipe: usize, mode: Mode)
         ensures { self.new ≡ record self.old { calls = all_marked pipe mode self.old.calls } }
     {
-        mark_met(&mut self.entries, pipe, mode);
+        while let Some(number) = self.next_met(pipe, mode) {
+            self.mark(number);
+        }
+    }
+
+    // The number of an open that an open with this mode meets, and that no open met before.
+    fn next_met(&self, pipe: usize, mode: Mode) -> Option<u64>
+        ensures some { IfSome result (λ number. IsSomeAnd (get nat_eq self.now.calls number) (λ call. (meets pipe mode call ≡ true) × (call.met ≡ false))) }
+        ensures none { IfNone result (all_marked pipe mode self.now.calls ≡ self.now.calls) }
+    {
+        self.opens.first_met(pipe, mode)
+    }
+
+    // Marks the open of a number.
+    fn mark(&mut self, number: u64)
+        requires { IsSome (get nat_eq self.old.calls number) }
+        ensures { IfSome (get nat_eq self.old.calls number) (λ call. self.new ≡ record self.old { calls = put nat_eq self.old.calls number (record call { met = true }) }) }
+    {
+        let place = place_of(&self.entries, number).unwrap();
+        let Some(open) = &mut self.entries[place].1 else {
+            unreachable!()
+        };
+        self.opens.unlist(open, number);
+        open.met = true;
     }
 
     // Moves the calls together once more than half of the entries are empty, so that fewer calls move than ended since the

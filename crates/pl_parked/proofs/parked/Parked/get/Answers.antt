@@ -29,6 +29,7 @@ returns g c =
       empty = c.self.inside.empty;
       next = c.self.inside.next;
       list = c.self.inside.counts.list.items;
+      set = c.self.inside.opens.set;
       number = c.args.number;
       place = c.in_ok-place.place;
       entry = c.index.result.now;

@@ -3,7 +3,7 @@ use Rattle.pl_model.specs.Map.{get, put}
 use Rattle.pl_parked.specs.declared.call.ParkedCall.{ParkedCall}
 use Rattle.pl_parked.specs.Calls.{Calls, number_at}
 use Rattle.pl_parked.specs.Entries.{calls_in}
-use Rattle.pl_parked.proofs.Keeping.{Found, seen-here, seen-some, entry-call, changes, keeps-changed}
+use Rattle.pl_parked.proofs.Keeping.{Found, seen-here, seen-some, entry-call, changes, keeps-listed}
 use Rattle.pl_parked.proofs.Rising.{at-within}
 use Rattle.pl_parked.proofs.parked.Parked.set_kept.Given.{Over}
 use Rattle.pl_parked.proofs.parked.Parked.set_kept.Goals.{After-unwrap-place, After-index_mut}
@@ -33,6 +33,7 @@ module _ (g : Over) (c : After-index_mut g) (at : number_at c.self.inside.entrie
     empty = c.self.inside.empty;
     next = c.self.inside.next;
     list = c.self.inside.counts.list.items;
+    set = c.self.inside.opens.set;
     number = c.args.number;
     place = c.unwrap-place.result;
     entry = c.index_mut.result.now;
@@ -53,7 +54,7 @@ unreachable-requires g c =
 pub invariant_of-self : goal.invariant_of-self
 invariant_of-self g c =
     let w = goal.at.invariant_of-self g c in
-    keeps-changed (found g w.After-index_mut (here g w.After-unwrap-place)) c.in-Some.call c.in-Some.is (record c.in-Some.call { kept = c.args.kept }) refl
+    keeps-listed (found g w.After-index_mut (here g w.After-unwrap-place)) c.in-Some.call c.in-Some.is (record c.in-Some.call { kept = c.args.kept }) refl (λ number. refl)
 
 pub returns : goal.returns
 returns g c =

@@ -38,6 +38,7 @@ module _ (g : Over) (c : After-take g) where
     empty = c.self.inside.empty;
     next = c.self.inside.next;
     list = c.self.inside.counts.list.items;
+    set = c.self.inside.opens.set;
     number = c.args.number;
     place = c.in_ok-place.place;
     entry = c.index_mut.result.now;
@@ -63,7 +64,7 @@ module _ (g : Over) (c : After-take g) where
 pub invariant_of-self : goal.invariant_of-self
 invariant_of-self g c =
     let w = (goal.at.invariant_of-self g c).After-take in
-    rw c.take.ensures.after (subst (λ es. IsSound es c.self.inside.empty c.self.inside.counts.list.items c.self.inside.next) (sym (stays g w (sym c.in_err-call.ensures.value))) c.self.invariant)
+    rw c.take.ensures.after (subst (λ es. IsSound es c.self.inside.empty c.self.inside.counts.list.items c.self.inside.opens.set c.self.inside.next) (sym (stays g w (sym c.in_err-call.ensures.value))) c.self.invariant)
 
 pub returns-in_err-call-clause-call : goal.returns-in_err-call-clause-call
 returns-in_err-call-clause-call g c =
@@ -85,7 +86,7 @@ remove-requires g c = is-counted (found g (goal.at.remove-requires g c).After-ta
 pub invariant_of-self-2 : goal.invariant_of-self-2
 invariant_of-self-2 g c =
     let w = (goal.at.invariant_of-self-2 g c).After-take in
-    rw (c.take.ensures.after, c.remove.ensures) (keeps-emptied (found g w) c.in_ok-call.call (sym c.in_ok-call.ensures.value))
+    rw (c.take.ensures.after, c.remove.ensures) (keeps-emptied (found g w) c.in_ok-call.call (sym c.in_ok-call.ensures.value) c.unlist.new.self.set c.unlist.ensures)
 
 pub returns-clause-call : goal.returns-clause-call
 returns-clause-call g c = let w = (goal.at.returns-clause-call g c).After-take in c.in_ok-call.ensures.value ∙ sym (had g w)

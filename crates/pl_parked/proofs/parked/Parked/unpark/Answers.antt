@@ -15,6 +15,7 @@ module _ (g : Over) (c : After-unwrap-entry g) where
     empty = c.self.inside.empty;
     next = c.self.inside.next;
     list = c.self.inside.counts.list.items;
+    set = c.self.inside.opens.set;
     number = c.args.number;
     before = c.pop.new.self.items;
     entry = c.unwrap-entry.result;
@@ -31,7 +32,7 @@ pub remove-requires : goal.remove-requires
 remove-requires g c = last-counted (ended g (goal.at.remove-requires g c).After-unwrap-entry) c.unwrap-call.result c.unwrap-call.ensures
 
 pub invariant_of-self : goal.invariant_of-self
-invariant_of-self g c = rw c.remove.ensures (keeps-popped (ended g (goal.at.invariant_of-self g c).After-unwrap-entry) c.unwrap-call.result c.unwrap-call.ensures)
+invariant_of-self g c = rw c.remove.ensures (keeps-popped (ended g (goal.at.invariant_of-self g c).After-unwrap-entry) c.unwrap-call.result c.unwrap-call.ensures c.unlist.new.self.set c.unlist.ensures)
 
 pub returns-clause-calls : goal.returns-clause-calls
 returns-clause-calls g c =

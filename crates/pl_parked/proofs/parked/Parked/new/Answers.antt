@@ -1,0 +1,5 @@
+use Rattle.std.proofs.Common.{refl, arith}
+use Rattle.pl_parked.proofs.parked.Parked.new.Goals as goal
+
+pub invariant_of-result : goal.invariant_of-result
+invariant_of-result g c = rw (c.new.ensures.items, c.new-2.ensures) (record { rise = omega arith; empty_ones = refl; counted = λ place. refl; listed = c.new-3.ensures })
