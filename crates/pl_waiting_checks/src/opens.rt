@@ -2,7 +2,7 @@
 use pl_model::Errno::{EAGAIN, EINTR, ENOENT, ENXIO, EPIPE};
 use pl_model::{Mode, OpenFlags};
 use pl_testing::asked::Ask::{
-    self, Close, Dup, GetFl, Interrupt, Mkfifo, Open, Pipe, Read, Resume, Start, Unlink, Write,
+    Close, Dup, GetFl, Interrupt, Mkfifo, Open, Pipe, Read, Resume, Start, Unlink, Write,
 };
 use pl_testing::asked::Data::{self, Text};
 use pl_testing::asked::Want::{
