@@ -1,5 +1,5 @@
 -- What each change of the fields leaves.
-use Rattle.std.proofs.Common.{◌≡◌, ℕ, ◌+◌, ◌-◌, ◌<◌, ◌≤◌, true, not, cond, List, [], ◌∷◌, ◌++◌, Option, Some, None, IfNone, IsSome, refl, sym, ◌∙◌, ap, subst, nat_eq, length, slice_set, slice_index_or, arith}
+use Rattle.std.proofs.Common.{◌≡◌, ℕ, ◌+◌, ◌-◌, ◌<◌, ◌≤◌, true, not, cond, List, [], ◌∷◌, ◌++◌, Option, Some, None, IfSome, IfNone, IsSome, refl, sym, ◌∙◌, ap, subst, nat_eq, length, slice_set, slice_index_or, arith}
 use Rattle.std.specs.Prelude.{◌&&◌, ◌||◌, is_some}
 use Rattle.std.specs.BTreeSet.{BTreeSet}
 use Rattle.std.specs.Option.{option_flatten}
@@ -7,8 +7,9 @@ use Rattle.std.proofs.lemmas.List.{set-get_or}
 use Rattle.pl_model.specs.Map.{Map, get, put, without}
 use Rattle.pl_parked.specs.declared.call.ParkedCall.{ParkedCall}
 use Rattle.pl_parked.specs.declared.opens.WaitingOpen.{WaitingOpen}
-use Rattle.pl_parked.specs.Calls.{Rise, number_at}
-use Rattle.pl_parked.specs.CallsView.{IsSound}
+use Rattle.pl_parked.specs.declared.parked.Parked.TheInside.{Inside}
+use Rattle.pl_parked.specs.Calls.{Calls, Rise, number_at}
+use Rattle.pl_parked.specs.CallsView.{view_of, IsSound}
 use Rattle.pl_parked.specs.Counted.{place_of, count_at, calls_at, Counts}
 use Rattle.pl_parked.specs.Entries.{calls_in, is_empty}
 use Rattle.pl_parked.specs.Waiting.{is_in, is_named, waiting_open, Lists}
@@ -64,6 +65,14 @@ module _ {A : Type 0} where
   seen-some es now n next None is r h has = subst (λ (q : Option (ParkedCall A)). IsSome q) (seen-none es now n next is r h) has
   seen-some es now n next (Some k) is r h has = refl
 
+-- a search for the number of a call
+module _ {A : Type 0} (p : Inside A) (sound : IsSound p.entries.items p.empty p.counts.list.items p.opens.set p.next) (n : ℕ) (now : Map ℕ (Option (ParkedCall A))) (is : now ≡ p.entries.items) (o : Option ℕ) where
+  pub has-place : (v : Calls A) → view_of p ≡ v → ((next : ℕ) → Rise 0 next now → IfNone o (get nat_eq now n ≡ None)) → IsSome (get nat_eq v.calls n) → IsSome o
+  has-place v seen none has = seen-some p.entries.items now n p.next o is sound.rise none (subst (λ (v : Calls A). IsSome (get nat_eq v.calls n)) (sym seen) has)
+
+  pub place-here : (k : ℕ) → o ≡ Some k → ((next : ℕ) → Rise 0 next now → IfSome o (λ k. number_at now k ≡ Some n)) → number_at p.entries.items k ≡ Some n
+  place-here k found here = seen-here p.entries.items now n p.next k is sound.rise (λ next rise. subst (λ o. IfSome o (λ k. number_at now k ≡ Some n)) found (here next rise))
+
 -- the place of a number, and the entry there
 pub record Found (A : Type 0) : Type 0 where
   pub entries : Map ℕ (Option (ParkedCall A))
@@ -77,6 +86,22 @@ pub record Found (A : Type 0) : Type 0 where
   pub sound : IsSound entries empty list set next
   pub at : number_at entries place ≡ Some number
   pub is : entry ≡ slice_index_or entries place entry
+
+abbrev pub found-in : {A : Type 0} (p : Inside A) → IsSound p.entries.items p.empty p.counts.list.items p.opens.set p.next → (number place : ℕ) (entry : ℕ × Option (ParkedCall A))
+    → number_at p.entries.items place ≡ Some number → entry ≡ slice_index_or p.entries.items place entry → Found A
+found-in p sound number place entry at is = record {
+  entries = p.entries.items;
+  empty = p.empty;
+  next = p.next;
+  list = p.counts.list.items;
+  set = p.opens.set;
+  number = number;
+  place = place;
+  entry = entry;
+  sound = sound;
+  at = at;
+  is = is;
+}
 
 module _ {A : Type 0} (f : Found A) where
   open f use {entries, empty, next, list, set, number, place, entry, sound, at, is}
@@ -146,6 +171,21 @@ module _ {A : Type 0} (f : Found A) where
         keeps-changed y new refl
         (lists-fewer number (is_in set) (is_in new) (get nat_eq (calls_in entries)) (get nat_eq (put nat_eq (calls_in entries) number y)) sound.listed (λ m other. get-put-other number m (calls_in entries) y other) x
         (Some y) has (get-put number (calls_in entries) y) (λ key. refl) fewer))
+
+  -- the same of what is seen of them
+  module _ (v : Calls A) (seen : record { calls = calls_in entries; next = next } ≡ v) where
+    pub had : get nat_eq v.calls number ≡ entry.1
+    had = sym (ap (λ (v : Calls A). get nat_eq v.calls number) seen) ∙ entry-call
+
+    pub not-empty : IsSome (get nat_eq v.calls number) → entry.1 ≡ None → ⊥
+    not-empty given none = let no = subst (λ (o : Option (ParkedCall A)). IsSome o) (had ∙ none) given in cc
+
+    -- its call becomes what it is made to be
+    pub puts : (x : ParkedCall A) → entry.1 ≡ Some x → (edit : ParkedCall A → ParkedCall A)
+        → IfSome (get nat_eq v.calls number) (λ call. record { calls = calls_in (slice_set entries place (entry.0, Some (edit x))); next = next } ≡ record v { calls = put nat_eq v.calls number (edit call) })
+    puts x full-one edit =
+        subst (λ o. IfSome o (λ call. record { calls = calls_in (slice_set entries place (entry.0, Some (edit x))); next = next } ≡ record v { calls = put nat_eq v.calls number (edit call) })) (sym (had ∙ full-one))
+        (ap (λ calls. record { calls = calls; next = next }) (changes x full-one (edit x)) ∙ ap (λ (v : Calls A). record v { calls = put nat_eq v.calls number (edit x) }) seen)
 
 -- the last entry, that of the call that was parked last
 pub record Ended (A : Type 0) : Type 0 where

@@ -2,7 +2,7 @@ use Rattle.std.proofs.Common.{◌≡◌, Some, None, ap, sym, ◌∙◌, subst, 
 use Rattle.std.specs.Option.{option_copied}
 use Rattle.pl_model.specs.Map.{get}
 use Rattle.pl_parked.specs.Calls.{Calls, number_at}
-use Rattle.pl_parked.proofs.Keeping.{Found, seen-here, seen-none, entry-call}
+use Rattle.pl_parked.proofs.Keeping.{found-in, seen-here, seen-none, had}
 use Rattle.pl_parked.proofs.Rising.{at-within}
 use Rattle.pl_parked.proofs.parked.Parked.get.Given.{Over}
 use Rattle.pl_parked.proofs.parked.Parked.get.Goals.{In_ok-place}
@@ -24,17 +24,5 @@ index-requires g c =
 
 pub returns : goal.returns
 returns g c =
-    let found : Found g.row.A.Denot = record {
-      entries = c.self.inside.entries.items;
-      empty = c.self.inside.empty;
-      next = c.self.inside.next;
-      list = c.self.inside.counts.list.items;
-      set = c.self.inside.opens.set;
-      number = c.args.number;
-      place = c.in_ok-place.place;
-      entry = c.index.result.now;
-      sound = c.self.invariant;
-      at = here g (goal.at.returns g c).In_ok-place;
-      is = c.index.ensures;
-    } in
-    c.as_ref.ensures.value ∙ sym (entry-call found) ∙ ap (λ (v : Calls _). get nat_eq v.calls c.args.number) c.self.view_is
+    let found = found-in c.self.inside c.self.invariant c.args.number c.in_ok-place.place c.index.result.now (here g (goal.at.returns g c).In_ok-place) c.index.ensures in
+    c.as_ref.ensures.value ∙ sym (had found c.args.self.now c.self.view_is)

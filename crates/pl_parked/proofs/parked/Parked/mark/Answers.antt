@@ -1,9 +1,6 @@
-use Rattle.std.proofs.Common.{◌≡◌, Option, Some, true, IfSome, IsSome, slice_set, ap, sym, ◌∙◌, subst, nat_eq, arith}
-use Rattle.pl_model.specs.Map.{get, put}
-use Rattle.pl_parked.specs.declared.call.ParkedCall.{ParkedCall}
-use Rattle.pl_parked.specs.Calls.{Calls, number_at}
-use Rattle.pl_parked.specs.Entries.{calls_in}
-use Rattle.pl_parked.proofs.Keeping.{Found, seen-here, seen-some, entry-call, changes, keeps-marked}
+use Rattle.std.proofs.Common.{◌≡◌, Some, true, arith}
+use Rattle.pl_parked.specs.Calls.{number_at}
+use Rattle.pl_parked.proofs.Keeping.{Found, found-in, has-place, place-here, not-empty, puts, keeps-marked}
 use Rattle.pl_parked.proofs.Rising.{at-within}
 use Rattle.pl_parked.proofs.parked.Parked.mark.Given.{Over}
 use Rattle.pl_parked.proofs.parked.Parked.mark.Goals.{After-unwrap-place, After-index_mut}
@@ -11,14 +8,12 @@ use Rattle.pl_parked.proofs.parked.Parked.mark.Goals as goal
 
 pub unwrap-place-requires : goal.unwrap-place-requires
 unwrap-place-requires g c =
-    seen-some c.self.inside.entries.items c.deref.result.now c.args.number c.self.inside.next c.place_of.result c.deref.ensures.value c.self.invariant.rise c.place_of.ensures.none
-    (subst (λ (v : Calls _). IsSome (get nat_eq v.calls c.args.number)) (sym c.self.view_is) c.requires)
+    has-place c.self.inside c.self.invariant c.args.number c.deref.result.now c.deref.ensures.value c.place_of.result c.args.self.now c.self.view_is c.place_of.ensures.none c.requires
 
 -- the place of the number
 module _ (g : Over) (c : After-unwrap-place g) where
   here : number_at c.self.inside.entries.items c.unwrap-place.result ≡ Some c.args.number
-  here = seen-here c.self.inside.entries.items c.deref.result.now c.args.number c.self.inside.next c.unwrap-place.result c.deref.ensures.value c.self.invariant.rise
-      (λ next rise. subst (λ o. IfSome o (λ k. number_at c.deref.result.now k ≡ Some c.args.number)) c.unwrap-place.ensures (c.place_of.ensures.here next rise))
+  here = place-here c.self.inside c.self.invariant c.args.number c.deref.result.now c.deref.ensures.value c.place_of.result c.unwrap-place.result c.unwrap-place.ensures c.place_of.ensures.here
 
 pub index_mut-requires : goal.index_mut-requires
 index_mut-requires g c =
@@ -28,28 +23,12 @@ index_mut-requires g c =
 -- the entry there
 module _ (g : Over) (c : After-index_mut g) (at : number_at c.self.inside.entries.items c.unwrap-place.result ≡ Some c.args.number) where
   abbrev found : Found g.row.A.Denot
-  found = record {
-    entries = c.self.inside.entries.items;
-    empty = c.self.inside.empty;
-    next = c.self.inside.next;
-    list = c.self.inside.counts.list.items;
-    set = c.self.inside.opens.set;
-    number = c.args.number;
-    place = c.unwrap-place.result;
-    entry = c.index_mut.result.now;
-    sound = c.self.invariant;
-    at = at;
-    is = c.index_mut.ensures.value;
-  }
-
-  had : get nat_eq c.args.self.now.calls c.args.number ≡ c.index_mut.result.now.1
-  had = sym (ap (λ (v : Calls _). get nat_eq v.calls c.args.number) c.self.view_is) ∙ entry-call found
+  found = found-in c.self.inside c.self.invariant c.args.number c.unwrap-place.result c.index_mut.result.now at c.index_mut.ensures.value
 
 pub unreachable-requires : goal.unreachable-requires
 unreachable-requires g c =
     let w = goal.at.unreachable-requires g c in
-    let none = subst (λ (o : Option (ParkedCall g.row.A.Denot)). IsSome o) (had g w.After-index_mut (here g w.After-unwrap-place) ∙ c.in_default.is) c.requires in
-    cc
+    not-empty (found g w.After-index_mut (here g w.After-unwrap-place)) c.args.self.now c.self.view_is c.requires c.in_default.is
 
 pub invariant_of-self : goal.invariant_of-self
 invariant_of-self g c =
@@ -59,8 +38,4 @@ invariant_of-self g c =
 pub returns : goal.returns
 returns g c =
     let w = goal.at.returns g c in
-    let f = found g w.After-index_mut (here g w.After-unwrap-place) in
-    let new = record c.in-Some.open { met = true } in
-    subst (λ o. IfSome o (λ call. record { calls = calls_in (slice_set c.self.inside.entries.items c.unwrap-place.result (c.index_mut.result.now.0, Some new)); next = c.self.inside.next } ≡ record c.args.self.now { calls = put nat_eq c.args.self.now.calls c.args.number (record call { met = true }) })) (sym (had g w.After-index_mut (here g w.After-unwrap-place) ∙ c.in-Some.is))
-    (ap (λ calls. record { calls = calls; next = c.self.inside.next }) (changes f c.in-Some.open c.in-Some.is new)
-    ∙ ap (λ (v : Calls _). record v { calls = put nat_eq v.calls c.args.number new }) c.self.view_is)
+    puts (found g w.After-index_mut (here g w.After-unwrap-place)) c.args.self.now c.self.view_is c.in-Some.open c.in-Some.is (λ call. record call { met = true })

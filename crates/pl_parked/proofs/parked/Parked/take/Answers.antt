@@ -4,7 +4,7 @@ use Rattle.pl_parked.specs.declared.call.ParkedCall.{ParkedCall}
 use Rattle.pl_parked.specs.Calls.{Calls}
 use Rattle.pl_parked.specs.CallsView.{IsSound}
 use Rattle.pl_parked.specs.Entries.{calls_in}
-use Rattle.pl_parked.proofs.Keeping.{Found, seen-here, seen-none, entry-call, still-empty, is-counted, leaves, keeps-emptied}
+use Rattle.pl_parked.proofs.Keeping.{Found, found-in, seen-here, seen-none, had, still-empty, is-counted, leaves, keeps-emptied}
 use Rattle.pl_parked.proofs.Rising.{at-within, without-absent}
 use Rattle.pl_parked.proofs.parked.Parked.take.Given.{Over}
 use Rattle.pl_parked.proofs.parked.Parked.take.Goals.{In_err-place, After-take}
@@ -33,25 +33,14 @@ index_mut-requires g c =
 -- the entry of the number
 module _ (g : Over) (c : After-take g) where
   abbrev found : Found g.row.A.Denot
-  found = record {
-    entries = c.self.inside.entries.items;
-    empty = c.self.inside.empty;
-    next = c.self.inside.next;
-    list = c.self.inside.counts.list.items;
-    set = c.self.inside.opens.set;
-    number = c.args.number;
-    place = c.in_ok-place.place;
-    entry = c.index_mut.result.now;
-    sound = c.self.invariant;
-    at = seen-here c.self.inside.entries.items c.deref.result.now c.args.number c.self.inside.next c.in_ok-place.place c.deref.ensures.value c.self.invariant.rise c.in_ok-place.ensures.here;
-    is = c.index_mut.ensures.value;
-  }
+  found = found-in c.self.inside c.self.invariant c.args.number c.in_ok-place.place c.index_mut.result.now
+      (seen-here c.self.inside.entries.items c.deref.result.now c.args.number c.self.inside.next c.in_ok-place.place c.deref.ensures.value c.self.invariant.rise c.in_ok-place.ensures.here) c.index_mut.ensures.value
 
   abbrev emptied : Map ℕ (Option (ParkedCall g.row.A.Denot))
   emptied = slice_set c.self.inside.entries.items c.in_ok-place.place (c.index_mut.result.now.0, None)
 
-  had : get nat_eq c.args.self.now.calls c.args.number ≡ c.index_mut.result.now.1
-  had = sym (ap (λ (v : Calls _). get nat_eq v.calls c.args.number) c.self.view_is) ∙ entry-call found
+  is-had : get nat_eq c.args.self.now.calls c.args.number ≡ c.index_mut.result.now.1
+  is-had = had found c.args.self.now c.self.view_is
 
   -- it is empty
   module _ (none : c.index_mut.result.now.1 ≡ None) where
@@ -59,7 +48,7 @@ module _ (g : Over) (c : After-take g) where
     stays = still-empty found none
 
     absent : without nat_eq c.args.self.now.calls c.args.number ≡ c.args.self.now.calls
-    absent = without-absent c.args.number c.args.self.now.calls (had ∙ none)
+    absent = without-absent c.args.number c.args.self.now.calls (is-had ∙ none)
 
 pub invariant_of-self : goal.invariant_of-self
 invariant_of-self g c =
@@ -69,7 +58,7 @@ invariant_of-self g c =
 pub returns-in_err-call-clause-call : goal.returns-in_err-call-clause-call
 returns-in_err-call-clause-call g c =
     let w = (goal.at.returns-in_err-call-clause-call g c).After-take in
-    c.from_residual-in_err-call.ensures ∙ sym (had g w ∙ sym c.in_err-call.ensures.value)
+    c.from_residual-in_err-call.ensures ∙ sym (is-had g w ∙ sym c.in_err-call.ensures.value)
 
 pub returns-in_err-call-clause-rest : goal.returns-in_err-call-clause-rest
 returns-in_err-call-clause-rest g c =
@@ -89,7 +78,7 @@ invariant_of-self-2 g c =
     rw (c.take.ensures.after, c.remove.ensures) (keeps-emptied (found g w) c.in_ok-call.call (sym c.in_ok-call.ensures.value) c.unlist.new.self.set c.unlist.ensures)
 
 pub returns-clause-call : goal.returns-clause-call
-returns-clause-call g c = let w = (goal.at.returns-clause-call g c).After-take in c.in_ok-call.ensures.value ∙ sym (had g w)
+returns-clause-call g c = let w = (goal.at.returns-clause-call g c).After-take in c.in_ok-call.ensures.value ∙ sym (is-had g w)
 
 pub returns-clause-rest : goal.returns-clause-rest
 returns-clause-rest g c =
