@@ -1,13 +1,9 @@
 //! The numbers of parked calls, up to the last one.
 use pl_model::Errno;
-use pl_testing::asked::Ask::{
-    self, Close, Interrupt, Pipe, PipeNonblock, Read, Resume, Start, Write,
-};
+use pl_testing::asked::Ask::{Close, Interrupt, Pipe, PipeNonblock, Read, Resume, Start, Write};
 use pl_testing::asked::Data::{Many, Text};
 use pl_testing::asked::NEVER_GIVEN;
-use pl_testing::asked::Want::{
-    self, Bytes, CallsSpent, Count, Fault, Fds, NoCall, Parked, Pid, Unit,
-};
+use pl_testing::asked::Want::{Bytes, CallsSpent, Count, Fault, Fds, NoCall, Parked, Pid, Unit};
 use pl_testing::sessions::{NEW_KERNEL, Session};
 
 const SECOND_LAST: u64 = 18_446_744_073_709_551_613;

@@ -1,7 +1,7 @@
 //! Calls that wait at a pipe whose capacity changes.
 use pl_model::Errno;
 use pl_testing::asked::Ask::{
-    self, Close, GetPipeSz, Interrupt, Pipe, Read, Resume, SetPipeSz, Start, Write,
+    Close, GetPipeSz, Interrupt, Pipe, Read, Resume, SetPipeSz, Start, Write,
 };
 use pl_testing::asked::Data::{Many, Text};
 use pl_testing::asked::Want::{

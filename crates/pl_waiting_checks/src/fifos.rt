@@ -2,8 +2,8 @@
 use pl_model::Errno::{EAGAIN, EBADF, EINTR, ENOENT, ENXIO, EPIPE};
 use pl_model::{Mode, OpenFlags};
 use pl_testing::asked::Ask::{
-    self, Close, Exit, Fork, Interrupt, Mkfifo, Open, Read, Resume, SetFl, SetPipeSz, Start,
-    Unlink, Write,
+    Close, Exit, Fork, Interrupt, Mkfifo, Open, Read, Resume, SetFl, SetPipeSz, Start, Unlink,
+    Write,
 };
 use pl_testing::asked::Data::{self, Many, Text};
 use pl_testing::asked::NEVER_GIVEN;

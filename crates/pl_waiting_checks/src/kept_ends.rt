@@ -1,8 +1,8 @@
 //! Calls that wait keep the ends of pipes that they found open, whatever is closed meanwhile.
 use pl_model::Errno;
-use pl_testing::asked::Ask::{self, Close, Interrupt, Pipe, Read, Resume, Start, Write};
+use pl_testing::asked::Ask::{Close, Interrupt, Pipe, Read, Resume, Start, Write};
 use pl_testing::asked::Data::{Many, Text};
-use pl_testing::asked::Want::{self, Bytes, Count, Fault, Fds, NoCall, Parked, Pid, Unit};
+use pl_testing::asked::Want::{Bytes, Count, Fault, Fds, NoCall, Parked, Pid, Unit};
 use pl_testing::examples::{A_PARKED_CALL_KEEPS_ITS_END, A_WAITING_WRITER_IS_A_WRITER};
 use pl_testing::sessions::{NEW_KERNEL, Session};
 

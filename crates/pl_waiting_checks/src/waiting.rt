@@ -1,12 +1,8 @@
 //! Reads and writes that wait: they are parked, tried again, and interrupted.
 use pl_model::Errno;
-use pl_testing::asked::Ask::{
-    self, Close, Interrupt, Pipe, PipeNonblock, Read, Resume, Start, Write,
-};
+use pl_testing::asked::Ask::{Close, Interrupt, Pipe, PipeNonblock, Read, Resume, Start, Write};
 use pl_testing::asked::Data::{Many, Text};
-use pl_testing::asked::Want::{
-    self, Bytes, Count, CountSigpipe, Fault, Fds, NoCall, Parked, Pid, Unit,
-};
+use pl_testing::asked::Want::{Bytes, Count, CountSigpipe, Fault, Fds, NoCall, Parked, Pid, Unit};
 use pl_testing::examples::{
     A_SMALL_WRITE_AT_ITS_BOUNDARY, AN_INTERRUPTED_LARGE_WRITE, THE_LAST_READER_LEAVES,
 };

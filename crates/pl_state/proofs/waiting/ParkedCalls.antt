@@ -70,7 +70,7 @@ module _ {A : Type 0} (k : Contents A) (sound : IsSound A k) (w : ParkedCall A) 
   }
 
 -- what may wait keeps the description that it tries
-pub keeps_one : {A : Type 0} (key : ℕ) (call : Call A) (taken : ℕ) → MayWait call taken → Keeps call (key ∷ [])
+keeps_one : {A : Type 0} (key : ℕ) (call : Call A) (taken : ℕ) → MayWait call taken → Keeps call (key ∷ [])
 keeps_one key (call.Read fd n) taken may = (key, refl)
 keeps_one key (call.Write fd bytes) taken may = (key, refl)
 keeps_one key (call.OpenName name mode flags) taken may = (key, refl)
