@@ -79,7 +79,7 @@ module _ {A : Type 0} (k : Inside A) (key : ℕ) (old : Content A) (there : at k
     refused-seen = (λ i. record {
       pipes = map (pipe_in (at (kept i))) (refused-contents i);
       files = map (file_in (at (kept i))) (refused-contents i);
-      slots = map (λ o. length (slots_in o)) (refused-contents i);
+      slots = lists (refused-contents i);
       names = names_of k.names.entries;
       next = k.contents.vacant_key;
       segments = live_count (kept i);

@@ -13,6 +13,7 @@ use std::marker::Model;
 
 mod fifos;
 mod files;
+mod moves;
 mod names;
 mod pipes;
 
