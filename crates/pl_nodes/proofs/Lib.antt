@@ -1,5 +1,6 @@
 pub mod Keyed
 pub mod Lists
+pub mod Slices
 pub mod OneChanged
 pub mod AtKey
 pub mod Pipes
