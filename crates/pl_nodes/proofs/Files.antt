@@ -21,7 +21,7 @@ module _ {A : Type 0} (k : Inside A) (key : ℕ) (f : FileNode A) (there : at k.
   pub file-total : total f.file ≡ length (all_read (segment_at k.store) f.file)
   file-total = sym (total-read (segment_at k.store) f.file (held k key (File f) there sound).lie)
 
-  file-flat : at flat.files key ≡ Some (all_read (segment_at k.store) f.file)
+  pub file-flat : at flat.files key ≡ Some (all_read (segment_at k.store) f.file)
   file-flat = ap (λ (v : Nodes). at v.files key) (sym is) ∙ seen-at files_seen (segment_at k.store) k.contents.slots key ∙ ap (file_in (segment_at k.store)) there
 
   -- what is said of it

@@ -1,5 +1,5 @@
 -- Lists by key, and maps that change at one key.
-use Rattle.std.proofs.Common.{◌≡◌, ◌≢◌, ℕ, zero, suc, ◌<◌, Bool, true, false, List, [], ◌∷◌, Option, Some, None, refl, sym, ◌∙◌, ap, inl, inr, nat_eq, length, slice_set, arith}
+use Rattle.std.proofs.Common.{◌≡◌, ◌≢◌, ℕ, zero, suc, ◌<◌, Bool, true, false, List, [], ◌∷◌, Option, Some, None, refl, sym, ◌∙◌, ap, subst, inl, inr, nat_eq, length, slice_set, arith}
 use Rattle.std.proofs.Math.Path.{fun_ext}
 use Rattle.std.specs.Prelude.{if◌then◌else◌, option_map, Result, Ok, Err, IfOk, OnErr}
 use Rattle.std.proofs.lemmas.Bool.{eq-eqb, ne_eqb, eqb-true}
@@ -84,3 +84,6 @@ unchanged k f m e = fun_ext (λ q. no-change (nat_eq k q) f (m q) e)
 -- another key has what it had
 pub at-other : {V : Type 0} (k q : ℕ) (f : V → V) (m : ℕ → Option V) → k ≢ q → change_at k f m q ≡ m q
 at-other k q f m d = ap (λ b. if b then option_map f (m q) else m q) (ne_eqb k q d)
+
+pub other-still : {V : Type 0} (k q : ℕ) (f : V → V) (m n : ℕ → Option V) → n ≡ change_at k f m → k ≢ q → (P : Option V → Type 0) → P (m q) → P (n q)
+other-still k q f m n is d P h = subst P (sym (ap (λ (h : ℕ → Option _). h q) is ∙ at-other k q f m d)) h

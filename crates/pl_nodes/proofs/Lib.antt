@@ -5,6 +5,7 @@ pub mod OneChanged
 pub mod AtKey
 pub mod Pipes
 pub mod Files
+pub mod Lending
 pub mod Coming
 pub mod Names
 pub mod Named
