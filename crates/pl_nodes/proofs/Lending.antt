@@ -97,7 +97,7 @@ module _ {A : Type 0} (k : Inside A) (sound : IsSound k) (flat : Nodes) (is : vi
           let was = slots-flat k to (Pipe t) there sound flat is in
           let lent = slots-flat k from (Pipe s) source sound flat is in
           let now = lists-at (slice_set k.contents.slots to (Some (Pipe (record t { ring = ring })))) to
-              ∙ ap slots_in (get_or-set_same k.contents.slots to (Some (Pipe (record t { ring = ring }))) None (within k.contents.slots to (Pipe t) there)) in
+          ∙ ap slots_in (get_or-set_same k.contents.slots to (Some (Pipe (record t { ring = ring }))) None (within k.contents.slots to (Pipe t) there)) in
           let e : strange (slots_at flat.slots to ++ slots_at flat.slots from) (slots_at (lists (slice_set k.contents.slots to (Some (Pipe (record t { ring = ring }))))) to) ≡ strange (t.ring.slots ++ s.ring.slots) ring.slots = (λ i. strange (was i ++ lent i) (now i)) in
           let less = strange-front t.ring.slots s.ring.slots count ring.slots in
           let f : strange (t.ring.slots ++ slices) ring.slots ≡ strange (t.ring.slots ++ front_of count s.ring.slots) ring.slots = ap (λ ys. strange (t.ring.slots ++ ys) ring.slots) front in

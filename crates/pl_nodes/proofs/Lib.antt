@@ -6,6 +6,7 @@ pub mod AtKey
 pub mod Pipes
 pub mod Files
 pub mod Lending
+pub mod Putting
 pub mod Coming
 pub mod Names
 pub mod Named

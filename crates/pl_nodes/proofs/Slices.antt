@@ -8,6 +8,7 @@ use Rattle.pl_segments.specs.declared.slice.Slice.{Slice}
 use Rattle.pl_segments.specs.Segments.{Segment, Map, at, holders, holders_in, live_count, IsGood, AreGood}
 use Rattle.pl_segments.specs.Slices.{one_if, naming}
 use Rattle.pl_segments.specs.Turns.{Turns}
+use Rattle.pl_segments.specs.Sharing.{named, slots_at}
 use Rattle.pl_segments.specs.Slots.{solid_of, cut_front, cut_end, drop_bytes, front_of}
 use Rattle.pl_segments.proofs.Storing.{live-is}
 use Rattle.pl_segments.proofs.Fronting.{drop-whole, drop-part, front-whole, front-part, front-none}
@@ -123,3 +124,9 @@ fewer-segments held other xs ys good turns fewer =
     let b = live-is other in
     let c = fewer-live held other (λ key. held-there (at other key) (at held key) (good.good key) (let t = turns.counted key in let n = fewer key in omega (arith, t, n))) in
     omega (arith, a, b, c)
+
+-- the same of a list of slots among others
+pub named-fewer : (all : List (List Slice)) (p : ℕ) (ys : List Slice) (key : ℕ) → naming ys key ≤ naming (slots_at all p) key → named (set all p ys) key ≤ named all key
+named-fewer [] p ys key l = omega arith
+named-fewer (xs ∷ all) zero ys key l = omega (arith, l)
+named-fewer (xs ∷ all) (suc p) ys key l = let r = named-fewer all p ys key l in omega (arith, r)

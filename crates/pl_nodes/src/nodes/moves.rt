@@ -174,12 +174,12 @@ impl<A: Allocator + Copy> Nodes<A> {
         let Some(target) = self.contents[to].as_file_mut() else {
             unreachable!()
         };
-        let put = target
+        let Ok(_moved) = target
             .file
-            .put_slices_at(&mut self.store, place, &slices, self.file_max);
-        if put.is_err() {
+            .put_slices_at(&mut self.store, place, &slices, self.file_max)
+        else {
             return Err(NoMemory);
-        }
+        };
         // And here that the file has no more slots than it may have bytes.
         let _end = target.file.len();
         Ok(())

@@ -62,6 +62,6 @@ returns-clause-segments g c =
     let node = c.in-Some.node.now in
     let done = c.drop_front.ensures in
     let fewer = fewer-segments k.store.held c.drop_front.new.store.held node.ring.slots c.drop_front.new.self.slots c.in_use-segments.ensures.good done.turns
-        (λ key. subst (λ (ys : List Slice). naming ys key ≤ naming node.ring.slots key) (sym done.slots) (naming-drop c.args.count node.ring.slots key)) in
+    (λ key. subst (λ (ys : List Slice). naming ys key ≤ naming node.ring.slots key) (sym done.slots) (naming-drop c.args.count node.ring.slots key)) in
     let seen : live_count k.store.held ≡ c.args.self.now.segments = ap (λ (v : Nodes). v.segments) c.self.view_is in
     omega (arith, fewer, seen)
