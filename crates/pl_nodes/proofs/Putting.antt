@@ -1,5 +1,5 @@
 -- The first slices of a pipe that are put in a file.
-use Rattle.std.proofs.Common.{◌≡◌, ℕ, ◌+◌, ◌-◌, ◌≤◌, ◌++◌, List, Some, refl, sym, ◌∙◌, ap, subst, length, take, slice_set, arith}
+use Rattle.std.proofs.Common.{◌≡◌, ℕ, ◌+◌, ◌-◌, ◌≤◌, ◌++◌, List, Some, sym, ◌∙◌, ap, subst, length, take, slice_set, arith}
 use Rattle.std.specs.Prelude.{IfSome}
 use Rattle.std.proofs.lemmas.List.{length-take, take_all}
 use Rattle.pl_model.specs.Numbers.{most_file_bytes}

@@ -1,11 +1,11 @@
 -- Of slots: which lie within others, which segments they name, and how many segments are there.
-use Rattle.std.proofs.Common.{◌≡◌, ℕ, zero, suc, ◌+◌, ◌-◌, ◌<◌, ◌≤◌, Bool, true, false, cond, List, [], ◌∷◌, ◌++◌, Option, Some, None, refl, sym, ◌∙◌, ap, subst, inl, inr, nat_eq, length, set, arith}
+use Rattle.std.proofs.Common.{◌≡◌, ℕ, zero, suc, ◌+◌, ◌-◌, ◌≤◌, Bool, true, false, cond, List, [], ◌∷◌, ◌++◌, Option, Some, None, refl, sym, ◌∙◌, ap, inl, inr, nat_eq, set, arith}
 use Rattle.std.specs.Prelude.{if◌then◌else◌, nat_le, is_some, not, count_by, ◌&&◌, ◌||◌}
 use Rattle.std.proofs.lemmas.Bool.{and_from, and_parts, or_left, or_right, leb-true, le-leb, cases_lt}
 use Rattle.std.proofs.lemmas.Bool.Decides.{leb_tells, eqb_tells}
 use Rattle.std.proofs.lemmas.List.Sums.{sum_by-cons}
 use Rattle.pl_segments.specs.declared.slice.Slice.{Slice}
-use Rattle.pl_segments.specs.Segments.{Segment, Map, at, holders, holders_in, live_count, IsGood, AreGood}
+use Rattle.pl_segments.specs.Segments.{Segment, at, holders_in, live_count, IsGood, AreGood}
 use Rattle.pl_segments.specs.Slices.{one_if, naming}
 use Rattle.pl_segments.specs.Turns.{Turns}
 use Rattle.pl_segments.specs.Sharing.{named, slots_at}

@@ -88,18 +88,19 @@ impl<A: Allocator + Copy> Nodes<A> {
         ensures files { SameFiles self.old self.new }
         ensures err { OnErr result (self.new ≡ self.old) }
     {
+        // A proof learns from these counts what it learns in `copy_pipe_pipe`.
         let _most = self.contents.capacity();
-        let Content::File(source) = &self.contents[from] else {
+        let Content::File(file) = &self.contents[from] else {
             unreachable!()
         };
-        let slices = source.file.slices_at(place, count)?;
-        let Some(target) = self.contents[to].as_pipe_mut() else {
+        let slices = file.file.slices_at(place, count)?;
+        let Some(pipe) = self.contents[to].as_pipe_mut() else {
             unreachable!()
         };
-        let _held = target.ring.len();
-        target.ring.push_slices(&mut self.store, &slices)?;
-        let _capacity = target.ring.capacity();
-        let _slots = target.ring.slots();
+        let _held = pipe.ring.len();
+        pipe.ring.push_slices(&mut self.store, &slices)?;
+        let _capacity = pipe.ring.capacity();
+        let _slots = pipe.ring.slots();
         Ok(())
     }
 
@@ -167,21 +168,21 @@ impl<A: Allocator + Copy> Nodes<A> {
     {
         // A proof learns here that there are fewer files and pipes than a segment can have holders.
         let _most = self.contents.capacity();
-        let Content::Pipe(source) = &self.contents[from] else {
+        let Content::Pipe(pipe) = &self.contents[from] else {
             unreachable!()
         };
-        let slices = source.ring.front_slices(count)?;
-        let Some(target) = self.contents[to].as_file_mut() else {
+        let slices = pipe.ring.front_slices(count)?;
+        let Some(file) = self.contents[to].as_file_mut() else {
             unreachable!()
         };
-        let Ok(_moved) = target
+        let Ok(_moved) = file
             .file
             .put_slices_at(&mut self.store, place, &slices, self.file_max)
         else {
             return Err(NoMemory);
         };
         // And here that the file has no more slots than it may have bytes.
-        let _end = target.file.len();
+        let _end = file.file.len();
         Ok(())
     }
 

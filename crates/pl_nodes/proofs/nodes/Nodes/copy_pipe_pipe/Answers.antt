@@ -1,4 +1,4 @@
-use Rattle.std.proofs.Common.{refl, ◌≤◌, ◌∙◌, Some, ap, take, arith}
+use Rattle.std.proofs.Common.{refl, ◌∙◌, Some, ap, take, arith}
 use Rattle.pl_segments.specs.Segments.{Segments, at}
 use Rattle.pl_ring.specs.Merging.{IsFront}
 use Rattle.pl_nodes.specs.declared.content.Content.TheVariants.{Pipe}

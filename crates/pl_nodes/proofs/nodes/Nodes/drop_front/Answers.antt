@@ -1,4 +1,4 @@
-use Rattle.std.proofs.Common.{refl, ◌≡◌, ◌≤◌, ◌∙◌, ap, subst, drop, length, set, slice_set, sym, List, arith}
+use Rattle.std.proofs.Common.{refl, ◌≡◌, ◌≤◌, ◌∙◌, ap, subst, drop, length, set, sym, List, arith}
 use Rattle.pl_segments.specs.declared.slice.Slice.{Slice}
 use Rattle.pl_segments.specs.Segments.{live_count}
 use Rattle.pl_segments.specs.Slots.{drop_bytes}
@@ -11,7 +11,6 @@ use Rattle.pl_nodes.proofs.Lists.{lists-set}
 use Rattle.pl_nodes.proofs.Slices.{naming-drop, fewer-segments}
 use Rattle.pl_nodes.proofs.AtKey.{pipe-there, held, still-sound, slots-flat}
 use Rattle.pl_nodes.proofs.Pipes.{pipe-total, pipe-told, pipe-done, pipe-files}
-use Rattle.pl_nodes.proofs.nodes.Nodes.drop_front.Given.{Over}
 use Rattle.pl_nodes.proofs.nodes.Nodes.drop_front.Goals.{After-as_pipe_mut}
 use Rattle.pl_nodes.proofs.nodes.Nodes.drop_front.Goals as goal
 

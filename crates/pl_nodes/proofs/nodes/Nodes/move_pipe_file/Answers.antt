@@ -1,4 +1,4 @@
-use Rattle.std.proofs.Common.{◌≡◌, ◌≤◌, ◌∙◌, ap, drop, take, set, arith}
+use Rattle.std.proofs.Common.{◌≡◌, ◌∙◌, ap, drop, take, set, arith}
 use Rattle.pl_model.specs.Map.{change_at}
 use Rattle.pl_segments.specs.Segments.{at}
 use Rattle.pl_segments.specs.Slots.{drop_bytes}

@@ -1,4 +1,4 @@
-use Rattle.std.proofs.Common.{◌≤◌, ◌++◌, ◌∙◌, sym, ap, subst, drop, length, take}
+use Rattle.std.proofs.Common.{◌≤◌, ◌++◌, ◌∙◌, sym, ap, drop, length, take}
 use Rattle.std.specs.Prelude.{IsSome, IfSome}
 use Rattle.pl_model.specs.Map.{change_at}
 use Rattle.pl_segments.specs.Segments.{at}
