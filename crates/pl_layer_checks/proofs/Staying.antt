@@ -40,3 +40,7 @@ stays-written (Err e) key old new f ok err = stays-same (at old.files) (at new.f
 pub stays-resized : {T E : Type 0} (r : Result T E) (key : ℕ) (old new : Nodes) (f : Pipe → Pipe) → OnOk r (at new.pipes ≡ change_at key f (at old.pipes)) → OnErr r (new ≡ old) → (q : ℕ) → IsSome (at old.pipes q) → IsSome (at new.pipes q)
 stays-resized (Ok x) key old new f ok err = stays-changed key (at old.pipes) (at new.pipes) f ok
 stays-resized (Err e) key old new f ok err = stays-same (at old.pipes) (at new.pipes) (ap (λ (v : Nodes). at v.pipes) err)
+
+-- a map that changes at two keys
+pub stays-twice : {V : Type 0} (key other : ℕ) (m n : ℕ → Option V) (f g : V → V) → n ≡ change_at key f (change_at other g m) → (q : ℕ) → IsSome (m q) → IsSome (n q)
+stays-twice key other m n f g is q there = stays-changed key (change_at other g m) n f is q (stays-changed other m (change_at other g m) g refl q there)

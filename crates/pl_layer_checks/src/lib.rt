@@ -11,6 +11,8 @@ mod equal;
 #[cfg(test)]
 mod files;
 #[cfg(test)]
+mod moves;
+#[cfg(test)]
 mod nodes;
 #[cfg(test)]
 mod parked;

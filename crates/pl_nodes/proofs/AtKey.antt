@@ -14,6 +14,7 @@ use Rattle.pl_nodes.specs.declared.content.Content.{Content}
 use Rattle.pl_nodes.specs.declared.content.Content.TheVariants.{Pipe, File}
 use Rattle.pl_nodes.specs.Contents.{as_pipe, as_file}
 use Rattle.pl_nodes.specs.declared.nodes.Nodes.TheInside.{Inside}
+use Rattle.pl_nodes.specs.Nodes.{Nodes}
 use Rattle.pl_nodes.specs.NodesView.{pipe_in, file_in, slots_in, lists, names_of, one_if, AreNamed, view_of, IsSound}
 use Rattle.pl_nodes.proofs.Keyed.{put-back, within}
 use Rattle.pl_nodes.proofs.Lists.{lists-at, lists-length, named-few}
@@ -36,6 +37,10 @@ module _ {A : Type 0} (k : Inside A) (key : ℕ) (old : Content A) (there : at k
   -- it has as few slots as it may
   pub slots-short : length (slots_in (Some old)) ≤ most_file_bytes
   slots-short = subst (λ (xs : List Slice). length xs ≤ most_file_bytes) (lists-at k.contents.slots key ∙ ap slots_in there) (sound.short key)
+
+  -- the slots that are seen under the key
+  pub slots-flat : (flat : Nodes) → view_of k ≡ flat → slots_at flat.slots key ≡ slots_in (Some old)
+  slots-flat flat is = ap (λ (v : Nodes). slots_at v.slots key) (sym is) ∙ lists-at k.contents.slots key ∙ ap slots_in there
 
   -- the nodes with another store, and other content under the key
   abbrev pub with_content : Segments → Content A → Inside A
@@ -79,7 +84,7 @@ module _ {A : Type 0} (k : Inside A) (key : ℕ) (old : Content A) (there : at k
     refused-seen = (λ i. record {
       pipes = map (pipe_in (at (kept i))) (refused-contents i);
       files = map (file_in (at (kept i))) (refused-contents i);
-      slots = map (λ o. length (slots_in o)) (refused-contents i);
+      slots = lists (refused-contents i);
       names = names_of k.names.entries;
       next = k.contents.vacant_key;
       segments = live_count (kept i);

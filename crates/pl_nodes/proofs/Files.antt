@@ -14,19 +14,22 @@ use Rattle.pl_nodes.specs.declared.nodes.Nodes.TheInside.{Inside}
 use Rattle.pl_nodes.specs.Nodes.{Nodes, SamePipes}
 use Rattle.pl_nodes.specs.NodesView.{file_in, view_of, IsSound}
 use Rattle.pl_nodes.proofs.OneChanged.{pipes_seen, files_seen, seen-at, changed-seen, kept-list}
-use Rattle.pl_nodes.proofs.AtKey.{held, with_content}
+use Rattle.pl_nodes.proofs.AtKey.{held, with_content, refused-seen}
 
 module _ {A : Type 0} (k : Inside A) (key : ℕ) (f : FileNode A) (there : at k.contents.slots key ≡ Some (File f)) (sound : IsSound k) (flat : Nodes) (is : view_of k ≡ flat) where
   -- it has as many bytes as its slots
   pub file-total : total f.file ≡ length (all_read (segment_at k.store) f.file)
   file-total = sym (total-read (segment_at k.store) f.file (held k key (File f) there sound).lie)
 
-  file-flat : at flat.files key ≡ Some (all_read (segment_at k.store) f.file)
+  pub file-flat : at flat.files key ≡ Some (all_read (segment_at k.store) f.file)
   file-flat = ap (λ (v : Nodes). at v.files key) (sym is) ∙ seen-at files_seen (segment_at k.store) k.contents.slots key ∙ ap (file_in (segment_at k.store)) there
 
   -- what is said of it
   pub file-said : (P : List ℕ → Type 0) → P (all_read (segment_at k.store) f.file) → IfSome (at flat.files key) P
   file-said P h = subst (λ o. IfSome o P) (sym file-flat) h
+
+  pub file-told : (P : List ℕ → Type 0) → IfSome (at flat.files key) P → P (all_read (segment_at k.store) f.file)
+  file-told P h = subst (λ o. IfSome o P) file-flat h
 
   -- it changes, and with it the store
   module _ (store : Segments) (new : FileNode A) (turns : Turns (segment_at k.store) f.file (segment_at store) new.file) where
@@ -44,6 +47,12 @@ module _ {A : Type 0} (k : Inside A) (key : ℕ) (f : FileNode A) (there : at k.
       names = ap (λ (v : Nodes). v.names) is;
       file_max = ap (λ (v : Nodes). v.file_max) is;
     }
+
+  -- it was refused, and is as it was
+  pub file-refused : (store : Segments) → store.held ≡ k.store.held → (new : FileNode A) → new ≡ f → SamePipes flat (view_of (with_content k key (File f) there sound store (File new)))
+  file-refused store kept new same =
+      let e : view_of (with_content k key (File f) there sound store (File new)) ≡ flat = refused-seen k key (File f) there sound store kept (File new) (λ i. File (same i)) ∙ is in
+      record { pipes = ap (λ (v : Nodes). v.pipes) e; names = ap (λ (v : Nodes). v.names) e; file_max = ap (λ (v : Nodes). v.file_max) e }
 
 -- slots that became none are none
 pub became-none : (m : Map) (xs : List Slice) (n : Map) (ys : List Slice) → ys ≡ [] → Turns m xs n [] → Turns m xs n ys

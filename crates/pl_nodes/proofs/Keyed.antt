@@ -1,8 +1,8 @@
 -- Lists by key, and maps that change at one key.
-use Rattle.std.proofs.Common.{◌≡◌, ◌≢◌, ℕ, zero, suc, ◌<◌, List, [], ◌∷◌, Option, Some, refl, sym, ◌∙◌, ap, inl, inr, nat_eq, length, slice_set, arith}
+use Rattle.std.proofs.Common.{◌≡◌, ◌≢◌, ℕ, zero, suc, ◌<◌, Bool, true, false, List, [], ◌∷◌, Option, Some, None, refl, sym, ◌∙◌, ap, subst, inl, inr, nat_eq, length, slice_set, arith}
 use Rattle.std.proofs.Math.Path.{fun_ext}
 use Rattle.std.specs.Prelude.{if◌then◌else◌, option_map, Result, Ok, Err, IfOk, OnErr}
-use Rattle.std.proofs.lemmas.Bool.{eq-eqb, ne_eqb}
+use Rattle.std.proofs.lemmas.Bool.{eq-eqb, ne_eqb, eqb-true}
 use Rattle.std.proofs.lemmas.Bool.Decides.{eqb_tells}
 use Rattle.pl_model.specs.Map.{set_at, change_at}
 use Rattle.pl_segments.specs.Segments.{at}
@@ -61,3 +61,29 @@ same-list (x ∷ xs) (y ∷ ys) l e = (λ i. e i zero ∷ same-list xs ys (omega
 pub if_ok : {T E : Type 0} {P Q : T → Type 0} (r : Result T E) → ((x : T) → P x → Q x) → IfOk r P → IfOk r Q
 if_ok (Ok x) f h = f x h
 if_ok (Err e) f h = tt
+
+-- changes at two keys, in either order
+two-changes : {V : Type 0} (x y : Bool) (f g : V → V) (o : Option V) → (x ≡ true → y ≡ true → ⊥)
+    → (if x then option_map f (if y then option_map g o else o) else (if y then option_map g o else o)) ≡ (if y then option_map g (if x then option_map f o else o) else (if x then option_map f o else o))
+two-changes true true f g o d = absurd (d refl refl)
+two-changes true false f g o d = refl
+two-changes false y f g o d = refl
+
+pub changes-swap : {V : Type 0} (a b : ℕ) (f g : V → V) (m : ℕ → Option V) → a ≢ b → change_at a f (change_at b g m) ≡ change_at b g (change_at a f m)
+changes-swap a b f g m d = fun_ext (λ q. two-changes (nat_eq a q) (nat_eq b q) f g (m q) (λ x y. d (eqb-true a q x ∙ sym (eqb-true b q y))))
+
+-- what is as it was at a key
+no-change : {V : Type 0} (b : Bool) (f : V → V) (o : Option V) → ((x : V) → f x ≡ x) → (if b then option_map f o else o) ≡ o
+no-change true f None e = refl
+no-change true f (Some x) e = ap (λ y. Some y) (e x)
+no-change false f o e = refl
+
+pub unchanged : {V : Type 0} (k : ℕ) (f : V → V) (m : ℕ → Option V) → ((x : V) → f x ≡ x) → change_at k f m ≡ m
+unchanged k f m e = fun_ext (λ q. no-change (nat_eq k q) f (m q) e)
+
+-- another key has what it had
+pub at-other : {V : Type 0} (k q : ℕ) (f : V → V) (m : ℕ → Option V) → k ≢ q → change_at k f m q ≡ m q
+at-other k q f m d = ap (λ b. if b then option_map f (m q) else m q) (ne_eqb k q d)
+
+pub other-still : {V : Type 0} (k q : ℕ) (f : V → V) (m n : ℕ → Option V) → n ≡ change_at k f m → k ≢ q → (P : Option V → Type 0) → P (m q) → P (n q)
+other-still k q f m n is d P h = subst P (sym (ap (λ (h : ℕ → Option _). h q) is ∙ at-other k q f m d)) h

@@ -1,9 +1,12 @@
 pub mod Keyed
 pub mod Lists
+pub mod Slices
 pub mod OneChanged
 pub mod AtKey
 pub mod Pipes
 pub mod Files
+pub mod Lending
+pub mod Putting
 pub mod Coming
 pub mod Names
 pub mod Named

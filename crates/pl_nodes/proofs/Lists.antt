@@ -54,7 +54,7 @@ same-named (xs ∷ all) (ys ∷ others) key same =
     (λ i. here i + rest i)
 
 -- where nothing has slots, no segment is there
-none-live : (held : List (Option Segment)) → ((key : ℕ) → is_some (at held key) ≡ true → ⊥) → count_by is_some held ≡ 0
+pub none-live : (held : List (Option Segment)) → ((key : ℕ) → is_some (at held key) ≡ true → ⊥) → count_by is_some held ≡ 0
 none-live [] none = refl
 none-live (None ∷ held) none =
     let e = sum_by-cons (λ (o : Option Segment). cond (is_some o) 1 0) None held in

@@ -21,7 +21,7 @@ module _ {A : Type 0} (k : Inside A) (key : ℕ) (p : PipeNode A) (there : at k.
   pub pipe-total : total p.ring.slots ≡ length (all_read (segment_at k.store) p.ring.slots)
   pipe-total = sym (total-read (segment_at k.store) p.ring.slots (held k key (Pipe p) there sound).lie)
 
-  pipe-flat : at flat.pipes key ≡ Some (pipe_of (segment_at k.store) p)
+  pub pipe-flat : at flat.pipes key ≡ Some (pipe_of (segment_at k.store) p)
   pipe-flat = ap (λ (v : Nodes). at v.pipes key) (sym is) ∙ seen-at pipes_seen (segment_at k.store) k.contents.slots key ∙ ap (pipe_in (segment_at k.store)) there
 
   -- what is said of it

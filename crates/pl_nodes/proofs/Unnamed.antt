@@ -50,7 +50,7 @@ module _ {A : Type 0} (k : Inside A) (sound : IsSound k) (key : ℕ) (x new : Co
   unnamed-seen = (λ i. record {
     pipes = kept (pipe_in (segment_at k.store)) (same-pipe (segment_at k.store) x) i;
     files = kept (file_in (segment_at k.store)) (same-file (segment_at k.store) x) i;
-    slots = kept (λ o. length (slots_in o)) (ap length (same-slots x)) i;
+    slots = kept slots_in (same-slots x) i;
     names = names_of names.entries;
     next = k.contents.vacant_key;
     segments = live_count k.store.held;

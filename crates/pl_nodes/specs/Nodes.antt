@@ -1,15 +1,16 @@
 -- What descriptions are on, as contracts see it.
-use Rattle.std.specs.Prelude.{ℕ, List, Option, ◌≡◌}
+use Rattle.std.specs.Prelude.{ℕ, List, [], Option, None, Some, ◌≡◌, take, drop, unwrap_or}
 use Rattle.pl_model.specs.declared.node.Node.{Node}
 use Rattle.pl_model.specs.Map.{Map}
 use Rattle.pl_model.specs.State.{Pipe}
+use Rattle.pl_segments.specs.declared.slice.Slice.{Slice}
 
--- the pipes and the bytes of the files by key, in how many slots each keeps its bytes, what the names stand for, in the order of
+-- the pipes and the bytes of the files by key, the slots in which each keeps its bytes, what the names stand for, in the order of
 -- their bytes, the key that the next pipe or file gets, how many segments hold all bytes, and the most bytes of a file
 pub record Nodes : Type 0 where
   pub pipes : List (Option Pipe)
   pub files : List (Option (List ℕ))
-  pub slots : List ℕ
+  pub slots : List (List Slice)
   pub names : Map (List ℕ) Node
   pub next : ℕ
   pub segments : ℕ
@@ -26,3 +27,12 @@ pub record SamePipes (old new : Nodes) : Type 0 where
   pub pipes : new.pipes ≡ old.pipes
   pub names : new.names ≡ old.names
   pub file_max : new.file_max ≡ old.file_max
+
+-- the bytes of a pipe, none of none
+abbrev pub bytes_of : Option Pipe → List ℕ
+bytes_of None = []
+bytes_of (Some pipe) = pipe.bytes
+
+-- splice(2), off_in: the bytes of a file from a place on, at most so many
+abbrev pub part_of : ℕ → ℕ → Option (List ℕ) → List ℕ
+part_of place count file = take count (drop place (unwrap_or file []))

@@ -81,7 +81,7 @@ module _ {A : Type 0} where
       record {
         pipes = map (pipe_in m) k.contents.slots;
         files = map (file_in m) k.contents.slots;
-        slots = map (λ o. length (slots_in o)) k.contents.slots;
+        slots = lists k.contents.slots;
         names = names_of k.names.entries;
         next = k.contents.vacant_key;
         segments = live_count k.store.held;

@@ -1,8 +1,8 @@
 //! What descriptions are on: pipes and regular files, whose bytes stand in the segments of one store, and their names.
 //!
-//! Contracts see flat maps from keys to pipes and to the bytes of files, one from names to what they stand for, and nothing of
-//! segments but their number: each call says what becomes of one entry, and that all others stay as they were, though they
-//! share segments.
+//! Contracts see flat maps from keys to pipes and to the bytes of files, and one from names to what they stand for: each call says
+//! what becomes of one entry or two, and that all others stay as they were, though they share segments. Of these contracts tell
+//! how many there are, and of the slots how many a pipe has, and which of them are shared where bytes go from one to another.
 #![tactic(auto)]
 
 mod content;

@@ -13,11 +13,12 @@ use std::marker::Model;
 
 mod fifos;
 mod files;
+mod moves;
 mod names;
 mod pipes;
 
-/// Pipes and regular files, by key, and what the names stand for. Contracts see the list of each, the key that the next pipe or
-/// file gets, how many segments hold their bytes, and how many bytes a file may have.
+/// Pipes and regular files, by key, and what the names stand for. Contracts see the list of each, the slots in which their
+/// bytes stand, the key that the next pipe or file gets, how many segments hold all bytes, and how many bytes a file may have.
 #[derive(Drop)]
 pub struct Nodes<A: Allocator = Global> {
     alloc: A,

@@ -1,5 +1,5 @@
 //! Pipes.
-ghost use Rattle.std.specs.Prelude.{◌≡◌, ◌↔◌, ◌+◌, ◌-◌, ◌*◌, ◌/◌, ◌<◌, ◌≤◌, ◌++◌, false, [], length, take, drop, slice_index_or, IfOk, OnErr, OnOk, IsSome, IfSome, Some, None, Err, nat_eq};
+ghost use Rattle.std.specs.Prelude.{◌≡◌, ◌↔◌, ◌+◌, ◌-◌, ◌*◌, ◌/◌, ◌<◌, ◌≤◌, ◌++◌, false, [], length, take, drop, IfOk, OnErr, OnOk, IsSome, IfSome, Some, None, Err, nat_eq};
 ghost use Rattle.pl_model.specs.Numbers.{most_capacity};
 ghost use Rattle.pl_model.specs.Capacity.{IsPipeCapacity};
 ghost use Rattle.pl_model.specs.State.{empty_pipe};
@@ -8,6 +8,7 @@ ghost use Rattle.pl_model.specs.Map.{set_at, change_at};
 ghost use Rattle.pl_model.specs.Nodes.{has_name};
 ghost use Rattle.pl_segments.specs.Segments.{segment_size, segment_at, at};
 ghost use Rattle.pl_segments.specs.Turns.{Holds, Turns};
+ghost use Rattle.pl_segments.specs.Sharing.{slots_at};
 ghost use Rattle.pl_nodes.specs.Nodes.{SameFiles};
 
 use super::Nodes;
@@ -102,7 +103,7 @@ impl<A: Allocator + Copy> Nodes<A> {
     /// In how many slices the bytes of a pipe stand.
     pub fn slots(&self, key: usize) -> usize
         requires { IsSome (at self.now.pipes key) }
-        ensures value { result ≡ slice_index_or self.now.slots key 0 }
+        ensures value { result ≡ length (slots_at self.now.slots key) }
         ensures bound { IfSome (at self.now.pipes key) (λ x. result ≤ 2 * x.capacity / segment_size) }
     {
         let Content::Pipe(node) = &self.contents[key] else {

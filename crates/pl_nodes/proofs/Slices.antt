@@ -1,0 +1,132 @@
+-- Of slots: which lie within others, which segments they name, and how many segments are there.
+use Rattle.std.proofs.Common.{◌≡◌, ℕ, zero, suc, ◌+◌, ◌-◌, ◌≤◌, Bool, true, false, cond, List, [], ◌∷◌, ◌++◌, Option, Some, None, refl, sym, ◌∙◌, ap, inl, inr, nat_eq, set, arith}
+use Rattle.std.specs.Prelude.{if◌then◌else◌, nat_le, is_some, not, count_by, ◌&&◌, ◌||◌}
+use Rattle.std.proofs.lemmas.Bool.{and_from, and_parts, or_left, or_right, leb-true, le-leb, cases_lt}
+use Rattle.std.proofs.lemmas.Bool.Decides.{leb_tells, eqb_tells}
+use Rattle.std.proofs.lemmas.List.Sums.{sum_by-cons}
+use Rattle.pl_segments.specs.declared.slice.Slice.{Slice}
+use Rattle.pl_segments.specs.Segments.{Segment, at, holders_in, live_count, IsGood, AreGood}
+use Rattle.pl_segments.specs.Slices.{one_if, naming}
+use Rattle.pl_segments.specs.Turns.{Turns}
+use Rattle.pl_segments.specs.Sharing.{named, slots_at}
+use Rattle.pl_segments.specs.Slots.{solid_of, cut_front, cut_end, drop_bytes, front_of}
+use Rattle.pl_segments.proofs.Storing.{live-is}
+use Rattle.pl_segments.proofs.Fronting.{drop-whole, drop-part, front-whole, front-part, front-none}
+use Rattle.pl_ring.specs.Parts.{within, within_any, strange}
+use Rattle.pl_nodes.proofs.Lists.{none-live}
+
+-- what lies within the first bytes of a slice lies within it
+within-cut : (z x : Slice) (n : ℕ) → n ≤ x.len → within z (cut_end n x) ≡ true → within z x ≡ true
+within-cut z x n l w =
+    let a = and_parts (nat_eq z.segment x.segment) (nat_le x.from z.from && nat_le (z.from + z.len) (x.from + n)) w in
+    let b = and_parts (nat_le x.from z.from) (nat_le (z.from + z.len) (x.from + n)) a.1 in
+    let end = leb-true (z.from + z.len) (x.from + n) b.1 in
+    and_from (nat_eq z.segment x.segment) (nat_le x.from z.from && nat_le (z.from + z.len) (x.from + x.len)) a.0
+    (and_from (nat_le x.from z.from) (nat_le (z.from + z.len) (x.from + x.len)) b.0 (le-leb (z.from + z.len) (x.from + x.len) (omega (arith, end, l))))
+
+-- what is true of either of two tests, is true of either of two that follow from them
+or_weaker : (a b c d : Bool) → (a ≡ true → c ≡ true) → (b ≡ true → d ≡ true) → (a || b) ≡ true → (c || d) ≡ true
+or_weaker true b c d f h e = or_left c d (f refl)
+or_weaker false b c d f h e = or_right c d (h e)
+
+within-front : (n : ℕ) (xs : List Slice) (z : Slice) → within_any (front_of n xs) z ≡ true → within_any xs z ≡ true
+within-front n [] z w = w
+within-front n (x ∷ xs) z w = elim (cases_lt x.len n) as (λ _. within_any (x ∷ xs) z ≡ true) [
+  | inl l ↦
+      or_weaker (within z x) (within_any (front_of (n - x.len) xs) z) (within z x) (within_any xs z) (λ h. h) (within-front (n - x.len) xs z)
+      (ap (λ ys. within_any ys z) (sym (front-whole n x xs l)) ∙ w)
+  | inr l ↦ elim (eqb_tells n 0) as (λ _. within_any (x ∷ xs) z ≡ true) [
+    | inl e ↦ let none : false ≡ true = ap (λ ys. within_any ys z) (sym (ap (λ k. front_of k (x ∷ xs)) e.1 ∙ front-none (x ∷ xs))) ∙ w in absurd (cc)
+    | inr e ↦
+        or_weaker (within z (cut_end n x)) false (within z x) (within_any xs z) (within-cut z x n l) (λ h. absurd (cc))
+        (ap (λ ys. within_any ys z) (sym (front-part n x xs l e.1)) ∙ w)
+  ]
+]
+
+-- behind other slices
+within-behind : (ts ys xs : List Slice) (z : Slice) → (within_any ys z ≡ true → within_any xs z ≡ true) → within_any (ts ++ ys) z ≡ true → within_any (ts ++ xs) z ≡ true
+within-behind [] ys xs z f w = f w
+within-behind (t ∷ ts) ys xs z f w = or_weaker (within z t) (within_any (ts ++ ys) z) (within z t) (within_any (ts ++ xs) z) (λ h. h) (within-behind ts ys xs z f) w
+
+fewer-strange : (a b : Bool) → (a ≡ true → b ≡ true) → one_if (not b) ≤ one_if (not a)
+fewer-strange true b f = let e : one_if (not b) ≡ 0 = ap (λ c. one_if (not c)) (f refl) in omega (arith, e)
+fewer-strange false true f = omega arith
+fewer-strange false false f = omega arith
+
+-- no more slots are strange to slices than to their first bytes
+pub strange-front : (ts xs : List Slice) (n : ℕ) (zs : List Slice) → strange (ts ++ xs) zs ≤ strange (ts ++ front_of n xs) zs
+strange-front ts xs n [] = omega arith
+strange-front ts xs n (z ∷ zs) =
+    let here = fewer-strange (within_any (ts ++ front_of n xs) z) (within_any (ts ++ xs) z) (within-behind ts (front_of n xs) xs z (within-front n xs z)) in
+    let rest = strange-front ts xs n zs in
+    omega (arith, here, rest)
+
+-- parts of slots name no segment oftener than the slots
+pub naming-front : (n : ℕ) (xs : List Slice) (key : ℕ) → naming (front_of n xs) key ≤ naming xs key
+naming-front n [] key = omega arith
+naming-front n (x ∷ xs) key = elim (cases_lt x.len n) as (λ _. naming (front_of n (x ∷ xs)) key ≤ naming (x ∷ xs) key) [
+  | inl l ↦
+      let e : naming (front_of n (x ∷ xs)) key ≡ one_if (nat_eq x.segment key) + naming (front_of (n - x.len) xs) key = ap (λ ys. naming ys key) (front-whole n x xs l) in
+      let rest = naming-front (n - x.len) xs key in
+      omega (arith, e, rest)
+  | inr l ↦ elim (eqb_tells n 0) as (λ _. naming (front_of n (x ∷ xs)) key ≤ naming (x ∷ xs) key) [
+    | inl z ↦ let e : naming (front_of n (x ∷ xs)) key ≡ 0 = ap (λ ys. naming ys key) (ap (λ k. front_of k (x ∷ xs)) z.1 ∙ front-none (x ∷ xs)) in omega (arith, e)
+    | inr z ↦ let e : naming (front_of n (x ∷ xs)) key ≡ one_if (nat_eq x.segment key) + 0 = ap (λ ys. naming ys key) (front-part n x xs l z.1) in omega (arith, e)
+  ]
+]
+
+pub naming-solid : (xs : List Slice) (key : ℕ) → naming (solid_of xs) key ≤ naming xs key
+naming-solid [] key = omega arith
+naming-solid (x ∷ xs) key =
+    let rest = naming-solid xs key in
+    elim (eqb_tells x.len 0) as (λ _. naming (solid_of (x ∷ xs)) key ≤ naming (x ∷ xs) key) [
+      | inl z ↦ let e : naming (solid_of (x ∷ xs)) key ≡ naming (solid_of xs) key = ap (λ b. naming (if b then solid_of xs else x ∷ solid_of xs) key) z.0 in omega (arith, e, rest)
+      | inr z ↦ let e : naming (solid_of (x ∷ xs)) key ≡ naming (x ∷ solid_of xs) key = ap (λ b. naming (if b then solid_of xs else x ∷ solid_of xs) key) z.0 in omega (arith, e, rest)
+    ]
+
+pub naming-drop : (n : ℕ) (xs : List Slice) (key : ℕ) → naming (drop_bytes n xs) key ≤ naming xs key
+naming-drop n [] key = omega arith
+naming-drop n (x ∷ xs) key = elim (leb_tells x.len n) as (λ _. naming (drop_bytes n (x ∷ xs)) key ≤ naming (x ∷ xs) key) [
+  | inl l ↦
+      let e : naming (drop_bytes (n - x.len) xs) key ≡ naming (drop_bytes n (x ∷ xs)) key = ap (λ ys. naming ys key) (drop-whole n x xs l.1) in
+      let rest = naming-drop (n - x.len) xs key in
+      omega (arith, e, rest)
+  | inr l ↦ let e : naming (drop_bytes n (x ∷ xs)) key ≡ naming (cut_front n x ∷ xs) key = ap (λ ys. naming ys key) (drop-part n x xs l.1) in omega (arith, e)
+]
+
+-- where each segment of a store is there in another, that one has as many
+count-cons : (o : Option Segment) (held : List (Option Segment)) → count_by is_some (o ∷ held) ≡ one_if (is_some o) + count_by is_some held
+count-cons o held = sum_by-cons (λ (o : Option Segment). cond (is_some o) 1 0) o held
+
+there-le : (o p : Option Segment) → (is_some o ≡ true → is_some p ≡ true) → one_if (is_some o) ≤ one_if (is_some p)
+there-le None p f = omega arith
+there-le (Some s) p f = let e : one_if (is_some p) ≡ 1 = ap one_if (f refl) in omega (arith, e)
+
+fewer-live : (held other : List (Option Segment)) → ((key : ℕ) → is_some (at other key) ≡ true → is_some (at held key) ≡ true) → count_by is_some other ≤ count_by is_some held
+fewer-live held [] f = omega arith
+fewer-live [] (o ∷ other) f = let e = none-live (o ∷ other) (λ key there. let no : false ≡ true = f key there in absurd (cc)) in omega (arith, e)
+fewer-live (p ∷ held) (o ∷ other) f =
+    let a = count-cons o other in
+    let b = count-cons p held in
+    let here = there-le o p (f zero) in
+    let rest = fewer-live held other (λ key. f (suc key)) in
+    omega (arith, a, b, here, rest)
+
+held-there : (o p : Option Segment) → IsGood o → holders_in o ≤ holders_in p → is_some o ≡ true → is_some p ≡ true
+held-there None p g l h = absurd (cc)
+held-there (Some s) None g l h = let one = g.0 in absurd (omega (arith, one, l))
+held-there (Some s) (Some t) g l h = refl
+
+-- slots of which some go, and name no segment oftener
+pub fewer-segments : (held other : List (Option Segment)) (xs ys : List Slice) → AreGood other → Turns (at held) xs (at other) ys → ((key : ℕ) → naming ys key ≤ naming xs key) → live_count other ≤ live_count held
+fewer-segments held other xs ys good turns fewer =
+    let a = live-is held in
+    let b = live-is other in
+    let c = fewer-live held other (λ key. held-there (at other key) (at held key) (good.good key) (let t = turns.counted key in let n = fewer key in omega (arith, t, n))) in
+    omega (arith, a, b, c)
+
+-- the same of a list of slots among others
+pub named-fewer : (all : List (List Slice)) (p : ℕ) (ys : List Slice) (key : ℕ) → naming ys key ≤ naming (slots_at all p) key → named (set all p ys) key ≤ named all key
+named-fewer [] p ys key l = omega arith
+named-fewer (xs ∷ all) zero ys key l = omega (arith, l)
+named-fewer (xs ∷ all) (suc p) ys key l = let r = named-fewer all p ys key l in omega (arith, r)

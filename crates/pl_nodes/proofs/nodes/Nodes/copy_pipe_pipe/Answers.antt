@@ -1,0 +1,97 @@
+use Rattle.std.proofs.Common.{refl, ◌∙◌, Some, ap, take, arith}
+use Rattle.pl_segments.specs.Segments.{Segments, at}
+use Rattle.pl_ring.specs.Merging.{IsFront}
+use Rattle.pl_nodes.specs.declared.content.Content.TheVariants.{Pipe}
+use Rattle.pl_nodes.specs.Nodes.{bytes_of}
+use Rattle.pl_nodes.proofs.Keyed.{on_err}
+use Rattle.pl_nodes.proofs.AtKey.{pipe-there, held, few-holders, still-sound, refused-sound, refused-seen}
+use Rattle.pl_nodes.proofs.Pipes.{pipe-files, pipe-refused}
+use Rattle.pl_nodes.proofs.Lending.{front-lies, front-bytes, front-few, push-fits, pushed-ok, pushed-parts}
+use Rattle.pl_nodes.proofs.nodes.Nodes.copy_pipe_pipe.Goals as goal
+
+pub push_slices-requires-clause-lie : goal.push_slices-requires-clause-lie
+push_slices-requires-clause-lie g c = front-lies c.self.inside c.self.invariant c.args.self.now c.self.view_is c.args.from c.in-Pipe.source (c.index.ensures ∙ ap (λ x. Some x) c.in-Pipe.is) c.args.count c.in_ok-slices.slices c.in_ok-slices.ensures
+
+pub push_slices-requires-clause-held : goal.push_slices-requires-clause-held
+push_slices-requires-clause-held g c =
+    let k = c.self.inside in
+    let target = c.in-Some.target.now in
+    let there = pipe-there k.contents.slots c.args.to c.index_mut.result.now target c.index_mut.ensures.value c.in-Some.ensures.value in
+    held k c.args.to (Pipe target) there c.self.invariant
+
+pub push_slices-requires-clause-few : goal.push_slices-requires-clause-few
+push_slices-requires-clause-few g c = few-holders c.self.inside c.self.invariant (omega (arith, c.capacity-most.ensures.value, c.capacity-most.ensures.slots))
+
+pub push_slices-requires-clause-fits : goal.push_slices-requires-clause-fits
+push_slices-requires-clause-fits g c =
+    let k = c.self.inside in
+    let target = c.in-Some.target.now in
+    let there = pipe-there k.contents.slots c.args.to c.index_mut.result.now target c.index_mut.ensures.value c.in-Some.ensures.value in
+    let source = c.index.ensures ∙ ap (λ x. Some x) c.in-Pipe.is in
+    let few = front-few k c.self.invariant c.args.self.now c.self.view_is c.args.from c.in-Pipe.source source c.args.count c.in_ok-slices.slices c.in_ok-slices.ensures in
+    push-fits k c.self.invariant c.args.self.now c.self.view_is c.args.to target there c.in_ok-slices.slices c.args.count few c.requires.room (omega (arith, c.len-held.ensures.value, c.len-held.ensures.fits))
+
+pub invariant_of-self : goal.invariant_of-self
+invariant_of-self g c =
+    let refused = c.in_err-push_slices.ensures in
+    let k = c.self.inside in
+    let target = c.in-Some.target.now in
+    let there = pipe-there k.contents.slots c.args.to c.index_mut.result.now target c.index_mut.ensures.value c.in-Some.ensures.value in
+    refused-sound k c.args.to (Pipe target) there c.self.invariant c.push_slices.new.store (ap (λ (s : Segments). s.held) refused.store_err)
+    (Pipe (record target { ring = c.push_slices.new.self })) (λ i. Pipe (record target { ring = refused.err i }))
+
+pub returns-in_err-push_slices-clause-files : goal.returns-in_err-push_slices-clause-files
+returns-in_err-push_slices-clause-files g c =
+    let refused = c.in_err-push_slices.ensures in
+    let k = c.self.inside in
+    let target = c.in-Some.target.now in
+    let there = pipe-there k.contents.slots c.args.to c.index_mut.result.now target c.index_mut.ensures.value c.in-Some.ensures.value in
+    pipe-refused k c.args.to target there c.self.invariant c.args.self.now c.self.view_is c.push_slices.new.store (ap (λ (s : Segments). s.held) refused.store_err)
+    (record target { ring = c.push_slices.new.self }) (λ i. record target { ring = refused.err i })
+
+pub returns-in_err-push_slices-clause-err : goal.returns-in_err-push_slices-clause-err
+returns-in_err-push_slices-clause-err g c =
+    let refused = c.in_err-push_slices.ensures in
+    let k = c.self.inside in
+    let target = c.in-Some.target.now in
+    let there = pipe-there k.contents.slots c.args.to c.index_mut.result.now target c.index_mut.ensures.value c.in-Some.ensures.value in
+    on_err c.from_residual-in_err-push_slices.result _
+    (refused-seen k c.args.to (Pipe target) there c.self.invariant c.push_slices.new.store (ap (λ (s : Segments). s.held) refused.store_err)
+    (Pipe (record target { ring = c.push_slices.new.self })) (λ i. Pipe (record target { ring = refused.err i })) ∙ c.self.view_is)
+
+pub invariant_of-self-2 : goal.invariant_of-self-2
+invariant_of-self-2 g c =
+    let k = c.self.inside in
+    let target = c.in-Some.target.now in
+    let there = pipe-there k.contents.slots c.args.to c.index_mut.result.now target c.index_mut.ensures.value c.in-Some.ensures.value in
+    still-sound k c.args.to (Pipe target) there c.self.invariant c.push_slices.new.store (Pipe (record target { ring = c.push_slices.new.self })) c.in_ok-push_slices.ensures.turns
+    (omega (arith, c.slots-slots.ensures.value, c.slots-slots.ensures.bound, c.capacity-capacity.ensures.value, c.capacity-capacity.ensures.range.most)) (refl, refl)
+
+pub returns-clause-ok : goal.returns-clause-ok
+returns-clause-ok g c =
+    let done = c.in_ok-push_slices.ensures in
+    let k = c.self.inside in
+    let target = c.in-Some.target.now in
+    let there = pipe-there k.contents.slots c.args.to c.index_mut.result.now target c.index_mut.ensures.value c.in-Some.ensures.value in
+    let source = c.index.ensures ∙ ap (λ x. Some x) c.in-Pipe.is in
+    pushed-ok k c.self.invariant c.args.self.now c.self.view_is c.args.to target there c.in_ok-slices.slices c.push_slices.new.store c.push_slices.new.self
+    (take c.args.count (bytes_of (at c.args.self.now.pipes c.args.from)))
+    (front-bytes k c.self.invariant c.args.self.now c.self.view_is c.args.from c.in-Pipe.source source c.args.count c.in_ok-slices.slices c.in_ok-slices.ensures)
+    done.turns done.read done.capacity
+
+pub returns-clause-files : goal.returns-clause-files
+returns-clause-files g c =
+    let k = c.self.inside in
+    let target = c.in-Some.target.now in
+    let there = pipe-there k.contents.slots c.args.to c.index_mut.result.now target c.index_mut.ensures.value c.in-Some.ensures.value in
+    pipe-files k c.args.to target there c.self.invariant c.args.self.now c.self.view_is c.push_slices.new.store (record target { ring = c.push_slices.new.self }) c.in_ok-push_slices.ensures.turns
+
+pub returns-clause-parts : goal.returns-clause-parts
+returns-clause-parts g c =
+    let k = c.self.inside in
+    let target = c.in-Some.target.now in
+    let there = pipe-there k.contents.slots c.args.to c.index_mut.result.now target c.index_mut.ensures.value c.in-Some.ensures.value in
+    let source = c.index.ensures ∙ ap (λ x. Some x) c.in-Pipe.is in
+    let front : IsFront c.in_ok-slices.slices = record { source = c.in-Pipe.source.ring.slots; count = c.args.count; solid = c.len-len.ensures.solid; merged = c.slots-merged.ensures.merged; is = c.in_ok-slices.ensures } in
+    pushed-parts k c.self.invariant c.args.self.now c.self.view_is c.args.to target there c.in_ok-slices.slices c.push_slices.new.store c.push_slices.new.self
+    c.args.from c.in-Pipe.source source c.args.count c.in_ok-slices.ensures (c.in_ok-push_slices.ensures.front_parts front)

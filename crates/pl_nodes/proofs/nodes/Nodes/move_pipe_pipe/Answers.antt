@@ -1,0 +1,20 @@
+use Rattle.std.proofs.Common.{◌≤◌, ◌++◌, ◌∙◌, sym, ap, drop, length, take}
+use Rattle.std.specs.Prelude.{IsSome, IfSome}
+use Rattle.pl_model.specs.Map.{change_at}
+use Rattle.pl_segments.specs.Segments.{at}
+use Rattle.pl_nodes.specs.Nodes.{bytes_of}
+use Rattle.pl_nodes.proofs.Keyed.{changes-swap, other-still}
+use Rattle.pl_nodes.proofs.nodes.Nodes.move_pipe_pipe.Goals as goal
+
+pub drop_front-requires-clause-here : goal.drop_front-requires-clause-here
+drop_front-requires-clause-here g c = other-still c.args.to c.args.from _ _ _ c.in_ok-copy_pipe_pipe.ensures.ok (λ e. c.requires.other (sym e)) IsSome c.requires.from
+
+pub drop_front-requires-clause-held : goal.drop_front-requires-clause-held
+drop_front-requires-clause-held g c = other-still c.args.to c.args.from _ _ _ c.in_ok-copy_pipe_pipe.ensures.ok (λ e. c.requires.other (sym e)) (λ o. IfSome o (λ x. c.args.count ≤ length x.bytes)) c.requires.held
+
+pub returns-clause-ok : goal.returns-clause-ok
+returns-clause-ok g c =
+    c.drop_front.ensures.ok
+    ∙ ap (change_at c.args.from (λ x. record x { bytes = drop c.args.count x.bytes })) c.in_ok-copy_pipe_pipe.ensures.ok
+    ∙ changes-swap c.args.from c.args.to (λ x. record x { bytes = drop c.args.count x.bytes }) (λ x. record x { bytes = x.bytes ++ take c.args.count (bytes_of (at c.args.self.now.pipes c.args.from)) })
+    (at c.args.self.now.pipes) c.requires.other

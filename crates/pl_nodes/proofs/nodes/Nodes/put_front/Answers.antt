@@ -1,0 +1,115 @@
+use Rattle.std.proofs.Common.{refl, ◌≡◌, ◌∙◌, Some, ap, arith}
+use Rattle.pl_segments.specs.Segments.{Segments, live_count}
+use Rattle.pl_file.proofs.Editing.{solid-length}
+use Rattle.pl_nodes.specs.declared.content.Content.TheVariants.{File}
+use Rattle.pl_nodes.specs.Nodes.{Nodes}
+use Rattle.pl_nodes.proofs.AtKey.{file-there, held, few-holders, still-sound, refused-sound, refused-seen}
+use Rattle.pl_nodes.proofs.Files.{file-pipes, file-refused}
+use Rattle.pl_nodes.proofs.Lending.{front-lies}
+use Rattle.pl_nodes.proofs.Putting.{put-long, put-some, put-within, put-ok, put-named}
+use Rattle.pl_nodes.proofs.nodes.Nodes.put_front.Goals as goal
+
+pub put_slices_at-requires-clause-lie : goal.put_slices_at-requires-clause-lie
+put_slices_at-requires-clause-lie g c =
+    front-lies c.self.inside c.self.invariant c.args.self.now c.self.view_is c.args.from c.in-Pipe.pipe (c.index.ensures ∙ ap (λ x. Some x) c.in-Pipe.is) c.args.count c.in_ok-slices.slices c.in_ok-slices.ensures
+
+pub put_slices_at-requires-clause-long : goal.put_slices_at-requires-clause-long
+put_slices_at-requires-clause-long g c =
+    let k = c.self.inside in
+    let source = c.index.ensures ∙ ap (λ x. Some x) c.in-Pipe.is in
+    let target = c.in-Some.file.now in
+    let there = file-there k.contents.slots c.args.to c.index_mut.result.now target c.index_mut.ensures.value c.in-Some.ensures.value in
+    put-long k c.self.invariant c.args.self.now c.self.view_is c.args.from c.in-Pipe.pipe source c.args.count c.in_ok-slices.slices c.in_ok-slices.ensures
+    c.args.to target there c.args.place c.requires.fits
+
+pub put_slices_at-requires-clause-held : goal.put_slices_at-requires-clause-held
+put_slices_at-requires-clause-held g c =
+    let k = c.self.inside in
+    let target = c.in-Some.file.now in
+    let there = file-there k.contents.slots c.args.to c.index_mut.result.now target c.index_mut.ensures.value c.in-Some.ensures.value in
+    held k c.args.to (File target) there c.self.invariant
+
+pub put_slices_at-requires-clause-few : goal.put_slices_at-requires-clause-few
+put_slices_at-requires-clause-few g c = few-holders c.self.inside c.self.invariant (omega (arith, c.capacity-most.ensures.value, c.capacity-most.ensures.slots))
+
+pub invariant_of-self : goal.invariant_of-self
+invariant_of-self g c =
+    let refused = c.in_default-put_slices_at.ensures in
+    let k = c.self.inside in
+    let target = c.in-Some.file.now in
+    let there = file-there k.contents.slots c.args.to c.index_mut.result.now target c.index_mut.ensures.value c.in-Some.ensures.value in
+    refused-sound k c.args.to (File target) there c.self.invariant c.put_slices_at.new.store (ap (λ (s : Segments). s.held) refused.store_err)
+    (File (record target { file = c.put_slices_at.new.self })) (λ i. File (record target { file = refused.err i }))
+
+pub returns-in_default-put_slices_at-clause-pipes : goal.returns-in_default-put_slices_at-clause-pipes
+returns-in_default-put_slices_at-clause-pipes g c =
+    let refused = c.in_default-put_slices_at.ensures in
+    let k = c.self.inside in
+    let target = c.in-Some.file.now in
+    let there = file-there k.contents.slots c.args.to c.index_mut.result.now target c.index_mut.ensures.value c.in-Some.ensures.value in
+    file-refused k c.args.to target there c.self.invariant c.args.self.now c.self.view_is c.put_slices_at.new.store (ap (λ (s : Segments). s.held) refused.store_err)
+    (record target { file = c.put_slices_at.new.self }) (λ i. record target { file = refused.err i })
+
+pub returns-in_default-put_slices_at-clause-err : goal.returns-in_default-put_slices_at-clause-err
+returns-in_default-put_slices_at-clause-err g c =
+    let refused = c.in_default-put_slices_at.ensures in
+    let k = c.self.inside in
+    let target = c.in-Some.file.now in
+    let there = file-there k.contents.slots c.args.to c.index_mut.result.now target c.index_mut.ensures.value c.in-Some.ensures.value in
+    refused-seen k c.args.to (File target) there c.self.invariant c.put_slices_at.new.store (ap (λ (s : Segments). s.held) refused.store_err)
+    (File (record target { file = c.put_slices_at.new.self })) (λ i. File (record target { file = refused.err i })) ∙ c.self.view_is
+
+pub invariant_of-self-2 : goal.invariant_of-self-2
+invariant_of-self-2 g c =
+    let k = c.self.inside in
+    let target = c.in-Some.file.now in
+    let there = file-there k.contents.slots c.args.to c.index_mut.result.now target c.index_mut.ensures.value c.in-Some.ensures.value in
+    let long = solid-length c.put_slices_at.new.self c.len-end.ensures.solid in
+    still-sound k c.args.to (File target) there c.self.invariant c.put_slices_at.new.store (File (record target { file = c.put_slices_at.new.self })) c.in-Ok.ensures.turns
+    (omega (arith, long, c.len-end.ensures.value, c.len-end.ensures.most)) (refl, refl)
+
+pub returns-clause-ok : goal.returns-clause-ok
+returns-clause-ok g c =
+    let k = c.self.inside in
+    let source = c.index.ensures ∙ ap (λ x. Some x) c.in-Pipe.is in
+    let target = c.in-Some.file.now in
+    let there = file-there k.contents.slots c.args.to c.index_mut.result.now target c.index_mut.ensures.value c.in-Some.ensures.value in
+    put-ok k c.self.invariant c.args.self.now c.self.view_is c.args.from c.in-Pipe.pipe source c.args.count c.in_ok-slices.slices c.in_ok-slices.ensures
+    c.args.to target there c.args.place c.requires.fits
+    c.put_slices_at.new.store c.put_slices_at.new.self c.in-Ok.ensures.turns c.in-Ok.ensures.read
+
+pub returns-clause-pipes : goal.returns-clause-pipes
+returns-clause-pipes g c =
+    let k = c.self.inside in
+    let target = c.in-Some.file.now in
+    let there = file-there k.contents.slots c.args.to c.index_mut.result.now target c.index_mut.ensures.value c.in-Some.ensures.value in
+    file-pipes k c.args.to target there c.self.invariant c.args.self.now c.self.view_is c.put_slices_at.new.store (record target { file = c.put_slices_at.new.self }) c.in-Ok.ensures.turns
+
+pub returns-clause-segments : goal.returns-clause-segments
+returns-clause-segments g c = λ asked.
+    let k = c.self.inside in
+    let source = c.index.ensures ∙ ap (λ x. Some x) c.in-Pipe.is in
+    let target = c.in-Some.file.now in
+    let there = file-there k.contents.slots c.args.to c.index_mut.result.now target c.index_mut.ensures.value c.in-Some.ensures.value in
+    let within = put-within k c.self.invariant c.args.self.now c.self.view_is c.args.from c.in-Pipe.pipe source c.args.count c.in_ok-slices.slices c.in_ok-slices.ensures
+    c.args.to target there c.args.place c.requires.fits asked in
+    let fewer = c.in-Ok.ensures.in_use within in
+    let seen : live_count k.store.held ≡ c.args.self.now.segments = ap (λ (v : Nodes). v.segments) c.self.view_is in
+    omega (arith, fewer, seen)
+
+pub returns-clause-none_added : goal.returns-clause-none_added
+returns-clause-none_added g c = λ asked.
+    let k = c.self.inside in
+    let source = c.index.ensures ∙ ap (λ x. Some x) c.in-Pipe.is in
+    let target = c.in-Some.file.now in
+    let there = file-there k.contents.slots c.args.to c.index_mut.result.now target c.index_mut.ensures.value c.in-Some.ensures.value in
+    let long = solid-length c.put_slices_at.new.self c.len-end.ensures.solid in
+    let now = still-sound k c.args.to (File target) there c.self.invariant c.put_slices_at.new.store (File (record target { file = c.put_slices_at.new.self })) c.in-Ok.ensures.turns
+    (omega (arith, long, c.len-end.ensures.value, c.len-end.ensures.most)) (refl, refl) in
+    let within = put-within k c.self.invariant c.args.self.now c.self.view_is c.args.from c.in-Pipe.pipe source c.args.count c.in_ok-slices.slices c.in_ok-slices.ensures
+    c.args.to target there c.args.place c.requires.fits asked in
+    let some = put-some k c.self.invariant c.args.self.now c.self.view_is c.args.from c.in-Pipe.pipe source c.args.count c.in_ok-slices.slices c.in_ok-slices.ensures
+    c.args.to target there c.args.place c.requires.fits c.requires.held c.requires.some c.in-Ok._moved c.in-Ok.ensures.count in
+    put-named k c.self.invariant c.args.self.now c.self.view_is c.args.from c.in-Pipe.pipe source c.args.count c.in_ok-slices.slices c.in_ok-slices.ensures
+    c.args.to target there c.args.place c.requires.fits
+    c.put_slices_at.new.store c.put_slices_at.new.self c.in-Ok.ensures.turns now.shared c.in-Ok._moved (c.in-Ok.ensures.slots some within)

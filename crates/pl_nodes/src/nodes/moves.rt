@@ -1,0 +1,207 @@
+//! Bytes that go from one pipe or file to another, or are copied, by sharing the segments in which they stand.
+ghost use Rattle.std.specs.Prelude.{◌≡◌, ◌≢◌, ◌↔◌, ℕ, ◌+◌, ◌≤◌, ◌++◌, length, take, drop, slice_set, IfOk, OnErr, OnOk, IsSome, IfSome, Err};
+ghost use Rattle.pl_model.specs.Transfer.{room};
+ghost use Rattle.pl_model.specs.Map.{change_at};
+ghost use Rattle.pl_segments.specs.Segments.{at};
+ghost use Rattle.pl_segments.specs.Slots.{drop_bytes};
+ghost use Rattle.pl_segments.specs.Sharing.{named, slots_at};
+ghost use Rattle.pl_ring.specs.Parts.{strange};
+ghost use Rattle.pl_file.specs.File.{written, fitting};
+ghost use Rattle.pl_nodes.specs.Nodes.{SameFiles, SamePipes, bytes_of, part_of};
+
+use super::Nodes;
+use crate::content::Content;
+use pl_file::WriteFault;
+use pl_segments::NoMemory;
+use std::alloc::Allocator;
+
+impl<A: Allocator + Copy> Nodes<A> {
+    /// Copies the first `count` bytes of a pipe to the end of another, which has room for them; the first keeps them (tee(2)). At
+    /// most three segments are made, and but for three slots at most the other pipe then has slots that it had or that lie
+    /// within those of the first. `NoMemory` where there is no memory for that; an error leaves all as it was.
+    pub fn copy_pipe_pipe(&mut self, from: usize, to: usize, count: usize) -> Result<(), NoMemory>
+        requires from { IsSome (at self.old.pipes from) }
+        requires to { IsSome (at self.old.pipes to) }
+        requires other { from ≢ to }
+        requires held { IfSome (at self.old.pipes from) (λ x. count ≤ length x.bytes) }
+        requires room { IfSome (at self.old.pipes to) (λ x. count ≤ room x) }
+        ensures ok { OnOk result (at self.new.pipes ≡ change_at to (λ x. record x { bytes = x.bytes ++ take count (bytes_of (at self.old.pipes from)) }) (at self.old.pipes)) }
+        ensures files { SameFiles self.old self.new }
+        ensures segments { OnOk result (self.new.segments ≤ self.old.segments + 3) }
+        ensures parts { OnOk result (strange (slots_at self.old.slots to ++ slots_at self.old.slots from) (slots_at self.new.slots to) ≤ 3) }
+        ensures err { OnErr result (self.new ≡ self.old) }
+    {
+        // A proof learns here that there are fewer files and pipes than a segment can have holders.
+        let _most = self.contents.capacity();
+        let Content::Pipe(source) = &self.contents[from] else {
+            unreachable!()
+        };
+        // And here that what is pushed is the front of a ring.
+        let _len = source.ring.len();
+        let _merged = source.ring.slots();
+        let slices = source.ring.front_slices(count)?;
+        let Some(target) = self.contents[to].as_pipe_mut() else {
+            unreachable!()
+        };
+        // And here that the pipe holds no more than its capacity.
+        let _held = target.ring.len();
+        target.ring.push_slices(&mut self.store, &slices)?;
+        // And here that it has few slots.
+        let _capacity = target.ring.capacity();
+        let _slots = target.ring.slots();
+        Ok(())
+    }
+
+    /// Moves the first `count` bytes of a pipe to the end of another, which has room for them (splice(2)). At most three segments
+    /// are made, and but for three slots at most the other pipe then has slots that it had or that lie within those that the
+    /// first had. `NoMemory` where there is no memory for that; an error leaves all as it was.
+    pub fn move_pipe_pipe(&mut self, from: usize, to: usize, count: usize) -> Result<(), NoMemory>
+        requires from { IsSome (at self.old.pipes from) }
+        requires to { IsSome (at self.old.pipes to) }
+        requires other { from ≢ to }
+        requires held { IfSome (at self.old.pipes from) (λ x. count ≤ length x.bytes) }
+        requires room { IfSome (at self.old.pipes to) (λ x. count ≤ room x) }
+        ensures ok { OnOk result (at self.new.pipes ≡ change_at to (λ x. record x { bytes = x.bytes ++ take count (bytes_of (at self.old.pipes from)) }) (change_at from (λ x. record x { bytes = drop count x.bytes }) (at self.old.pipes))) }
+        ensures files { SameFiles self.old self.new }
+        ensures segments { OnOk result (self.new.segments ≤ self.old.segments + 3) }
+        ensures parts { OnOk result (strange (slots_at self.old.slots to ++ slots_at self.old.slots from) (slots_at self.new.slots to) ≤ 3) }
+        ensures err { OnErr result (self.new ≡ self.old) }
+    {
+        self.copy_pipe_pipe(from, to, count)?;
+        self.drop_front(from, count);
+        Ok(())
+    }
+
+    /// Copies at most `count` bytes of a file, from a place on and none past its end, to the end of a pipe that has room for
+    /// `count` (splice(2), off_in). `NoMemory` where there is no memory for that; an error leaves all as it was.
+    pub fn move_file_pipe(
+        &mut self,
+        from: usize,
+        place: usize,
+        to: usize,
+        count: usize,
+    ) -> Result<(), NoMemory>
+        requires from { IsSome (at self.old.files from) }
+        requires to { IsSome (at self.old.pipes to) }
+        requires room { IfSome (at self.old.pipes to) (λ x. count ≤ room x) }
+        ensures ok { OnOk result (at self.new.pipes ≡ change_at to (λ x. record x { bytes = x.bytes ++ part_of place count (at self.old.files from) }) (at self.old.pipes)) }
+        ensures files { SameFiles self.old self.new }
+        ensures err { OnErr result (self.new ≡ self.old) }
+    {
+        // A proof learns from these counts what it learns in `copy_pipe_pipe`.
+        let _most = self.contents.capacity();
+        let Content::File(file) = &self.contents[from] else {
+            unreachable!()
+        };
+        let slices = file.file.slices_at(place, count)?;
+        let Some(pipe) = self.contents[to].as_pipe_mut() else {
+            unreachable!()
+        };
+        let _held = pipe.ring.len();
+        pipe.ring.push_slices(&mut self.store, &slices)?;
+        let _capacity = pipe.ring.capacity();
+        let _slots = pipe.ring.slots();
+        Ok(())
+    }
+
+    /// Moves the first `count` bytes of a pipe into a file at a place, as many of them as stand below the greatest length of a file,
+    /// and answers how many; what lies between the end of the file and the place reads as zeros (splice(2), off_out;
+    /// POSIX.1-2017, write and lseek). Where the place isn't past the end no segment is made. An error leaves all as it was.
+    ///
+    /// # Errors
+    ///
+    /// - `TooBig` exactly where there are bytes, and the place is at the greatest length or past it.
+    /// - `NoMemory` where it isn't, and there is no memory.
+    pub fn move_pipe_file(
+        &mut self,
+        from: usize,
+        to: usize,
+        place: usize,
+        count: usize,
+    ) -> Result<usize, WriteFault>
+        requires from { IsSome (at self.old.pipes from) }
+        requires to { IsSome (at self.old.files to) }
+        requires held { IfSome (at self.old.pipes from) (λ x. count ≤ length x.bytes) }
+        ensures count { IfOk result (λ moved. moved ≡ fitting count place self.old.file_max) }
+        ensures big { (result ≡ Err WriteFault.TooBig) ↔ ((1 ≤ count) × (self.old.file_max ≤ place)) }
+        ensures pipes { OnOk result (at self.new.pipes ≡ change_at from (λ x. record x { bytes = drop (fitting count place self.old.file_max) x.bytes }) (at self.old.pipes)) }
+        ensures files { OnOk result (at self.new.files ≡ change_at to (written place (take (fitting count place self.old.file_max) (bytes_of (at self.old.pipes from)))) (at self.old.files)) }
+        ensures names { self.new.names ≡ self.old.names }
+        ensures file_max { self.new.file_max ≡ self.old.file_max }
+        ensures segments { OnOk result (IfSome (at self.old.files to) (λ bytes. place ≤ length bytes) → self.new.segments ≤ self.old.segments) }
+        ensures none_added { OnOk result (IfSome (at self.old.files to) (λ bytes. place ≤ length bytes) → (key : ℕ) → 1 ≤ named self.new.slots key → 1 ≤ named self.old.slots key) }
+        ensures err { OnErr result (self.new ≡ self.old) }
+    {
+        if count == 0 {
+            return Ok(0);
+        }
+        // Before any memory is asked for.
+        if self.file_max <= place {
+            return Err(WriteFault::TooBig);
+        }
+        let moved = count.min(self.file_max - place);
+        let Ok(()) = self.put_front(from, to, place, moved) else {
+            return Err(WriteFault::NoMemory);
+        };
+        self.drop_front(from, moved);
+        Ok(moved)
+    }
+
+    // Writes the first bytes of a pipe into a file at a place, and leaves them in the pipe. An error leaves all as it was.
+    fn put_front(
+        &mut self,
+        from: usize,
+        to: usize,
+        place: usize,
+        count: usize,
+    ) -> Result<(), NoMemory>
+        requires from { IsSome (at self.old.pipes from) }
+        requires to { IsSome (at self.old.files to) }
+        requires held { IfSome (at self.old.pipes from) (λ x. count ≤ length x.bytes) }
+        requires some { 1 ≤ count }
+        requires fits { place + count ≤ self.old.file_max }
+        ensures ok { OnOk result (at self.new.files ≡ change_at to (written place (take count (bytes_of (at self.old.pipes from)))) (at self.old.files)) }
+        ensures pipes { SamePipes self.old self.new }
+        ensures segments { OnOk result (IfSome (at self.old.files to) (λ bytes. place ≤ length bytes) → self.new.segments ≤ self.old.segments) }
+        ensures none_added { OnOk result (IfSome (at self.old.files to) (λ bytes. place ≤ length bytes) → (key : ℕ) → 1 ≤ named self.new.slots key → 1 ≤ named self.old.slots key) }
+        ensures err { OnErr result (self.new ≡ self.old) }
+    {
+        // A proof learns here that there are fewer files and pipes than a segment can have holders.
+        let _most = self.contents.capacity();
+        let Content::Pipe(pipe) = &self.contents[from] else {
+            unreachable!()
+        };
+        let slices = pipe.ring.front_slices(count)?;
+        let Some(file) = self.contents[to].as_file_mut() else {
+            unreachable!()
+        };
+        let Ok(_moved) = file
+            .file
+            .put_slices_at(&mut self.store, place, &slices, self.file_max)
+        else {
+            return Err(NoMemory);
+        };
+        // And here that the file has no more slots than it may have bytes.
+        let _end = file.file.len();
+        Ok(())
+    }
+
+    // Lets the first bytes of a pipe go. It takes no memory.
+    fn drop_front(&mut self, key: usize, count: usize)
+        requires here { IsSome (at self.old.pipes key) }
+        requires held { IfSome (at self.old.pipes key) (λ x. count ≤ length x.bytes) }
+        ensures ok { at self.new.pipes ≡ change_at key (λ x. record x { bytes = drop count x.bytes }) (at self.old.pipes) }
+        ensures files { SameFiles self.old self.new }
+        ensures slots { self.new.slots ≡ slice_set self.old.slots key (drop_bytes count (slots_at self.old.slots key)) }
+        ensures segments { self.new.segments ≤ self.old.segments }
+    {
+        let Some(node) = self.contents[key].as_pipe_mut() else {
+            unreachable!()
+        };
+        node.ring.drop_front(&mut self.store, count);
+        // A proof learns here that the pipe has few slots, and that a segment that is there is held.
+        let _capacity = node.ring.capacity();
+        let _slots = node.ring.slots();
+        let _segments = self.store.in_use();
+    }
+}
