@@ -44,3 +44,11 @@ stays-resized (Err e) key old new f ok err = stays-same (at old.pipes) (at new.p
 -- a map that changes at two keys
 pub stays-twice : {V : Type 0} (key other : ℕ) (m n : ℕ → Option V) (f g : V → V) → n ≡ change_at key f (change_at other g m) → (q : ℕ) → IsSome (m q) → IsSome (n q)
 stays-twice key other m n f g is q there = stays-changed key (change_at other g m) n f is q (stays-changed other m (change_at other g m) g refl q there)
+
+-- what is there is at another key than what isn't
+none-there : {V : Type 0} (o : Option V) → o ≡ None → IsSome o → ⊥
+none-there None e h = absurd (cc)
+none-there (Some x) e h = absurd (cc)
+
+pub elsewhere : {V : Type 0} (m : ℕ → Option V) (key other : ℕ) → IsSome (m key) → m other ≡ None → key ≡ other → ⊥
+elsewhere m key other there none same = none-there (m other) none (subst (λ k. IsSome (m k)) same there)

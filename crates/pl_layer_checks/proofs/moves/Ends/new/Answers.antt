@@ -1,8 +1,7 @@
-use Rattle.std.proofs.Common.{[], None, ◌∙◌, ap, subst}
-use Rattle.std.specs.Prelude.{IsSome}
+use Rattle.std.proofs.Common.{[]}
 use Rattle.pl_model.specs.State.{empty_pipe}
 use Rattle.pl_segments.specs.Segments.{at}
-use Rattle.pl_layer_checks.proofs.Staying.{stays-same, stays-set, there-set}
+use Rattle.pl_layer_checks.proofs.Staying.{stays-same, stays-set, there-set, elsewhere}
 use Rattle.pl_layer_checks.proofs.moves.Ends.new.Goals as goal
 
 pub invariant_of-result : goal.invariant_of-result
@@ -15,6 +14,6 @@ invariant_of-result g c =
       stays-set c.in_ok-second.second (at two.pipes) (at three.pipes) empty_pipe c.in_ok-second.ensures.ok c.in_ok-first.first first,
       there-set c.in_ok-second.second (at two.pipes) (at three.pipes) empty_pipe c.in_ok-second.ensures.ok,
       stays-same (at two.files) (at three.files) c.in_ok-second.ensures.files c.in-Ok.file
-      (stays-same (at one.files) (at two.files) c.in_ok-first.ensures.files c.in-Ok.file (there-set c.in-Ok.file (at zero.files) (at one.files) [] c.in-Ok.ensures.ok)),
-      λ same. let none : IsSome (at two.pipes c.in_ok-second.second) = subst (λ key. IsSome (at two.pipes key)) same first in absurd (cc (none, c.in_ok-second.ensures.vacant.0)),
+          (stays-same (at one.files) (at two.files) c.in_ok-first.ensures.files c.in-Ok.file (there-set c.in-Ok.file (at zero.files) (at one.files) [] c.in-Ok.ensures.ok)),
+      elsewhere (at two.pipes) c.in_ok-first.first c.in_ok-second.second first c.in_ok-second.ensures.vacant.0,
     )
