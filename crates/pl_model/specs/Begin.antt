@@ -6,11 +6,12 @@ use Rattle.pl_model.specs.declared.calls.Mode.{Mode}
 use Rattle.pl_model.specs.declared.calls.Whence.{Whence}
 use Rattle.pl_model.specs.declared.calls.Whence.TheVariants.{Set, Cur, End}
 use Rattle.pl_model.specs.declared.flags.OpenFlags.{OpenFlags}
+use Rattle.pl_model.specs.declared.flags.SpliceFlags.{SpliceFlags}
 use Rattle.pl_model.specs.declared.replies.Reply.TheVariants.{Pid, Fd, Fds, Bytes, Offset, Flags, Size, Unit}
 use Rattle.pl_model.specs.declared.replies.Errno.TheVariants.{EAGAIN, EBADF, EBUSY, EEXIST, EINVAL, EMFILE, ENAMETOOLONG, ENFILE, ENOENT, ENXIO, EOVERFLOW, EPERM, ESPIPE}
 use Rattle.pl_model.specs.Numbers.{last_call, open_max, most_descriptions, most_name_bytes, most_capacity, greatest_offset}
 use Rattle.pl_model.specs.Modes.{reads, writes, for_reading, for_writing}
-use Rattle.pl_model.specs.Flags.{has, creat, excl, trunc, nonblock, nonblock_if, status_flags}
+use Rattle.pl_model.specs.Flags.{has, creat, excl, trunc, append, nonblock, splice_nonblock, nonblock_if, status_flags}
 use Rattle.pl_model.specs.Keys.{Keys, Node, NewKeys, Draws, PipeNode, FileNode}
 use Rattle.pl_model.specs.State.{Core, Description, Open, described, named, row, set_file, set_pipe, set_description, empty_pipe}
 use Rattle.pl_model.specs.Live.{live_count}
@@ -39,6 +40,11 @@ unsigned (negsuc n) = None
 abbrev pub is_never_in_name : ℕ → Bool
 is_never_in_name b = b == 47 || b == 0
 
+-- splice(2), EINVAL: an offset above the greatest one
+abbrev pub is_too_far : Option ℕ → Bool
+is_too_far None = false
+is_too_far (Some n) = nat_lt greatest_offset n
+
 module _ {K : Keys} where
   -- the file that the node is, if it is one
   abbrev pub file_of : Node K → Option K.File
@@ -48,6 +54,23 @@ module _ {K : Keys} where
   -- POSIX.1-2017, read and write, O_NONBLOCK: whether a call on the description may wait.
   abbrev pub may_block : Description K → Bool
   may_block description = not (has description.flags.0 nonblock)
+
+  abbrev pub is_pipe : Node K → Bool
+  is_pipe (PipeNode p) = true
+  is_pipe (FileNode f) = false
+
+  abbrev pub is_same_pipe : Node K → Node K → Bool
+  is_same_pipe (PipeNode p) (PipeNode q) = K.same_pipe p q
+  is_same_pipe node other = false
+
+  -- a pipe whose description doesn't wait
+  abbrev pub is_nonblocking_pipe : Description K → Bool
+  is_nonblocking_pipe description = is_pipe description.node && has description.flags.0 nonblock
+
+  -- splice(2), tee(2), SPLICE_F_NONBLOCK: whether a call between two descriptions may wait. That O_NONBLOCK of a pipe's description
+  -- counts too is our own choice.
+  abbrev pub may_wait_between : SpliceFlags → Description K → Description K → Bool
+  may_wait_between flags from to = not (has flags.0 splice_nonblock) && not (is_nonblocking_pipe from || is_nonblocking_pipe to)
 
   -- the open description, where its mode passes the test
   abbrev pub allowed : (Mode → Bool) → Option (Open K) → Option (Open K)
@@ -145,6 +168,35 @@ module _ {A : Type 0} {K : Keys} where
       found (open_for writes s pid fd) EBADF (λ o.
       if length bytes == 0 then answered s (count 0)
       else tried s (o.key ∷ []) false (may_block o.description))
+
+  -- splice(2): EBADF; ESPIPE of an offset that is given for a pipe; EINVAL of one that is too large, of two files, of the same pipe,
+  -- and of a file that is open with O_APPEND. That a splice of 0 bytes is answered before all else is our own choice.
+  unfoldable pub begin_splice : Core A K → ℕ → (from : ℤ) → (from_offset : Option ℕ) → (to : ℤ) → (to_offset : Option ℕ) → (len : ℕ) → SpliceFlags → Begins A K
+  begin_splice s pid from from_offset to to_offset len flags =
+      if len == 0 then answered s (count 0) else
+      found (open_for reads s pid from) EBADF (λ source.
+      found (open_for writes s pid to) EBADF (λ target.
+      let a = source.description in
+      let b = target.description in
+      refuse_if ((is_pipe a.node && is_some from_offset) || (is_pipe b.node && is_some to_offset)) ESPIPE
+      (refuse_if (is_too_far from_offset || is_too_far to_offset) EINVAL
+      (refuse_if (not (is_pipe a.node) && not (is_pipe b.node)) EINVAL
+      (refuse_if (is_same_pipe a.node b.node) EINVAL
+      (refuse_if (not (is_pipe b.node) && has b.flags.0 append) EINVAL
+      (tried s (source.key ∷ target.key ∷ []) false (may_wait_between flags a b))))))))
+
+  -- tee(2): EBADF; EINVAL of what is no pipe, and of the same pipe. That a tee of 0 bytes is answered before all else is our own
+  -- choice.
+  unfoldable pub begin_tee : Core A K → ℕ → (from to : ℤ) → (len : ℕ) → SpliceFlags → Begins A K
+  begin_tee s pid from to len flags =
+      if len == 0 then answered s (count 0) else
+      found (open_for reads s pid from) EBADF (λ source.
+      found (open_for writes s pid to) EBADF (λ target.
+      let a = source.description in
+      let b = target.description in
+      refuse_if (not (is_pipe a.node && is_pipe b.node)) EINVAL
+      (refuse_if (is_same_pipe a.node b.node) EINVAL
+      (tried s (source.key ∷ target.key ∷ []) false (may_wait_between flags a b)))))
 
   -- POSIX.1-2017, dup: EBADF, EMFILE.
   unfoldable pub begin_dup : Core A K → ℕ → ℤ → Begins A K

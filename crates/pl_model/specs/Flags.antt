@@ -26,6 +26,10 @@ append = 8
 abbrev pub nonblock : ℕ
 nonblock = 16
 
+-- splice(2), SPLICE_F_NONBLOCK: the call doesn't wait for a pipe.
+abbrev pub splice_nonblock : ℕ
+splice_nonblock = 2
+
 -- POSIX.1-2017, fcntl, F_SETFL: the file status flags that a description keeps, among any flags.
 abbrev pub status_flags : OpenFlags → OpenFlags
 status_flags flags = record { 0 = bit_and flags.0 (append + nonblock) }

@@ -33,6 +33,8 @@ module _ {A : Type 0} where
   is_frugal_call (Call.OpenName name mode flags) = false
   is_frugal_call (Call.Read fd n) = false
   is_frugal_call (Call.Write fd bytes) = false
+  is_frugal_call (Call.Splice from from_offset to to_offset len flags) = false
+  is_frugal_call (Call.Tee from to len flags) = false
   is_frugal_call (Call.SetPipeSz fd size) = false
   is_frugal_call Call.Fork = false
 

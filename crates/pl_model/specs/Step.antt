@@ -15,7 +15,8 @@ use Rattle.pl_model.specs.Settle.{settle}
 use Rattle.pl_model.specs.Tables.{lowest, lowest_pid, install, start, exit}
 use Rattle.pl_model.specs.Trial.{Trial, Flow, Done, Wait, still, flowed, Begun, Refused, Answered, Tried, Begins, answered}
 use Rattle.pl_model.specs.Transfer.{read_node, write_node, count}
-use Rattle.pl_model.specs.Begin.{begin_pipe, begin_read, begin_write, begin_dup, begin_dup2, begin_dup_fd, begin_mkfifo, begin_open_name, begin_close, begin_lseek, begin_get_fl, begin_set_fl, begin_get_pipe_sz, begin_set_pipe_sz, begin_unlink, begin_fork}
+use Rattle.pl_model.specs.Splice.{side, try_move}
+use Rattle.pl_model.specs.Begin.{begin_pipe, begin_read, begin_write, begin_splice, begin_tee, begin_dup, begin_dup2, begin_dup_fd, begin_mkfifo, begin_open_name, begin_close, begin_lseek, begin_get_fl, begin_set_fl, begin_get_pipe_sz, begin_set_pipe_sz, begin_unlink, begin_fork}
 
 -- the state that a step leaves, its reply, and the bytes that it moved
 pub record Stepped (A : Type 0) (K : Keys) : Type 0 where
@@ -33,6 +34,10 @@ module _ {A : Type 0} {K : Keys} where
   abbrev pub kept_at : Core A K → List K.Description → ℕ → Option (Open K)
   kept_at s kept i = option_and_then (described s) (slice_get kept i)
 
+  -- with the two kept descriptions, which are there
+  abbrev pub with_both : Core A K → List K.Description → (Open K → Open K → Trial A K) → Trial A K
+  with_both s kept next = with_kept s (kept_at s kept 0) (λ a. with_kept s (kept_at s kept 1) (next a))
+
   abbrev pub opened_by : Core A K → ℕ → K.Description → Option ℕ → Trial A K
   opened_by s pid d None = Done s still (Fault EMFILE)
   opened_by s pid d (Some fd) = Done (install s pid fd d) still (Fd (pos fd))
@@ -46,6 +51,8 @@ module _ {A : Type 0} {K : Keys} where
   try s w (Call.Read fd n) may_wait = with_kept s (kept_at s w.kept 0) (λ o. read_node s o.key o.description o.description.node n)
   try s w (Call.Write fd bytes) may_wait = with_kept s (kept_at s w.kept 0) (λ o. write_node s o.key o.description o.description.node bytes w.taken may_wait)
   try s w (Call.OpenName name mode flags) may_wait = try_open s w
+  try s w (Call.Splice from from_offset to to_offset len flags) may_wait = with_both s w.kept (λ a b. try_move s (side a from_offset) (side b to_offset) len false)
+  try s w (Call.Tee from to len flags) may_wait = with_both s w.kept (λ a b. try_move s (side a None) (side b None) len true)
   try s w call may_wait = Wait s still w.taken
 
   -- the checks of a call, in order
@@ -55,6 +62,8 @@ module _ {A : Type 0} {K : Keys} where
   begin s pid (Call.OpenName name mode flags) = begin_open_name s pid name mode flags
   begin s pid (Call.Read fd n) = begin_read s pid fd n
   begin s pid (Call.Write fd bytes) = begin_write s pid fd bytes
+  begin s pid (Call.Splice from from_offset to to_offset len flags) = begin_splice s pid from from_offset to to_offset len flags
+  begin s pid (Call.Tee from to len flags) = begin_tee s pid from to len flags
   begin s pid (Call.Dup fd) = begin_dup s pid fd
   begin s pid (Call.Dup2 fd target) = begin_dup2 s pid fd target
   begin s pid (Call.DupFd fd least) = begin_dup_fd s pid fd least

@@ -1,6 +1,6 @@
 //! What a step asks for.
 use crate::bytes::Bytes8;
-use crate::flags::OpenFlags;
+use crate::flags::{OpenFlags, SpliceFlags};
 use crate::name::Name;
 use std::alloc::{Allocator, Global};
 
@@ -63,6 +63,23 @@ pub enum Call<A: Allocator = Global> {
     Write {
         fd: i32,
         bytes: Bytes8<A>,
+    },
+    /// Moves at most `len` bytes from what `from` names to what `to` names, of which one at least is a pipe. A file gives or takes
+    /// them at the offset that is given for it; where none is, at its own, which advances (splice(2)).
+    Splice {
+        from: i32,
+        from_offset: Option<u64>,
+        to: i32,
+        to_offset: Option<u64>,
+        len: u32,
+        flags: SpliceFlags,
+    },
+    /// Copies at most `len` bytes from a pipe to another, and leaves them in the first (tee(2)).
+    Tee {
+        from: i32,
+        to: i32,
+        len: u32,
+        flags: SpliceFlags,
     },
     /// Names what a descriptor names by the least free descriptor too (POSIX.1-2017, dup).
     Dup {

@@ -1,4 +1,4 @@
-//! What a read or a write of a pipe comes to, as the rows of two tables.
+//! What a read or a write of a pipe comes to, and what a splice or a tee does, as the rows of three tables.
 
 /// What a read of a pipe comes to (POSIX.1-2017, read).
 #[derive(Clone, Copy, Debug, PartialEq, Eq)]
@@ -22,4 +22,37 @@ pub enum WriteCase {
     Ends { from: usize, to: usize },
     /// The bytes of the range go in, none where it is empty, and the write waits with `to` bytes taken.
     Waits { from: usize, to: usize },
+}
+
+/// What a splice or a tee takes its bytes from (splice(2)).
+#[derive(Clone, Copy, Debug, PartialEq, Eq)]
+pub enum Source {
+    /// A pipe that holds so many bytes.
+    Pipe { held: usize, has_writer: bool },
+    /// A regular file that has so many bytes from the offset on.
+    File { left: usize },
+}
+
+/// What its bytes go to.
+#[derive(Clone, Copy, Debug, PartialEq, Eq)]
+pub enum Target {
+    /// A pipe with room for so many bytes.
+    Pipe { room: usize, has_reader: bool },
+    /// A regular file that may have so many bytes from the offset on.
+    File { room: usize },
+}
+
+/// What a splice or a tee comes to (splice(2), tee(2)).
+#[derive(Clone, Copy, Debug, PartialEq, Eq)]
+pub enum MoveCase {
+    /// The pipe that it goes to has no reader: `EPIPE`.
+    Broken,
+    /// Nothing more can come from the source: the answer is 0.
+    EndOfInput,
+    /// Nothing is held yet, or there is no room yet.
+    Waits,
+    /// The file that it goes to is as long as it may be: `EFBIG`.
+    TooBig,
+    /// The first so many bytes go over.
+    Moves(usize),
 }

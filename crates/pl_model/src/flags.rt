@@ -38,3 +38,38 @@ impl Flags for OpenFlags {
         OpenFlags(bits)
     }
 }
+
+/// How bytes are spliced (splice(2)). Only `NONBLOCK` has an effect. The bits are our own.
+#[derive(Clone, Copy, Debug, PartialEq, Eq)]
+pub struct SpliceFlags(u8);
+
+bitflag_items! {
+    impl SpliceFlags: u8 {
+        const MOVE = 1;
+        const NONBLOCK = 2;
+        const MORE = 4;
+        const GIFT = 8;
+    }
+}
+
+impl Flags for SpliceFlags {
+    type Bits = u8;
+
+    ghost exact = { ⊤ };
+
+    ghost table = { (codes "MOVE", 1) ∷ (codes "NONBLOCK", 2) ∷ (codes "MORE", 4) ∷ (codes "GIFT", 8) ∷ [] };
+
+    ghost set_of = { λ f. f.0 };
+
+    fn flags<'a>() -> &'a [Flag<SpliceFlags>] {
+        SpliceFlags::FLAGS
+    }
+
+    fn bits(&self) -> u8 {
+        self.0
+    }
+
+    fn from_bits_retain(bits: u8) -> SpliceFlags {
+        SpliceFlags(bits)
+    }
+}

@@ -20,8 +20,8 @@ pub mod worked;
 
 pub use bytes::Bytes8;
 pub use calls::{Call, Limits, Mode, Step, Whence};
-pub use cases::{ReadCase, WriteCase};
-pub use flags::OpenFlags;
+pub use cases::{MoveCase, ReadCase, Source, Target, WriteCase};
+pub use flags::{OpenFlags, SpliceFlags};
 pub use keys::KeyList;
 pub use name::Name;
 pub use node::Node;

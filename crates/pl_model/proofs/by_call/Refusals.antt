@@ -8,6 +8,7 @@ use Rattle.pl_model.specs.declared.calls.Step.{Step}
 use Rattle.pl_model.specs.declared.calls.Step.TheVariants.{Start, Begin, Resume, Interrupt}
 use Rattle.pl_model.specs.declared.cases.ReadCase.{ReadCase}
 use Rattle.pl_model.specs.declared.cases.WriteCase.{WriteCase}
+use Rattle.pl_model.specs.declared.cases.MoveCase.{MoveCase}
 use Rattle.pl_model.specs.declared.flags.OpenFlags.{OpenFlags}
 use Rattle.pl_model.specs.declared.replies.Reply.{Reply}
 use Rattle.pl_model.specs.declared.replies.Reply.TheVariants.{Fault, NoProcess, NoCall, CallsSpent, Parked}
@@ -21,10 +22,11 @@ use Rattle.pl_model.specs.State.{Core, Pipe, Description, Open, Waiting, named}
 use Rattle.pl_model.specs.Settle.{settle}
 use Rattle.pl_model.specs.Trial.{Trial, Done, Wait, Flow, still, flowed, pipe_at, Begun, Begins, Refused, Answered, Tried, found, refuse_if}
 use Rattle.pl_model.specs.Transfer.{count, read_row, write_row, read_case, write_case, read_pipe, write_pipe, read_file, write_file, read_node, write_node}
+use Rattle.pl_model.specs.Splice.{Side, side, move_case, move_row, source_of, target_of, try_move}
 use Rattle.pl_model.specs.Tables.{lowest, lowest_pid, describe}
 use Rattle.pl_model.specs.Flags.{status_flags}
 use Rattle.pl_model.specs.Fifo.{create_fifo, meet}
-use Rattle.pl_model.specs.Begin.{check_name, await_other_end, open_named, begin_pipe, begin_mkfifo, begin_open_name, begin_read, begin_write, begin_dup, begin_dup2, begin_dup_fd, begin_close, begin_lseek, begin_get_fl, begin_set_fl, begin_get_pipe_sz, begin_set_pipe_sz, begin_unlink, begin_fork}
+use Rattle.pl_model.specs.Begin.{check_name, await_other_end, open_named, begin_pipe, begin_mkfifo, begin_open_name, begin_read, begin_write, begin_splice, begin_tee, begin_dup, begin_dup2, begin_dup_fd, begin_close, begin_lseek, begin_get_fl, begin_set_fl, begin_get_pipe_sz, begin_set_pipe_sz, begin_unlink, begin_fork}
 use Rattle.pl_model.specs.Step.{Stepped, with_kept, opened_by, try, try_open, begin, begun, happen, core_step, ended, first_tried, interrupted, parked, resumed, started, stepped, tried_again, waiting, without_call}
 use Rattle.pl_model.specs.Numbered.{numbers, State, After, next_numbers, step_of, step}
 use Rattle.pl_model.specs.Refused.{is_refused, with_call_ended}
@@ -98,6 +100,17 @@ module _ {A : Type 0} {K : Keys} where
   write_node-fair s d description (PipeNode p) bytes t w = write_row-fair s p bytes t (write_case (length bytes) t _ _ w)
   write_node-fair s d description (FileNode f) bytes t w = search fair_if
 
+  move_row-fair : (s : Core A K) (from to : Side K) (is_tee : Bool) (row : MoveCase) → IsFair s (move_row s from to is_tee row)
+  move_row-fair s from to is_tee MoveCase.Broken = (refl, refl)
+  move_row-fair s from to is_tee MoveCase.EndOfInput = tt
+  move_row-fair s from to is_tee MoveCase.Waits = tt
+  move_row-fair s from to is_tee MoveCase.TooBig = (refl, refl)
+  move_row-fair s from to is_tee (MoveCase.Moves k) = tt
+
+  move-fair : (s : Core A K) (from to : Side K) (len : ℕ) (is_tee : Bool) → IsFair s (try_move s from to len is_tee)
+  unfolding try_move
+  move-fair s from to len is_tee = move_row-fair s from to is_tee (move_case (source_of s from from.description.node) (target_of s to to.description.node) len)
+
   opened_by-fair : (s : Core A K) (pid : ℕ) (d : K.Description) (place : Option ℕ) → IsFair s (opened_by s pid d place)
   opened_by-fair s pid d None = (refl, refl)
   opened_by-fair s pid d (Some fd) = tt
@@ -109,6 +122,8 @@ module _ {A : Type 0} {K : Keys} where
   unfolding try
   try-fair s w (Call.Read fd n) may_wait = fair_kept s _ _ (λ o. read_node-fair s o.key o.description o.description.node n)
   try-fair s w (Call.Write fd bytes) may_wait = fair_kept s _ _ (λ o. write_node-fair s o.key o.description o.description.node bytes w.taken may_wait)
+  try-fair s w (Call.Splice from from_offset to to_offset len flags) may_wait = search (fair_kept, move-fair)
+  try-fair s w (Call.Tee from to len flags) may_wait = search (fair_kept, move-fair)
   try-fair s w (Call.Pipe nonblock) may_wait = tt
   try-fair s w (Call.Mkfifo name) may_wait = tt
   try-fair s w (Call.OpenName name mode flags) may_wait = try_open-fair s w
@@ -140,12 +155,14 @@ module _ {A : Type 0} {K : Keys} where
   open_named-plain new s pid fd name (Some (PipeNode p)) mode flags = search (ways, refusable, open_waits-plain) depth 14
 
   begin-plain : (new : NewKeys K) (s : Core A K) (pid : ℕ) (call : Call A) → LeadsTo new (IsPlainBegun s pid call) (begin s pid call)
-  unfolding begin begin_pipe begin_mkfifo begin_open_name begin_read begin_write begin_dup begin_dup2 begin_dup_fd begin_close begin_lseek begin_get_fl begin_set_fl begin_get_pipe_sz begin_set_pipe_sz begin_unlink begin_fork
+  unfolding begin begin_pipe begin_mkfifo begin_open_name begin_read begin_write begin_splice begin_tee begin_dup begin_dup2 begin_dup_fd begin_close begin_lseek begin_get_fl begin_set_fl begin_get_pipe_sz begin_set_pipe_sz begin_unlink begin_fork
   begin-plain new s pid (Call.Pipe nonblock) = search (ways, refusable) depth 14
   begin-plain new s pid (Call.Mkfifo name) = search (ways, refusable) depth 14
   begin-plain new s pid (Call.OpenName name mode flags) = search (ways, refusable, open_named-plain) depth 14
   begin-plain new s pid (Call.Read fd n) = search (ways, refusable, tries-plain) depth 14
   begin-plain new s pid (Call.Write fd bytes) = search (ways, refusable, tries-plain) depth 14
+  begin-plain new s pid (Call.Splice from from_offset to to_offset len flags) = search (ways, refusable, tries-plain) depth 16
+  begin-plain new s pid (Call.Tee from to len flags) = search (ways, refusable, tries-plain) depth 16
   begin-plain new s pid (Call.Dup fd) = search (ways, refusable) depth 14
   begin-plain new s pid (Call.Dup2 fd target) = search (ways, refusable) depth 14
   begin-plain new s pid (Call.DupFd fd least) = search (ways, refusable) depth 14
@@ -306,12 +323,14 @@ module _ {A : Type 0} {K : Keys} where
       first_checked s pid call name (refuse_if (is_some (named s name)) EEXIST (Draws (λ new. Answered (create_fifo s name new.pipe) Reply.Unit))) (first_past s pid call (is_some (named s name)) EEXIST _ made)
 
   begin-first : (s : Core A K) (pid : ℕ) (call : Call A) → RefusesFirst s pid call (begin s pid call)
-  unfolding begin begin_pipe begin_mkfifo begin_open_name begin_read begin_write begin_dup begin_dup2 begin_dup_fd begin_close begin_lseek begin_get_fl begin_set_fl begin_get_pipe_sz begin_set_pipe_sz begin_unlink begin_fork
+  unfolding begin begin_pipe begin_mkfifo begin_open_name begin_read begin_write begin_splice begin_tee begin_dup begin_dup2 begin_dup_fd begin_close begin_lseek begin_get_fl begin_set_fl begin_get_pipe_sz begin_set_pipe_sz begin_unlink begin_fork
   begin-first s pid (Call.Pipe nonblock) = search firsts depth 14
   begin-first s pid (Call.Mkfifo name) = mkfifo-first s pid name
   begin-first s pid (Call.OpenName name mode flags) = search (firsts, open_named-first) depth 14
   begin-first s pid (Call.Read fd n) = search firsts depth 14
   begin-first s pid (Call.Write fd bytes) = search firsts depth 14
+  begin-first s pid (Call.Splice from from_offset to to_offset len flags) = search firsts depth 16
+  begin-first s pid (Call.Tee from to len flags) = search firsts depth 16
   begin-first s pid (Call.Dup fd) = search firsts depth 14
   begin-first s pid (Call.Dup2 fd target) = search firsts depth 14
   begin-first s pid (Call.DupFd fd least) = search firsts depth 14

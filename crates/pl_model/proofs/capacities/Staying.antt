@@ -1,4 +1,5 @@
 -- The capacities of all pipes stay capacities that a pipe may have.
+use Rattle.std.proofs.lemmas.Bool.{eqb-true}
 use Rattle.std.proofs.Common.{ℕ, Bool, true, false, cond, Option, List, [], ◌∷◌, IfSome, nat_eq, unwrap_or, option_map}
 use Rattle.std.specs.declared.option.Option.TheVariants.{None, Some}
 use Rattle.pl_model.specs.declared.calls.Step.{Step}
@@ -56,6 +57,7 @@ module _ {A : Type 0} where
   capacities_kept : (new : NewKeys numbers) → all_keep.Keeps {A = A} new HaveCapacities
   capacities_kept new =
       let changes : Changes new HaveCapacities = record {
+        one = eqb-true;
         install = λ s pid fd k h. h;
         close_row = λ s pid fd h. h;
         describe_other = λ s n mode flags h. h;

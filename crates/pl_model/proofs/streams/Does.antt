@@ -1,4 +1,5 @@
 -- What one step does to the parked calls, and whose bytes it moves.
+use Rattle.std.proofs.lemmas.Bool.{eqb-true}
 use Rattle.std.proofs.Common.{◌≡◌, ℕ, ℤ, ◌+◌, Bool, true, false, cond, Option, List, [], ◌∷◌, ◌++◌, length, refl, sym, ◌∙◌, ap, subst, nat_eq, arith}
 use Rattle.std.specs.Prelude.{◌==◌, nat_lt, not, map}
 use Rattle.std.specs.declared.option.Option.TheVariants.{None, Some}
@@ -8,6 +9,7 @@ use Rattle.pl_model.specs.declared.calls.Step.{Step}
 use Rattle.pl_model.specs.declared.calls.Step.TheVariants.{Start, Begin, Resume, Interrupt}
 use Rattle.pl_model.specs.declared.cases.ReadCase.{ReadCase}
 use Rattle.pl_model.specs.declared.cases.WriteCase.{WriteCase}
+use Rattle.pl_model.specs.declared.cases.MoveCase.{MoveCase}
 use Rattle.pl_model.specs.declared.replies.Reply.{Reply}
 use Rattle.pl_model.specs.declared.replies.Reply.TheVariants.{NoProcess, CallsSpent, Parked}
 use Rattle.pl_model.specs.Numbers.{last_call}
@@ -17,6 +19,7 @@ use Rattle.pl_model.specs.State.{Core, Description, Open, Waiting}
 use Rattle.pl_model.specs.Live.{readers}
 use Rattle.pl_model.specs.Trial.{Trial, Done, Wait, Flow, still, flowed, lost, gained, pipe_at, Begun, Begins, Refused, Answered, Tried}
 use Rattle.pl_model.specs.Transfer.{room, read_case, read_row, read_pipe, read_file, write_case, write_row, write_pipe, write_file, write_node, read_node}
+use Rattle.pl_model.specs.Splice.{Side, side, move_case, move_row, source_of, target_of, try_move}
 use Rattle.pl_model.specs.Tables.{lowest, lowest_pid}
 use Rattle.pl_model.specs.Fifo.{meets}
 use Rattle.pl_model.specs.Step.{Stepped, try, try_open, opened_by, with_kept, kept_at, begin, begun, happen, first_tried, interrupted, parked, resumed, started, stepped, tried_again, waiting}
@@ -85,6 +88,7 @@ module _ {A : Type 0} where
   pub among_changes : (new : NewKeys numbers) (s : Core A numbers) → Changes new (Among s)
   among_changes new s =
       record {
+        one = eqb-true;
         install = λ u pid fd d h. h;
         close_row = λ u pid fd h. h;
         describe_other = λ u node mode flags h. h;
@@ -173,6 +177,21 @@ module _ {A : Type 0} where
       at None = refl
       at (Some o) = opened_fine s w.pid o.key (lowest s w.pid 0) call
 
+  fine_kept : (call : Call A) (s : Core A numbers) (o : Option (Open numbers)) (next : Open numbers → Trial A numbers) → ((x : Open numbers) → TrialFine call (next x)) → TrialFine call (with_kept s o next)
+  fine_kept call s None next h = refl
+  fine_kept call s (Some x) next h = h x
+
+  move_row_fine : (s : Core A numbers) (from to : Side numbers) (is_tee : Bool) (row : MoveCase) (call : Call A) → HasTaken call 0 → TrialFine call (move_row s from to is_tee row)
+  move_row_fine s from to is_tee MoveCase.Broken call has = refl
+  move_row_fine s from to is_tee MoveCase.EndOfInput call has = refl
+  move_row_fine s from to is_tee MoveCase.Waits call has = has
+  move_row_fine s from to is_tee MoveCase.TooBig call has = refl
+  move_row_fine s from to is_tee (MoveCase.Moves k) call has = refl
+
+  move_fine : (s : Core A numbers) (from to : Side numbers) (len : ℕ) (is_tee : Bool) (call : Call A) → HasTaken call 0 → TrialFine call (try_move s from to len is_tee)
+  unfolding try_move
+  move_fine s from to len is_tee call has = move_row_fine s from to is_tee (move_case (source_of s from from.description.node) (target_of s to to.description.node) len) call has
+
   pub try_fine : (s : Core A numbers) (w : Waiting A numbers) (call : Call A) (may_wait : Bool) → HasTaken call w.taken → (may_wait ≡ false → w.taken ≡ 0) → TrialFine call (try s w call may_wait)
   unfolding try
   try_fine s w (Call.Read fd n) may_wait has none = at (kept_at s w.kept 0) where
@@ -184,6 +203,8 @@ module _ {A : Type 0} where
     at None = refl
     at (Some o) = write_node_fine s o.key o.description o.description.node fd bytes w.taken may_wait has none
   try_fine s w (Call.OpenName name mode flags) may_wait has none = open_fine s w (Call.OpenName name mode flags) has
+  try_fine s w (Call.Splice from from_offset to to_offset len flags) may_wait has none = search (fine_kept, move_fine)
+  try_fine s w (Call.Tee from to len flags) may_wait has none = search (fine_kept, move_fine)
   try_fine s w call may_wait has none = has
 
   pub has_none : (call : Call A) → HasTaken call 0

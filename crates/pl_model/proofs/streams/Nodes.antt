@@ -64,6 +64,7 @@ module _ {A : Type 0} (d : ℕ) (node : Node numbers) where
   unfolding settle
   on_keeps new apart other =
       let changes : Changes new (IsOn d node) = record {
+        one = eqb-true;
         install = λ s pid fd k h. h;
         close_row = λ s pid fd h. h;
         describe_other = λ s n mode flags h. on_other s new.other_description _ other h;

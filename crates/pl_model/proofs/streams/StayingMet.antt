@@ -1,4 +1,5 @@
 -- A parked call that met its other end has met it for good.
+use Rattle.std.proofs.lemmas.Bool.{eqb-true}
 use Rattle.std.proofs.Common.{◌≡◌, ◌≢◌, ℕ, ◌<◌, Bool, true, false, not, cond, Option, List, [], ◌∷◌, inl, inr, refl, sym, ◌∙◌, ap, nat_eq, arith}
 use Rattle.std.specs.Prelude.{◌==◌, option_map}
 use Rattle.std.specs.declared.option.Option.TheVariants.{None, Some}
@@ -63,6 +64,7 @@ module _ {A : Type 0} (n : ℕ) where
     met_changes : Changes new Met
     met_changes =
         record {
+          one = eqb-true;
           install = λ u pid fd d h. h;
           close_row = λ u pid fd h. h;
           describe_other = λ u node mode flags h. h;
