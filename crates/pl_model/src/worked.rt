@@ -3,6 +3,7 @@ ghost use Rattle.pl_model.specs.Worked.{BytesBeforeEndOfFile, PartialAndWholeNot
 ghost use Rattle.pl_model.specs.WorkedFiles.{EndOfAFile, BadNames, RefusalsOfAnOpen, FlagsOfAnOpen, AppendingAndSeeking, UnlinkedFileLivesOn, NamesKeepTheirFiles, PipesHaveNoOffset, ScriptOfFiles, NamesInWords};
 ghost use Rattle.pl_model.specs.WorkedCapacity.{SizesAreRoundedUp, OnlyPipesHaveACapacity, CapacityIsRoom, WaitingWriteGetsRoom, ScriptOfCapacities, LinesOfCapacities};
 ghost use Rattle.pl_model.specs.WorkedFifo.{UnusedFifoForgets, OpensWithoutTheOtherEnd, ReadersWaitForAWriter, InterruptedOpen, MetThoughClosed, LastOpenThatWaits, LinesOfFifos};
+ghost use Rattle.pl_model.specs.WorkedSpliceLines.{LinesOfSplices};
 ghost use Rattle.pl_model.specs.WorkedStream.{RunsInPieces};
 
 use std::alloc::Allocator;
@@ -87,4 +88,5 @@ pub fn scripts<A: Allocator>()
     ensures capacities { ScriptOfCapacities A }
     ensures lines_of_capacities { LinesOfCapacities A }
     ensures lines_of_fifos { LinesOfFifos A }
+    ensures lines_of_splices { LinesOfSplices A }
 {}
