@@ -1,5 +1,5 @@
 -- What lines of splices and tees ask, in small examples.
-use Rattle.std.specs.Prelude.{◌≡◌, pos, neg_ℤ, Option, Some, None, codes}
+use Rattle.std.specs.Prelude.{◌≡◌, pos, neg_ℤ, Some, None, codes}
 use Rattle.pl_model.specs.declared.calls.Call.{Call}
 use Rattle.pl_model.specs.declared.calls.Step.TheVariants.{Begin}
 use Rattle.pl_model.specs.declared.script.Line.TheVariants.{Do}
