@@ -1,11 +1,11 @@
 //! Steps that take no memory answer as ever where none can be had.
 use crate::scarce::Scarce;
 use pl_model::Whence::{Cur, End, Set};
-use pl_model::{Errno, Limits, Mode, OpenFlags};
+use pl_model::{Errno, Limits, Mode, OpenFlags, SpliceFlags};
 use pl_run::LIMITS;
 use pl_testing::asked::Ask::{
     self, Close, Dup, Dup2, DupFd, Exit, Fork, GetFl, GetPipeSz, Interrupt, Lseek, Mkfifo, Open,
-    Pipe, PipeNonblock, Read, Resume, SetFl, SetPipeSz, Start, Unlink, Write,
+    Pipe, PipeNonblock, Read, Resume, SetFl, SetPipeSz, Splice, Start, Tee, Unlink, Write,
 };
 use pl_testing::asked::Data::{self, Many, Text};
 use pl_testing::asked::NEVER_GIVEN;
@@ -275,6 +275,84 @@ const SESSIONS: &[Session] = &[
             (Exit(1), Unit),
             (Resume(3), NoCall),
             (Interrupt(4), NoCall),
+        ],
+        ..NEW_KERNEL
+    },
+    // So do a splice and a tee that are refused, before their trial and by it, as they begin and as they are tried again, and the
+    // interrupt of one.
+    Session {
+        name: "splices_and_tees",
+        rows: &[
+            (Splice(1, (0, None), (1, None), 0, &[]), NoProcess),
+            (Start, Pid(1)),
+            (Tee(2, 0, 1, 0, &[]), NoProcess),
+            (Pipe(1), Fds(0, 1)),
+            (Pipe(1), Fds(2, 3)),
+            (Open(1, F, Mode::Both, NEW), Fd(4)),
+            (Splice(1, (1, None), (3, None), 5, &[]), Fault(Errno::EBADF)),
+            (
+                Splice(1, (0, Some(0)), (3, None), 5, &[]),
+                Fault(Errno::ESPIPE),
+            ),
+            (
+                Splice(1, (0, None), (4, Some(u64::MAX)), 5, &[]),
+                Fault(Errno::EINVAL),
+            ),
+            (
+                Splice(1, (4, None), (4, None), 5, &[]),
+                Fault(Errno::EINVAL),
+            ),
+            (
+                Splice(1, (0, None), (1, None), 5, &[]),
+                Fault(Errno::EINVAL),
+            ),
+            (Tee(1, 0, 2, 5, &[]), Fault(Errno::EBADF)),
+            (Tee(1, 0, 4, 5, &[]), Fault(Errno::EINVAL)),
+            (Tee(1, 0, 1, 5, &[]), Fault(Errno::EINVAL)),
+            (
+                Splice(1, (0, None), (3, None), 5, &[SpliceFlags::NONBLOCK]),
+                Fault(Errno::EAGAIN),
+            ),
+            (
+                Tee(1, 0, 3, 5, &[SpliceFlags::NONBLOCK]),
+                Fault(Errno::EAGAIN),
+            ),
+            (Splice(1, (0, None), (3, None), 5, &[]), Parked(1)),
+            (Tee(1, 0, 3, 5, &[]), Parked(2)),
+            (
+                Splice(1, (0, None), (4, Some(16_777_216)), 5, &[]),
+                Parked(3),
+            ),
+            (Splice(1, (0, None), (3, None), 5, &[]), Parked(4)),
+            (Interrupt(4), Fault(Errno::EINTR)),
+            (Resume(4), NoCall),
+            (Write(1, 1, Text("ab")), Count(2)),
+            (Resume(3), Fault(Errno::EFBIG)),
+            (
+                Splice(1, (0, None), (4, Some(16_777_217)), 5, &[]),
+                Fault(Errno::EFBIG),
+            ),
+            (Close(1, 2), Unit),
+            (Resume(1), Fault(Errno::EPIPE)),
+            (Resume(2), Fault(Errno::EPIPE)),
+            (Tee(1, 0, 3, 5, &[]), Fault(Errno::EPIPE)),
+            (Splice(1, (0, None), (3, None), 5, &[]), Fault(Errno::EPIPE)),
+        ],
+        ..NEW_KERNEL
+    },
+    Session {
+        name: "splices_and_tees_without_numbers",
+        first_call: NEVER_GIVEN,
+        rows: &[
+            (Start, Pid(1)),
+            (Pipe(1), Fds(0, 1)),
+            (Pipe(1), Fds(2, 3)),
+            (Splice(1, (0, None), (3, None), 5, &[]), CallsSpent),
+            (Tee(1, 0, 3, 5, &[]), CallsSpent),
+            (Write(1, 1, Text("a")), Count(1)),
+            (Write(1, 3, Many(b'b', 65_536)), Count(65_536)),
+            (Splice(1, (0, None), (3, None), 5, &[]), CallsSpent),
+            (Tee(1, 0, 3, 5, &[]), CallsSpent),
         ],
         ..NEW_KERNEL
     },

@@ -15,3 +15,5 @@ mod memory;
 mod passed_over;
 #[cfg(test)]
 mod scarce;
+#[cfg(test)]
+mod splices;

@@ -1,6 +1,7 @@
 //! Steps that find no memory: each is passed over, and the run goes on as if it had not been asked.
 mod capacities;
 mod fifos;
+mod splices;
 mod tables;
 
 use crate::scarce::Scarce;
@@ -10,6 +11,7 @@ use pl_run::LIMITS;
 use pl_testing::asked::{Ask, Want};
 use pl_testing::refusing::Refusing;
 use pl_testing::wanting::{MOST_REQUESTS, all_were_refused};
+use splices::splices;
 use std::alloc::Global;
 use std::test::Fail;
 use tables::{Steps, examples, others};
@@ -113,6 +115,9 @@ fn each_step_is_passed_over(rt: HostRuntime) -> Result<(), Fail> {
         each_is_passed_over(rt.alloc(), steps)?;
     }
     for steps in fifos() {
+        each_is_passed_over(rt.alloc(), steps)?;
+    }
+    for steps in splices() {
         each_is_passed_over(rt.alloc(), steps)?;
     }
     Ok(())

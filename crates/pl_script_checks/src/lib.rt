@@ -22,6 +22,8 @@ mod shared_lines;
 #[cfg(test)]
 mod size_lines;
 #[cfg(test)]
+mod splice_lines;
+#[cfg(test)]
 mod streams;
 #[cfg(test)]
 mod trickling;

@@ -1,6 +1,6 @@
 //! Sessions: scripts of calls that wait and of descriptors that share, line by line with what each prints.
 use super::trickling::{Coming, Script, prints};
-use crate::fifo_lines;
+use crate::{fifo_lines, splice_lines};
 use pl_model::Totals;
 use pl_testing::asked::NEVER_GIVEN;
 use std::alloc::{Allocator, Global};
@@ -430,6 +430,9 @@ fn each_session_is_printed(rt: HostRuntime) -> Result<(), Fail> {
         is_session_printed(&rt, rt.alloc(), *row)?;
     }
     for row in fifo_lines::sessions() {
+        is_session_printed(&rt, rt.alloc(), *row)?;
+    }
+    for row in splice_lines::sessions() {
         is_session_printed(&rt, rt.alloc(), *row)?;
     }
     Ok(())
