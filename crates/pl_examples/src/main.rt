@@ -9,7 +9,7 @@ use std::process::ExitCode;
 use std::{fs, io};
 
 /// A script is `NAME.script`, and what it prints `NAME.out`: its output, and the line of its fault.
-const NAMES: [&str; 14] = [
+const NAMES: [&str; 15] = [
     "bytes_before_end_of_file",
     "full_pipe",
     "parking",
@@ -18,6 +18,7 @@ const NAMES: [&str; 14] = [
     "capacity",
     "fifo",
     "rendezvous",
+    "tee",
     "end_of_file",
     "names_and_flags",
     "full_table",
