@@ -21,18 +21,18 @@ use Rattle.pl_state.specs.Sound.{IsPipe, MayKeep, MayKeepFile, MayGo, OnNode, Go
 use Rattle.pl_state.proofs.holders.Belonging.{if_some}
 
 -- a description that is gone, or on the node that it was on
-abbrev Fades : (old new : Option Opened) → Type 0
+abbrev pub Fades : (old new : Option Opened) → Type 0
 Fades old None = Unit {0}
 Fades old (Some y) = (x : Opened) × (old ≡ Some x) × (y.node ≡ x.node)
 
-fades-same : (o : Option Opened) → Fades o o
+pub fades-same : (o : Option Opened) → Fades o o
 fades-same None = tt
 fades-same (Some x) = (x, refl, refl)
 
 fades-is : (o n : Option Opened) → n ≡ o → Fades o n
 fades-is o n same = subst (Fades o) (sym same) (fades-same o)
 
-faded : (P : Node → Type 0) (o n : Option Opened) → Fades o n → IfSome o (λ x. P x.node) → IfSome n (λ y. P y.node)
+pub faded : (P : Node → Type 0) (o n : Option Opened) → Fades o n → IfSome o (λ x. P x.node) → IfSome n (λ y. P y.node)
 faded P o None f h = tt
 faded P o (Some y) f h = subst P (sym f.2) (subst (λ z. IfSome z (λ x. P x.node)) f.1 h)
 
@@ -63,7 +63,7 @@ module _ (old new : ℕ → Option Opened) where
   keeps-by w f h = record { on = on-by w w.kept f h.on; apart = apart-by w.call w.kept f h.apart }
 
 module _ {A : Type 0} (calls : Map ℕ (ParkedCall A)) where
-  wait-by : (old new : ℕ → Option Opened) → ((d : ℕ) → Fades (old d) (new d)) → WaitOnNodes calls old → WaitOnNodes calls new
+  pub wait-by : (old new : ℕ → Option Opened) → ((d : ℕ) → Fades (old d) (new d)) → WaitOnNodes calls old → WaitOnNodes calls new
   wait-by old new f on number = if_some (KeepsNodes old) (KeepsNodes new) (get nat_eq calls number) (λ w h. keeps-by old new w (λ d _. f d) h) (on number)
 
   pub wait-same : (old new : ℕ → Option Opened) → new ≡ old → WaitOnNodes calls old → WaitOnNodes calls new
