@@ -9,9 +9,9 @@ use Rattle.pl_model.specs.Numbers.{pipe_buf}
 use Rattle.pl_model.specs.Modes.{reads, writes}
 use Rattle.pl_model.specs.Map.{get}
 use Rattle.pl_model.specs.Keys.{PipeNode}
-use Rattle.pl_model.specs.State.{Core, Open, Waiting}
+use Rattle.pl_model.specs.State.{Open, Waiting}
 use Rattle.pl_model.specs.Begin.{open_for, may_block}
-use Rattle.pl_model.specs.Step.{kept_at}
+use Rattle.pl_model.specs.OnNodes.{Keeps}
 use Rattle.pl_model.specs.Numbered.{numbers, State, step}
 use Rattle.pl_model.specs.Run.{after}
 use Rattle.pl_model.specs.InOrder.{AreInOrder}
@@ -27,10 +27,6 @@ may_wait None = false
 may_wait (Some o) = may_block o.description
 
 module _ {A : Type 0} where
-  -- the description that the call keeps is on the pipe, if it is there
-  abbrev pub Keeps : Core A numbers → List ℕ → ℕ → Type 0
-  Keeps s kept p = IfSome (kept_at s kept 0) (λ o. o.description.node ≡ PipeNode p)
-
   -- What a write of these bytes adds to its pipe, in these chunks, where t of them were taken before.
   pub record Adds (may_wait : Bool) (bytes : List ℕ) (t : ℕ) (chunks : List (List ℕ)) (end : Fate A) : Type 0 where
     -- joined in order, the chunks are the bytes from those taken before to those taken at the last try
@@ -48,10 +44,10 @@ pub record StreamLaw {A : Type 0} (s : State A) (xs : List (Step A × Bool)) : T
   pub stream : (p : ℕ) → held s.core p ++ joined (chunks s xs p) ≡ joined (outs s xs p) ++ held (after s xs).core p
   -- a write or a read that is parked as the run begins
   pub waiting_write : (p c : ℕ) (w : Waiting A numbers) (fd : ℤ) (bytes : List ℕ) →
-      get nat_eq s.core.parked c ≡ Some w → w.call ≡ Call.Write fd bytes → Keeps s.core w.kept p →
+      get nat_eq s.core.parked c ≡ Some w → w.call ≡ Call.Write fd bytes → Keeps s.core w.kept 0 (PipeNode p) →
       Adds true bytes w.taken (of (OfCall c) (chunks s xs p)) (fate s xs c)
   pub waiting_read : (p c : ℕ) (w : Waiting A numbers) (fd : ℤ) (n : ℕ) →
-      get nat_eq s.core.parked c ≡ Some w → w.call ≡ Call.Read fd n → Keeps s.core w.kept p →
+      get nat_eq s.core.parked c ≡ Some w → w.call ≡ Call.Read fd n → Keeps s.core w.kept 0 (PipeNode p) →
       of (OfCall c) (outs s xs p) ≡ bytes_answered (fate s xs c).ending
   -- one that begins in it, after the steps `before`
   pub begun_write : (before rest : List (Step A × Bool)) (p pid : ℕ) (fd : ℤ) (bytes : List ℕ) →

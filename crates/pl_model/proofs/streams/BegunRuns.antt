@@ -15,7 +15,7 @@ use Rattle.pl_model.specs.Numbers.{last_call}
 use Rattle.pl_model.specs.Modes.{reads, writes}
 use Rattle.pl_model.specs.Map.{get}
 use Rattle.pl_model.specs.Keys.{Node, PipeNode, Plain, drawn, drawing_map}
-use Rattle.pl_model.specs.State.{Core, Description, Open, Waiting}
+use Rattle.pl_model.specs.State.{Core, Description, Open, Waiting, described}
 use Rattle.pl_model.specs.Trial.{Trial, Done, Wait, flowed, found, answered, tried as tried_with, Answered as Answers_now, Tried}
 use Rattle.pl_model.specs.Transfer.{count}
 use Rattle.pl_model.specs.Begin.{open_fd, open_for, allowed, may_block, begin_read, begin_write}
@@ -27,7 +27,8 @@ use Rattle.pl_model.specs.Stream.{held, into_pipe, out_of_pipe}
 use Rattle.pl_model.specs.Chunks.{Piece, Tag, OfCall, AtPlace, ForgottenAt, same_tag, tag_answered, tag_of, unless_empty, of, piece_added, pieces_left, pieces_from, chunks, outs}
 use Rattle.pl_model.specs.Fates.{Fate, Answered, answers_count, fate, fate_answered, fate_begun, bytes_answered, taken_with}
 use Rattle.pl_model.specs.InOrder.{AreInOrder}
-use Rattle.pl_model.specs.StreamLaw.{Keeps, Adds, may_wait}
+use Rattle.pl_model.specs.OnNodes.{Keeps}
+use Rattle.pl_model.specs.StreamLaw.{Adds, may_wait}
 use Rattle.pl_model.proofs.renaming.Simulates.{below_step}
 use Rattle.pl_model.proofs.by_call.Ways.{TrialAll}
 use Rattle.pl_model.proofs.by_call.Keeps.{try-keeps, node_of, open_node}
@@ -57,11 +58,11 @@ module _ {A : Type 0} where
   fate_at_once s xs (Parked c) h = absurd (cc)
   fate_at_once s xs reply h = refl
 
-  there : (s : Core A numbers) (d p : ℕ) (node : Node numbers) → node_of s d ≡ Some node → node ≡ PipeNode p → Keeps s (d ∷ []) p
-  there s d p node e on = at (s.descriptions d) e where
-    at : (o : Option (Description numbers)) → option_map (λ (x : Description numbers). x.node) o ≡ Some node → IfSome (option_map (λ x. record { key = d; description = x }) o) (λ (y : Open numbers). y.description.node ≡ PipeNode p)
+  pub there : (s : Core A numbers) (d : ℕ) (is on : Node numbers) → node_of s d ≡ Some is → is ≡ on → IfSome (described s d) (λ (y : Open numbers). y.description.node ≡ on)
+  there s d is on e same = at (s.descriptions d) e where
+    at : (o : Option (Description numbers)) → option_map (λ (x : Description numbers). x.node) o ≡ Some is → IfSome (option_map (λ x. record { key = d; description = x }) o) (λ (y : Open numbers). y.description.node ≡ on)
     at None e = absurd (cc)
-    at (Some x) e = (let same : x.node ≡ node = cc in same ∙ on)
+    at (Some x) e = (let there : x.node ≡ is = cc in there ∙ same)
 
   -- a description that is there has no number above all that were given
   given : (s : State A) (d n : ℕ) (node : Node numbers) → IsBelowCounters s → node_of s.core d ≡ Some node → s.next_description ≤ n → d ≢ n
@@ -213,7 +214,7 @@ module _ {A : Type 0} (p q : ℕ) (place : ℕ) (s : State A) (xs : List (Step A
     abbrev WriteFirst : Bool → List (List ℕ) → List (List ℕ) → Fate A → Type 0
     WriteFirst may ins outs end = Adds may bytes 0 ins end
 
-    first_write : (w : Waiting A numbers) (may : Bool) (t : Trial A numbers) → w.call ≡ call → w.taken ≡ 0 → Keeps s.core w.kept q → WriteTry may bytes 0 q t →
+    first_write : (w : Waiting A numbers) (may : Bool) (t : Trial A numbers) → w.call ≡ call → w.taken ≡ 0 → Keeps s.core w.kept 0 (PipeNode q) → WriteTry may bytes 0 q t →
         FirstSays p q place s xs pid call (WriteFirst may) (IsWrite p q fd bytes) (WriteSays p q fd bytes) (write_course p q fd bytes) w may t
     first_write w may (Done u flow reply) is none on says = says
     first_write w may (Wait u flow to) is none on says = ((is, (says.2, says.3), on), (λ ins outs end rest. adds_more may bytes 0 to (into_pipe numbers flow.into q) ins end (λ h. refl) says rest))
@@ -231,7 +232,7 @@ module _ {A : Type 0} (p q : ℕ) (place : ℕ) (s : State A) (xs : List (Step A
         tried o e is to =
             let w : Waiting A numbers = waiting pid call (o.key ∷ []) false in
             let node : node_of s.core o.key ≡ Some o.description.node = open_node s.core pid fd o (opened writes (open_fd s.core pid fd) o e) in
-            let keeps : Keeps s.core (o.key ∷ []) q = there s.core o.key q o.description.node node is in
+            let keeps : Keeps s.core (o.key ∷ []) 0 (PipeNode q) = there s.core o.key o.description.node (PipeNode q) node is in
             first_says p q place s xs pid call (WriteFirst (may_block o.description)) (IsWrite p q fd bytes) (WriteSays p q fd bytes) (write_course p q fd bytes) w (may_block o.description)
             (try s.core w call (may_block o.description)) below order
             (fresh o.key s.next_description o.description.node node (omega arith)) (fresh o.key (s.next_description + 1) o.description.node node (omega arith))
@@ -277,7 +278,7 @@ module _ {A : Type 0} (p q : ℕ) (place : ℕ) (s : State A) (xs : List (Step A
     abbrev ReadFirst : List (List ℕ) → List (List ℕ) → Fate A → Type 0
     ReadFirst ins outs end = outs ≡ bytes_answered end.ending
 
-    first_read : (w : Waiting A numbers) (may : Bool) (t : Trial A numbers) → w.call ≡ read → Keeps s.core w.kept p → ReadTry p q fd k (held s.core p) t →
+    first_read : (w : Waiting A numbers) (may : Bool) (t : Trial A numbers) → w.call ≡ read → Keeps s.core w.kept 0 (PipeNode p) → ReadTry p q fd k (held s.core p) t →
         FirstSays p q place s xs pid read ReadFirst (IsRead p q fd k) (ReadSays p q fd k) (read_course p q fd k) w may t
     first_read w may (Done u flow reply) is on says = says
     first_read w may (Wait u flow to) is on says = ((is, on), (λ ins outs end rest. ap (λ b. unless_empty b ++ outs) says ∙ rest))
@@ -292,7 +293,7 @@ module _ {A : Type 0} (p q : ℕ) (place : ℕ) (s : State A) (xs : List (Step A
         tried o e is to =
             let w : Waiting A numbers = waiting pid read (o.key ∷ []) false in
             let node : node_of s.core o.key ≡ Some o.description.node = open_node s.core pid fd o (opened reads (open_fd s.core pid fd) o e) in
-            let keeps : Keeps s.core (o.key ∷ []) p = there s.core o.key p o.description.node node is in
+            let keeps : Keeps s.core (o.key ∷ []) 0 (PipeNode p) = there s.core o.key o.description.node (PipeNode p) node is in
             first_says p q place s xs pid read ReadFirst (IsRead p q fd k) (ReadSays p q fd k) (read_course p q fd k) w (may_block o.description)
             (try s.core w read (may_block o.description)) below order
             (fresh o.key s.next_description o.description.node node (omega arith)) (fresh o.key (s.next_description + 1) o.description.node node (omega arith))
