@@ -41,7 +41,7 @@ use Rattle.pl_model.proofs.streams.CallRuns.{Course, course_run, own_added, own_
 use Rattle.pl_model.proofs.streams.WriteRuns.{adds_more, IsWrite, WriteSays, write_course, IsRead, ReadSays, ReadTry, read_try, read_course}
 
 -- what was found open is there
-opened : (test : Mode → Bool) (o : Option (Open numbers)) (f : Open numbers) → allowed test o ≡ Some f → o ≡ Some f
+pub opened : (test : Mode → Bool) (o : Option (Open numbers)) (f : Open numbers) → allowed test o ≡ Some f → o ≡ Some f
 opened test None f h = absurd (cc)
 opened test (Some o) f h = at (test o.description.mode) h where
   at : (b : Bool) → cond b (Some o) None ≡ Some f → Some o ≡ Some f
@@ -65,7 +65,7 @@ module _ {A : Type 0} where
     at (Some x) e = (let there : x.node ≡ is = cc in there ∙ same)
 
   -- a description that is there has no number above all that were given
-  given : (s : State A) (d n : ℕ) (node : Node numbers) → IsBelowCounters s → node_of s.core d ≡ Some node → s.next_description ≤ n → d ≢ n
+  pub given : (s : State A) (d n : ℕ) (node : Node numbers) → IsBelowCounters s → node_of s.core d ≡ Some node → s.next_description ≤ n → d ≢ n
   given s d n node below e le j = at (s.core.descriptions d) e (ap s.core.descriptions j ∙ (below.descriptions n le).descriptions) where
     at : (o : Option (Description numbers)) → option_map (λ (x : Description numbers). x.node) o ≡ Some node → o ≡ None → ⊥
     at None e f = cc
@@ -124,7 +124,7 @@ module _ {A : Type 0} (p q place : ℕ) (s : State A) (xs : List (Step A × Bool
       )
 
   -- no byte moves
-  quiet_says : (reply : Reply A) → StepTo s x (stepped s.core reply) → says_parked reply ≡ false → SaysFirst [] [] (record { ending = Answered reply; taken = taken_with 0 reply }) → BegunWhole
+  pub quiet_says : (reply : Reply A) → StepTo s x (stepped s.core reply) → says_parked reply ≡ false → SaysFirst [] [] (record { ending = Answered reply; taken = taken_with 0 reply }) → BegunWhole
   quiet_says reply to not says = answered_says (stepped s.core reply) to not says
 
   module _ (Inv : Core A numbers → Waiting A numbers → Type 0) (Says : Waiting A numbers → List (List ℕ) → List (List ℕ) → Fate A → Type 0) (course : Course p q Inv Says) where
@@ -137,7 +137,7 @@ module _ {A : Type 0} (p q place : ℕ) (s : State A) (xs : List (Step A × Bool
         × ((ins outs : List (List ℕ)) (end : Fate A) → Says (record w { taken = t }) ins outs end →
         SaysFirst (unless_empty (into_pipe numbers flow.into q) ++ ins) (unless_empty (out_of_pipe numbers (held s.core p) flow.out p) ++ outs) end)
 
-    first_says : (w : Waiting A numbers) (may : Bool) (t : Trial A numbers) → IsBelowCounters s → AreInOrder s.core → All (λ k. k ≢ s.next_description) w.kept → All (λ k. k ≢ s.next_description + 1) w.kept →
+    pub first_says : (w : Waiting A numbers) (may : Bool) (t : Trial A numbers) → IsBelowCounters s → AreInOrder s.core → All (λ k. k ≢ s.next_description) w.kept → All (λ k. k ≢ s.next_description + 1) w.kept →
         TrialAll (Among s.core) t → TrialFine call t → FirstSays w may t →
         SaysFirst [] [] (record { ending = Answered (Fault EAGAIN); taken = 0 }) → SaysFirst [] [] (record { ending = Answered CallsSpent; taken = 0 }) →
         StepTo s x (first_tried s.core w may t) → BegunWhole
@@ -199,7 +199,7 @@ module _ {A : Type 0} (p q : ℕ) (s : State A) (xs before rest : List (Step A �
       earlier (inr e) = subst (λ t. (of t (pieces_from (piece_added q) 0 s before) ≡ []) × (of t (pieces_from (pieces_left p) 0 s before) ≡ [])) (sym e) (absent 0 p q s before now.core.next_call order late (inr (omega arith)))
 
 module _ {A : Type 0} (p q : ℕ) (place : ℕ) (s : State A) (xs : List (Step A × Bool)) (pid : ℕ) (below : IsBelowCounters s) (order : AreInOrder s.core) where
-  begin_to : (call : Call A) → StepTo s (Begin pid call) (drawn (next_numbers s) (cond (s.core.processes pid) (drawing_map (begun s.core pid call) (begin s.core pid call)) (Plain (stepped s.core NoProcess))))
+  pub begin_to : (call : Call A) → StepTo s (Begin pid call) (drawn (next_numbers s) (cond (s.core.processes pid) (drawing_map (begun s.core pid call) (begin s.core pid call)) (Plain (stepped s.core NoProcess))))
   unfolding happen
   begin_to call = step_to s (Begin pid call)
 
