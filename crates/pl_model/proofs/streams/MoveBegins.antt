@@ -1,16 +1,14 @@
 -- A splice or a tee that begins in a run, and each try of one.
-use Rattle.std.proofs.Common.{◌≡◌, ◌≢◌, ℕ, ℤ, ◌+◌, ◌≤◌, Bool, true, false, cond, Option, List, [], ◌∷◌, ◌++◌, refl, sym, ◌∙◌, ap, subst, nat_eq, take, arith}
+use Rattle.std.proofs.Common.{◌≡◌, ◌≢◌, ℕ, ℤ, ◌+◌, ◌≤◌, Bool, true, false, cond, Option, List, [], ◌∷◌, refl, sym, ◌∙◌, subst, nat_eq, arith}
 use Rattle.std.specs.Prelude.{◌==◌, IfSome, All}
 use Rattle.std.specs.declared.option.Option.TheVariants.{None, Some}
 use Rattle.std.proofs.lemmas.List.Elements.{All-cons, All-nil}
 use Rattle.pl_model.specs.declared.calls.Call.{Call}
-use Rattle.pl_model.specs.declared.calls.Mode.{Mode}
 use Rattle.pl_model.specs.declared.calls.Step.{Step}
-use Rattle.pl_model.specs.declared.calls.Step.TheVariants.{Start, Begin, Resume, Interrupt}
+use Rattle.pl_model.specs.declared.calls.Step.TheVariants.{Begin, Resume}
 use Rattle.pl_model.specs.declared.flags.SpliceFlags.{SpliceFlags}
 use Rattle.pl_model.specs.declared.replies.Reply.{Reply}
 use Rattle.pl_model.specs.declared.replies.Reply.TheVariants.{Fault, Parked, NoProcess, CallsSpent}
-use Rattle.pl_model.specs.declared.replies.Errno.{Errno}
 use Rattle.pl_model.specs.declared.replies.Errno.TheVariants.{EAGAIN}
 use Rattle.pl_model.specs.Numbers.{last_call}
 use Rattle.pl_model.specs.Modes.{reads, writes}
@@ -21,16 +19,15 @@ use Rattle.pl_model.specs.Trial.{Trial, Done, Wait, Flow, still, flowed, Begun, 
 use Rattle.pl_model.specs.Transfer.{count}
 use Rattle.pl_model.specs.Begin.{open_fd, open_for, begin_splice, begin_tee}
 use Rattle.pl_model.specs.Step.{Stepped, try, begin, begun, happen, first_tried, parked, resumed, tried_again, stepped, waiting}
-use Rattle.pl_model.specs.Numbered.{numbers, State, next_numbers, step}
+use Rattle.pl_model.specs.Numbered.{numbers, State, next_numbers}
 use Rattle.pl_model.specs.StandsFor.{IsBelowCounters}
-use Rattle.pl_model.specs.Stream.{held, into_pipe, out_of_pipe}
+use Rattle.pl_model.specs.Stream.{held, into_pipe}
 use Rattle.pl_model.specs.Streams.{added}
-use Rattle.pl_model.specs.Chunks.{unless_empty}
 use Rattle.pl_model.specs.Fates.{Fate, Answered}
 use Rattle.pl_model.specs.InOrder.{AreInOrder}
 use Rattle.pl_model.specs.OnNodes.{KeepsBoth, OpensBoth}
 use Rattle.pl_model.specs.Carried.{counted, Carries, IsSpliceOrTee, TriesToCarry, AddsFirstBytes}
-use Rattle.pl_model.proofs.by_call.Ways.{LeadsTo, Refusable, begun_found, begun_past, begun_if, begun_plain}
+use Rattle.pl_model.proofs.by_call.Ways.{LeadsTo, Refusable, begun_found, begun_past, begun_if}
 use Rattle.pl_model.proofs.by_call.Keeps.{try-keeps, node_of, open_node}
 use Rattle.pl_model.proofs.streams.Writes.{says_parked}
 use Rattle.pl_model.proofs.streams.Does.{try_fine, has_none, among_same, among_changes}

@@ -1,5 +1,5 @@
 -- Splices and tees over a run.
-use Rattle.std.proofs.Common.{◌≡◌, ◌≢◌, ℕ, ℤ, ◌+◌, Bool, true, false, cond, Option, List, [], ◌++◌, length, refl, sym, ◌∙◌, ap, subst, nat_eq, take}
+use Rattle.std.proofs.Common.{◌≡◌, ◌≢◌, ℕ, ℤ, Bool, true, false, cond, Option, List, [], ◌++◌, length, refl, sym, ◌∙◌, ap, subst, nat_eq, take}
 use Rattle.std.specs.Prelude.{IfSome}
 use Rattle.std.specs.declared.option.Option.TheVariants.{None, Some}
 use Rattle.std.proofs.lemmas.List.{length-take, take_min}
@@ -8,8 +8,6 @@ use Rattle.pl_model.specs.declared.calls.Call.{Call}
 use Rattle.pl_model.specs.declared.calls.Step.{Step}
 use Rattle.pl_model.specs.declared.cases.MoveCase.{MoveCase}
 use Rattle.pl_model.specs.declared.flags.SpliceFlags.{SpliceFlags}
-use Rattle.pl_model.specs.declared.replies.Reply.TheVariants.{Fault}
-use Rattle.pl_model.specs.declared.replies.Errno.TheVariants.{EBADF, EINTR}
 use Rattle.pl_model.specs.Map.{get}
 use Rattle.pl_model.specs.Keys.{Node, PipeNode, FileNode}
 use Rattle.pl_model.specs.State.{Core, Open, Waiting}
