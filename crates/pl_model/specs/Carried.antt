@@ -1,5 +1,5 @@
 -- What a splice or a tee carries from one description to another.
-use Rattle.std.specs.Prelude.{◌≡◌, ◌≢◌, ⊤, ℕ, nat_eq, Bool, List, [], length, take, IfSome, if◌then◌else◌}
+use Rattle.std.specs.Prelude.{◌≡◌, ◌≢◌, ⊤, ℕ, nat_eq, Bool, false, List, [], ◌∷◌, ◌++◌, length, take, IfSome, if◌then◌else◌}
 use Rattle.pl_model.specs.declared.calls.Call.{Call}
 use Rattle.pl_model.specs.declared.calls.Step.{Step}
 use Rattle.pl_model.specs.declared.calls.Step.TheVariants.{Begin, Resume}
@@ -7,9 +7,12 @@ use Rattle.pl_model.specs.declared.replies.Reply.TheVariants.{Count}
 use Rattle.pl_model.specs.Map.{get}
 use Rattle.pl_model.specs.Keys.{Node, PipeNode}
 use Rattle.pl_model.specs.State.{Core}
-use Rattle.pl_model.specs.Numbered.{numbers}
+use Rattle.pl_model.specs.Numbered.{numbers, State, step}
+use Rattle.pl_model.specs.Run.{after}
+use Rattle.pl_model.specs.Stream.{held}
+use Rattle.pl_model.specs.Streams.{added}
 use Rattle.pl_model.specs.OnNodes.{KeepsBoth, OpensBoth}
-use Rattle.pl_model.specs.Chunks.{unless_empty}
+use Rattle.pl_model.specs.Chunks.{Tag, tag_of, unless_empty}
 use Rattle.pl_model.specs.Fates.{Ending, Answered}
 
 module _ {A : Type 0} where
@@ -47,3 +50,10 @@ module _ {A : Type 0} where
 pub record AddsFirstBytes (held added : List ℕ) : Type 0 where
   pub count : ℕ
   pub first : added ≡ take count held
+
+-- The same of each step of a run that has this tag, as it adds to the pipe q, of what the pipe p then held.
+abbrev pub EachAddsFirst : {A : Type 0} → State A → List (Step A × Bool) → Tag → (p q : ℕ) → Type 0
+EachAddsFirst {A = A} s xs tag p q =
+    (before rest : List (Step A × Bool)) (x : Step A) →
+    let now = after s before in
+    xs ≡ before ++ (x, false) ∷ rest → tag_of (length before) x (step now x).reply ≡ tag → AddsFirstBytes (held now.core p) (added now x q)

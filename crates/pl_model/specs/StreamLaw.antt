@@ -20,7 +20,7 @@ use Rattle.pl_model.specs.StandsFor.{IsBelowCounters}
 use Rattle.pl_model.specs.Stream.{held}
 use Rattle.pl_model.specs.Streams.{added}
 use Rattle.pl_model.specs.Chunks.{chunks, outs, joined, of, OfCall, tag_of}
-use Rattle.pl_model.specs.Carried.{Carries, TriesToCarry, AddsFirstBytes}
+use Rattle.pl_model.specs.Carried.{Carries, IsSpliceOrTee, TriesToCarry, AddsFirstBytes, EachAddsFirst}
 use Rattle.pl_model.specs.Fates.{Fate, Answered, fate, fate_begun, answers_count, bytes_answered}
 use Rattle.pl_model.specs.Transfer.{count}
 
@@ -88,6 +88,14 @@ pub record StreamLaw {A : Type 0} (s : State A) (xs : List (Step A × Bool)) : T
   pub tried_move : (before rest : List (Step A × Bool)) (x : Step A) (p q : ℕ) →
       let now = after s before in
       xs ≡ before ++ (x, false) ∷ rest → TriesToCarry now.core x (PipeNode p) (PipeNode q) → AddsFirstBytes (held now.core p) (added now x q)
+  -- so whatever makes a chunk of it
+  pub waiting_move : (p q c : ℕ) (w : Waiting A numbers) →
+      get nat_eq s.core.parked c ≡ Some w → IsSpliceOrTee w.call → KeepsBoth s.core w.kept (PipeNode p) (PipeNode q) → EachAddsFirst s xs (OfCall c) p q
+  pub begun_move : (before rest : List (Step A × Bool)) (p q pid : ℕ) (call : Call A) →
+      let now = after s before in
+      let move = Begin pid call in
+      xs ≡ before ++ (move, false) ∷ rest → TriesToCarry now.core move (PipeNode p) (PipeNode q) →
+      EachAddsFirst s xs (tag_of (length before) move (step now move).reply) p q
 
 -- Each run keeps the law.
 abbrev pub RunsKeepTheStreamLaw : Type 0 → Type 0

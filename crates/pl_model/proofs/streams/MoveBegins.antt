@@ -217,3 +217,10 @@ module _ {A : Type 0} (p q : ℕ) (s : State A) (below : IsBelowCounters s) wher
       (tee_begins s (PipeNode p) (PipeNode q) pid from_fd to_fd len flags below on)
   step_adds (Resume c) on = resume_adds c on
   step_adds x on = absurd on
+
+module _ {A : Type 0} (s : State A) (p q pid : ℕ) where
+  -- a call that begins as a splice or a tee between two pipes
+  pub carries_begins : (call : Call A) → IsBelowCounters s → TriesToCarry s.core (Begin pid call) (PipeNode p) (PipeNode q) → IsSpliceOrTee call × BeginsSo s (PipeNode p) (PipeNode q) pid call
+  carries_begins (Call.Splice from_fd from_offset to_fd to_offset len flags) below on = (tt, splice_begins s (PipeNode p) (PipeNode q) pid from_fd to_fd from_offset to_offset len flags below on)
+  carries_begins (Call.Tee from_fd to_fd len flags) below on = (tt, tee_begins s (PipeNode p) (PipeNode q) pid from_fd to_fd len flags below on)
+  carries_begins call below on = absurd on

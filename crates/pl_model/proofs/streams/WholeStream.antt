@@ -17,6 +17,7 @@ use Rattle.pl_model.proofs.streams.Courses.{run_order}
 use Rattle.pl_model.proofs.streams.WriteRuns.{write_run, read_run}
 use Rattle.pl_model.proofs.streams.MoveRuns.{move_run, splice_moves, tee_moves}
 use Rattle.pl_model.proofs.streams.MoveBegins.{FirstCarries, splice_begins, tee_begins, begun_move, step_adds}
+use Rattle.pl_model.proofs.streams.MoveMoments.{waiting_adds, begun_adds}
 use Rattle.pl_model.proofs.streams.BegunRuns.{run_below, in_whole, begun_write, begun_read}
 
 pub stream_law : {A : Type 0} (s : State A) (xs : List (Step A × Bool)) → IsBelowCounters s → AreInOrder s.core → StreamLaw s xs
@@ -48,4 +49,6 @@ stream_law s xs below order =
           (begun_move p q true from to call tries (length before) (after s before) rest pid (run_below s before below) (run_order s before order)
           (tee_begins (after s before) from to pid from_fd to_fd len flags (run_below s before below) on));
       tried_move = λ before rest x p q e tries. step_adds p q (after s before) (run_below s before below) x tries;
+      waiting_move = λ p q c w here is on. waiting_adds p q s xs c w below order here is on;
+      begun_move = λ before rest p q pid call e tries. begun_adds p q s xs before rest pid call below order e tries;
     }
