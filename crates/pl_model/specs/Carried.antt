@@ -21,16 +21,16 @@ module _ {A : Type 0} where
   counted (Answered (Count n sigpipe)) = n
   counted ending = 0
 
-  -- splice(2), tee(2): what a call carries from one node to another, which ended so. These are its chunks of the pipe q, and its
+  -- splice(2), tee(2): what a call that ended so carries from one node to another. These are its chunks of the pipe q, and its
   -- outs of the pipe p.
   pub record Carries (is_tee : Bool) (from to : Node numbers) (p q : ℕ) (chunks outs : List (List ℕ)) (ending : Ending A) : Type 0 where
     -- as many bytes as were counted; none, where the call answered anything else, was interrupted or dropped, or waits
     pub bytes : List ℕ
     pub counts : length bytes ≡ counted ending
-    -- They are its one chunk of the pipe that it is to,
+    -- They are its one chunk of the pipe that it goes to,
     pub chunk : to ≡ PipeNode q → chunks ≡ unless_empty bytes
     pub no_chunk : to ≢ PipeNode q → chunks ≡ []
-    -- and its one out of the pipe that it is from. A tee has no out.
+    -- and its one out of the pipe that it comes from. A tee has no out.
     pub out : from ≡ PipeNode p → outs ≡ (if is_tee then [] else unless_empty bytes)
     pub no_out : from ≢ PipeNode p → outs ≡ []
 
@@ -51,7 +51,7 @@ pub record AddsFirstBytes (held added : List ℕ) : Type 0 where
   pub count : ℕ
   pub first : added ≡ take count held
 
--- The same of each step of a run that has this tag, as it adds to the pipe q, of what the pipe p then held.
+-- splice(2), tee(2): each step of the run under this tag adds to the pipe q the first of the bytes that the pipe p then holds.
 abbrev pub EachAddsFirst : {A : Type 0} → State A → List (Step A × Bool) → Tag → (p q : ℕ) → Type 0
 EachAddsFirst {A = A} s xs tag p q =
     (before rest : List (Step A × Bool)) (x : Step A) →

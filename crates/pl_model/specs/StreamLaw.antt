@@ -84,11 +84,11 @@ pub record StreamLaw {A : Type 0} (s : State A) (xs : List (Step A × Bool)) : T
       let tag = tag_of (length before) tee (step now tee).reply in
       xs ≡ before ++ (tee, false) ∷ rest → OpensBoth now.core pid from_fd to_fd from to →
       Carries true from to p q (of tag (chunks s xs q)) (of tag (outs s xs p)) (fate_begun now tee rest).ending
-  -- each try of one from a pipe to another adds the first of the bytes that its source then held
+  -- a try of one from a pipe to another adds the first of the bytes that its source then holds
   pub tried_move : (before rest : List (Step A × Bool)) (x : Step A) (p q : ℕ) →
       let now = after s before in
       xs ≡ before ++ (x, false) ∷ rest → TriesToCarry now.core x (PipeNode p) (PipeNode q) → AddsFirstBytes (held now.core p) (added now x q)
-  -- so whatever makes a chunk of it
+  -- and so does each step under its tag, where it is parked as the run begins, and where it begins in it
   pub waiting_move : (p q c : ℕ) (w : Waiting A numbers) →
       get nat_eq s.core.parked c ≡ Some w → IsSpliceOrTee w.call → KeepsBoth s.core w.kept (PipeNode p) (PipeNode q) → EachAddsFirst s xs (OfCall c) p q
   pub begun_move : (before rest : List (Step A × Bool)) (p q pid : ℕ) (call : Call A) →

@@ -19,7 +19,7 @@ use Rattle.pl_model.specs.Run.{after}
 use Rattle.pl_model.specs.StandsFor.{IsBelowCounters}
 use Rattle.pl_model.specs.Stream.{held}
 use Rattle.pl_model.specs.Streams.{added}
-use Rattle.pl_model.specs.Chunks.{Tag, OfCall, AtPlace, same_tag, tag_answered, tag_of, piece, unless_empty, of, piece_added}
+use Rattle.pl_model.specs.Chunks.{OfCall, AtPlace, same_tag, tag_answered, tag_of, piece, unless_empty, of, piece_added}
 use Rattle.pl_model.specs.InOrder.{AreInOrder}
 use Rattle.pl_model.specs.OnNodes.{KeepsBoth}
 use Rattle.pl_model.specs.Carried.{IsSpliceOrTee, TriesToCarry, AddsFirstBytes, EachAddsFirst}
