@@ -10,3 +10,5 @@ pub mod FileExamples
 pub mod CapacityExamples
 -- The small examples of FIFOs, computed from the definitions.
 pub mod FifoExamples
+-- The small examples of splices and tees, computed from the definitions.
+pub mod SpliceExamples
