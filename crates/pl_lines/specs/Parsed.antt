@@ -1,12 +1,13 @@
--- Which lines take memory, and what the calls of a line are from `dup2` on.
-use Rattle.std.specs.Prelude.{ℕ, List, Option, None, IsSomeAnd, if◌then◌else◌, codes}
+-- Which lines take memory, and what parts of a line say.
+use Rattle.std.specs.Prelude.{ℕ, ℤ, List, ◌∷◌, Option, Some, None, IsSomeAnd, if◌then◌else◌, codes}
 use Rattle.std.specs.Str.{bytes_eq}
 use Rattle.pl_model.specs.declared.calls.Call.{Call}
 use Rattle.pl_model.specs.declared.calls.Call.TheVariants as call
 use Rattle.pl_model.specs.declared.calls.Step.TheVariants as step
 use Rattle.pl_model.specs.declared.script.Line.{Line}
 use Rattle.pl_model.specs.declared.script.Line.TheVariants.{Do, File}
-use Rattle.pl_model.specs.Lines.{dup2_of, dup_fd_of, close_of, lseek_of, get_fl_of, set_fl_of, get_pipe_sz_of, set_pipe_sz_of, unlink_of, fork_of, exit_of}
+use Rattle.pl_model.specs.Lines.{side_of, dup_of, dup2_of, dup_fd_of, close_of, lseek_of, get_fl_of, set_fl_of, get_pipe_sz_of, set_pipe_sz_of, unlink_of, fork_of, exit_of}
+use Rattle.pl_model.specs.Words.{◌>>=◌}
 use Rattle.pl_words.specs.Parsed.{BytesTake}
 
 -- of calls, those with bytes or a name alone
@@ -27,10 +28,16 @@ LineTakes (File name) = BytesTake name
 abbrev pub LineAskedTakes : {A : Type 0} → Option (Line A) → Type 0
 LineAskedTakes asked = IsSomeAnd asked LineTakes
 
--- what `call_of` says from `dup2` on
+-- the first two words as a side of a splice, and the words behind them
+abbrev pub first_side : List (List ℕ) → Option (ℤ × Option ℕ × List (List ℕ))
+first_side (fd ∷ offset ∷ rest) = side_of fd offset >>= λ x. Some (x.0, x.1, rest)
+first_side _ = None
+
+-- what `call_of` says from `dup` on
 unfoldable pub later_call_of : {A : Type 0} → List ℕ → List (List ℕ) → Option (Call A)
 later_call_of name rest =
-    if bytes_eq name (codes "dup2") then dup2_of rest
+    if bytes_eq name (codes "dup") then dup_of rest
+    else if bytes_eq name (codes "dup2") then dup2_of rest
     else if bytes_eq name (codes "dupfd") then dup_fd_of rest
     else if bytes_eq name (codes "close") then close_of rest
     else if bytes_eq name (codes "lseek") then lseek_of rest

@@ -1,13 +1,14 @@
 //! The calls in lines.
 ghost use Rattle.pl_model.specs.Words.{words, mode_of, whence_of};
-ghost use Rattle.pl_model.specs.Lines.{pipe_of, mkfifo_of, open_name_of, read_of, write_of, dup_of, dup2_of, dup_fd_of, close_of, lseek_of, get_fl_of, set_fl_of, get_pipe_sz_of, set_pipe_sz_of, unlink_of, fork_of, exit_of, call_of};
-ghost use Rattle.pl_words.specs.Parsed.{Gives, GivesTaking};
-ghost use Rattle.pl_lines.specs.Parsed.{CallTakes, later_call_of};
+ghost use Rattle.pl_model.specs.Lines.{pipe_of, mkfifo_of, open_name_of, read_of, write_of, len_and_flags, splice_of, tee_of, dup_of, dup2_of, dup_fd_of, close_of, lseek_of, get_fl_of, set_fl_of, get_pipe_sz_of, set_pipe_sz_of, unlink_of, fork_of, exit_of, call_of};
+ghost use Rattle.pl_words.specs.Parsed.{Gives, GivesAs, GivesTaking};
+ghost use Rattle.pl_lines.specs.Parsed.{CallTakes, first_side, later_call_of};
 
-use pl_model::{Call, Mode, Whence};
+use pl_model::{Call, Mode, SpliceFlags, Whence};
 use pl_words::{
-    LineFault, end, fd_and_word, next_word, only_i32, only_word, parse_bytes, parse_flags_if_any,
-    parse_flags_or_none, parse_i32, parse_i64, parse_name, parse_u32, word,
+    LineFault, end, fd_and_word, next_word, only_i32, only_word, open_flags_if_any, parse_bytes,
+    parse_flags_or_none, parse_i32, parse_i64, parse_name, parse_offset, parse_u32,
+    splice_flags_if_any, word,
 };
 use std::alloc::Allocator;
 
@@ -60,7 +61,7 @@ fn open_call<A: Allocator + Copy>(alloc: A, rest: &[u8]) -> Result<Call<A>, Line
     let (name, rest) = word(rest)?;
     let (mode, rest) = word(rest)?;
     let mode = parse_mode(mode)?;
-    let flags = parse_flags_if_any(rest)?;
+    let flags = open_flags_if_any(rest)?;
     // What takes memory comes last, as a bad line is bad whatever the memory.
     Ok(Call::OpenName {
         name: parse_name(alloc, name)?,
@@ -88,6 +89,60 @@ fn write_call<A: Allocator + Copy>(alloc: A, rest: &[u8]) -> Result<Call<A>, Lin
     Ok(Call::Write {
         fd,
         bytes: parse_bytes(alloc, bytes)?,
+    })
+}
+
+/// One side of a splice: a descriptor, and the offset that may be given for it; and what stands behind them.
+fn first_side(rest: &[u8]) -> Result<(i32, Option<u64>, &[u8]), LineFault>
+    ensures { GivesAs (λ p. (p.0, p.1, words p.2.now)) result (first_side (words rest.now)) }
+{
+    let (fd, rest) = word(rest)?;
+    let (offset, rest) = word(rest)?;
+    let fd = parse_i32(fd)?;
+    Ok((fd, parse_offset(offset)?, rest))
+}
+
+/// How many bytes are to go over at most, and the flags.
+#[tactic(auto, unfolding(pl_model::specs::Lines::len_and_flags))]
+fn len_and_flags(rest: &[u8]) -> Result<(u32, SpliceFlags), LineFault>
+    ensures { Gives result (len_and_flags (words rest.now)) }
+{
+    let (len, rest) = word(rest)?;
+    let len = parse_u32(len)?;
+    Ok((len, splice_flags_if_any(rest)?))
+}
+
+#[tactic(auto, unfolding(pl_model::specs::Lines::splice_of))]
+fn splice_call<A: Allocator + Copy>(rest: &[u8]) -> Result<Call<A>, LineFault>
+    ensures { Gives result (splice_of (words rest.now)) }
+{
+    let (from, from_offset, rest) = first_side(rest)?;
+    let (to, to_offset, rest) = first_side(rest)?;
+    let (len, flags) = len_and_flags(rest)?;
+    Ok(Call::Splice {
+        from,
+        from_offset,
+        to,
+        to_offset,
+        len,
+        flags,
+    })
+}
+
+#[tactic(auto, unfolding(pl_model::specs::Lines::tee_of))]
+fn tee_call<A: Allocator + Copy>(rest: &[u8]) -> Result<Call<A>, LineFault>
+    ensures { Gives result (tee_of (words rest.now)) }
+{
+    let (from, rest) = word(rest)?;
+    let (to, rest) = word(rest)?;
+    let from = parse_i32(from)?;
+    let to = parse_i32(to)?;
+    let (len, flags) = len_and_flags(rest)?;
+    Ok(Call::Tee {
+        from,
+        to,
+        len,
+        flags,
     })
 }
 
@@ -226,7 +281,7 @@ fn exit_call<A: Allocator + Copy>(rest: &[u8]) -> Result<Call<A>, LineFault>
     Ok(Call::Exit)
 }
 
-/// The call of this name, of those from `dup2` on.
+/// The call of this name, of those from `dup` on.
 #[tactic(auto, unfolding(crate::specs::Parsed::later_call_of))]
 fn parse_later_call<A: Allocator + Copy>(
     alloc: A,
@@ -235,7 +290,9 @@ fn parse_later_call<A: Allocator + Copy>(
 ) -> Result<Call<A>, LineFault>
     ensures { GivesTaking CallTakes result (later_call_of name.now (words rest.now)) }
 {
-    if name == b"dup2".as_slice() {
+    if name == b"dup".as_slice() {
+        dup_call(rest)
+    } else if name == b"dup2".as_slice() {
         dup2_call(rest)
     } else if name == b"dupfd".as_slice() {
         dup_fd_call(rest)
@@ -281,8 +338,10 @@ pub(crate) fn parse_call<A: Allocator + Copy>(
         read_call(rest)
     } else if name == b"write".as_slice() {
         write_call(alloc, rest)
-    } else if name == b"dup".as_slice() {
-        dup_call(rest)
+    } else if name == b"splice".as_slice() {
+        splice_call(rest)
+    } else if name == b"tee".as_slice() {
+        tee_call(rest)
     } else {
         parse_later_call(alloc, name, rest)
     }

@@ -12,3 +12,5 @@ pub mod CapacityExamples
 pub mod FifoExamples
 -- The small examples of splices and tees, computed from the definitions.
 pub mod SpliceExamples
+-- The small examples of the lines of splices and tees, computed from the definitions.
+pub mod SpliceLineExamples

@@ -26,9 +26,21 @@ append = 8
 abbrev pub nonblock : ℕ
 nonblock = 16
 
+-- splice(2), SPLICE_F_MOVE: pages are moved where they can be; it has no effect (the last: our own).
+abbrev pub splice_move : ℕ
+splice_move = 1
+
 -- splice(2), SPLICE_F_NONBLOCK: the call doesn't wait for a pipe.
 abbrev pub splice_nonblock : ℕ
 splice_nonblock = 2
+
+-- splice(2), SPLICE_F_MORE: more will come; it has no effect (the last: our own).
+abbrev pub splice_more : ℕ
+splice_more = 4
+
+-- splice(2), SPLICE_F_GIFT: it has no effect on a splice, nor on a tee.
+abbrev pub splice_gift : ℕ
+splice_gift = 8
 
 -- POSIX.1-2017, fcntl, F_SETFL: the file status flags that a description keeps, among any flags.
 abbrev pub status_flags : OpenFlags → OpenFlags

@@ -1,16 +1,32 @@
 -- What a line of a script asks (our own): one pattern for each line, over its words.
-use Rattle.std.specs.Prelude.{ℕ, ◌^◌, List, [], ◌∷◌, Bool, true, false, ◌==◌, if◌then◌else◌, Option, Some, None, codes}
+use Rattle.std.specs.Prelude.{ℕ, ◌^◌, ℤ, List, [], ◌∷◌, Bool, true, false, ◌==◌, if◌then◌else◌, Option, Some, None, codes}
 use Rattle.std.specs.Str.{bytes_eq}
 use Rattle.pl_model.specs.declared.calls.Call.{Call}
-use Rattle.pl_model.specs.declared.calls.Call.TheVariants.{Pipe, Mkfifo, OpenName, Read, Write, Dup, Dup2, DupFd, Close, Lseek, GetFl, SetFl, GetPipeSz, SetPipeSz, Unlink, Fork, Exit}
+use Rattle.pl_model.specs.declared.calls.Call.TheVariants.{Pipe, Mkfifo, OpenName, Read, Write, Splice, Tee, Dup, Dup2, DupFd, Close, Lseek, GetFl, SetFl, GetPipeSz, SetPipeSz, Unlink, Fork, Exit}
 use Rattle.pl_model.specs.declared.calls.Step.TheVariants.{Start, Begin, Resume, Interrupt}
+use Rattle.pl_model.specs.declared.flags.SpliceFlags.{SpliceFlags}
 use Rattle.pl_model.specs.declared.script.Line.{Line}
 use Rattle.pl_model.specs.declared.script.Line.TheVariants.{Do, File}
-use Rattle.pl_model.specs.Words.{◌>>=◌, words, without_return, number, signed, signed_long, bytes_of, name_of, mode_of, whence_of, flags_if_any, flags_or_none}
+use Rattle.pl_model.specs.Words.{◌>>=◌, words, without_return, number, signed, signed_long, bytes_of, name_of, mode_of, whence_of, open_flags_if_any, splice_flags_if_any, flags_or_none, offset_of}
 
 abbrev pub is_comment : List ℕ → Bool
 is_comment [] = false
 is_comment (c ∷ cs) = c == 35
+
+-- `FD OFF`, one side of a splice
+abbrev pub side_of : List ℕ → List ℕ → Option (ℤ × Option ℕ)
+side_of fd offset = do
+  f ← signed fd
+  o ← offset_of offset
+  Some (f, o)
+
+-- `LEN [FLAGS]`
+unfoldable pub len_and_flags : List (List ℕ) → Option (ℕ × SpliceFlags)
+len_and_flags (len ∷ flags) = do
+  n ← number (2 ^ 32) len
+  fs ← splice_flags_if_any flags
+  Some (n, fs)
+len_and_flags [] = None
 
 module _ {A : Type 0} where
   -- `P pipe [nonblock]`
@@ -28,7 +44,7 @@ module _ {A : Type 0} where
   unfoldable pub open_name_of : List (List ℕ) → Option (Call A)
   open_name_of (name ∷ mode ∷ flags) = do
     m ← mode_of mode
-    fs ← flags_if_any flags
+    fs ← open_flags_if_any flags
     n ← name_of name
     Some (OpenName n m fs)
   open_name_of _ = None
@@ -48,6 +64,24 @@ module _ {A : Type 0} where
     b ← bytes_of bytes
     Some (Write f b)
   write_of _ = None
+
+  -- `P splice FD OFF FD OFF LEN [FLAGS]`
+  unfoldable pub splice_of : List (List ℕ) → Option (Call A)
+  splice_of (from ∷ from_offset ∷ to ∷ to_offset ∷ rest) = do
+    f ← side_of from from_offset
+    t ← side_of to to_offset
+    n ← len_and_flags rest
+    Some (Splice f.0 f.1 t.0 t.1 n.0 n.1)
+  splice_of _ = None
+
+  -- `P tee FD FD LEN [FLAGS]`
+  unfoldable pub tee_of : List (List ℕ) → Option (Call A)
+  tee_of (from ∷ to ∷ rest) = do
+    f ← signed from
+    t ← signed to
+    n ← len_and_flags rest
+    Some (Tee f t n.0 n.1)
+  tee_of _ = None
 
   -- `P dup FD`
   unfoldable pub dup_of : List (List ℕ) → Option (Call A)
@@ -133,6 +167,8 @@ module _ {A : Type 0} where
       else if bytes_eq name (codes "open") then open_name_of rest
       else if bytes_eq name (codes "read") then read_of rest
       else if bytes_eq name (codes "write") then write_of rest
+      else if bytes_eq name (codes "splice") then splice_of rest
+      else if bytes_eq name (codes "tee") then tee_of rest
       else if bytes_eq name (codes "dup") then dup_of rest
       else if bytes_eq name (codes "dup2") then dup2_of rest
       else if bytes_eq name (codes "dupfd") then dup_fd_of rest

@@ -6,8 +6,9 @@ use Rattle.std.specs.Str.Parse.{digits_value}
 use Rattle.pl_model.specs.declared.calls.Mode.{Mode}
 use Rattle.pl_model.specs.declared.calls.Whence.{Whence}
 use Rattle.pl_model.specs.declared.flags.OpenFlags.{OpenFlags}
+use Rattle.pl_model.specs.declared.flags.SpliceFlags.{SpliceFlags}
 use Rattle.pl_model.specs.Numbers.{most_bytes}
-use Rattle.pl_model.specs.Flags.{creat, excl, trunc, append, nonblock, no_flags}
+use Rattle.pl_model.specs.Flags.{creat, excl, trunc, append, nonblock, splice_move, splice_nonblock, splice_more, splice_gift, no_flags}
 
 -- what the second says of what the first gives, if it gives anything
 infixl 10 ◌>>=◌
@@ -143,34 +144,61 @@ whence_of word =
     else if bytes_eq word (codes "end") then Some Whence.End
     else None
 
--- the flag of this name
-unfoldable pub flag_of : List ℕ → Option OpenFlags
-flag_of name =
-    if bytes_eq name (codes "creat") then Some (record { 0 = creat })
-    else if bytes_eq name (codes "excl") then Some (record { 0 = excl })
-    else if bytes_eq name (codes "trunc") then Some (record { 0 = trunc })
-    else if bytes_eq name (codes "append") then Some (record { 0 = append })
-    else if bytes_eq name (codes "nonblock") then Some (record { 0 = nonblock })
+-- a flag by its name, as a file is opened: its bit
+unfoldable pub open_flag : List ℕ → Option ℕ
+open_flag name =
+    if bytes_eq name (codes "creat") then Some creat
+    else if bytes_eq name (codes "excl") then Some excl
+    else if bytes_eq name (codes "trunc") then Some trunc
+    else if bytes_eq name (codes "append") then Some append
+    else if bytes_eq name (codes "nonblock") then Some nonblock
     else None
 
--- the flags of these names, beside some that are there
-unfoldable pub with_flags : OpenFlags → List (List ℕ) → Option OpenFlags
-with_flags flags [] = Some flags
-with_flags flags (name ∷ names) = flag_of name >>= λ flag. with_flags (record { 0 = bit_or flags.0 flag.0 }) names
+-- a flag by its name, as bytes are spliced: its bit
+unfoldable pub splice_flag : List ℕ → Option ℕ
+splice_flag name =
+    if bytes_eq name (codes "move") then Some splice_move
+    else if bytes_eq name (codes "nonblock") then Some splice_nonblock
+    else if bytes_eq name (codes "more") then Some splice_more
+    else if bytes_eq name (codes "gift") then Some splice_gift
+    else None
+
+-- the bits of these names, beside some that are there
+unfoldable pub with_flags : (List ℕ → Option ℕ) → ℕ → List (List ℕ) → Option ℕ
+with_flags flag_of bits [] = Some bits
+with_flags flag_of bits (name ∷ names) = flag_of name >>= λ bit. with_flags flag_of (bit_or bits bit) names
 
 abbrev pub is_comma : ℕ → Bool
 is_comma c = c == 44
 
 -- FLAGS: names joined by commas
-unfoldable pub flags_of : List ℕ → Option OpenFlags
-flags_of word = with_flags no_flags (slice_split is_comma word)
+unfoldable pub flags_of : (List ℕ → Option ℕ) → List ℕ → Option ℕ
+flags_of flag_of word = with_flags flag_of 0 (slice_split is_comma word)
 
 -- FLAGS that may be left out
-unfoldable pub flags_if_any : List (List ℕ) → Option OpenFlags
-flags_if_any [] = Some no_flags
-flags_if_any (word ∷ []) = flags_of word
-flags_if_any _ = None
+unfoldable pub flags_if_any : (List ℕ → Option ℕ) → List (List ℕ) → Option ℕ
+flags_if_any flag_of [] = Some 0
+flags_if_any flag_of (word ∷ []) = flags_of flag_of word
+flags_if_any flag_of _ = None
+
+abbrev pub as_open_flags : ℕ → OpenFlags
+as_open_flags bits = record { 0 = bits }
+
+abbrev pub as_splice_flags : ℕ → SpliceFlags
+as_splice_flags bits = record { 0 = bits }
+
+-- FLAGS of an open, which may be left out
+abbrev pub open_flags_if_any : List (List ℕ) → Option OpenFlags
+open_flags_if_any ws = flags_if_any open_flag ws >>= λ bits. Some (as_open_flags bits)
+
+-- FLAGS of a splice, which may be left out
+abbrev pub splice_flags_if_any : List (List ℕ) → Option SpliceFlags
+splice_flags_if_any ws = flags_if_any splice_flag ws >>= λ bits. Some (as_splice_flags bits)
 
 -- FLAGS, or `-` for none
 unfoldable pub flags_or_none : List ℕ → Option OpenFlags
-flags_or_none word = if bytes_eq word (codes "-") then Some no_flags else flags_of word
+flags_or_none word = if bytes_eq word (codes "-") then Some no_flags else (flags_of open_flag word >>= λ bits. Some (as_open_flags bits))
+
+-- OFF: a number that fits 64 bits, or `-` for none
+unfoldable pub offset_of : List ℕ → Option (Option ℕ)
+offset_of word = if bytes_eq word (codes "-") then Some None else (number (2 ^ 64) word >>= λ n. Some (Some n))

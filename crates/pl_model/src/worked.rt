@@ -3,6 +3,7 @@ ghost use Rattle.pl_model.specs.Worked.{BytesBeforeEndOfFile, PartialAndWholeNot
 ghost use Rattle.pl_model.specs.WorkedFiles.{EndOfAFile, BadNames, RefusalsOfAnOpen, FlagsOfAnOpen, AppendingAndSeeking, UnlinkedFileLivesOn, NamesKeepTheirFiles, PipesHaveNoOffset, ScriptOfFiles, NamesInWords};
 ghost use Rattle.pl_model.specs.WorkedCapacity.{SizesAreRoundedUp, OnlyPipesHaveACapacity, CapacityIsRoom, WaitingWriteGetsRoom, ScriptOfCapacities, LinesOfCapacities};
 ghost use Rattle.pl_model.specs.WorkedFifo.{UnusedFifoForgets, OpensWithoutTheOtherEnd, ReadersWaitForAWriter, InterruptedOpen, MetThoughClosed, LastOpenThatWaits, LinesOfFifos};
+ghost use Rattle.pl_model.specs.WorkedSpliceLines.{LinesOfSplices};
 ghost use Rattle.pl_model.specs.WorkedStream.{RunsInPieces};
 ghost use Rattle.pl_model.specs.WorkedSplice.{SharedTail, BytesOfTheMoment, SpliceToAnOffset, SplicesAndTeesRefused, MovesThatWait, SplicesAtTheEndOfAFile, PiecesOfMoves};
 
@@ -99,4 +100,5 @@ pub fn scripts<A: Allocator>()
     ensures capacities { ScriptOfCapacities A }
     ensures lines_of_capacities { LinesOfCapacities A }
     ensures lines_of_fifos { LinesOfFifos A }
+    ensures lines_of_splices { LinesOfSplices A }
 {}

@@ -4,6 +4,7 @@ use Rattle.pl_model.specs.declared.calls.Call.{Call}
 use Rattle.pl_model.specs.declared.calls.Step.{Step}
 use Rattle.pl_model.specs.declared.calls.Step.TheVariants.{Start, Begin, Resume, Interrupt}
 use Rattle.pl_model.specs.declared.flags.OpenFlags.{OpenFlags}
+use Rattle.pl_model.specs.declared.flags.SpliceFlags.{SpliceFlags}
 use Rattle.pl_model.specs.declared.replies.Reply.{Reply}
 use Rattle.pl_model.specs.declared.replies.Reply.TheVariants as reply
 use Rattle.pl_testing.specs.declared.asked.Data.{Data}
@@ -28,14 +29,21 @@ data_bytes (Many byte times) = replicate times byte
 data_bytes (TwoRuns first times second more) = replicate times first ++ replicate more second
 data_bytes (Part from count) = part_bytes from count
 
--- the flags, and those of the list
-unfoldable pub with_all : OpenFlags → List OpenFlags → OpenFlags
-with_all set [] = set
-with_all set (flag ∷ flags) = with_all (record { 0 = bit_or set.0 flag.0 }) flags
+module _ {F : Type 0} (set_of : F → ℕ) where
+  -- the bits, and those of the flags of the list
+  unfoldable pub with_all : ℕ → List F → ℕ
+  with_all bits [] = bits
+  with_all bits (flag ∷ flags) = with_all (bit_or bits (set_of flag)) flags
 
--- all flags of the list
+  -- the bits of all flags of the list
+  abbrev pub all_bits : List F → ℕ
+  all_bits flags = with_all 0 flags
+
 abbrev pub all_flags : List OpenFlags → OpenFlags
-all_flags flags = with_all (record { 0 = 0 }) flags
+all_flags flags = record { 0 = all_bits (λ flag. flag.0) flags }
+
+abbrev pub all_splice_flags : List SpliceFlags → SpliceFlags
+all_splice_flags flags = record { 0 = all_bits (λ flag. flag.0) flags }
 
 module _ {A : Type 0} where
   -- the step of a row
@@ -49,6 +57,8 @@ module _ {A : Type 0} where
   asked (ask.Open pid name mode flags) = Begin pid (Call.OpenName (data_bytes name) mode (all_flags flags.now))
   asked (ask.Read pid fd n) = Begin pid (Call.Read fd n)
   asked (ask.Write pid fd bytes) = Begin pid (Call.Write fd (data_bytes bytes))
+  asked (ask.Splice pid from to len flags) = Begin pid (Call.Splice from.0 from.1 to.0 to.1 len (all_splice_flags flags.now))
+  asked (ask.Tee pid from to len flags) = Begin pid (Call.Tee from to len (all_splice_flags flags.now))
   asked (ask.Dup pid fd) = Begin pid (Call.Dup fd)
   asked (ask.Dup2 pid fd target) = Begin pid (Call.Dup2 fd target)
   asked (ask.DupFd pid fd least) = Begin pid (Call.DupFd fd least)

@@ -1,9 +1,11 @@
 //! Tables of what is asked of a kernel, and what it is to answer.
 ghost use Rattle.std.specs.Prelude.{◌≡◌, IfOk};
-ghost use Rattle.pl_testing.specs.Asked.{data_bytes, all_flags, asked, wanted};
+ghost use Rattle.pl_testing.specs.Asked.{data_bytes, all_bits, asked, wanted};
 
 use bitflags::Flags;
-use pl_model::{Bytes8, Call, Errno, Mode, Name, OpenFlags, Outcome, Reply, Step, Whence};
+use pl_model::{
+    Bytes8, Call, Errno, Mode, Name, OpenFlags, Outcome, Reply, SpliceFlags, Step, Whence,
+};
 use std::alloc::{Allocator, Global};
 use std::test::Fail;
 
@@ -23,8 +25,9 @@ pub enum Data {
 }
 
 /// A step whose bytes are still to be made. A call names its process, then its descriptor or the name of a file or FIFO, and a
-/// read the most bytes that it takes; `Dup2` names its target last, `DupFd` the least descriptor, `SetFl` the flags, and
-/// `SetPipeSz` the size. `Resume` and `Interrupt` name a parked call by its number.
+/// read the most bytes that it takes; `Splice` names each of its two descriptors with the offset that is given for it, and then, as
+/// `Tee` does behind the two, the most bytes that go over and the flags; `Dup2` names its target last, `DupFd` the least descriptor,
+/// `SetFl` the flags, and `SetPipeSz` the size. `Resume` and `Interrupt` name a parked call by its number.
 #[derive(Clone, Copy, Debug)]
 pub enum Ask {
     Start,
@@ -36,6 +39,14 @@ pub enum Ask {
     Open(u32, Data, Mode, &'static [OpenFlags]),
     Read(u32, i32, u32),
     Write(u32, i32, Data),
+    Splice(
+        u32,
+        (i32, Option<u64>),
+        (i32, Option<u64>),
+        u32,
+        &'static [SpliceFlags],
+    ),
+    Tee(u32, i32, i32, u32, &'static [SpliceFlags]),
     Dup(u32, i32),
     Dup2(u32, i32, i32),
     DupFd(u32, i32, i32),
@@ -110,10 +121,10 @@ impl Data {
 }
 
 /// All flags of the list.
-fn all_of(flags: &[OpenFlags]) -> OpenFlags
-    ensures { result ≡ all_flags flags.now }
+fn all_of<F: Flags + Copy>(flags: &[F]) -> F
+    ensures { F.exact → F.set_of result ≡ all_bits F.set_of flags.now }
 {
-    let mut all = OpenFlags::empty();
+    let mut all = F::empty();
     for flag in flags {
         all = all.union(*flag);
     }
@@ -144,6 +155,32 @@ impl Ask {
             Ask::Write(pid, fd, data) => {
                 let bytes = data.bytes(alloc)?;
                 Step::Begin(pid, Call::Write { fd, bytes })
+            }
+            Ask::Splice(pid, (from, from_offset), (to, to_offset), len, flags) => {
+                let flags = all_of(flags);
+                Step::Begin(
+                    pid,
+                    Call::Splice {
+                        from,
+                        from_offset,
+                        to,
+                        to_offset,
+                        len,
+                        flags,
+                    },
+                )
+            }
+            Ask::Tee(pid, from, to, len, flags) => {
+                let flags = all_of(flags);
+                Step::Begin(
+                    pid,
+                    Call::Tee {
+                        from,
+                        to,
+                        len,
+                        flags,
+                    },
+                )
             }
             Ask::Dup(pid, fd) => Step::Begin(pid, Call::Dup { fd }),
             Ask::Dup2(pid, fd, target) => Step::Begin(pid, Call::Dup2 { fd, target }),

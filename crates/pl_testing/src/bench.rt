@@ -158,11 +158,16 @@ impl<A: Allocator + Copy> Bench<A> {
             let _reply = reply_to(&mut self.kernel, Step::Begin(pid, Call::Exit));
         }
         self.unlink_all(names)?;
-        let (name, segments) = (self.name, self.kernel.stats().segments);
+        let (name, segments) = (self.name, self.segments());
         if segments == 0 {
             return Ok(());
         }
         Err(Fail::new(format_args!("{segments} segments are left at the end of {name}")))
+    }
+
+    /// In how many segments of memory bytes are kept.
+    pub fn segments(&self) -> u64 {
+        self.kernel.stats().segments
     }
 
     /// Makes the steps, in order, and fails at the first that doesn't answer what its row says.

@@ -1,79 +1,133 @@
 //! The flags in words.
 ghost use Rattle.std.specs.List.{slice_split};
-ghost use Rattle.pl_model.specs.Flags.{no_flags};
-ghost use Rattle.pl_model.specs.Words.{is_comma, flag_of, with_flags, flags_of, flags_if_any, flags_or_none, words};
+ghost use Rattle.pl_model.specs.Words.{is_comma, open_flag, splice_flag, with_flags, flags_of, flags_if_any, open_flags_if_any, splice_flags_if_any, flags_or_none, words};
 ghost use Rattle.pl_words.specs.Parsed.{Gives};
+ghost use Rattle.pl_words.specs.Named.{flag_of};
 
 use crate::fault::LineFault;
 use crate::search::place_of;
 use crate::words::{end, next_word};
 use bitflags::Flags;
-use pl_model::OpenFlags;
+use pl_model::{OpenFlags, SpliceFlags};
 
-#[tactic(auto, unfolding(pl_model::specs::Words::flag_of))]
-fn parse_flag(name: &[u8]) -> Result<OpenFlags, LineFault>
-    ensures { Gives result (flag_of name.now) }
+/// Whose names a list of flags has.
+#[derive(Clone, Copy)]
+pub(crate) enum Named {
+    Open,
+    Splice,
+}
+
+#[tactic(auto, unfolding(pl_model::specs::Words::open_flag))]
+fn open_flag(name: &[u8]) -> Result<u8, LineFault>
+    ensures { Gives result (open_flag name.now) }
 {
     if name == b"creat".as_slice() {
-        Ok(OpenFlags::CREAT)
+        Ok(OpenFlags::CREAT.bits())
     } else if name == b"excl".as_slice() {
-        Ok(OpenFlags::EXCL)
+        Ok(OpenFlags::EXCL.bits())
     } else if name == b"trunc".as_slice() {
-        Ok(OpenFlags::TRUNC)
+        Ok(OpenFlags::TRUNC.bits())
     } else if name == b"append".as_slice() {
-        Ok(OpenFlags::APPEND)
+        Ok(OpenFlags::APPEND.bits())
     } else if name == b"nonblock".as_slice() {
-        Ok(OpenFlags::NONBLOCK)
+        Ok(OpenFlags::NONBLOCK.bits())
     } else {
         Err(LineFault::Bad)
     }
 }
 
-/// The flags of names that are joined by commas.
-#[tactic(auto, unfolding(pl_model::specs::Words::flags_of))]
-fn parse_flags(names: &[u8]) -> Result<OpenFlags, LineFault>
-    ensures { Gives result (flags_of names.now) }
+#[tactic(auto, unfolding(pl_model::specs::Words::splice_flag))]
+fn splice_flag(name: &[u8]) -> Result<u8, LineFault>
+    ensures { Gives result (splice_flag name.now) }
 {
-    let mut flags = OpenFlags::empty();
-    let mut rest = names;
-    while let Some(comma) = place_of(b',', rest) {
-        flags.insert(parse_flag(rest.split_at(comma).0)?);
-        rest = rest.split_at(comma + 1).1;
+    if name == b"move".as_slice() {
+        Ok(SpliceFlags::MOVE.bits())
+    } else if name == b"nonblock".as_slice() {
+        Ok(SpliceFlags::NONBLOCK.bits())
+    } else if name == b"more".as_slice() {
+        Ok(SpliceFlags::MORE.bits())
+    } else if name == b"gift".as_slice() {
+        Ok(SpliceFlags::GIFT.bits())
+    } else {
+        Err(LineFault::Bad)
     }
-    flags.insert(parse_flag(rest)?);
-    Ok(flags)
 }
 
-/// The flags of the word that may stand there, names joined by commas; none where there is no word.
-///
-/// # Errors
-///
-/// `Bad` exactly where there is more than one word, or one of its names is none of a flag.
+/// The bit of the flag of this name.
+fn parse_flag(named: Named, name: &[u8]) -> Result<u8, LineFault>
+    ensures { Gives result (flag_of named name.now) }
+{
+    match named {
+        Named::Open => open_flag(name),
+        Named::Splice => splice_flag(name),
+    }
+}
+
+/// The bits of the flags of names that are joined by commas.
+#[tactic(auto, unfolding(pl_model::specs::Words::flags_of))]
+fn parse_flags(named: Named, names: &[u8]) -> Result<u8, LineFault>
+    ensures { Gives result (flags_of (flag_of named) names.now) }
+{
+    let mut bits = 0;
+    let mut rest = names;
+    while let Some(comma) = place_of(b',', rest) {
+        bits |= parse_flag(named, rest.split_at(comma).0)?;
+        rest = rest.split_at(comma + 1).1;
+    }
+    bits |= parse_flag(named, rest)?;
+    Ok(bits)
+}
+
+/// The bits of the flags of the word that may stand there; none where there is no word.
 #[tactic(auto, unfolding(pl_model::specs::Words::flags_if_any))]
-pub fn parse_flags_if_any(rest: &[u8]) -> Result<OpenFlags, LineFault>
-    ensures { Gives result (flags_if_any (words rest.now)) }
+fn parse_flags_if_any(named: Named, rest: &[u8]) -> Result<u8, LineFault>
+    ensures { Gives result (flags_if_any (flag_of named) (words rest.now)) }
 {
     match next_word(rest) {
-        None => Ok(OpenFlags::empty()),
+        None => Ok(0),
         Some((names, rest)) => {
             end(rest)?;
-            parse_flags(names)
+            parse_flags(named, names)
         }
     }
 }
 
-/// The flags of names that are joined by commas, or none of `-`.
+/// The flags of an open, in the word that may stand there, names joined by commas; none where there is no word.
 ///
 /// # Errors
 ///
-/// `Bad` exactly where the word is not `-`, and one of its names is none of a flag.
+/// `Bad` exactly where there is more than one word, or one of its names is none of such a flag.
+pub fn open_flags_if_any(rest: &[u8]) -> Result<OpenFlags, LineFault>
+    ensures { Gives result (open_flags_if_any (words rest.now)) }
+{
+    let bits = parse_flags_if_any(Named::Open, rest)?;
+    Ok(OpenFlags::from_bits_retain(bits))
+}
+
+/// The flags of a splice, in the word that may stand there, names joined by commas; none where there is no word.
+///
+/// # Errors
+///
+/// `Bad` exactly where there is more than one word, or one of its names is none of such a flag.
+pub fn splice_flags_if_any(rest: &[u8]) -> Result<SpliceFlags, LineFault>
+    ensures { Gives result (splice_flags_if_any (words rest.now)) }
+{
+    let bits = parse_flags_if_any(Named::Splice, rest)?;
+    Ok(SpliceFlags::from_bits_retain(bits))
+}
+
+/// The flags of an open, of names that are joined by commas, or none of `-`.
+///
+/// # Errors
+///
+/// `Bad` exactly where the word is not `-`, and one of its names is none of such a flag.
 #[tactic(auto, unfolding(pl_model::specs::Words::flags_or_none))]
 pub fn parse_flags_or_none(word: &[u8]) -> Result<OpenFlags, LineFault>
     ensures { Gives result (flags_or_none word.now) }
 {
     if word == b"-".as_slice() {
-        Ok(OpenFlags::empty())
-    } else {
-        parse_flags(word)
+        return Ok(OpenFlags::empty());
     }
+    let bits = parse_flags(Named::Open, word)?;
+    Ok(OpenFlags::from_bits_retain(bits))
 }

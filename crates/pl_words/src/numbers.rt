@@ -3,7 +3,7 @@ ghost use Rattle.std.specs.Prelude.{◌≡◌, ◌<◌, ◌≤◌, ◌+◌, ◌^
 ghost use Rattle.std.specs.List.{list_all};
 ghost use Rattle.std.specs.Str.Parse.{digits_value};
 ghost use Rattle.pl_model.specs.Numbers.{most_bytes};
-ghost use Rattle.pl_model.specs.Words.{is_digit, number, signed, signed_long, words};
+ghost use Rattle.pl_model.specs.Words.{is_digit, number, signed, signed_long, offset_of, words};
 ghost use Rattle.pl_words.specs.Parsed.{Gives, GivesAs, only_number, only_signed, fd_and_word};
 
 use crate::fault::LineFault;
@@ -98,6 +98,21 @@ pub fn parse_i64(word: &[u8]) -> Result<i64, LineFault>
     } else {
         Ok(number(1 << 63, word)? as i64)
     }
+}
+
+/// An offset: a number of 64 bits, of 1 to 20 decimal digits, or none of `-`.
+///
+/// # Errors
+///
+/// `Bad` exactly where the word is neither.
+#[tactic(auto, unfolding(pl_model::specs::Words::offset_of))]
+pub fn parse_offset(word: &[u8]) -> Result<Option<u64>, LineFault>
+    ensures { Gives result (offset_of word.now) }
+{
+    if word == b"-".as_slice() {
+        return Ok(None);
+    }
+    Ok(Some(parse_u64(word)?))
 }
 
 /// The number of 64 bits that stands alone.

@@ -10,7 +10,7 @@ use Rattle.pl_model.specs.Tables.{lowest, lowest_pid}
 use Rattle.pl_model.specs.Begin.{begin_pipe, begin_open_name, begin_read, begin_write, begin_dup, begin_close, begin_lseek, begin_get_fl, begin_set_fl, begin_unlink}
 use Rattle.pl_model.specs.Step.{try, begin, happen, core_step}
 use Rattle.pl_model.specs.Numbered.{step}
-use Rattle.pl_model.specs.Words.{words, without_return, number, signed_below, hex_bytes, repeated, digits_or_repeated, bytes_of, name_bytes, name_of, mode_of, whence_of, flag_of, with_flags, flags_of, flags_if_any}
+use Rattle.pl_model.specs.Words.{words, without_return, number, signed_below, hex_bytes, repeated, digits_or_repeated, bytes_of, name_bytes, name_of, mode_of, whence_of, open_flag, with_flags, flags_of, flags_if_any}
 use Rattle.pl_model.specs.Lines.{open_name_of, read_of, write_of, lseek_of, unlink_of, call_of, start_of, begin_of, words_line, line_of_words, line}
 use Rattle.pl_model.specs.Shown.{hex_text, bytes_text, reply_text, outcome_text}
 use Rattle.pl_model.specs.Script.{lines, asked, answers}
@@ -50,7 +50,7 @@ module _ (A : Type 0) where
   pipes_have_no_offset first_call = refl
 
   pub script_of_files : ScriptOfFiles A
-  unfolding first_from numbers_from pids in_rows in_parked readers writers settle flowed read_pipe write_pipe read_file write_file lowest lowest_pid begin_pipe begin_open_name begin_read begin_write begin_close begin_lseek begin_get_fl begin_set_fl begin_unlink try begin happen core_step step words without_return number signed_below hex_bytes repeated digits_or_repeated bytes_of name_bytes name_of mode_of whence_of flag_of with_flags flags_of flags_if_any open_name_of read_of write_of lseek_of unlink_of call_of start_of begin_of words_line line_of_words line hex_text bytes_text reply_text outcome_text lines asked answers digits
+  unfolding first_from numbers_from pids in_rows in_parked readers writers settle flowed read_pipe write_pipe read_file write_file lowest lowest_pid begin_pipe begin_open_name begin_read begin_write begin_close begin_lseek begin_get_fl begin_set_fl begin_unlink try begin happen core_step step words without_return number signed_below hex_bytes repeated digits_or_repeated bytes_of name_bytes name_of mode_of whence_of open_flag with_flags flags_of flags_if_any open_name_of read_of write_of lseek_of unlink_of call_of start_of begin_of words_line line_of_words line hex_text bytes_text reply_text outcome_text lines asked answers digits
   script_of_files first_call = refl
 
 pub names_in_words : NamesInWords

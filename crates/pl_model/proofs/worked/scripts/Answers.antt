@@ -2,6 +2,7 @@ use Rattle.pl_model.proofs.computed.Examples.{script_of_bytes_before_end_of_file
 use Rattle.pl_model.proofs.computed.FileExamples.{script_of_files, names_in_words}
 use Rattle.pl_model.proofs.computed.CapacityExamples.{script_of_capacities, lines_of_capacities}
 use Rattle.pl_model.proofs.computed.FifoExamples.{lines_of_fifos}
+use Rattle.pl_model.proofs.computed.SpliceLineExamples.{lines_of_splices}
 use Rattle.pl_model.proofs.worked.scripts.Goals as goal
 
 pub returns-clause-bytes_before_end_of_file : goal.returns-clause-bytes_before_end_of_file
@@ -33,3 +34,6 @@ returns-clause-lines_of_capacities g c = lines_of_capacities _
 
 pub returns-clause-lines_of_fifos : goal.returns-clause-lines_of_fifos
 returns-clause-lines_of_fifos g c = lines_of_fifos _
+
+pub returns-clause-lines_of_splices : goal.returns-clause-lines_of_splices
+returns-clause-lines_of_splices g c = lines_of_splices _
