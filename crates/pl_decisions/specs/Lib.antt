@@ -1,4 +1,5 @@
 pub mod Capacities
 pub mod Decided
+pub mod Moves
 pub mod Names
 pub mod Offsets

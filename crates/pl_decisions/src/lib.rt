@@ -4,6 +4,7 @@
 
 mod capacities;
 mod closing;
+mod moves;
 mod naming;
 mod opening;
 mod seeking;
@@ -11,6 +12,7 @@ mod transfers;
 
 pub use capacities::capacity_for;
 pub use closing::hung_after_close;
+pub use moves::{SpliceSide, case_of_move, splice_fault, tee_fault};
 pub use naming::name_fault;
 pub use opening::{open_fault, opens_at_once};
 pub use seeking::sought;

@@ -10,5 +10,7 @@ pub mod FileExamples
 pub mod CapacityExamples
 -- The small examples of FIFOs, computed from the definitions.
 pub mod FifoExamples
+-- The small examples of splices and tees, computed from the definitions.
+pub mod SpliceExamples
 -- The small examples of the lines of splices and tees, computed from the definitions.
 pub mod SpliceLineExamples

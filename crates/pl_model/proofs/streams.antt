@@ -20,8 +20,14 @@ pub mod CallRuns
 pub mod Nodes
 -- Writes and reads over a run.
 pub mod WriteRuns
+-- Splices and tees over a run.
+pub mod MoveRuns
 -- A call that begins in a run.
 pub mod BegunRuns
+-- A splice or a tee that begins in a run, and each try of one.
+pub mod MoveBegins
+-- A splice or a tee adds the bytes that its source holds at the moment.
+pub mod MoveMoments
 -- The parked calls are in order at the start, and under other keys.
 pub mod Orders
 -- The stream law of whole runs.

@@ -9,7 +9,7 @@ use Rattle.pl_model.specs.declared.replies.Errno.TheVariants.{EFBIG, EPIPE}
 use Rattle.pl_model.specs.Keys.{Keys, Node, PipeNode, FileNode}
 use Rattle.pl_model.specs.State.{Core, Description, Open, set_file}
 use Rattle.pl_model.specs.Live.{readers, writers}
-use Rattle.pl_model.specs.Trial.{Trial, Flow, Done, Wait, still, pipe_at}
+use Rattle.pl_model.specs.Trial.{Trial, Done, Wait, still, pipe_at}
 use Rattle.pl_model.specs.Transfer.{room, put_bytes, count, file_at, moved_to}
 
 abbrev pub to_be_had : Source → ℕ

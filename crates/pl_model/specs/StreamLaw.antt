@@ -5,19 +5,22 @@ use Rattle.std.specs.List.{concat}
 use Rattle.pl_model.specs.declared.calls.Call.{Call}
 use Rattle.pl_model.specs.declared.calls.Step.{Step}
 use Rattle.pl_model.specs.declared.calls.Step.TheVariants.{Begin}
+use Rattle.pl_model.specs.declared.flags.SpliceFlags.{SpliceFlags}
 use Rattle.pl_model.specs.Numbers.{pipe_buf}
 use Rattle.pl_model.specs.Modes.{reads, writes}
 use Rattle.pl_model.specs.Map.{get}
-use Rattle.pl_model.specs.Keys.{PipeNode}
-use Rattle.pl_model.specs.State.{Core, Open, Waiting}
+use Rattle.pl_model.specs.Keys.{Node, PipeNode}
+use Rattle.pl_model.specs.State.{Open, Waiting}
 use Rattle.pl_model.specs.Begin.{open_for, may_block}
-use Rattle.pl_model.specs.Step.{kept_at}
+use Rattle.pl_model.specs.OnNodes.{Keeps, KeepsBoth, OpensBoth}
 use Rattle.pl_model.specs.Numbered.{numbers, State, step}
 use Rattle.pl_model.specs.Run.{after}
 use Rattle.pl_model.specs.InOrder.{AreInOrder}
 use Rattle.pl_model.specs.StandsFor.{IsBelowCounters}
 use Rattle.pl_model.specs.Stream.{held}
+use Rattle.pl_model.specs.Streams.{added}
 use Rattle.pl_model.specs.Chunks.{chunks, outs, joined, of, OfCall, tag_of}
+use Rattle.pl_model.specs.Carried.{Carries, IsSpliceOrTee, TriesToCarry, AddsFirstBytes, EachAddsFirst}
 use Rattle.pl_model.specs.Fates.{Fate, Answered, fate, fate_begun, answers_count, bytes_answered}
 use Rattle.pl_model.specs.Transfer.{count}
 
@@ -27,10 +30,6 @@ may_wait None = false
 may_wait (Some o) = may_block o.description
 
 module _ {A : Type 0} where
-  -- the description that the call keeps is on the pipe, if it is there
-  abbrev pub Keeps : Core A numbers → List ℕ → ℕ → Type 0
-  Keeps s kept p = IfSome (kept_at s kept 0) (λ o. o.description.node ≡ PipeNode p)
-
   -- What a write of these bytes adds to its pipe, in these chunks, where t of them were taken before.
   pub record Adds (may_wait : Bool) (bytes : List ℕ) (t : ℕ) (chunks : List (List ℕ)) (end : Fate A) : Type 0 where
     -- joined in order, the chunks are the bytes from those taken before to those taken at the last try
@@ -48,10 +47,10 @@ pub record StreamLaw {A : Type 0} (s : State A) (xs : List (Step A × Bool)) : T
   pub stream : (p : ℕ) → held s.core p ++ joined (chunks s xs p) ≡ joined (outs s xs p) ++ held (after s xs).core p
   -- a write or a read that is parked as the run begins
   pub waiting_write : (p c : ℕ) (w : Waiting A numbers) (fd : ℤ) (bytes : List ℕ) →
-      get nat_eq s.core.parked c ≡ Some w → w.call ≡ Call.Write fd bytes → Keeps s.core w.kept p →
+      get nat_eq s.core.parked c ≡ Some w → w.call ≡ Call.Write fd bytes → Keeps s.core w.kept 0 (PipeNode p) →
       Adds true bytes w.taken (of (OfCall c) (chunks s xs p)) (fate s xs c)
   pub waiting_read : (p c : ℕ) (w : Waiting A numbers) (fd : ℤ) (n : ℕ) →
-      get nat_eq s.core.parked c ≡ Some w → w.call ≡ Call.Read fd n → Keeps s.core w.kept p →
+      get nat_eq s.core.parked c ≡ Some w → w.call ≡ Call.Read fd n → Keeps s.core w.kept 0 (PipeNode p) →
       of (OfCall c) (outs s xs p) ≡ bytes_answered (fate s xs c).ending
   -- one that begins in it, after the steps `before`
   pub begun_write : (before rest : List (Step A × Bool)) (p pid : ℕ) (fd : ℤ) (bytes : List ℕ) →
@@ -65,6 +64,38 @@ pub record StreamLaw {A : Type 0} (s : State A) (xs : List (Step A × Bool)) : T
       let read = Begin pid (Call.Read fd n) in
       xs ≡ before ++ (read, false) ∷ rest → IfSome (open_for reads now.core pid fd) (λ o. o.description.node ≡ PipeNode p) →
       of (tag_of (length before) read (step now read).reply) (outs s xs p) ≡ bytes_answered (fate_begun now read rest).ending
+  -- a splice or a tee that is parked as the run begins
+  pub waiting_splice : (from to : Node numbers) (p q c : ℕ) (w : Waiting A numbers) (from_fd to_fd : ℤ) (from_offset to_offset : Option ℕ) (len : ℕ) (flags : SpliceFlags) →
+      get nat_eq s.core.parked c ≡ Some w → w.call ≡ Call.Splice from_fd from_offset to_fd to_offset len flags → KeepsBoth s.core w.kept from to →
+      Carries false from to p q (of (OfCall c) (chunks s xs q)) (of (OfCall c) (outs s xs p)) (fate s xs c).ending
+  pub waiting_tee : (from to : Node numbers) (p q c : ℕ) (w : Waiting A numbers) (from_fd to_fd : ℤ) (len : ℕ) (flags : SpliceFlags) →
+      get nat_eq s.core.parked c ≡ Some w → w.call ≡ Call.Tee from_fd to_fd len flags → KeepsBoth s.core w.kept from to →
+      Carries true from to p q (of (OfCall c) (chunks s xs q)) (of (OfCall c) (outs s xs p)) (fate s xs c).ending
+  -- one that begins in it, after the steps `before`
+  pub begun_splice : (before rest : List (Step A × Bool)) (from to : Node numbers) (p q pid : ℕ) (from_fd to_fd : ℤ) (from_offset to_offset : Option ℕ) (len : ℕ) (flags : SpliceFlags) →
+      let now = after s before in
+      let splice = Begin pid (Call.Splice from_fd from_offset to_fd to_offset len flags) in
+      let tag = tag_of (length before) splice (step now splice).reply in
+      xs ≡ before ++ (splice, false) ∷ rest → OpensBoth now.core pid from_fd to_fd from to →
+      Carries false from to p q (of tag (chunks s xs q)) (of tag (outs s xs p)) (fate_begun now splice rest).ending
+  pub begun_tee : (before rest : List (Step A × Bool)) (from to : Node numbers) (p q pid : ℕ) (from_fd to_fd : ℤ) (len : ℕ) (flags : SpliceFlags) →
+      let now = after s before in
+      let tee = Begin pid (Call.Tee from_fd to_fd len flags) in
+      let tag = tag_of (length before) tee (step now tee).reply in
+      xs ≡ before ++ (tee, false) ∷ rest → OpensBoth now.core pid from_fd to_fd from to →
+      Carries true from to p q (of tag (chunks s xs q)) (of tag (outs s xs p)) (fate_begun now tee rest).ending
+  -- a try of one from a pipe to another adds the first of the bytes that its source then holds
+  pub tried_move : (before rest : List (Step A × Bool)) (x : Step A) (p q : ℕ) →
+      let now = after s before in
+      xs ≡ before ++ (x, false) ∷ rest → TriesToCarry now.core x (PipeNode p) (PipeNode q) → AddsFirstBytes (held now.core p) (added now x q)
+  -- and so does each step under its tag, where it is parked as the run begins, and where it begins in it
+  pub waiting_move : (p q c : ℕ) (w : Waiting A numbers) →
+      get nat_eq s.core.parked c ≡ Some w → IsSpliceOrTee w.call → KeepsBoth s.core w.kept (PipeNode p) (PipeNode q) → EachAddsFirst s xs (OfCall c) p q
+  pub begun_move : (before rest : List (Step A × Bool)) (p q pid : ℕ) (call : Call A) →
+      let now = after s before in
+      let move = Begin pid call in
+      xs ≡ before ++ (move, false) ∷ rest → TriesToCarry now.core move (PipeNode p) (PipeNode q) →
+      EachAddsFirst s xs (tag_of (length before) move (step now move).reply) p q
 
 -- Each run keeps the law.
 abbrev pub RunsKeepTheStreamLaw : Type 0 → Type 0

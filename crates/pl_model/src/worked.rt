@@ -5,6 +5,7 @@ ghost use Rattle.pl_model.specs.WorkedCapacity.{SizesAreRoundedUp, OnlyPipesHave
 ghost use Rattle.pl_model.specs.WorkedFifo.{UnusedFifoForgets, OpensWithoutTheOtherEnd, ReadersWaitForAWriter, InterruptedOpen, MetThoughClosed, LastOpenThatWaits, LinesOfFifos};
 ghost use Rattle.pl_model.specs.WorkedSpliceLines.{LinesOfSplices};
 ghost use Rattle.pl_model.specs.WorkedStream.{RunsInPieces};
+ghost use Rattle.pl_model.specs.WorkedSplice.{SharedTail, BytesOfTheMoment, SpliceToAnOffset, SplicesAndTeesRefused, MovesThatWait, SplicesAtTheEndOfAFile, PiecesOfMoves};
 
 use std::alloc::Allocator;
 
@@ -64,6 +65,17 @@ pub fn fifos<A: Allocator>()
     ensures interrupted_open { InterruptedOpen A }
     ensures met_though_closed { MetThoughClosed A }
     ensures last_open_that_waits { LastOpenThatWaits A }
+{}
+
+/// Splices and tees, and the pieces in which they carry bytes.
+pub fn splices<A: Allocator>()
+    ensures shared_tail { SharedTail A }
+    ensures bytes_of_the_moment { BytesOfTheMoment A }
+    ensures splice_to_an_offset { SpliceToAnOffset A }
+    ensures splices_and_tees_refused { SplicesAndTeesRefused A }
+    ensures moves_that_wait { MovesThatWait A }
+    ensures splices_at_the_end_of_a_file { SplicesAtTheEndOfAFile A }
+    ensures pieces { PiecesOfMoves A }
 {}
 
 /// The pieces in which the bytes of small runs go through a pipe, and what becomes of a write.

@@ -10,7 +10,7 @@ pub mod There
 pub mod Staying
 pub mod Belonging
 -- What calls wait on, where descriptions come, go or change.
-pub mod OnPipes
+pub mod OnNodes
 -- What is left of a pipe, from the flags that the kernel read.
 pub mod Hung
 -- What settling makes of the kernel as a description is live no more.

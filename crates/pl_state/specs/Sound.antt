@@ -1,5 +1,5 @@
 -- What holds of all that a kernel holds.
-use Rattle.std.specs.Prelude.{◌≡◌, ◌≤◌, ℕ, Bool, IsTrue, List, [], ◌∷◌, length, nat_eq, Option, Some, IfSome, All, ⊤, count_by}
+use Rattle.std.specs.Prelude.{◌≡◌, ◌≢◌, ◌≤◌, ◌<◌, ℕ, Bool, IsTrue, List, [], ◌∷◌, length, nat_eq, Option, Some, IfSome, All, ⊤, count_by}
 use Rattle.std.specs.List.{sum_by}
 use Rattle.std.specs.Cmp.Lexicographic.{pointwise}
 use Rattle.pl_model.specs.declared.calls.Call.{Call}
@@ -15,12 +15,14 @@ use Rattle.pl_desc.specs.Rows.{at, is_pid, count_at}
 use Rattle.pl_desc.specs.Descs.{Opened, Descs, IsTidy}
 use Rattle.pl_state.specs.Contents.{Contents, Nodes, IsThere, core_of}
 
--- What may wait, with so many bytes taken: a read and an open take none, a write no more than it has, and none where it is to go
--- in whole.
+-- What may wait, with so many bytes taken: a read, an open, a splice and a tee take none, a write no more than it has, and none where
+-- it is to go in whole.
 abbrev pub MayWait : {A : Type 0} → Call A → ℕ → Type 0
 MayWait (call.Read fd n) taken = taken ≡ 0
 MayWait (call.Write fd bytes) taken = (taken ≤ length bytes) × (length bytes ≤ pipe_buf → taken ≡ 0)
 MayWait (call.OpenName name mode flags) taken = taken ≡ 0
+MayWait (call.Splice from from_offset to to_offset len flags) taken = (taken ≡ 0) × (0 < len)
+MayWait (call.Tee from to len flags) taken = (taken ≡ 0) × (0 < len)
 MayWait other taken = ⊥
 
 -- Our own: the descriptions that one call keeps.
@@ -31,11 +33,25 @@ most_kept = 256
 abbrev pub IsOnly : ℕ → List ℕ → Type 0
 IsOnly key kept = kept ≡ key ∷ []
 
--- What a call keeps as it waits: a read and a write the one description that they try, an open the one that it opens.
+-- the two keys of a list
+abbrev pub AreBoth : (from to : ℕ) → List ℕ → Type 0
+AreBoth from to kept = kept ≡ from ∷ to ∷ []
+
+-- a call that keeps one description as it waits
+abbrev pub KeepsOne : {A : Type 0} → Call A → Type 0
+KeepsOne (call.Read fd n) = ⊤
+KeepsOne (call.Write fd bytes) = ⊤
+KeepsOne (call.OpenName name mode flags) = ⊤
+KeepsOne other = ⊥
+
+-- What a call keeps as it waits: a read and a write the one description that they try, an open the one that it opens, a splice and
+-- a tee the one that they take from and the one that they give to.
 abbrev pub Keeps : {A : Type 0} → Call A → List ℕ → Type 0
 Keeps (call.Read fd n) kept = (key : ℕ) × IsOnly key kept
 Keeps (call.Write fd bytes) kept = (key : ℕ) × IsOnly key kept
 Keeps (call.OpenName name mode flags) kept = (key : ℕ) × IsOnly key kept
+Keeps (call.Splice from from_offset to to_offset len flags) kept = (a : ℕ) × (b : ℕ) × AreBoth a b kept
+Keeps (call.Tee from to len flags) kept = (a : ℕ) × (b : ℕ) × AreBoth a b kept
 Keeps other kept = ⊥
 
 -- A parked call, which keeps no more descriptions than one call may name.
@@ -76,18 +92,46 @@ abbrev pub IsAt : {A : Type 0} → Call A → Option ℕ → ℕ → Type 0
 IsAt (call.OpenName name mode flags) fifo p = fifo ≡ Some p
 IsAt other fifo p = ⊤
 
--- what a call that waits may keep a description of: a pipe, as on a regular file no call waits
+-- splice(2): a splice may keep a regular file. No other call waits on one.
+abbrev pub MayKeepFile : {A : Type 0} → Call A → Type 0
+MayKeepFile (call.Splice from from_offset to to_offset len flags) = ⊤
+MayKeepFile other = ⊥
+
+-- what a call that waits may keep a description of
 abbrev pub MayKeep : {A : Type 0} → ParkedCall A → Node → Type 0
 MayKeep w (node.Pipe p) = IsAt w.call w.fifo p
-MayKeep w (node.File f) = ⊥
+MayKeep w (node.File f) = MayKeepFile w.call
 
--- the description of a key, where there is one, is on a pipe that the call may wait on
-abbrev pub OnPipe : {A : Type 0} → (ℕ → Option Opened) → ParkedCall A → ℕ → Type 0
-OnPipe opened w key = IfSome (opened key) (λ o. MayKeep w o.node)
+-- the description of a key, where there is one, is on a node that the call may wait on
+abbrev pub OnNode : {A : Type 0} → (ℕ → Option Opened) → ParkedCall A → ℕ → Type 0
+OnNode opened w key = IfSome (opened key) (λ o. MayKeep w o.node)
 
--- What a call that waits keeps is on a pipe.
-abbrev pub WaitOnPipes : {A : Type 0} → Map ℕ (ParkedCall A) → (ℕ → Option Opened) → Type 0
-WaitOnPipes calls opened = (number : ℕ) → IfSome (get nat_eq calls number) (λ w. All (OnPipe opened w) w.kept)
+-- splice(2), EINVAL: two pipes that aren't the same, or a pipe and a file
+abbrev pub AreApart : Node → Node → Type 0
+AreApart (node.Pipe p) (node.Pipe q) = p ≢ q
+AreApart (node.Pipe p) (node.File f) = ⊤
+AreApart (node.File f) (node.Pipe q) = ⊤
+AreApart (node.File f) (node.File g) = ⊥
+
+-- bytes may go from one node to the other, where the call moves any
+abbrev pub MayGo : {A : Type 0} → Call A → (from to : Node) → Type 0
+MayGo (call.Splice from from_offset to to_offset len flags) a b = AreApart a b
+MayGo (call.Tee from to len flags) a b = AreApart a b
+MayGo other a b = ⊤
+
+-- the same of the two descriptions that it keeps, where they are there
+abbrev pub GoApart : {A : Type 0} → (ℕ → Option Opened) → Call A → List ℕ → Type 0
+GoApart opened x (from ∷ to ∷ []) = IfSome (opened from) (λ a. IfSome (opened to) (λ b. MayGo x a.node b.node))
+GoApart opened x kept = ⊤
+
+-- What a call that waits keeps is on nodes that it may wait on.
+pub record KeepsNodes {A : Type 0} (opened : ℕ → Option Opened) (w : ParkedCall A) : Type 0 where
+  pub on : All (OnNode opened w) w.kept
+  pub apart : GoApart opened w.call w.kept
+
+-- Each of the calls does.
+abbrev pub WaitOnNodes : {A : Type 0} → Map ℕ (ParkedCall A) → (ℕ → Option Opened) → Type 0
+WaitOnNodes calls opened = (number : ℕ) → IfSome (get nat_eq calls number) (KeepsNodes opened)
 
 -- The kernel's invariant, of what it holds.
 pub record IsSound (A : Type 0) (k : Contents A) : Type 0 where
@@ -95,7 +139,7 @@ pub record IsSound (A : Type 0) (k : Contents A) : Type 0 where
   pub open whole use *
   pub waiting : (number : ℕ) → IfSome (get nat_eq k.calls.calls number) (IsWaiting A)
   pub belong : Belong k.calls.calls (is_pid k.tables)
-  pub on_pipes : WaitOnPipes k.calls.calls (at k.opened)
+  pub on_nodes : WaitOnNodes k.calls.calls (at k.opened)
 
 -- how many times a key stands in a list, and in the lists that parked calls keep
 abbrev pub times : List ℕ → ℕ → ℕ

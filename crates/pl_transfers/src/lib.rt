@@ -10,5 +10,5 @@ mod waiting;
 
 pub use capacities::{get_pipe_sz, set_pipe_sz};
 pub use offsets::lseek;
-pub use transfers::{pipe, read, write};
-pub use waiting::{interrupt, resume};
+pub use transfers::{open_for, pipe, read, write};
+pub use waiting::{interrupt, refusal_to_wait, resume_one};

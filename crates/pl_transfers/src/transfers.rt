@@ -70,8 +70,8 @@ pub fn pipe<A: Allocator + Copy>(
     Ok(Reply::Fds(first as i32, second as i32))
 }
 
-// What a descriptor names, where its mode allows the access.
-fn open_for<A: Allocator + Copy>(
+/// What a descriptor of a process names, where its mode allows the access (POSIX.1-2017, read and write, EBADF).
+pub fn open_for<A: Allocator + Copy>(
     kernel: &KernelState<A>,
     pid: u32,
     fd: i32,

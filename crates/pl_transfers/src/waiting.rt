@@ -8,7 +8,7 @@ ghost use Rattle.pl_model.specs.Transfer.{room};
 ghost use Rattle.pl_desc.specs.Rows.{at};
 ghost use Rattle.pl_state.specs.Contents.{IsProcess, core_of};
 ghost use Rattle.pl_state.specs.Opens.{OpenOn};
-ghost use Rattle.pl_state.specs.Sound.{IsPipe, MayKeep, MayWait, OnPipe};
+ghost use Rattle.pl_state.specs.Sound.{IsPipe, KeepsOne, MayKeep, MayWait, OnNode};
 ghost use Rattle.pl_state.specs.Parking.{written, refusal, call_on, with_call, Adds, OpenWaits, ReadWaits, WriteWaits};
 ghost use Rattle.pl_state.specs.Makes.{MakesAtKeys, MayWantAtKeys};
 
@@ -29,8 +29,9 @@ fn bytes_of<A: Allocator>(call: &Call<A>) -> &[u8]
     }
 }
 
-// Why a call that would wait doesn't, if it doesn't. This is tested before any memory is asked for.
-pub(crate) fn refusal_to_wait<A: Allocator + Copy>(
+/// Why a call that would wait doesn't, if it doesn't: `EAGAIN` where it may not, `CallsSpent` where no number is left. This is tested
+/// before any memory is asked for.
+pub fn refusal_to_wait<A: Allocator + Copy>(
     kernel: &KernelState<A>,
     nonblock: bool,
 ) -> Option<Reply<A>>
@@ -56,7 +57,8 @@ pub(crate) fn park<A: Allocator + Copy>(
     requires process { IsProcess kernel.old pid }
     requires left { ¬ (kernel.old.calls.next ≡ last_call) }
     requires here { IsSome (at kernel.old.opened key) }
-    requires pipe { OnPipe (at kernel.old.opened) (call_on key pid call taken) key }
+    requires pipe { OnNode (at kernel.old.opened) (call_on key pid call taken) key }
+    requires one { KeepsOne call }
     requires may { MayWait call taken }
     ensures number { IfOk result (λ number. number ≡ kernel.old.calls.next) }
     ensures ok { OnOk result (kernel.new ≡ with_call kernel.old (call_on key pid call taken)) }
@@ -78,6 +80,7 @@ pub(crate) fn park_write<A: Allocator + Copy>(
     requires process { IsProcess kernel.old pid }
     requires left { ¬ (kernel.old.calls.next ≡ last_call) }
     requires on { OpenOn kernel.old end.key (Node.Pipe end.pipe) }
+    requires one { KeepsOne call }
     requires may { MayWait call taken }
     requires keeps { MayKeep (call_on end.key pid call taken) (Node.Pipe end.pipe) }
     requires taken { taken ≤ length (written call) }
@@ -213,13 +216,15 @@ fn resume_open<A: Allocator + Copy>(
     Reply::Fd(fd as i32)
 }
 
-/// Tries the parked call of a number again. The reply is what it comes to, its number where it waits on, or `NoCall` where there is none.
+/// Tries the parked call of a number again, a read, a write or an open. The reply is what it comes to, its number where it waits on, or
+/// `NoCall` where there is none.
 ///
 /// The only error is want of memory, which leaves all as it was, the call parked.
-pub fn resume<A: Allocator + Copy>(
+pub fn resume_one<A: Allocator + Copy>(
     kernel: &mut KernelState<A>,
     number: u64,
 ) -> Result<Reply<A>, NoMemory>
+    requires { IfSome (get nat_eq kernel.old.calls.calls number) (λ w. KeepsOne w.call) }
     ensures done { IfOk result (λ reply. MakesAtKeys kernel.old (Step.Resume number) reply kernel.new) }
     ensures undone { OnErr result (kernel.new ≡ kernel.old) }
     ensures wanted { OnErr result (MayWantAtKeys {A = A} kernel.old (Step.Resume number)) }

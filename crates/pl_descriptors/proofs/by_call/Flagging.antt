@@ -26,7 +26,7 @@ use Rattle.pl_state.proofs.Known.{Caller}
 use Rattle.pl_nodes.proofs.Keyed.{change_at-is}
 use Rattle.pl_state.proofs.by_call.Begun.{open-none, open-is, does_plain, does_same, step-refused, step-answered}
 use Rattle.pl_state.proofs.holders.There.{settled_after, there-added, map-set_at}
-use Rattle.pl_state.proofs.holders.OnPipes.{wait-changed}
+use Rattle.pl_state.proofs.holders.OnNodes.{wait-changed}
 
 module _ {A : Type 0} (m : Caller A) (fd : ℤ) where
   open m use {descs, nodes, calls, limits, sound, are, pid, process}
@@ -103,7 +103,7 @@ module _ {A : Type 0} (m : Caller A) (fd : ℤ) where
         };
         waiting = sound.waiting;
         belong = belong-same calls.calls (is_pid descs.tables) (is_pid descs'.tables) sound.belong (ap (λ (z : Descs). is_pid z.tables) rest);
-        on_pipes = wait-changed calls.calls (at descs.opened) (at descs'.opened) d (λ o. record o { flags = status_flags flags }) (λ o. refl) opened sound.on_pipes;
+        on_nodes = wait-changed calls.calls (at descs.opened) (at descs'.opened) d (λ o. record o { flags = status_flags flags }) (λ o. refl) opened sound.on_nodes;
       }
 
       pub set-held : IsTidy descs' → AreCounted A descs' calls.calls

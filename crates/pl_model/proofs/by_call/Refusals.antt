@@ -22,7 +22,7 @@ use Rattle.pl_model.specs.State.{Core, Pipe, Description, Open, Waiting, named}
 use Rattle.pl_model.specs.Settle.{settle}
 use Rattle.pl_model.specs.Trial.{Trial, Done, Wait, Flow, still, flowed, pipe_at, Begun, Begins, Refused, Answered, Tried, found, refuse_if}
 use Rattle.pl_model.specs.Transfer.{count, read_row, write_row, read_case, write_case, read_pipe, write_pipe, read_file, write_file, read_node, write_node}
-use Rattle.pl_model.specs.Splice.{Side, side, move_case, move_row, source_of, target_of, try_move}
+use Rattle.pl_model.specs.Splice.{Side, move_case, move_row, source_of, target_of, try_move}
 use Rattle.pl_model.specs.Tables.{lowest, lowest_pid, describe}
 use Rattle.pl_model.specs.Flags.{status_flags}
 use Rattle.pl_model.specs.Fifo.{create_fifo, meet}

@@ -15,7 +15,7 @@ use Rattle.pl_model.specs.Numbers.{last_call}
 use Rattle.pl_model.specs.Modes.{reads, writes}
 use Rattle.pl_model.specs.Map.{get}
 use Rattle.pl_model.specs.Keys.{Node, PipeNode, Plain, drawn, drawing_map}
-use Rattle.pl_model.specs.State.{Core, Description, Open, Waiting}
+use Rattle.pl_model.specs.State.{Core, Description, Open, Waiting, described}
 use Rattle.pl_model.specs.Trial.{Trial, Done, Wait, flowed, found, answered, tried as tried_with, Answered as Answers_now, Tried}
 use Rattle.pl_model.specs.Transfer.{count}
 use Rattle.pl_model.specs.Begin.{open_fd, open_for, allowed, may_block, begin_read, begin_write}
@@ -27,7 +27,8 @@ use Rattle.pl_model.specs.Stream.{held, into_pipe, out_of_pipe}
 use Rattle.pl_model.specs.Chunks.{Piece, Tag, OfCall, AtPlace, ForgottenAt, same_tag, tag_answered, tag_of, unless_empty, of, piece_added, pieces_left, pieces_from, chunks, outs}
 use Rattle.pl_model.specs.Fates.{Fate, Answered, answers_count, fate, fate_answered, fate_begun, bytes_answered, taken_with}
 use Rattle.pl_model.specs.InOrder.{AreInOrder}
-use Rattle.pl_model.specs.StreamLaw.{Keeps, Adds, may_wait}
+use Rattle.pl_model.specs.OnNodes.{Keeps}
+use Rattle.pl_model.specs.StreamLaw.{Adds, may_wait}
 use Rattle.pl_model.proofs.renaming.Simulates.{below_step}
 use Rattle.pl_model.proofs.by_call.Ways.{TrialAll}
 use Rattle.pl_model.proofs.by_call.Keeps.{try-keeps, node_of, open_node}
@@ -40,7 +41,7 @@ use Rattle.pl_model.proofs.streams.CallRuns.{Course, course_run, own_added, own_
 use Rattle.pl_model.proofs.streams.WriteRuns.{adds_more, IsWrite, WriteSays, write_course, IsRead, ReadSays, ReadTry, read_try, read_course}
 
 -- what was found open is there
-opened : (test : Mode → Bool) (o : Option (Open numbers)) (f : Open numbers) → allowed test o ≡ Some f → o ≡ Some f
+pub opened : (test : Mode → Bool) (o : Option (Open numbers)) (f : Open numbers) → allowed test o ≡ Some f → o ≡ Some f
 opened test None f h = absurd (cc)
 opened test (Some o) f h = at (test o.description.mode) h where
   at : (b : Bool) → cond b (Some o) None ≡ Some f → Some o ≡ Some f
@@ -57,14 +58,14 @@ module _ {A : Type 0} where
   fate_at_once s xs (Parked c) h = absurd (cc)
   fate_at_once s xs reply h = refl
 
-  there : (s : Core A numbers) (d p : ℕ) (node : Node numbers) → node_of s d ≡ Some node → node ≡ PipeNode p → Keeps s (d ∷ []) p
-  there s d p node e on = at (s.descriptions d) e where
-    at : (o : Option (Description numbers)) → option_map (λ (x : Description numbers). x.node) o ≡ Some node → IfSome (option_map (λ x. record { key = d; description = x }) o) (λ (y : Open numbers). y.description.node ≡ PipeNode p)
+  pub there : (s : Core A numbers) (d : ℕ) (is on : Node numbers) → node_of s d ≡ Some is → is ≡ on → IfSome (described s d) (λ (y : Open numbers). y.description.node ≡ on)
+  there s d is on e same = at (s.descriptions d) e where
+    at : (o : Option (Description numbers)) → option_map (λ (x : Description numbers). x.node) o ≡ Some is → IfSome (option_map (λ x. record { key = d; description = x }) o) (λ (y : Open numbers). y.description.node ≡ on)
     at None e = absurd (cc)
-    at (Some x) e = (let same : x.node ≡ node = cc in same ∙ on)
+    at (Some x) e = (let there : x.node ≡ is = cc in there ∙ same)
 
   -- a description that is there has no number above all that were given
-  given : (s : State A) (d n : ℕ) (node : Node numbers) → IsBelowCounters s → node_of s.core d ≡ Some node → s.next_description ≤ n → d ≢ n
+  pub given : (s : State A) (d n : ℕ) (node : Node numbers) → IsBelowCounters s → node_of s.core d ≡ Some node → s.next_description ≤ n → d ≢ n
   given s d n node below e le j = at (s.core.descriptions d) e (ap s.core.descriptions j ∙ (below.descriptions n le).descriptions) where
     at : (o : Option (Description numbers)) → option_map (λ (x : Description numbers). x.node) o ≡ Some node → o ≡ None → ⊥
     at None e f = cc
@@ -123,7 +124,7 @@ module _ {A : Type 0} (p q place : ℕ) (s : State A) (xs : List (Step A × Bool
       )
 
   -- no byte moves
-  quiet_says : (reply : Reply A) → StepTo s x (stepped s.core reply) → says_parked reply ≡ false → SaysFirst [] [] (record { ending = Answered reply; taken = taken_with 0 reply }) → BegunWhole
+  pub quiet_says : (reply : Reply A) → StepTo s x (stepped s.core reply) → says_parked reply ≡ false → SaysFirst [] [] (record { ending = Answered reply; taken = taken_with 0 reply }) → BegunWhole
   quiet_says reply to not says = answered_says (stepped s.core reply) to not says
 
   module _ (Inv : Core A numbers → Waiting A numbers → Type 0) (Says : Waiting A numbers → List (List ℕ) → List (List ℕ) → Fate A → Type 0) (course : Course p q Inv Says) where
@@ -136,7 +137,7 @@ module _ {A : Type 0} (p q place : ℕ) (s : State A) (xs : List (Step A × Bool
         × ((ins outs : List (List ℕ)) (end : Fate A) → Says (record w { taken = t }) ins outs end →
         SaysFirst (unless_empty (into_pipe numbers flow.into q) ++ ins) (unless_empty (out_of_pipe numbers (held s.core p) flow.out p) ++ outs) end)
 
-    first_says : (w : Waiting A numbers) (may : Bool) (t : Trial A numbers) → IsBelowCounters s → AreInOrder s.core → All (λ k. k ≢ s.next_description) w.kept → All (λ k. k ≢ s.next_description + 1) w.kept →
+    pub first_says : (w : Waiting A numbers) (may : Bool) (t : Trial A numbers) → IsBelowCounters s → AreInOrder s.core → All (λ k. k ≢ s.next_description) w.kept → All (λ k. k ≢ s.next_description + 1) w.kept →
         TrialAll (Among s.core) t → TrialFine call t → FirstSays w may t →
         SaysFirst [] [] (record { ending = Answered (Fault EAGAIN); taken = 0 }) → SaysFirst [] [] (record { ending = Answered CallsSpent; taken = 0 }) →
         StepTo s x (first_tried s.core w may t) → BegunWhole
@@ -198,7 +199,7 @@ module _ {A : Type 0} (p q : ℕ) (s : State A) (xs before rest : List (Step A �
       earlier (inr e) = subst (λ t. (of t (pieces_from (piece_added q) 0 s before) ≡ []) × (of t (pieces_from (pieces_left p) 0 s before) ≡ [])) (sym e) (absent 0 p q s before now.core.next_call order late (inr (omega arith)))
 
 module _ {A : Type 0} (p q : ℕ) (place : ℕ) (s : State A) (xs : List (Step A × Bool)) (pid : ℕ) (below : IsBelowCounters s) (order : AreInOrder s.core) where
-  begin_to : (call : Call A) → StepTo s (Begin pid call) (drawn (next_numbers s) (cond (s.core.processes pid) (drawing_map (begun s.core pid call) (begin s.core pid call)) (Plain (stepped s.core NoProcess))))
+  pub begin_to : (call : Call A) → StepTo s (Begin pid call) (drawn (next_numbers s) (cond (s.core.processes pid) (drawing_map (begun s.core pid call) (begin s.core pid call)) (Plain (stepped s.core NoProcess))))
   unfolding happen
   begin_to call = step_to s (Begin pid call)
 
@@ -213,7 +214,7 @@ module _ {A : Type 0} (p q : ℕ) (place : ℕ) (s : State A) (xs : List (Step A
     abbrev WriteFirst : Bool → List (List ℕ) → List (List ℕ) → Fate A → Type 0
     WriteFirst may ins outs end = Adds may bytes 0 ins end
 
-    first_write : (w : Waiting A numbers) (may : Bool) (t : Trial A numbers) → w.call ≡ call → w.taken ≡ 0 → Keeps s.core w.kept q → WriteTry may bytes 0 q t →
+    first_write : (w : Waiting A numbers) (may : Bool) (t : Trial A numbers) → w.call ≡ call → w.taken ≡ 0 → Keeps s.core w.kept 0 (PipeNode q) → WriteTry may bytes 0 q t →
         FirstSays p q place s xs pid call (WriteFirst may) (IsWrite p q fd bytes) (WriteSays p q fd bytes) (write_course p q fd bytes) w may t
     first_write w may (Done u flow reply) is none on says = says
     first_write w may (Wait u flow to) is none on says = ((is, (says.2, says.3), on), (λ ins outs end rest. adds_more may bytes 0 to (into_pipe numbers flow.into q) ins end (λ h. refl) says rest))
@@ -231,7 +232,7 @@ module _ {A : Type 0} (p q : ℕ) (place : ℕ) (s : State A) (xs : List (Step A
         tried o e is to =
             let w : Waiting A numbers = waiting pid call (o.key ∷ []) false in
             let node : node_of s.core o.key ≡ Some o.description.node = open_node s.core pid fd o (opened writes (open_fd s.core pid fd) o e) in
-            let keeps : Keeps s.core (o.key ∷ []) q = there s.core o.key q o.description.node node is in
+            let keeps : Keeps s.core (o.key ∷ []) 0 (PipeNode q) = there s.core o.key o.description.node (PipeNode q) node is in
             first_says p q place s xs pid call (WriteFirst (may_block o.description)) (IsWrite p q fd bytes) (WriteSays p q fd bytes) (write_course p q fd bytes) w (may_block o.description)
             (try s.core w call (may_block o.description)) below order
             (fresh o.key s.next_description o.description.node node (omega arith)) (fresh o.key (s.next_description + 1) o.description.node node (omega arith))
@@ -277,7 +278,7 @@ module _ {A : Type 0} (p q : ℕ) (place : ℕ) (s : State A) (xs : List (Step A
     abbrev ReadFirst : List (List ℕ) → List (List ℕ) → Fate A → Type 0
     ReadFirst ins outs end = outs ≡ bytes_answered end.ending
 
-    first_read : (w : Waiting A numbers) (may : Bool) (t : Trial A numbers) → w.call ≡ read → Keeps s.core w.kept p → ReadTry p q fd k (held s.core p) t →
+    first_read : (w : Waiting A numbers) (may : Bool) (t : Trial A numbers) → w.call ≡ read → Keeps s.core w.kept 0 (PipeNode p) → ReadTry p q fd k (held s.core p) t →
         FirstSays p q place s xs pid read ReadFirst (IsRead p q fd k) (ReadSays p q fd k) (read_course p q fd k) w may t
     first_read w may (Done u flow reply) is on says = says
     first_read w may (Wait u flow to) is on says = ((is, on), (λ ins outs end rest. ap (λ b. unless_empty b ++ outs) says ∙ rest))
@@ -292,7 +293,7 @@ module _ {A : Type 0} (p q : ℕ) (place : ℕ) (s : State A) (xs : List (Step A
         tried o e is to =
             let w : Waiting A numbers = waiting pid read (o.key ∷ []) false in
             let node : node_of s.core o.key ≡ Some o.description.node = open_node s.core pid fd o (opened reads (open_fd s.core pid fd) o e) in
-            let keeps : Keeps s.core (o.key ∷ []) p = there s.core o.key p o.description.node node is in
+            let keeps : Keeps s.core (o.key ∷ []) 0 (PipeNode p) = there s.core o.key o.description.node (PipeNode p) node is in
             first_says p q place s xs pid read ReadFirst (IsRead p q fd k) (ReadSays p q fd k) (read_course p q fd k) w (may_block o.description)
             (try s.core w read (may_block o.description)) below order
             (fresh o.key s.next_description o.description.node node (omega arith)) (fresh o.key (s.next_description + 1) o.description.node node (omega arith))

@@ -55,7 +55,7 @@ module _ {A : Type 0} where
   own_first t of_step place s x xs first e =
       of_append t (of_step place s x) (pieces_from of_step (place + 1) (step s x).state xs) ∙ ap (λ z. z ++ of t (pieces_from of_step (place + 1) (step s x).state xs)) e
 
-  resume_to : (s : State A) (c : ℕ) (w : Waiting A numbers) (t : Trial A numbers) → get nat_eq s.core.parked c ≡ Some w → try s.core w w.call true ≡ t → StepTo s (Resume c) (tried_again c w t)
+  pub resume_to : (s : State A) (c : ℕ) (w : Waiting A numbers) (t : Trial A numbers) → get nat_eq s.core.parked c ≡ Some w → try s.core w w.call true ≡ t → StepTo s (Resume c) (tried_again c w t)
   unfolding happen
   resume_to s c w t here e = subst (λ h. StepTo s (Resume c) h) (ap (resumed s.core c) here ∙ ap (tried_again c w) e) (step_to s (Resume c))
 
@@ -63,7 +63,7 @@ module _ {A : Type 0} where
   unfolding happen
   interrupt_to s c w here = subst (λ h. StepTo s (Interrupt c) h) (ap (interrupted s.core c) here) (step_to s (Interrupt c))
 
-  same_resumed : (d c : ℕ) (x : Step A) → x ≡ Resume d → x ≡ Resume c → d ≡ c
+  pub same_resumed : (d c : ℕ) (x : Step A) → x ≡ Resume d → x ≡ Resume c → d ≡ c
   same_resumed d c x e f = cc
 
   -- no kept description has a number above all that were given
@@ -77,7 +77,7 @@ module _ {A : Type 0} where
         (e.0, subst (λ z. P (e.0, z)) same first)
     at false g rest = rest g
 
-  unused : (s : State A) (c : ℕ) (w : Waiting A numbers) (d : ℕ) → IsBelowCounters s → get nat_eq s.core.parked c ≡ Some w → s.next_description ≤ d → All (λ k. k ≢ d) w.kept
+  pub unused : (s : State A) (c : ℕ) (w : Waiting A numbers) (d : ℕ) → IsBelowCounters s → get nat_eq s.core.parked c ≡ Some w → s.next_description ≤ d → All (λ k. k ≢ d) w.kept
   unused s c w d below here le = (all_get (λ (e : ℕ × Waiting A numbers). All (λ k. k ≢ d) e.1.kept) s.core.parked c w (below.descriptions d le).parked here).1
 
 module _ {A : Type 0} (p q : ℕ) (Inv : Core A numbers → Waiting A numbers → Type 0) (Says : Waiting A numbers → List (List ℕ) → List (List ℕ) → Fate A → Type 0) where

@@ -19,7 +19,7 @@ use Rattle.pl_model.specs.State.{Core, Description, Open, Waiting}
 use Rattle.pl_model.specs.Live.{readers}
 use Rattle.pl_model.specs.Trial.{Trial, Done, Wait, Flow, still, flowed, lost, gained, pipe_at, Begun, Begins, Refused, Answered, Tried}
 use Rattle.pl_model.specs.Transfer.{room, read_case, read_row, read_pipe, read_file, write_case, write_row, write_pipe, write_file, write_node, read_node}
-use Rattle.pl_model.specs.Splice.{Side, side, move_case, move_row, source_of, target_of, try_move}
+use Rattle.pl_model.specs.Splice.{Side, move_case, move_row, source_of, target_of, try_move}
 use Rattle.pl_model.specs.Tables.{lowest, lowest_pid}
 use Rattle.pl_model.specs.Fifo.{meets}
 use Rattle.pl_model.specs.Step.{Stepped, try, try_open, opened_by, with_kept, kept_at, begin, begun, happen, first_tried, interrupted, parked, resumed, started, stepped, tried_again, waiting}

@@ -1,18 +1,19 @@
 -- A description stays on its node, while its number isn't given anew.
-use Rattle.std.proofs.Common.{◌≡◌, ◌≢◌, ℕ, ◌+◌, Bool, true, false, cond, Option, List, [], ◌∷◌, refl, sym, ◌∙◌, ap, subst, nat_eq, arith}
-use Rattle.std.specs.Prelude.{All, IfSome, option_map}
+use Rattle.std.proofs.Common.{◌≡◌, ◌≢◌, ℕ, ◌+◌, Bool, true, false, cond, Option, List, refl, sym, ◌∙◌, ap, subst, nat_eq}
+use Rattle.std.specs.Prelude.{All, IfSome, option_map, option_and_then, slice_get}
 use Rattle.std.specs.declared.option.Option.TheVariants.{None, Some}
 use Rattle.std.proofs.lemmas.Bool.{eqb-true}
+use Rattle.std.proofs.lemmas.Option.{slice_get_within, get_or_from_slice_get}
 use Rattle.pl_model.specs.declared.calls.Step.{Step}
-use Rattle.pl_model.specs.Keys.{Node, NewKeys, Drawing, Plain, Draws, PipeNode, drawn}
+use Rattle.pl_model.specs.Keys.{Node, NewKeys, Drawing, Plain, Draws, drawn}
 use Rattle.pl_model.specs.Map.{kept_if}
-use Rattle.pl_model.specs.State.{Core, Description, Open}
+use Rattle.pl_model.specs.State.{Core, Description, Open, described}
 use Rattle.pl_model.specs.Live.{is_live}
 use Rattle.pl_model.specs.Settle.{settle}
 use Rattle.pl_model.specs.Trial.{Flow, lost, gained, flowed}
 use Rattle.pl_model.specs.Step.{Stepped, core_step}
 use Rattle.pl_model.specs.Numbered.{numbers, State, next_numbers, step_of, step}
-use Rattle.pl_model.specs.StreamLaw.{Keeps}
+use Rattle.pl_model.specs.OnNodes.{Keeps}
 use Rattle.pl_model.proofs.by_call.Keeps as all_keep
 use Rattle.pl_model.proofs.by_call.Keeps.{Changes, node_of, step-keeps}
 use Rattle.pl_model.proofs.streams.Maps.{differ}
@@ -25,13 +26,13 @@ on_kept : (node : Node numbers) (b : Bool) (o : Option (Description numbers)) �
 on_kept node true o h = h
 on_kept node false o h = tt
 
-there_or : (d : ℕ) (p : ℕ) (o : Option (Description numbers)) → IfSome (option_map (λ x. record { key = d; description = x }) o) (λ (y : Open numbers). y.description.node ≡ PipeNode p) → IfSome o (λ x. x.node ≡ PipeNode p)
-there_or d p None h = h
-there_or d p (Some x) h = h
+there_or : (d : ℕ) (node : Node numbers) (o : Option (Description numbers)) → IfSome (option_map (λ x. record { key = d; description = x }) o) (λ (y : Open numbers). y.description.node ≡ node) → IfSome o (λ x. x.node ≡ node)
+there_or d node None h = h
+there_or d node (Some x) h = h
 
-back_or : (d : ℕ) (p : ℕ) (o : Option (Description numbers)) → IfSome o (λ x. x.node ≡ PipeNode p) → IfSome (option_map (λ x. record { key = d; description = x }) o) (λ (y : Open numbers). y.description.node ≡ PipeNode p)
-back_or d p None h = h
-back_or d p (Some x) h = h
+back_or : (d : ℕ) (node : Node numbers) (o : Option (Description numbers)) → IfSome o (λ x. x.node ≡ node) → IfSome (option_map (λ x. record { key = d; description = x }) o) (λ (y : Open numbers). y.description.node ≡ node)
+back_or d node None h = h
+back_or d node (Some x) h = h
 
 module _ {A : Type 0} (d : ℕ) (node : Node numbers) where
   on_other : (s : Core A numbers) (k : ℕ) (x : Description numbers) → k ≢ d → IsOn d node s → IfSome (cond (nat_eq k d) (Some x) (s.descriptions d)) (λ x. x.node ≡ node)
@@ -99,8 +100,17 @@ module _ {A : Type 0} (d : ℕ) (node : Node numbers) where
       at (Draws f) h = h
 
 module _ {A : Type 0} where
-  -- the description that a parked call keeps stays on its pipe
-  pub keeps_step : (s : State A) (x : Step A) (kept : List ℕ) (p : ℕ) → All (λ k. k ≢ s.next_description) kept → All (λ k. k ≢ s.next_description + 1) kept → Keeps s.core kept p → Keeps (step s x).state.core kept p
-  keeps_step s x [] p first second h = h
-  keeps_step s x (d ∷ ds) p first second h =
-      back_or d p ((step s x).state.core.descriptions d) (on_step d (PipeNode p) s x (first 0 d (omega arith)) (second 0 d (omega arith)) (there_or d p (s.core.descriptions d) h))
+  -- a description that a parked call keeps stays on its node
+  pub keeps_step : (s : State A) (x : Step A) (kept : List ℕ) (place : ℕ) (node : Node numbers) → All (λ k. k ≢ s.next_description) kept → All (λ k. k ≢ s.next_description + 1) kept →
+      Keeps s.core kept place node → Keeps (step s x).state.core kept place node
+  keeps_step s x kept place node first second h = at (slice_get kept place) refl h
+    where
+      apart : (d n : ℕ) → slice_get kept place ≡ Some d → All (λ k. k ≢ n) kept → d ≢ n
+      apart d n e all = subst (λ k. k ≢ n) (get_or_from_slice_get kept place d d e) (all place d (slice_get_within kept place d e))
+
+      at : (o : Option ℕ) → slice_get kept place ≡ o → IfSome (option_and_then (described s.core) o) (λ y. y.description.node ≡ node) →
+          IfSome (option_and_then (described (step s x).state.core) o) (λ y. y.description.node ≡ node)
+      at None e h = h
+      at (Some d) e h =
+          back_or d node ((step s x).state.core.descriptions d)
+          (on_step d node s x (apart d s.next_description e first) (apart d (s.next_description + 1) e second) (there_or d node (s.core.descriptions d) h))

@@ -46,7 +46,7 @@ answered_apart : {A : Type 0} (m n : ℕ) (reply : Reply A) → m ≢ n → same
 answered_apart m n (Parked c) ne = refl
 answered_apart m n reply ne = differ m n ne
 
-place_apart : {A : Type 0} (m n : ℕ) (x : Step A) (reply : Reply A) → m ≢ n → same_tag (tag_of m x reply) (AtPlace n) ≡ false
+pub place_apart : {A : Type 0} (m n : ℕ) (x : Step A) (reply : Reply A) → m ≢ n → same_tag (tag_of m x reply) (AtPlace n) ≡ false
 place_apart m n (Resume c) reply ne = refl
 place_apart m n x reply ne = answered_apart m n reply ne
 

@@ -1,5 +1,5 @@
 -- The stream law of whole runs.
-use Rattle.std.proofs.Common.{◌≡◌, Bool, List, ◌++◌, length, sym, ◌∙◌, ap, subst}
+use Rattle.std.proofs.Common.{◌≡◌, Bool, true, false, List, ◌++◌, length, sym, ◌∙◌, ap, subst}
 use Rattle.pl_model.specs.declared.calls.Call.{Call}
 use Rattle.pl_model.specs.declared.calls.Step.{Step}
 use Rattle.pl_model.specs.Modes.{writes}
@@ -15,6 +15,9 @@ use Rattle.pl_model.proofs.streams.StreamRuns.{stream-run}
 use Rattle.pl_model.proofs.streams.Pieces.{joined_chunks, joined_outs}
 use Rattle.pl_model.proofs.streams.Courses.{run_order}
 use Rattle.pl_model.proofs.streams.WriteRuns.{write_run, read_run}
+use Rattle.pl_model.proofs.streams.MoveRuns.{move_run, splice_moves, tee_moves}
+use Rattle.pl_model.proofs.streams.MoveBegins.{FirstCarries, splice_begins, tee_begins, begun_move, step_adds}
+use Rattle.pl_model.proofs.streams.MoveMoments.{waiting_adds, begun_adds}
 use Rattle.pl_model.proofs.streams.BegunRuns.{run_below, in_whole, begun_write, begun_read}
 
 pub stream_law : {A : Type 0} (s : State A) (xs : List (Step A × Bool)) → IsBelowCounters s → AreInOrder s.core → StreamLaw s xs
@@ -29,4 +32,23 @@ stream_law s xs below order =
       begun_read = λ before rest p pid fd n e on.
           in_whole p p s xs before rest pid (Call.Read fd n) (λ ins outs end. outs ≡ bytes_answered end.ending) e order
           (begun_read p p (length before) (after s before) rest pid (run_below s before below) (run_order s before order) fd n on);
+      waiting_splice = λ from to p q c w from_fd to_fd from_offset to_offset len flags here is on.
+          move_run p q false from to (Call.Splice from_fd from_offset to_fd to_offset len flags) (splice_moves p q from to from_fd to_fd len flags from_offset to_offset) 0 s xs c w below order here (is, on);
+      waiting_tee = λ from to p q c w from_fd to_fd len flags here is on.
+          move_run p q true from to (Call.Tee from_fd to_fd len flags) (tee_moves p q from to from_fd to_fd len flags) 0 s xs c w below order here (is, on);
+      begun_splice = λ before rest from to p q pid from_fd to_fd from_offset to_offset len flags e on.
+          let call = Call.Splice from_fd from_offset to_fd to_offset len flags in
+          let tries = splice_moves p q from to from_fd to_fd len flags from_offset to_offset in
+          in_whole p q s xs before rest pid call (FirstCarries p q false from to call tries) e order
+          (begun_move p q false from to call tries (length before) (after s before) rest pid (run_below s before below) (run_order s before order)
+          (splice_begins (after s before) from to pid from_fd to_fd from_offset to_offset len flags (run_below s before below) on));
+      begun_tee = λ before rest from to p q pid from_fd to_fd len flags e on.
+          let call = Call.Tee from_fd to_fd len flags in
+          let tries = tee_moves p q from to from_fd to_fd len flags in
+          in_whole p q s xs before rest pid call (FirstCarries p q true from to call tries) e order
+          (begun_move p q true from to call tries (length before) (after s before) rest pid (run_below s before below) (run_order s before order)
+          (tee_begins (after s before) from to pid from_fd to_fd len flags (run_below s before below) on));
+      tried_move = λ before rest x p q e tries. step_adds p q (after s before) (run_below s before below) x tries;
+      waiting_move = λ p q c w here is on. waiting_adds p q s xs c w below order here is on;
+      begun_move = λ before rest p q pid call e tries. begun_adds p q s xs before rest pid call below order e tries;
     }

@@ -25,7 +25,8 @@ use Rattle.pl_model.specs.Stream.{held, into_pipe, out_of_pipe}
 use Rattle.pl_model.specs.Chunks.{OfCall, unless_empty, of, piece_added, pieces_left, pieces_from}
 use Rattle.pl_model.specs.Fates.{Fate, Answered, Interrupted, Dropped, Waits, fate, bytes_answered, taken_with}
 use Rattle.pl_model.specs.InOrder.{AreInOrder, HasTaken}
-use Rattle.pl_model.specs.StreamLaw.{Keeps, Adds}
+use Rattle.pl_model.specs.OnNodes.{Keeps}
+use Rattle.pl_model.specs.StreamLaw.{Adds}
 use Rattle.pl_model.proofs.streams.Writes.{WriteTry, write_try, adds_no, join_unless_empty, no_slice, same_number}
 use Rattle.pl_model.proofs.streams.Nodes.{keeps_step}
 use Rattle.pl_model.proofs.streams.CallRuns.{Course, TrySays, course_run, interrupt_reply}
@@ -63,7 +64,7 @@ module _ {A : Type 0} where
 module _ {A : Type 0} (p q : ℕ) (fd : ℤ) (bytes : List ℕ) where
   -- a parked write of these bytes, on the pipe q
   abbrev pub IsWrite : Core A numbers → Waiting A numbers → Type 0
-  IsWrite s w = (w.call ≡ Call.Write fd bytes) × HasTaken {A = A} (Call.Write fd bytes) w.taken × Keeps s w.kept q
+  IsWrite s w = (w.call ≡ Call.Write fd bytes) × HasTaken {A = A} (Call.Write fd bytes) w.taken × Keeps s w.kept 0 (PipeNode q)
 
   abbrev pub WriteSays : Waiting A numbers → List (List ℕ) → List (List ℕ) → Fate A → Type 0
   WriteSays w ins outs end = Adds true bytes w.taken ins end
@@ -80,7 +81,7 @@ module _ {A : Type 0} (p q : ℕ) (fd : ℤ) (bytes : List ℕ) where
   pub write_course : Course p q IsWrite WriteSays
   write_course =
       record {
-        stays = λ s x w first second is. (is.0, is.1, keeps_step s x w.kept q first second is.2);
+        stays = λ s x w first second is. (is.0, is.1, keeps_step s x w.kept 0 (PipeNode q) first second is.2);
         met = λ s w met is. is;
         says_met = λ w met ins outs end says. says;
         waits = λ s w is. adds_no true bytes w.taken w.taken Waits is.1.0 refl refl (λ n e. cc);
@@ -98,7 +99,7 @@ module _ {A : Type 0} (p q : ℕ) (fd : ℤ) (bytes : List ℕ) where
 module _ {A : Type 0} (p q : ℕ) (fd : ℤ) (k : ℕ) where
   -- a parked read of at most k bytes, on the pipe p
   abbrev pub IsRead : Core A numbers → Waiting A numbers → Type 0
-  IsRead s w = (w.call ≡ Call.Read fd k) × Keeps s w.kept p
+  IsRead s w = (w.call ≡ Call.Read fd k) × Keeps s w.kept 0 (PipeNode p)
 
   abbrev pub ReadSays : Waiting A numbers → List (List ℕ) → List (List ℕ) → Fate A → Type 0
   ReadSays w ins outs end = outs ≡ bytes_answered end.ending
@@ -113,7 +114,7 @@ module _ {A : Type 0} (p q : ℕ) (fd : ℤ) (k : ℕ) where
   read_row_says s ReadCase.EndOfFile = refl
   read_row_says s ReadCase.Waits = refl
 
-  pub read_try : (s : Core A numbers) (w : Waiting A numbers) (may_wait : Bool) → Keeps s w.kept p → ReadTry (held s p) (try s w (Call.Read fd k) may_wait)
+  pub read_try : (s : Core A numbers) (w : Waiting A numbers) (may_wait : Bool) → Keeps s w.kept 0 (PipeNode p) → ReadTry (held s p) (try s w (Call.Read fd k) may_wait)
   unfolding try read_pipe
   read_try s w may_wait on = at (kept_at s w.kept 0) on
     where
@@ -134,7 +135,7 @@ module _ {A : Type 0} (p q : ℕ) (fd : ℤ) (k : ℕ) where
   pub read_course : Course p q IsRead ReadSays
   read_course =
       record {
-        stays = λ s x w first second is. (is.0, keeps_step s x w.kept p first second is.1);
+        stays = λ s x w first second is. (is.0, keeps_step s x w.kept 0 (PipeNode p) first second is.1);
         met = λ s w met is. is;
         says_met = λ w met ins outs end says. says;
         waits = λ s w is. refl;

@@ -34,13 +34,13 @@ use Rattle.pl_desc.specs.Rows.{at, is_pid, row_at, count_at}
 use Rattle.pl_desc.specs.Descs.{Opened, Descs, fresh}
 use Rattle.pl_nodes.proofs.Keyed.{change_at-is}
 use Rattle.pl_state.specs.Contents.{Contents, Nodes, contents, description_of, waiting_of, core_of}
-use Rattle.pl_state.specs.Sound.{IsSound, IsWaiting, AreCounted, AreThere, MayKeep, OnPipe, WaitOnPipes, times}
+use Rattle.pl_state.specs.Sound.{IsSound, IsWaiting, AreCounted, AreThere, MayKeep, OnNode, KeepsNodes, WaitOnNodes, times}
 use Rattle.pl_state.specs.Makes.{MakesAtKeys, MayWantAtKeys}
 use Rattle.pl_state.proofs.Known.{Caller}
 use Rattle.pl_state.proofs.holders.There.{settled_after, there-added, there-still, map-set_at}
 use Rattle.pl_state.proofs.holders.Belonging.{belong-same}
 use Rattle.pl_state.proofs.holders.Holding.{keeping_more}
-use Rattle.pl_state.proofs.holders.OnPipes.{keeps-pipe, wait-beside}
+use Rattle.pl_state.proofs.holders.OnNodes.{keeps-one, wait-beside}
 use Rattle.pl_state.proofs.by_call.Begun.{does_same, step-draws, step-tried}
 use Rattle.pl_state.proofs.by_call.Piping.{none_kept, past_end}
 use Rattle.pl_state.proofs.waiting.Calls.{get_more, more-each, more-parked}
@@ -158,8 +158,8 @@ module _ {A : Type 0} (m : Caller A) (name : List ℕ) (mode : Mode) (flags : Op
       there : IsSome (at nodes'.pipes p)
       there = still mode p nodes nodes' pipes_are files_are (node.Pipe p) (subst (λ o. IsSome o) (sym was) refl)
 
-      on_pipe : All (OnPipe (at descs'.opened) w) (d ∷ [])
-      on_pipe = keeps-pipe (at descs'.opened) w d (subst (λ (z : ℕ → Option Opened). OnPipe z w d) (sym awaits.opened) (by (nat_eq d d) (eq-eqb d d refl)))
+      on_node : KeepsNodes (at descs'.opened) w
+      on_node = keeps-one (at descs'.opened) w d refl (subst (λ (z : ℕ → Option Opened). OnNode z w d) (sym awaits.opened) (by (nat_eq d d) (eq-eqb d d refl)))
         where
           by : (b : Bool) → b ≡ true → IfSome (cond b (Some (fresh (node.Pipe p) mode (status_flags flags))) (at descs.opened d)) (λ o. MayKeep w o.node)
           by true is = refl
@@ -180,9 +180,9 @@ module _ {A : Type 0} (m : Caller A) (name : List ℕ) (mode : Mode) (flags : Op
         };
         waiting = λ n. get_more met.calls calls.next w (IsWaiting A) is_waiting n (s.waiting n);
         belong = λ n. get_more met.calls calls.next w (λ y. IsTrue (is_pid descs'.tables y.pid)) (ap (λ t. is_pid t pid) awaits.tables ∙ process) n (belong-same met.calls (is_pid descs.tables) (is_pid descs'.tables) s.belong (ap is_pid awaits.tables) n);
-        on_pipes = λ n. get_more met.calls calls.next w (λ y. All (OnPipe (at descs'.opened) y) y.kept) on_pipe n
-            (subst (WaitOnPipes met.calls) (sym awaits.opened) (wait-beside d met.calls (at descs.opened) (fresh (node.Pipe p) mode (status_flags flags))
-            (none_kept (record { descs = descs; nodes = nodes; calls = met; limits = limits; sound = s; are = met_held kernel p mode }) d awaits.vacant) s.on_pipes) n);
+        on_nodes = λ n. get_more met.calls calls.next w (KeepsNodes (at descs'.opened)) on_node n
+            (subst (WaitOnNodes met.calls) (sym awaits.opened) (wait-beside d met.calls (at descs.opened) (fresh (node.Pipe p) mode (status_flags flags))
+            (none_kept (record { descs = descs; nodes = nodes; calls = met; limits = limits; sound = s; are = met_held kernel p mode }) d awaits.vacant) s.on_nodes) n);
       })
 
       waits_held : AreCounted A descs' more.calls

@@ -145,7 +145,7 @@ module _ {A : Type 0} (m : Caller A) (name : List ℕ) where
           };
           waiting = sound.waiting;
           belong = sound.belong;
-          on_pipes = sound.on_pipes;
+          on_nodes = sound.on_nodes;
         }
 
         pub mkfifo_makes : MakesAtKeys k x reply.Unit new

@@ -22,14 +22,14 @@ use Rattle.pl_parked.specs.Calls.{Calls}
 use Rattle.pl_desc.specs.Rows.{at, is_pid, row_at, lowest_of, with_row}
 use Rattle.pl_desc.specs.Descs.{Opened, Descs, fresh}
 use Rattle.pl_state.specs.Contents.{Contents, Nodes, IsThere, contents, node_of, description_of, parked_of, core_of}
-use Rattle.pl_state.specs.Sound.{IsSound, AreCounted, AreThere, WaitOnPipes}
+use Rattle.pl_state.specs.Sound.{IsSound, AreCounted, AreThere, WaitOnNodes}
 use Rattle.pl_state.specs.Makes.{MakesAtKeys}
 use Rattle.pl_state.proofs.Known.{Caller}
 use Rattle.pl_state.proofs.holders.Belonging.{belong-same}
 use Rattle.pl_state.proofs.holders.There.{settled_after, there-added, map-set_at}
 use Rattle.pl_state.proofs.by_call.Begun.{step-draws}
 use Rattle.pl_state.proofs.by_call.Piping.{lowest_found, none_kept, past_end}
-use Rattle.pl_state.proofs.holders.OnPipes.{wait-beside}
+use Rattle.pl_state.proofs.holders.OnNodes.{wait-beside}
 use Rattle.pl_naming.proofs.by_call.Unlinking.{keyed}
 use Rattle.pl_naming.proofs.by_call.Unused.{keys, are_unused}
 
@@ -89,7 +89,7 @@ module _ {A : Type 0} (m : Caller A) (calls' : Calls A) (sound' : IsSound A (con
       };
       waiting = sound'.waiting;
       belong = belong-same calls'.calls (is_pid descs.tables) (is_pid descs'.tables) sound'.belong pids;
-      on_pipes = subst (WaitOnPipes calls'.calls) (sym opened) (wait-beside d calls'.calls (at descs.opened) end (none_kept (record { descs = descs; nodes = nodes; calls = calls'; limits = limits; sound = sound'; are = are' }) d vacant) sound'.on_pipes);
+      on_nodes = subst (WaitOnNodes calls'.calls) (sym opened) (wait-beside d calls'.calls (at descs.opened) end (none_kept (record { descs = descs; nodes = nodes; calls = calls'; limits = limits; sound = sound'; are = are' }) d vacant) sound'.on_nodes);
     }
 
     pub opened_makes : (call : Call A) (file : ℕ) → at nodes.files file ≡ None → (g : NewKeys numbers → Core A numbers) → begin c pid call ≡ Draws (λ new. Answered (g new) (Fd (pos fd)))

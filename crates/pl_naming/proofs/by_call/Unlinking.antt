@@ -166,7 +166,7 @@ module _ {A : Type 0} (k : Contents A) (sound : IsSound A k) (name : List ℕ) (
       };
       waiting = sound.waiting;
       belong = sound.belong;
-      on_pipes = sound.on_pipes;
+      on_nodes = sound.on_nodes;
     }
 
 module _ {A : Type 0} (m : Caller A) (name : List ℕ) where

@@ -47,7 +47,7 @@ module _ {A : Type 0} (k : Contents A) (sound : IsSound A k) (d p : ℕ) (on : O
     };
     waiting = sound.waiting;
     belong = sound.belong;
-    on_pipes = sound.on_pipes;
+    on_nodes = sound.on_nodes;
   }
 
 -- it has other bytes

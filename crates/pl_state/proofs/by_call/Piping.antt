@@ -43,7 +43,7 @@ use Rattle.pl_desc.specs.Descs.{live_count as opened_count}
 use Rattle.pl_desc.proofs.RowLemmas.{pid_in}
 use Rattle.pl_desc.proofs.First.{first_found}
 use Rattle.pl_state.specs.Contents.{Contents, Nodes, contents, node_of, description_of, parked_of, core_of, IsThere}
-use Rattle.pl_state.specs.Sound.{IsSound, AreThere, WaitOnPipes}
+use Rattle.pl_state.specs.Sound.{IsSound, AreThere, WaitOnNodes}
 use Rattle.pl_state.specs.Makes.{MakesAtKeys, MayWantAtKeys}
 use Rattle.pl_state.proofs.Known.{Known, Caller}
 use Rattle.pl_state.proofs.holders.Ends.{live_count-is}
@@ -52,7 +52,7 @@ use Rattle.pl_state.proofs.holders.Staying.{opened-live}
 use Rattle.pl_state.proofs.by_call.Begun.{does_same, step-refused, step-draws}
 use Rattle.pl_model.proofs.settling.FromSettled.{at_key}
 use Rattle.pl_state.proofs.holders.There.{settled_after, there-put, there-added, map-set_at}
-use Rattle.pl_state.proofs.holders.OnPipes.{keeps-map, wait-beside}
+use Rattle.pl_state.proofs.holders.OnNodes.{keeps-map, wait-beside}
 
 module _ {A : Type 0} (m : Known A) where
   open m use {descs, nodes, calls, limits, are}
@@ -263,8 +263,8 @@ module _ {A : Type 0} (m : Caller A) (nonblock : Bool) where
                 };
                 waiting = sound.waiting;
                 belong = belong-same calls.calls (is_pid k.tables) (is_pid new.tables) sound.belong pids;
-                on_pipes = subst (WaitOnPipes calls.calls) (sym opened) (wait-beside d' calls.calls (set_at nat_eq (at k.opened) d (Some reader)) writer (none_kept kernel d' vacant')
-                    (wait-beside d calls.calls (at k.opened) reader (none_kept kernel d vacant) sound.on_pipes));
+                on_nodes = subst (WaitOnNodes calls.calls) (sym opened) (wait-beside d' calls.calls (set_at nat_eq (at k.opened) d (Some reader)) writer (none_kept kernel d' vacant')
+                    (wait-beside d calls.calls (at k.opened) reader (none_kept kernel d vacant) sound.on_nodes));
               }
 
           -- the kernel is sound, and made the step

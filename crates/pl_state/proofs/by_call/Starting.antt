@@ -113,7 +113,7 @@ module _ (A : Type 0) (limits : Limits) where
     };
     waiting = λ number. tt;
     belong = λ number. tt;
-    on_pipes = λ number. tt;
+    on_nodes = λ number. tt;
   }
 
   pub held_nothing : (descs : Descs) → descs.loose ≡ [] → IsTidy descs → AreCounted A descs []

@@ -84,6 +84,17 @@ times_one key d = by (nat_eq key d)
 pub times-cons : (key : ℕ) (keys : List ℕ) (d : ℕ) → times (key ∷ keys) d ≡ cond (nat_eq key d) 1 0 + times keys d
 times-cons key keys d = sum_by-cons (λ k. cond (nat_eq k d) 1 0) key keys
 
+abbrev by_test : Bool → ℕ
+by_test b = cond b 1 0
+
+-- a key of a list stands in it
+pub times_member : (keys : List ℕ) (d : ℕ) → is_member nat_eq keys d ≡ true → 1 ≤ times keys d
+times_member [] d h = absurd (cc)
+times_member (key ∷ keys) d h = elim (eqb_tells d key) as (λ _. 1 ≤ times (key ∷ keys) d) [
+  | inl e ↦ (let all = times-cons key keys d in let one : by_test (nat_eq key d) ≡ by_test true = ap (λ (b : Bool). by_test b) (eq-eqb key d (sym e.1)) in omega (arith, all, one))
+  | inr e ↦ (let all = times-cons key keys d in let rest = times_member keys d (sym (ap (λ b. b || is_member nat_eq keys d) e.0) ∙ h) in omega (arith, all, rest))
+]
+
 times_most : (keys : List ℕ) (d : ℕ) → times keys d ≤ length keys
 times_most [] d = omega arith
 times_most (key ∷ keys) d = let all = times-cons key keys d in let rest = times_most keys d in omega (arith, all, rest, one (nat_eq key d))

@@ -16,7 +16,7 @@ use Rattle.pl_state.specs.Sound.{IsSound, Belong, AreThere, AreCounted}
 use Rattle.pl_state.proofs.Known.{Known}
 use Rattle.pl_state.proofs.holders.Holding.{lives-is}
 use Rattle.pl_state.proofs.holders.There.{settled_after}
-use Rattle.pl_state.proofs.holders.OnPipes.{wait-same}
+use Rattle.pl_state.proofs.holders.OnNodes.{wait-same}
 
 module _ {A : Type 0} (descs : Descs) (nodes : Nodes) (calls : Calls A) (limits : Limits) (are : AreCounted A descs calls.calls) where
   -- a description is live exactly where it is open
@@ -57,5 +57,5 @@ module _ {A : Type 0} (m : Known A) (descs' : Descs) (same : at descs'.opened â‰
     };
     waiting = sound.waiting;
     belong = belong;
-    on_pipes = wait-same calls.calls (at descs.opened) (at descs'.opened) same sound.on_pipes;
+    on_nodes = wait-same calls.calls (at descs.opened) (at descs'.opened) same sound.on_nodes;
   }

@@ -1,8 +1,8 @@
 -- A parked call ends, at the kernel's keys.
-use Rattle.std.proofs.Common.{◌≡◌, ℕ, ◌+◌, ◌≤◌, true, cond, List, [], ◌∷◌, Option, Some, None, IsSome, refl, sym, ◌∙◌, ap, subst, nat_eq, nat_lt, arith}
+use Rattle.std.proofs.Common.{◌≡◌, ℕ, ◌+◌, ◌≤◌, true, false, cond, List, [], ◌∷◌, Option, Some, None, IsSome, refl, sym, ◌∙◌, ap, subst, nat_eq, nat_lt, arith}
 use Rattle.std.specs.Set.{is_member}
 use Rattle.std.proofs.lemmas.Bool.{eq-eqb}
-use Rattle.std.specs.Prelude.{option_map}
+use Rattle.std.specs.Prelude.{option_map, ◌||◌}
 use Rattle.pl_model.specs.Map.{get, put, without}
 use Rattle.pl_model.specs.State.{Core}
 use Rattle.pl_model.specs.Live.{is_live}
@@ -22,7 +22,7 @@ use Rattle.pl_state.specs.Sound.{IsWhole, AreCounted, times, keeping}
 use Rattle.pl_state.proofs.Known.{Parts}
 use Rattle.pl_state.proofs.waiting.Calls.{get-parked, put-parked, without-parked, get_put_key, put_same, put_put, without_put, Rise-put, Rise-without}
 use Rattle.pl_state.proofs.holders.GivenUp.{GivesUp, given, given_whole, given_held}
-use Rattle.pl_state.proofs.holders.Holding.{keeping_put, keeping_without, times_one, times-cons, lives-is}
+use Rattle.pl_state.proofs.holders.Holding.{keeping_put, keeping_without, times_member, times-cons, lives-is}
 use Rattle.pl_state.proofs.holders.There.{settled_after}
 
 module _ {A : Type 0} (m : Parts A) (n : ℕ) (call : ParkedCall A) (here : get nat_eq m.calls.calls n ≡ Some call) where
@@ -38,15 +38,16 @@ module _ {A : Type 0} (m : Parts A) (n : ℕ) (call : ParkedCall A) (here : get 
   pub end_holds : (key : ℕ) → times call.kept key ≤ count_at descs.loose key
   end_holds key = let all = keeping_without 0 calls.next n calls.calls call key whole.rise here in omega (arith, all, are.counted key)
 
-  pub kept_there : (key : ℕ) → call.kept ≡ key ∷ [] → IsSome (at descs.opened key)
-  kept_there key kept = by (at descs.opened key) refl
+  -- so it is there
+  pub member_there : (key : ℕ) → is_member nat_eq call.kept key ≡ true → IsSome (at descs.opened key)
+  member_there key member = by (at descs.opened key) refl
     where
-      one : times call.kept key ≡ 1
-      one = ap (λ ks. times ks key) kept ∙ times_one key key ∙ ap (λ b. cond b 1 0) (eq-eqb key key refl)
-
       by : (o : Option Opened) → at descs.opened key ≡ o → IsSome o
       by (Some o) e = refl
-      by None e = absurd (let none : holders descs key ≡ 0 = are.tidy.bare key e in omega (arith, none, one, end_holds key))
+      by None e = absurd (let none : holders descs key ≡ 0 = are.tidy.bare key e in omega (arith, none, times_member call.kept key member, end_holds key))
+
+  pub kept_there : (key : ℕ) → call.kept ≡ key ∷ [] → IsSome (at descs.opened key)
+  kept_there key kept = member_there key (ap (λ ks. is_member nat_eq ks key) kept ∙ ap (λ b. b || false) (eq-eqb key key refl))
 
   -- Its holds are given up one after another: the call as it keeps no more than these.
   abbrev only : List ℕ → ParkedCall A

@@ -24,11 +24,11 @@ use Rattle.pl_parked.specs.Meeting.{meets, marked, all_marked, is_open_without a
 use Rattle.pl_desc.specs.Rows.{at}
 use Rattle.pl_desc.specs.Descs.{Opened}
 use Rattle.pl_state.specs.Contents.{Contents, contents, description_of, waiting_of, parked_of, core_of}
-use Rattle.pl_state.specs.Sound.{IsWaiting, Keeps, MayKeep, OnPipe}
+use Rattle.pl_state.specs.Sound.{IsWaiting, Keeps, MayKeep, OnNode, KeepsNodes}
 use Rattle.pl_state.proofs.Known.{Known, parts_of}
 use Rattle.pl_state.proofs.waiting.Ending.{kept_there}
 use Rattle.pl_state.proofs.holders.Holding.{absent_low}
-use Rattle.pl_state.proofs.holders.OnPipes.{kept-pipe}
+use Rattle.pl_state.proofs.holders.OnNodes.{kept-one}
 
 module _ {A : Type 0} (m : Known A) (p : ℕ) (mode : Mode) where
   open m use {descs, nodes, calls, limits, sound}
@@ -63,8 +63,8 @@ module _ {A : Type 0} (m : Known A) (p : ℕ) (mode : Mode) where
       waits : IsWaiting A w
       waits = subst (λ o. IfSome o (IsWaiting A)) here (sound.waiting n)
 
-      on : All (OnPipe (at descs.opened) w) w.kept
-      on = subst (λ o. IfSome o (λ y. All (OnPipe (at descs.opened) y) y.kept)) here (sound.on_pipes n)
+      on : KeepsNodes (at descs.opened) w
+      on = subst (λ o. IfSome o (KeepsNodes (at descs.opened))) here (sound.on_nodes n)
 
       ends : List ℕ → Bool
       ends kept = list_any (λ d. is_end {K = numbers} any_mode (PipeNode p) (option_map description_of (at descs.opened d))) kept
@@ -82,7 +82,7 @@ module _ {A : Type 0} (m : Known A) (p : ℕ) (mode : Mode) where
       by : (x : Call A) → w.call ≡ x → IsAlike w
       by (call.OpenName name own flags) e =
           let only = subst (λ z. Keeps z w.kept) e waits.keeps in
-          let kept_on = subst (λ z. OnPipe (at descs.opened) (record w { call = z }) only.0) e (kept-pipe (at descs.opened) w only.0 w.kept only.1 on) in
+          let kept_on = subst (λ z. OnNode (at descs.opened) (record w { call = z }) only.0) e (kept-one (at descs.opened) w only.0 only.1 on) in
           let same = at_pipe w name own flags (at descs.opened only.0) (kept_there (parts_of m) n w here only.0 only.1) kept_on in
           (λ i. (machine_without mode (e i) && ends (only.1 i))) ∙ ap (λ b. lacks_end_of own mode && b) (sym same) ∙ swap (lacks_end_of own mode) (option_eq nat_eq w.fifo (Some p)) ∙ (λ i. option_eq nat_eq w.fifo (Some p) && kernel_without mode (sym e i))
       by other e = (λ i. machine_without mode (e i) && ends w.kept) ∙ sym (none (option_eq nat_eq w.fifo (Some p))) ∙ (λ i. option_eq nat_eq w.fifo (Some p) && kernel_without mode (sym e i))

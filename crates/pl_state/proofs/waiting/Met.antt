@@ -15,7 +15,7 @@ use Rattle.pl_parked.specs.Meeting.{meets, marked, all_marked}
 use Rattle.pl_desc.specs.Rows.{at, is_pid}
 use Rattle.pl_desc.specs.Descs.{Opened}
 use Rattle.pl_state.specs.Contents.{Contents, contents, core_of}
-use Rattle.pl_state.specs.Sound.{IsSound, IsWaiting, AreCounted, MayKeep, OnPipe, keeping, times}
+use Rattle.pl_state.specs.Sound.{IsSound, IsWaiting, AreCounted, MayKeep, KeepsNodes, keeping, times}
 use Rattle.pl_state.proofs.Known.{Known}
 use Rattle.pl_state.proofs.waiting.Calls.{get-each}
 use Rattle.pl_state.proofs.waiting.Marking.{marked-is}
@@ -86,7 +86,10 @@ module _ {A : Type 0} (m : Known A) (p : ℕ) (mode : Mode) where
     };
     waiting = λ n. all_have p mode (IsWaiting A) (λ w h. record { few = h.few; keeps = h.keeps; may = h.may }) calls.calls n (sound.waiting n);
     belong = λ n. all_have p mode (λ w. IsTrue (is_pid descs.tables w.pid)) (λ w h. h) calls.calls n (sound.belong n);
-    on_pipes = λ n. all_have p mode (λ w. All (OnPipe (at descs.opened) w) w.kept) (λ w h i z l. if_some (λ (o : Opened). MayKeep w o.node) (λ (o : Opened). MayKeep (record w { met = true }) o.node) _ (λ o may. met_may w o.node may) (h i z l)) calls.calls n (sound.on_pipes n);
+    on_nodes = λ n. all_have p mode (KeepsNodes (at descs.opened)) (λ w h. record {
+      on = λ i z l. if_some (λ (o : Opened). MayKeep w o.node) (λ (o : Opened). MayKeep (record w { met = true }) o.node) _ (λ o may. met_may w o.node may) (h.on i z l);
+      apart = h.apart;
+    }) calls.calls n (sound.on_nodes n);
   }
 
   pub met_held : AreCounted A descs met_calls.calls

@@ -23,14 +23,14 @@ use Rattle.pl_desc.specs.Descs.{Opened, Descs, IsTidy}
 use Rattle.pl_state.specs.Contents.{Contents, with_pipes, contents, waiting_of, core_of}
 use Rattle.pl_state.specs.Opens.{OpenOn}
 use Rattle.pl_state.specs.Parking.{call_on, with_call, Adds}
-use Rattle.pl_state.specs.Sound.{IsSound, IsWaiting, AreCounted, MayWait, Keeps, most_kept, times, keeping, OnPipe, MayKeep}
+use Rattle.pl_state.specs.Sound.{IsSound, IsWaiting, AreCounted, MayWait, KeepsOne, Keeps, most_kept, times, keeping, OnNode, KeepsNodes, MayKeep}
 use Rattle.pl_state.proofs.Known.{Known}
 use Rattle.pl_state.proofs.waiting.Calls.{more-parked, get_more}
 use Rattle.pl_state.proofs.by_call.Begun.{there, lives, pipe_held}
 use Rattle.pl_state.proofs.holders.There.{settled_after}
 use Rattle.pl_state.proofs.holders.Holding.{keeping_more, keeping_few, times_one}
 use Rattle.pl_state.proofs.by_call.Moving.{changed_is, changed_sound}
-use Rattle.pl_state.proofs.holders.OnPipes.{keeps-pipe}
+use Rattle.pl_state.proofs.holders.OnNodes.{keeps-one}
 
 -- a call that keeps one description keeps no other
 pub only_one : (key d : ℕ) → is_member nat_eq (key ∷ []) d ≡ true → d ≡ key
@@ -40,21 +40,21 @@ pub not_last : (n : ℕ) → n ≤ last_call → n ≢ last_call → n + 1 ≤ l
 not_last n few not_it = grind (arith, few, not_it)
 
 -- a call is parked, which keeps descriptions that are open
-module _ {A : Type 0} (k : Contents A) (sound : IsSound A k) (w : ParkedCall A) (waits : IsWaiting A w) (open_ones : (d : ℕ) → is_member nat_eq w.kept d ≡ true → IsSome (at k.opened d)) (left : k.calls.next ≢ last_call) (on_pipes : All (OnPipe (at k.opened) w) w.kept) (process : IsTrue (is_pid k.tables w.pid)) where
+module _ {A : Type 0} (k : Contents A) (sound : IsSound A k) (w : ParkedCall A) (waits : IsWaiting A w) (open_ones : (d : ℕ) → is_member nat_eq w.kept d ≡ true → IsSome (at k.opened d)) (left : k.calls.next ≢ last_call) (on_nodes : KeepsNodes (at k.opened) w) (process : IsTrue (is_pid k.tables w.pid)) where
   abbrev before : Core A numbers
   before = core_of k
 
-  live : (d : ℕ) → is_member nat_eq w.kept d ≡ true → is_live before d ≡ true
+  pub live : (d : ℕ) → is_member nat_eq w.kept d ≡ true → is_live before d ≡ true
   live d h = let o = there (at k.opened d) (open_ones d h) in lives k sound.whole d o.0 o.1
 
-  call_is : core_of (with_call k w) ≡ parked before (waiting_of w)
+  pub call_is : core_of (with_call k w) ≡ parked before (waiting_of w)
   unfolding core_of
   call_is = λ i. record before { parked = more-parked k.calls.calls k.calls.next w i; next_call = k.calls.next + 1 }
 
-  call_settles : core_of (with_call k w) ≡ settle before (parked before (waiting_of w))
+  pub call_settles : core_of (with_call k w) ≡ settle before (parked before (waiting_of w))
   call_settles = call_is ∙ sym (park-settled before sound.settled (waiting_of w) live)
 
-  call_sound : IsSound A (with_call k w)
+  pub call_sound : IsSound A (with_call k w)
   call_sound = record {
     whole = record {
       rise = Rise-push 0 k.calls.next k.calls.calls w sound.rise;
@@ -66,18 +66,18 @@ module _ {A : Type 0} (k : Contents A) (sound : IsSound A k) (w : ParkedCall A) 
     };
     waiting = λ n. get_more k.calls.calls k.calls.next w (IsWaiting A) waits n (sound.waiting n);
     belong = λ n. get_more k.calls.calls k.calls.next w (λ y. IsTrue (is_pid k.tables y.pid)) process n (sound.belong n);
-    on_pipes = λ n. get_more k.calls.calls k.calls.next w (λ y. All (OnPipe (at k.opened) y) y.kept) on_pipes n (sound.on_pipes n);
+    on_nodes = λ n. get_more k.calls.calls k.calls.next w (KeepsNodes (at k.opened)) on_nodes n (sound.on_nodes n);
   }
 
--- what may wait keeps the description that it tries
-keeps_one : {A : Type 0} (key : ℕ) (call : Call A) (taken : ℕ) → MayWait call taken → Keeps call (key ∷ [])
-keeps_one key (call.Read fd n) taken may = (key, refl)
-keeps_one key (call.Write fd bytes) taken may = (key, refl)
-keeps_one key (call.OpenName name mode flags) taken may = (key, refl)
-keeps_one key other taken may = absurd may
+-- what keeps one description keeps the one that it tries
+keeps_one : {A : Type 0} (key : ℕ) (call : Call A) → KeepsOne call → Keeps call (key ∷ [])
+keeps_one key (call.Read fd n) one = (key, refl)
+keeps_one key (call.Write fd bytes) one = (key, refl)
+keeps_one key (call.OpenName name mode flags) one = (key, refl)
+keeps_one key other one = absurd one
 
 -- and which keeps one
-module _ {A : Type 0} (k : Contents A) (sound : IsSound A k) (key : ℕ) (o : Opened) (here : at k.opened key ≡ Some o) (left : k.calls.next ≢ last_call) (pid : ℕ) (call : Call A) (taken : ℕ) (may : MayWait call taken) (process : IsTrue (is_pid k.tables pid)) (pipe : MayKeep (call_on key pid call taken) o.node) where
+module _ {A : Type 0} (k : Contents A) (sound : IsSound A k) (key : ℕ) (o : Opened) (here : at k.opened key ≡ Some o) (left : k.calls.next ≢ last_call) (pid : ℕ) (call : Call A) (taken : ℕ) (one : KeepsOne call) (may : MayWait call taken) (process : IsTrue (is_pid k.tables pid)) (pipe : MayKeep (call_on key pid call taken) o.node) where
   abbrev c : Core A numbers
   c = core_of k
 
@@ -88,22 +88,22 @@ module _ {A : Type 0} (k : Contents A) (sound : IsSound A k) (key : ℕ) (o : Op
   with_it = with_call k w
 
   waits : IsWaiting A w
-  waits = record { few = omega arith; keeps = keeps_one key call taken may; may = may }
+  waits = record { few = omega arith; keeps = keeps_one key call one; may = may }
 
   open_one : (d : ℕ) → is_member nat_eq (key ∷ []) d ≡ true → IsSome (at k.opened d)
   open_one d h = subst (λ z. IsSome z) (sym (ap (at k.opened) (only_one key d h) ∙ here)) refl
 
-  on_pipe : All (OnPipe (at k.opened) w) (key ∷ [])
-  on_pipe = keeps-pipe (at k.opened) w key (subst (λ o. IfSome o (λ o. MayKeep w o.node)) (sym here) pipe)
+  on_node : KeepsNodes (at k.opened) w
+  on_node = keeps-one (at k.opened) w key refl (subst (λ o. IfSome o (λ o. MayKeep w o.node)) (sym here) pipe)
 
   pub park_is : core_of with_it ≡ parked c (waiting_of w)
-  park_is = call_is k sound w waits open_one left on_pipe process
+  park_is = call_is k sound w waits open_one left on_node process
 
   pub park_settles : core_of with_it ≡ settle c (parked c (waiting_of w))
-  park_settles = call_settles k sound w waits open_one left on_pipe process
+  park_settles = call_settles k sound w waits open_one left on_node process
 
   pub park_sound : IsSound A with_it
-  park_sound = call_sound k sound w waits open_one left on_pipe process
+  park_sound = call_sound k sound w waits open_one left on_node process
 
   -- and its pipe has other bytes
   module _ (p : ℕ) (on : OpenOn k key (node.Pipe p)) (x : Pipe) (is : at k.nodes.pipes p ≡ Some x) (more : List ℕ) (new : Contents A) (adds : Adds with_it p more new) where
@@ -118,7 +118,7 @@ module _ {A : Type 0} (k : Contents A) (sound : IsSound A k) (key : ℕ) (o : Op
 
     moved_live : (d : ℕ) → is_live (parked moved (waiting_of w)) d ≡ is_live c d
     unfolding in_rows in_parked pids
-    moved_live d = parked_live c sound.settled (waiting_of w) (live k sound w waits open_one left on_pipe process) d
+    moved_live d = parked_live c sound.settled (waiting_of w) (live k sound w waits open_one left on_node process) d
 
     pub park_moves : core_of new ≡ settle c (parked moved (waiting_of w))
     unfolding core_of

@@ -13,7 +13,7 @@ use Rattle.pl_parked.specs.declared.call.ParkedCall.{ParkedCall}
 use Rattle.pl_desc.specs.Rows.{at, is_pid}
 use Rattle.pl_desc.specs.Descs.{Descs}
 use Rattle.pl_state.specs.Contents.{Contents, with_pipes, waiting_of, core_of}
-use Rattle.pl_state.specs.Sound.{IsSound, IsWaiting, AreCounted, MayWait, OnPipe}
+use Rattle.pl_state.specs.Sound.{IsSound, IsWaiting, AreCounted, MayWait, KeepsNodes}
 use Rattle.pl_state.proofs.Known.{CallOnPipe}
 use Rattle.pl_state.proofs.waiting.Calls.{put-parked, get-parked, get_put, Rise-put}
 use Rattle.pl_state.proofs.holders.Holding.{keeping_put}
@@ -45,6 +45,9 @@ module _ {A : Type 0} (k : Contents A) (o : CallOnPipe k) (taken : ℕ) (may : M
 
   waits : IsWaiting A w
   waits = subst (λ o. IfSome o (IsWaiting A)) here (sound.waiting n)
+
+  keeps : KeepsNodes (at k.opened) w
+  keeps = subst (λ o. IfSome o (KeepsNodes (at k.opened))) here (sound.on_nodes n)
 
   moved_sound : IsSound A moved_k
   moved_sound = changed_sound k sound key p on x is bytes pipes (λ y. record y { bytes = y.bytes ++ more }) refl after
@@ -83,7 +86,7 @@ module _ {A : Type 0} (k : Contents A) (o : CallOnPipe k) (taken : ℕ) (may : M
     };
     waiting = λ m. get_put k.calls.calls n now (IsWaiting A) (record { few = waits.few; keeps = waits.keeps; may = may }) m (sound.waiting m);
     belong = λ m. get_put k.calls.calls n now (λ y. IsTrue (is_pid k.tables y.pid)) (subst (λ o. IfSome o (λ y. IsTrue (is_pid k.tables y.pid))) here (sound.belong n)) m (sound.belong m);
-    on_pipes = λ m. get_put k.calls.calls n now (λ y. All (OnPipe (at k.opened) y) y.kept) (subst (λ o. IfSome o (λ y. All (OnPipe (at k.opened) y) y.kept)) here (sound.on_pipes n)) m (sound.on_pipes m);
+    on_nodes = λ m. get_put k.calls.calls n now (KeepsNodes (at k.opened)) (record { on = keeps.on; apart = keeps.apart }) m (sound.on_nodes m);
   }
 
   -- the same calls keep each description

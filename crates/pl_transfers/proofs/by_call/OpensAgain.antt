@@ -20,7 +20,7 @@ use Rattle.pl_desc.specs.Descs.{Opened, Descs, IsTidy}
 use Rattle.pl_desc.proofs.RowLemmas.{pid_in}
 use Rattle.pl_state.specs.Contents.{Contents, contents, waiting_of, description_of, core_of}
 use Rattle.pl_state.specs.Parking.{OpenWaits}
-use Rattle.pl_state.specs.Sound.{IsSound, IsWaiting, AreThere, AreCounted, OnPipe, keeping, times}
+use Rattle.pl_state.specs.Sound.{IsSound, IsWaiting, AreThere, AreCounted, KeepsNodes, keeping, times}
 use Rattle.pl_state.specs.Makes.{MakesAtKeys}
 use Rattle.pl_state.proofs.Known.{Known, parts_of}
 use Rattle.pl_state.proofs.waiting.Calls.{put_same, get_without, without-parked, Rise-without}
@@ -125,7 +125,7 @@ module _ {A : Type 0} (m : Known A) (n pid d : ℕ) (met : Bool) (waits : OpenWa
         };
         waiting = λ q. get_without calls.calls n (IsWaiting A) q (sound.waiting q);
         belong = λ q. get_without calls.calls n (λ y. IsTrue (is_pid descs'.tables y.pid)) q (belong-same calls.calls (is_pid descs.tables) (is_pid descs'.tables) sound.belong pids q);
-        on_pipes = λ q. get_without calls.calls n (λ y. All (OnPipe (at descs'.opened) y) y.kept) q (subst (λ z. IfSome (get nat_eq calls.calls q) (λ y. All (OnPipe (at z) y) y.kept)) (sym opened) (sound.on_pipes q));
+        on_nodes = λ q. get_without calls.calls n (λ y. KeepsNodes (at descs'.opened) y) q (subst (λ z. IfSome (get nat_eq calls.calls q) (λ y. KeepsNodes (at z) y)) (sym opened) (sound.on_nodes q));
       }
 
       pub open-held : AreCounted A descs' left.calls

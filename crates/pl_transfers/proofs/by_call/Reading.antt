@@ -92,7 +92,7 @@ module _ {A : Type 0} (m : Caller A) (fd : ℤ) (n : ℕ) where
         waits = came ReadCase.Waits r ∙ ap (λ z. Plain (ended c z)) (parks k w o.nonblock c still 0 left ∙ ap (λ z. record { state = parked z w; reply = Parked k.calls.next; flow = still }) (flowed-still k))
 
         pub read-waits : MakesAtKeys k x (Parked k.calls.next) (with_call k (call_on o.key pid call 0))
-        read-waits = does_plain k (with_call k (call_on o.key pid call 0)) x _ (Parked k.calls.next) waits refl (park_settles k sound o.key opens.on.opened opens.on.here (is_left o.nonblock k.calls.next left) pid call 0 refl process (subst (MayKeep (call_on o.key pid call 0)) (sym opens.on.node) tt))
+        read-waits = does_plain k (with_call k (call_on o.key pid call 0)) x _ (Parked k.calls.next) waits refl (park_settles k sound o.key opens.on.opened opens.on.here (is_left o.nonblock k.calls.next left) pid call 0 tt refl process (subst (MayKeep (call_on o.key pid call 0)) (sym opens.on.node) tt))
 
         pub read-waits-wants : MayWantAtKeys k x
         read-waits-wants = wants_plain k k x _ waits refl

@@ -14,7 +14,7 @@ use Rattle.pl_desc.specs.Descs.{Opened}
 use Rattle.pl_state.specs.Contents.{Contents, IsThere, node_of, description_of, core_of}
 use Rattle.pl_state.specs.Sound.{IsSound, AreThere}
 use Rattle.pl_nodes.proofs.Keyed.{change_at-is}
-use Rattle.pl_state.proofs.holders.OnPipes.{wait-changed}
+use Rattle.pl_state.proofs.holders.OnNodes.{wait-changed}
 use Rattle.pl_state.proofs.holders.There.{settled_after, there-still, there-added, map-set_at, set_some}
 
 -- the description of a key changes
@@ -46,7 +46,7 @@ module _ {A : Type 0} (k : Contents A) (sound : IsSound A k) (d : ℕ) (o : Open
     abbrev pub redescribed_core : Core A numbers
     redescribed_core = set_description (core_of k) d (description_of (f o))
 
-    redescribed_is : core_of new ≡ redescribed_core
+    pub redescribed_is : core_of new ≡ redescribed_core
     unfolding core_of
     redescribed_is = ap core_of rest ∙ (λ i. record (core_of k) { descriptions = described_are i })
 
@@ -65,7 +65,7 @@ module _ {A : Type 0} (k : Contents A) (sound : IsSound A k) (d : ℕ) (o : Open
       };
       waiting = sound.waiting;
       belong = sound.belong;
-      on_pipes = wait-changed k.calls.calls (at k.opened) (at new.opened) d f place opened sound.on_pipes;
+      on_nodes = wait-changed k.calls.calls (at k.opened) (at new.opened) d f place opened sound.on_nodes;
     })
 
   -- and its file has other bytes
@@ -77,7 +77,7 @@ module _ {A : Type 0} (k : Contents A) (sound : IsSound A k) (d : ℕ) (o : Open
     files_are : at new.nodes.files ≡ set_at nat_eq (at k.nodes.files) g (Some (h held))
     files_are = files ∙ change_at-is g h (at k.nodes.files) held there
 
-    rewritten_is : core_of new ≡ rewritten_core
+    pub rewritten_is : core_of new ≡ rewritten_core
     unfolding core_of
     rewritten_is = ap core_of rest ∙ (λ i. record (core_of k) { descriptions = described_are i; files = files_are i })
 
@@ -107,5 +107,5 @@ module _ {A : Type 0} (k : Contents A) (sound : IsSound A k) (d : ℕ) (o : Open
       };
       waiting = sound.waiting;
       belong = sound.belong;
-      on_pipes = wait-changed k.calls.calls (at k.opened) (at new.opened) d f place opened sound.on_pipes;
+      on_nodes = wait-changed k.calls.calls (at k.opened) (at new.opened) d f place opened sound.on_nodes;
     })

@@ -104,7 +104,7 @@ module _ {A : Type 0} (m : Caller A) (fd : ℤ) (bytes : List ℕ) where
               ∙ ap (λ z. Plain (ended c z)) (parks k w o.nonblock c (gains o.pipe part) to left ∙ ap (λ z. record { state = parked z (record w { taken = to }); reply = Parked k.calls.next; flow = gains o.pipe part }) (flowed-in k o.pipe p is part))
 
           pub write-waits : (new : Contents A) → MayWait {A = A} (Call.Write fd bytes) to → Adds (with_call k (call_on o.key pid call to)) o.pipe part new → MakesAtKeys k x (Parked k.calls.next) new
-          write-waits new within adds = does_plain k new x _ (Parked k.calls.next) waits refl (park_moves k sound o.key opens.on.opened opens.on.here (is_left o.nonblock k.calls.next left) pid call to within process (subst (MayKeep (call_on o.key pid call to)) (sym opens.on.node) tt) o.pipe opens.on p is part new adds)
+          write-waits new within adds = does_plain k new x _ (Parked k.calls.next) waits refl (park_moves k sound o.key opens.on.opened opens.on.here (is_left o.nonblock k.calls.next left) pid call to tt within process (subst (MayKeep (call_on o.key pid call to)) (sym opens.on.node) tt) o.pipe opens.on p is part new adds)
 
           pub write-waits-wants : MayWantAtKeys k x
           write-waits-wants = wants_plain k k x _ waits refl

@@ -18,8 +18,8 @@ use Rattle.pl_state.proofs.Known.{Caller, parts_of, caller}
 use Rattle.pl_descriptors.proofs.descriptors.close_open.Given.{Over}
 use Rattle.pl_descriptors.proofs.descriptors.close_open.Goals.{After-release-arg-2-1, After-release}
 use Rattle.pl_descriptors.proofs.descriptors.close_open.Goals as goal
-use Rattle.pl_state.proofs.holders.OnPipes.{wait-released}
-use Rattle.pl_state.specs.Sound.{WaitOnPipes}
+use Rattle.pl_state.proofs.holders.OnNodes.{wait-released}
+use Rattle.pl_state.specs.Sound.{WaitOnNodes}
 
 -- the descriptor is removed, and its row a loose hold
 module _ (g : Over) (c : After-release-arg-2-1 g) where
@@ -63,7 +63,7 @@ pub invariant_of-kernel : goal.invariant_of-kernel
 invariant_of-kernel g c =
     let w = (goal.at.invariant_of-kernel g c).After-release-arg-2-1 in
     let r = released g (goal.at.invariant_of-kernel g c).After-release in (
-      record { whole = given_whole (parts_of (calls g w).kernel) (closed g w) (key g w) (loosed g w) c.kernel.inside.parked (gives g w) c.release.new.descs (nodes_of c.release.new.nodes) r; waiting = c.kernel.invariant.0.waiting; belong = belong-same c.kernel.inside.parked.calls (is_pid c.kernel.inside.descs.tables) (is_pid c.release.new.descs.tables) c.kernel.invariant.0.belong (ap is_pid c.release.ensures.tables ∙ c.remove.ensures.pids); on_pipes = wait-released c.kernel.inside.parked.calls (loosed g w) c.release.new.descs (nodes_of c.kernel.inside.nodes) (nodes_of c.release.new.nodes) (key g w) r (subst (λ os. WaitOnPipes c.kernel.inside.parked.calls (at os)) (sym (gives g w).opened) c.kernel.invariant.0.on_pipes) },
+      record { whole = given_whole (parts_of (calls g w).kernel) (closed g w) (key g w) (loosed g w) c.kernel.inside.parked (gives g w) c.release.new.descs (nodes_of c.release.new.nodes) r; waiting = c.kernel.invariant.0.waiting; belong = belong-same c.kernel.inside.parked.calls (is_pid c.kernel.inside.descs.tables) (is_pid c.release.new.descs.tables) c.kernel.invariant.0.belong (ap is_pid c.release.ensures.tables ∙ c.remove.ensures.pids); on_nodes = wait-released c.kernel.inside.parked.calls (loosed g w) c.release.new.descs (nodes_of c.kernel.inside.nodes) (nodes_of c.release.new.nodes) (key g w) r (subst (λ os. WaitOnNodes c.kernel.inside.parked.calls (at os)) (sym (gives g w).opened) c.kernel.invariant.0.on_nodes) },
       given_held (parts_of (calls g w).kernel) (closed g w) (key g w) (loosed g w) c.kernel.inside.parked (gives g w) c.release.new.descs (nodes_of c.release.new.nodes) r,
     )
 

@@ -19,8 +19,8 @@ use Rattle.pl_state.proofs.Known.{Known, known, parts_of, still_sound}
 use Rattle.pl_descriptors.proofs.processes.exit.Given.{Over}
 use Rattle.pl_descriptors.proofs.processes.exit.Goals.{In-Some, After-release, In-Some-next_of_process, After-end-arg-1}
 use Rattle.pl_descriptors.proofs.processes.exit.Goals as goal
-use Rattle.pl_state.proofs.holders.OnPipes.{wait-released}
-use Rattle.pl_state.specs.Sound.{WaitOnPipes}
+use Rattle.pl_state.proofs.holders.OnNodes.{wait-released}
+use Rattle.pl_state.specs.Sound.{WaitOnNodes}
 
 pub loop-key-init : goal.loop-key-init
 loop-key-init g c =
@@ -72,7 +72,7 @@ loop-key-preserved g c =
     let core = core_of c.args.kernel.now in
     let was = c.loop-key.invariant in
     record {
-      kept = (record { whole = given_whole m u c.in-Some.key c.take_fd.new.self m.calls (gives g w) d ps (released g c); waiting = was.kept.0.waiting; belong = belong-same m.calls.calls (is_pid m.descs.tables) (is_pid d.tables) was.kept.0.belong (ap is_pid c.release.ensures.tables ∙ c.take_fd.ensures.pids); on_pipes = wait-released m.calls.calls c.take_fd.new.self d m.nodes ps c.in-Some.key (released g c) (subst (λ os. WaitOnPipes m.calls.calls (at os)) (sym (gives g w).opened) was.kept.0.on_pipes) }, given_held m u c.in-Some.key c.take_fd.new.self m.calls (gives g w) d ps (released g c));
+      kept = (record { whole = given_whole m u c.in-Some.key c.take_fd.new.self m.calls (gives g w) d ps (released g c); waiting = was.kept.0.waiting; belong = belong-same m.calls.calls (is_pid m.descs.tables) (is_pid d.tables) was.kept.0.belong (ap is_pid c.release.ensures.tables ∙ c.take_fd.ensures.pids); on_nodes = wait-released m.calls.calls c.take_fd.new.self d m.nodes ps c.in-Some.key (released g c) (subst (λ os. WaitOnNodes m.calls.calls (at os)) (sym (gives g w).opened) was.kept.0.on_nodes) }, given_held m u c.in-Some.key c.take_fd.new.self m.calls (gives g w) d ps (released g c));
       leaving = subst (IsExiting core c.args.pid) (sym (given m u c.in-Some.key c.take_fd.new.self m.calls (gives g w) d ps (released g c))) (exiting_closes core c.args.pid (core_of (view_of c.loop-key.kernel-inside)) (least g w).0 was.leaving);
       process = ap (λ ts. is_pid ts c.args.pid) c.release.ensures.tables ∙ (λ i. c.take_fd.ensures.pids i c.args.pid) ∙ was.process;
     }

@@ -8,7 +8,7 @@ use Rattle.pl_desc.specs.Rows.{is_pid, count_at, at}
 use Rattle.pl_state.specs.KernelView.{view_of}
 use Rattle.pl_state.specs.Contents.{Nodes, nodes_of, contents, core_of}
 use Rattle.pl_state.specs.LastHold.{ReleasesAll}
-use Rattle.pl_state.specs.Sound.{IsSound, IsWaiting, AreCounted, times, OnPipe}
+use Rattle.pl_state.specs.Sound.{IsSound, IsWaiting, AreCounted, times, KeepsNodes}
 use Rattle.pl_state.proofs.by_call.Exiting.{drops_process}
 use Rattle.pl_state.proofs.holders.Belonging.{belong-same}
 use Rattle.pl_state.proofs.Known.{Parts, known, parts_of}
@@ -17,7 +17,7 @@ use Rattle.pl_state.proofs.waiting.Ending.{end_holds, ended, ended_whole, ended_
 use Rattle.pl_state.proofs.ending.end_call.Given.{Over}
 use Rattle.pl_state.proofs.ending.end_call.Goals.{After-as_slice, After-release_all}
 use Rattle.pl_state.proofs.ending.end_call.Goals as goal
-use Rattle.pl_state.proofs.holders.OnPipes.{wait-released-all}
+use Rattle.pl_state.proofs.holders.OnNodes.{wait-released-all}
 
 -- the call is taken, and the holds on its descriptions are loose
 module _ (g : Over) (c : After-as_slice g) where
@@ -53,8 +53,8 @@ invariant_of-kernel g c =
         belong =
             let same = drops_process (view_of c.kernel.inside) (contents descs (nodes g w) (record c.kernel.inside.parked { calls = without nat_eq c.kernel.inside.parked.calls n }) c.kernel.inside.limits) n (ended (parts g v) n call (here g v) descs (nodes g w) (released g w)) in
             λ q. get_without c.kernel.inside.parked.calls n (λ y. IsTrue (is_pid descs.tables y.pid)) q (belong-same c.kernel.inside.parked.calls (is_pid c.kernel.inside.descs.tables) (is_pid descs.tables) c.kernel.invariant.0.belong same q);
-        on_pipes = λ q. get_without c.kernel.inside.parked.calls n (λ y. All (OnPipe (at descs.opened) y) y.kept) q
-            (wait-released-all c.kernel.inside.parked.calls call.kept c.kernel.inside.descs descs (nodes_of c.kernel.inside.nodes) (nodes g w) (released g w) c.kernel.invariant.0.on_pipes q);
+        on_nodes = λ q. get_without c.kernel.inside.parked.calls n (λ y. KeepsNodes (at descs.opened) y) q
+            (wait-released-all c.kernel.inside.parked.calls call.kept c.kernel.inside.descs descs (nodes_of c.kernel.inside.nodes) (nodes g w) (released g w) c.kernel.invariant.0.on_nodes q);
       },
       ended_held (parts g v) n call (here g v) descs (nodes g w) (released g w),
     )

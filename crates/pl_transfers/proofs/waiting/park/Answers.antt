@@ -4,7 +4,7 @@ use Rattle.pl_parked.specs.Calls.{Calls}
 use Rattle.pl_desc.specs.Rows.{at, is_pid, count_at}
 use Rattle.pl_state.specs.KernelView.{view_of}
 use Rattle.pl_state.specs.Contents.{Contents, contents, nodes_of}
-use Rattle.pl_state.specs.Sound.{IsSound, AreCounted, MayKeep, OnPipe}
+use Rattle.pl_state.specs.Sound.{IsSound, AreCounted, MayKeep, OnNode}
 use Rattle.pl_state.specs.Parking.{call_on, with_call}
 use Rattle.pl_state.proofs.by_call.Begun.{there}
 use Rattle.pl_state.proofs.waiting.ParkedCalls.{few_holds, park_sound, held_is, park_held, held_once}
@@ -21,12 +21,12 @@ invariant_of-kernel-2 g c =
     let m = known k c.kernel.invariant in
     let o = there (at k.descs.opened c.args.key) (subst (λ (z : Contents A). IsSome (at z.opened c.args.key)) (sym c.kernel.view_is) c.requires.here) in
     let call = call_on c.args.key c.args.pid c.args.call c.args.taken in
-    let pipe : MayKeep call o.0.node = subst (λ o. IfSome o (λ o. MayKeep call o.node)) o.1 (subst (λ (z : Contents A). OnPipe (at z.opened) call c.args.key) (sym c.kernel.view_is) c.requires.pipe) in
+    let pipe : MayKeep call o.0.node = subst (λ o. IfSome o (λ o. MayKeep call o.node)) o.1 (subst (λ (z : Contents A). OnNode (at z.opened) call c.args.key) (sym c.kernel.view_is) c.requires.pipe) in
     let left : k.parked.next ≢ last_call = subst (λ (z : Contents A). z.calls.next ≢ last_call) (sym c.kernel.view_is) c.requires.left in
     let process = ap (λ (z : Contents A). is_pid z.tables c.args.pid) c.kernel.view_is ∙ c.requires.process in
     let w = call_on c.args.key c.args.pid c.args.call c.args.taken in
     let is = held_is m w c.hold.new.self c.hold.ensures.rest in
-    let sound = park_sound (view_of k) c.kernel.invariant.0 c.args.key o.0 o.1 left c.args.pid c.args.call c.args.taken c.requires.may process pipe in
+    let sound = park_sound (view_of k) c.kernel.invariant.0 c.args.key o.0 o.1 left c.args.pid c.args.call c.args.taken c.requires.one c.requires.may process pipe in
     let are = park_held m w c.hold.new.self c.hold.ensures.rest (held_once c.args.key (count_at k.descs.loose) (count_at c.hold.new.self.loose) c.hold.ensures.loose) c.hold.ensures.tidy in
     subst (λ (z : Calls A). IsSound A (contents c.hold.new.self (nodes_of k.nodes) z k.limits) × AreCounted A c.hold.new.self z.calls) (sym c.in_ok-number.ensures.ok) (subst (IsSound A) (sym is) sound, are)
 

@@ -1,4 +1,3 @@
-use Rattle.std.specs.Prelude.{All}
 use Rattle.std.proofs.Common.{◌≡◌, [], refl, sym, subst, ◌∙◌, take, drop, length, IfSome, IsSome}
 use Rattle.pl_model.specs.declared.node.Node.TheVariants as node
 use Rattle.pl_model.specs.declared.calls.Step.TheVariants.{Resume}
@@ -13,10 +12,10 @@ use Rattle.pl_state.specs.Contents.{Contents, core_of}
 use Rattle.pl_state.specs.LastHold.{has_writer}
 use Rattle.pl_state.specs.Makes.{MakesAtKeys}
 use Rattle.pl_state.specs.Parking.{ReadWaits}
-use Rattle.pl_state.specs.Sound.{IsSound, MayWait, IsWaiting, IsPipe, OnPipe}
+use Rattle.pl_state.specs.Sound.{IsSound, MayWait, IsWaiting, IsPipe, MayKeepFile, KeepsNodes}
 use Rattle.pl_nodes.proofs.Keyed.{on_err}
 use Rattle.pl_state.proofs.by_call.Begun.{pipe_there}
-use Rattle.pl_state.proofs.holders.OnPipes.{is-pipe, kept-pipe}
+use Rattle.pl_state.proofs.holders.OnNodes.{is-pipe, kept-one}
 use Rattle.pl_state.proofs.waiting.Ending.{kept_there}
 use Rattle.pl_state.proofs.by_call.Moving.{changed_sound}
 use Rattle.pl_transfers.proofs.by_call.Resuming.{resume-read-gives, resume-read-wants, resume-read-end, resume-read-waits}
@@ -66,9 +65,9 @@ pipe_of-pipe-requires-clause-here g c =
 pub pipe_of-pipe-requires-clause-pipe : goal.pipe_of-pipe-requires-clause-pipe
 pipe_of-pipe-requires-clause-pipe g c =
     let w = waits g c in
-    let all : All (OnPipe (at c.kernel.inside.descs.opened) w.call) w.call.kept = subst (λ o. IfSome o (λ y. All (OnPipe (at c.kernel.inside.descs.opened) y) y.kept)) w.here (c.kernel.invariant.0.on_pipes c.args.number) in
-    let on = kept-pipe (at c.kernel.inside.descs.opened) w.call c.args.key w.call.kept w.kept all in
-    subst (λ z. IfSome (at z.opened c.args.key) (λ o. IsPipe o.node)) c.kernel.view_is (is-pipe w.call (at c.kernel.inside.descs.opened c.args.key) on)
+    let keeps : KeepsNodes (at c.kernel.inside.descs.opened) w.call = subst (λ o. IfSome o (KeepsNodes (at c.kernel.inside.descs.opened))) w.here (c.kernel.invariant.0.on_nodes c.args.number) in
+    let on = kept-one (at c.kernel.inside.descs.opened) w.call c.args.key w.kept keeps in
+    subst (λ z. IfSome (at z.opened c.args.key) (λ o. IsPipe o.node)) c.kernel.view_is (is-pipe w.call (subst (λ z. MayKeepFile z) w.asked) (at c.kernel.inside.descs.opened c.args.key) on)
 
 pub returns-in_err-bytes-in-Gives-clause-wanted : goal.returns-in_err-bytes-in-Gives-clause-wanted
 returns-in_err-bytes-in-Gives-clause-wanted g c =

@@ -1,4 +1,3 @@
-use Rattle.std.specs.Prelude.{All}
 use Rattle.std.proofs.Common.{◌≡◌, ◌≤◌, ◌++◌, true, false, refl, sym, ap, subst, ◌∙◌, nat_eq, length, ℕ, List, Option, Some, IfSome, IsSome, Bor, arith}
 use Rattle.std.specs.Prelude.{slice_range, option_map}
 use Rattle.pl_model.specs.declared.node.Node.TheVariants as node
@@ -20,13 +19,13 @@ use Rattle.pl_state.specs.Contents.{Contents, core_of, with_pipes}
 use Rattle.pl_state.specs.LastHold.{has_reader}
 use Rattle.pl_state.specs.Makes.{MakesAtKeys}
 use Rattle.pl_state.specs.Parking.{WriteWaits, written}
-use Rattle.pl_state.specs.Sound.{IsSound, IsWaiting, AreCounted, MayWait, IsPipe, OnPipe}
+use Rattle.pl_state.specs.Sound.{IsSound, IsWaiting, AreCounted, MayWait, IsPipe, MayKeepFile, KeepsNodes}
 use Rattle.pl_model.specs.Numbers.{pipe_buf}
 use Rattle.pl_nodes.proofs.Keyed.{on_err}
 use Rattle.pl_state.proofs.by_call.Begun.{pipe_there}
 use Rattle.pl_state.proofs.waiting.Calls.{lent_is}
 use Rattle.pl_transfers.proofs.by_call.Again.{again_sound, again_held}
-use Rattle.pl_state.proofs.holders.OnPipes.{is-pipe, kept-pipe}
+use Rattle.pl_state.proofs.holders.OnNodes.{is-pipe, kept-one}
 use Rattle.pl_state.proofs.waiting.Ending.{kept_there}
 use Rattle.pl_state.proofs.by_call.Moving.{changed_sound}
 use Rattle.pl_transfers.proofs.by_call.Resuming.{resume-write-broken, resume-write-cut, resume-write-ends, resume-write-waits, resume-write-ends-wants, resume-write-waits-wants}
@@ -100,9 +99,9 @@ pipe_of-pipe-requires-clause-here g c =
 pub pipe_of-pipe-requires-clause-pipe : goal.pipe_of-pipe-requires-clause-pipe
 pipe_of-pipe-requires-clause-pipe g c =
     let w = waits g c in
-    let all : All (OnPipe (at c.kernel.inside.descs.opened) w.call) w.call.kept = subst (λ o. IfSome o (λ y. All (OnPipe (at c.kernel.inside.descs.opened) y) y.kept)) w.here (c.kernel.invariant.0.on_pipes c.args.number) in
-    let on = kept-pipe (at c.kernel.inside.descs.opened) w.call c.args.key w.call.kept w.kept all in
-    subst (λ z. IfSome (at z.opened c.args.key) (λ o. IsPipe o.node)) c.kernel.view_is (is-pipe w.call (at c.kernel.inside.descs.opened c.args.key) on)
+    let keeps : KeepsNodes (at c.kernel.inside.descs.opened) w.call = subst (λ o. IfSome o (KeepsNodes (at c.kernel.inside.descs.opened))) w.here (c.kernel.invariant.0.on_nodes c.args.number) in
+    let on = kept-one (at c.kernel.inside.descs.opened) w.call c.args.key w.kept keeps in
+    subst (λ z. IfSome (at z.opened c.args.key) (λ o. IsPipe o.node)) c.kernel.view_is (is-pipe w.call (subst (λ z. MayKeepFile z) w.asked) (at c.kernel.inside.descs.opened c.args.key) on)
 
 pub returns-in_err-write_pipe-in-Ends-clause-wanted : goal.returns-in_err-write_pipe-in-Ends-clause-wanted
 returns-in_err-write_pipe-in-Ends-clause-wanted g c =

@@ -1,0 +1,3 @@
+pub mod Resembling
+pub mod Sides
+pub mod Moves
