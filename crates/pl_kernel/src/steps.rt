@@ -7,8 +7,9 @@ ghost use Rattle.pl_state.specs.Makes.{MakesAtKeys, MayWantAtKeys};
 use pl_descriptors::{close, dup, dup_fd, dup2, exit, fork, get_fl, set_fl, start};
 use pl_model::{Call, Reply, Step};
 use pl_naming::{mkfifo, open_name, unlink};
+use pl_splices::{resume, splice, tee};
 use pl_state::{KernelState, NoMemory};
-use pl_transfers::{get_pipe_sz, interrupt, lseek, pipe, read, resume, set_pipe_sz, write};
+use pl_transfers::{get_pipe_sz, interrupt, lseek, pipe, read, set_pipe_sz, write};
 use std::alloc::Allocator;
 
 fn begin<A: Allocator + Copy>(
@@ -28,6 +29,20 @@ fn begin<A: Allocator + Copy>(
         Call::OpenName { name, mode, flags } => open_name(kernel, pid, name, mode, flags),
         Call::Read { fd, n } => read(kernel, pid, fd, n),
         Call::Write { fd, bytes } => write(kernel, pid, fd, bytes),
+        Call::Splice {
+            from,
+            from_offset,
+            to,
+            to_offset,
+            len,
+            flags,
+        } => splice(kernel, pid, from, from_offset, to, to_offset, len, flags),
+        Call::Tee {
+            from,
+            to,
+            len,
+            flags,
+        } => tee(kernel, pid, from, to, len, flags),
         Call::Dup { fd } => Ok(dup(kernel, pid, fd)),
         Call::Dup2 { fd, target } => Ok(dup2(kernel, pid, fd, target)),
         Call::DupFd { fd, least } => Ok(dup_fd(kernel, pid, fd, least)),

@@ -68,9 +68,9 @@ module _ {A : Type 0} (c u : Core A numbers) (like : Resembles c u) where
             tests b y = with_ends b (nat_lt 0 (readers c p)) (nat_lt 0 (writers_of c p)) (had_writer c p) y
 
             at : (b : Bool) → is_open c (PipeNode p) ≡ b → settled_pipe c c p x ≡ x → settled_pipe c c p z ≡ z
-            at true open was =
-                let same : tests true x ≡ x = ap (λ b. tests b x) (sym open) ∙ was in
-                ap (λ b. tests b z) open ∙ ap (λ b. record z { hung = b }) (ap (λ (y : Pipe). y.hung) same ∙ sym h.0)
+            at true is_held was =
+                let same : tests true x ≡ x = ap (λ b. tests b x) (sym is_held) ∙ was in
+                ap (λ b. tests b z) is_held ∙ ap (λ b. record z { hung = b }) (ap (λ (y : Pipe). y.hung) same ∙ sym h.0)
             at false shut was = ap (settled_pipe c c p) (h.1 shut) ∙ was ∙ sym (h.1 shut)
 
     pub resembling-settled : settle c u ≡ u
@@ -108,12 +108,12 @@ resembles-then c u v r s = record {
 -- a pipe with an end has other bytes
 pub resembles-pipe : {A : Type 0} (c : Core A numbers) (p : ℕ) (x y : Pipe) → c.pipes p ≡ Some x → y.hung ≡ x.hung → is_open c (PipeNode p) ≡ true → Resembles c (set_pipe c p y)
 unfolding in_rows in_parked pids
-resembles-pipe c p x y is hung open = record { used = refl; ends = λ test node d. refl; described = λ d i. i; pipes = at; files = λ f i. i; names = refl }
+resembles-pipe c p x y is hung held = record { used = refl; ends = λ test node d. refl; described = λ d i. i; pipes = at; files = λ f i. i; names = refl }
   where
     at : (q : ℕ) → IsLikePipe (is_open c (PipeNode q)) (c.pipes q) (set_at nat_eq c.pipes p (Some y) q)
     at q = elim (eqb_tells p q) as (λ _. IsLikePipe (is_open c (PipeNode q)) (c.pipes q) (set_at nat_eq c.pipes p (Some y) q)) [
       | inl t ↦ subst (λ z. IsLikePipe (is_open c (PipeNode q)) (c.pipes q) z) (sym (ap (λ b. cond b (Some y) (c.pipes q)) t.0))
-          (subst (λ z. IsLikePipe (is_open c (PipeNode q)) z (Some y)) (sym (ap c.pipes (sym t.1) ∙ is)) (hung, λ shut. absurd (let f : true ≡ false = sym open ∙ ap (λ z. is_open c (PipeNode z)) t.1 ∙ shut in cc)))
+          (subst (λ z. IsLikePipe (is_open c (PipeNode q)) z (Some y)) (sym (ap c.pipes (sym t.1) ∙ is)) (hung, λ shut. absurd (let f : true ≡ false = sym held ∙ ap (λ z. is_open c (PipeNode z)) t.1 ∙ shut in cc)))
       | inr t ↦ subst (λ z. IsLikePipe (is_open c (PipeNode q)) (c.pipes q) z) (sym (ap (λ b. cond b (Some y) (c.pipes q)) t.0)) (like_same (is_open c (PipeNode q)) (c.pipes q))
     ]
 

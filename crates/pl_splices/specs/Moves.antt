@@ -15,16 +15,17 @@ use Rattle.pl_parked.specs.declared.call.ParkedCall.{ParkedCall}
 use Rattle.pl_desc.specs.Rows.{at}
 use Rattle.pl_state.specs.Contents.{Contents, node_of, core_of}
 use Rattle.pl_state.specs.Opens.{OpenOn}
-use Rattle.pl_state.specs.Sound.{AreApart}
+use Rattle.pl_state.specs.Sound.{AreApart, IsPipe}
 use Rattle.pl_splices.specs.declared.sides.Side.{Side}
 use Rattle.pl_splices.specs.Resembling.{Resembles}
 use Rattle.pl_splices.specs.Sides.{side_of}
 
--- both descriptions are open on their nodes, between which bytes may go
-pub record Goes {A : Type 0} (k : Contents A) (from to : Side) : Type 0 where
+-- Both descriptions are open on their nodes, between which bytes may go. A tee is between pipes.
+pub record Goes {A : Type 0} (k : Contents A) (from to : Side) (is_tee : Bool) : Type 0 where
   pub source : OpenOn k from.key from.node
   pub target : OpenOn k to.key to.node
   pub apart : AreApart from.node to.node
+  pub pipes : is_tee ≡ true → IsPipe from.node × IsPipe to.node
 
 -- what is said of both sides, as the machine has them
 abbrev pub OfBoth : {A : Type 0} → Contents A → (from to : Side) → (MachineSide numbers → MachineSide numbers → Type 0) → Type 0
@@ -81,6 +82,10 @@ module _ {A : Type 0} (k : Contents A) (from to : Side) (len : ℕ) (is_tee : Bo
     pub flow : Flow numbers
     pub many : ℕ
     pub came : trial ≡ Done state flow (count many)
+
+-- a call of the process that waits on two descriptions
+abbrev pub call_between : {A : Type 0} → (from to pid : ℕ) → Call A → ParkedCall A
+call_between from to pid call = record { pid = pid; call = call; kept = from ∷ to ∷ []; fifo = None; taken = 0; met = false }
 
 -- the call of the number waits, and keeps the descriptions of these sides
 pub record MoveWaits {A : Type 0} (k : Contents A) (number : ℕ) (from to : Side) (len : ℕ) (is_tee : Bool) : Type 0 where

@@ -3,8 +3,8 @@
 
 mod begin;
 mod moving;
-mod resume;
 mod sides;
+mod waiting;
 
 pub use begin::{splice, tee};
-pub use resume::resume;
+pub use waiting::resume;

@@ -1,5 +1,5 @@
 //! One try of a splice or a tee.
-ghost use Rattle.std.specs.Prelude.{◌≡◌, ◌≢◌, ◌≤◌, IfOk, OnOk, OnErr, IfSome, Some, length, unwrap_or, ◌-◌};
+ghost use Rattle.std.specs.Prelude.{◌≡◌, ◌≢◌, ◌≤◌, IfOk, OnOk, OnErr, IfSome, length, unwrap_or, ◌-◌, false};
 ghost use Rattle.pl_model.specs.declared.node.Node.TheVariants as node;
 ghost use Rattle.pl_model.specs.Transfer.{room, count as machine_count};
 ghost use Rattle.pl_desc.specs.Rows.{at};
@@ -9,7 +9,6 @@ ghost use Rattle.pl_splices.specs.Moves.{Goes, Fits, GoesOver, Tries, WouldMove}
 use crate::sides::{Side, advance, source_of, start_of, target_of};
 use pl_decisions::case_of_move;
 use pl_model::{Errno, MoveCase, Node, Reply};
-use pl_nodes::WriteFault;
 use pl_state::{KernelState, NoMemory};
 use std::alloc::Allocator;
 
@@ -104,10 +103,9 @@ fn move_bytes<A: Allocator + Copy>(
     count: usize,
     is_tee: bool,
 ) -> Result<(), NoMemory>
-    requires goes { Goes kernel.old from to }
+    requires goes { Goes kernel.old from to is_tee }
     requires some { 1 ≤ count }
     requires fits { Fits kernel.old from to count }
-    requires pipes { TeesPipes is_tee from.node to.node }
     ensures done { OnOk result (GoesOver kernel.old from to is_tee count kernel.new) }
     ensures undone { OnErr result (kernel.new ≡ kernel.old) }
 {
@@ -134,9 +132,8 @@ pub(crate) fn try_move<A: Allocator + Copy>(
     len: u32,
     is_tee: bool,
 ) -> Result<Option<Reply<A>>, NoMemory>
-    requires goes { Goes kernel.old from to }
+    requires goes { Goes kernel.old from to is_tee }
     requires some { len ≢ 0 }
-    requires pipes { TeesPipes is_tee from.node to.node }
     ensures done { IfOk result (λ reply. Tries kernel.old from to len is_tee reply kernel.new) }
     ensures undone { OnErr result (kernel.new ≡ kernel.old) }
     ensures wanted { OnErr result (WouldMove {A = A} kernel.old from to len is_tee) }

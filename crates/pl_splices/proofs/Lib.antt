@@ -1,0 +1,4 @@
+-- Calls at the kernel's keys.
+pub mod by_call
+-- States between which only bytes and offsets differ.
+pub mod Resembling

@@ -1,0 +1,4 @@
+-- What a try of a splice or a tee comes to.
+pub mod Trying
+-- What bytes that went over leave.
+pub mod Leaving

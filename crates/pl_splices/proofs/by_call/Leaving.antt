@@ -1,0 +1,73 @@
+-- What bytes that went over leave: a kernel that is sound.
+use Rattle.std.proofs.Common.{◌≡◌, ℕ, Bool, true, false, List, Option, Some, None, IfSome, IsSome, refl, sym, ◌∙◌, ap, subst, nat_eq}
+use Rattle.std.specs.Prelude.{option_map, if◌then◌else◌}
+use Rattle.pl_model.specs.declared.node.Node.{Node}
+use Rattle.pl_model.specs.declared.node.Node.TheVariants as node
+use Rattle.pl_model.specs.Map.{change_at}
+use Rattle.pl_model.specs.Laws.{IsSettled}
+use Rattle.pl_model.specs.Settle.{settle}
+use Rattle.pl_model.specs.State.{Pipe}
+use Rattle.pl_desc.specs.Rows.{at, is_pid}
+use Rattle.pl_desc.specs.Descs.{Opened}
+use Rattle.pl_state.specs.Contents.{Contents, Nodes, IsThere, core_of}
+use Rattle.pl_state.specs.Sound.{IsSound, IsWhole, AreThere, WaitOnNodes, Belong, IsWaiting}
+use Rattle.pl_state.proofs.holders.OnNodes.{Fades, fades-same, faded, wait-by}
+use Rattle.pl_state.proofs.holders.There.{settled_after, there-still}
+use Rattle.pl_splices.specs.Resembling.{Resembles}
+use Rattle.pl_splices.proofs.Resembling.{resembling-settled}
+
+-- a map that is changed at a key has what it had
+pub some_changed : {X : Type 0} (m : ℕ → Option X) (k q : ℕ) (f : X → X) → IsSome (m q) → IsSome (change_at k f m q)
+some_changed {X} m k q f h = by (nat_eq k q) (m q) h where
+  by : (b : Bool) (o : Option X) → IsSome o → IsSome (if b then option_map f o else o)
+  by true (Some x) h = refl
+  by true None h = absurd (cc)
+  by false o h = h
+
+-- and what it has is on the node that it was on
+pub fades_changed : (m : ℕ → Option Opened) (k q : ℕ) (f : Opened → Opened) → ((o : Opened) → (f o).node ≡ o.node) → Fades (m q) (change_at k f m q)
+fades_changed m k q f same = by (nat_eq k q) (m q) where
+  by : (b : Bool) (o : Option Opened) → Fades o (if b then option_map f o else o)
+  by true None = tt
+  by true (Some o) = (o, refl, same o)
+  by false o = fades-same o
+
+-- The same descriptions are on the same nodes, and the same calls wait.
+module _ {A : Type 0} (k new : Contents A) (sound : IsSound A k) (like : Resembles (core_of k) (core_of new))
+    (fades : (d : ℕ) → Fades (at k.opened d) (at new.opened d)) (still : (n : Node) → IsThere k.nodes n → IsThere new.nodes n)
+    (rest : new ≡ record k { opened = new.opened; nodes = record k.nodes { pipes = new.nodes.pipes; files = new.nodes.files } }) where
+  abbrev left : Contents A
+  left = record k { opened = new.opened; nodes = record k.nodes { pipes = new.nodes.pipes; files = new.nodes.files } }
+
+  still_there : (n : Node) → IsThere k.nodes n → IsThere left.nodes n
+  still_there (node.Pipe p) h = still (node.Pipe p) h
+  still_there (node.File f) h = still (node.File f) h
+
+  there : AreThere (at new.opened) left.nodes
+  there =
+      let on_old : AreThere (at new.opened) k.nodes = record { described = λ d. faded (IsThere k.nodes) (at k.opened d) (at new.opened d) (fades d) (sound.there.described d); named = sound.there.named } in
+      there-still (at new.opened) k.nodes left.nodes refl still_there on_old
+
+  like_left : Resembles (core_of k) (core_of left)
+  like_left = subst (λ (z : Contents A). Resembles (core_of k) (core_of z)) rest like
+
+  pub left_settled : settle (core_of k) (core_of new) ≡ core_of new
+  left_settled = resembling-settled (core_of k) (core_of new) like sound.settled
+
+  left_sound : IsSound A left
+  left_sound = record {
+    whole = record {
+      rise = sound.rise;
+      numbered = sound.numbered;
+      there = there;
+      limit = sound.limit;
+      once = sound.once;
+      settled = settled_after (core_of left) (core_of k) (core_of left) (sym (resembling-settled (core_of k) (core_of left) like_left sound.settled));
+    };
+    waiting = sound.waiting;
+    belong = sound.belong;
+    on_nodes = wait-by k.calls.calls (at k.opened) (at new.opened) fades sound.on_nodes;
+  }
+
+  pub resembling_sound : IsSound A new
+  resembling_sound = subst (IsSound A) (sym rest) left_sound

@@ -1,0 +1,16 @@
+use Rattle.std.proofs.Common.{rules, ◌≡◌, ◌≢◌, ◌≤◌, IfOk, OnOk, OnErr, IfSome, length, unwrap_or, ◌-◌, false, ℕ, ◌+◌, ◌*◌, ◌<◌, ◌/◌, ◌%◌, Bool, true, nat_eq, nat_lt, List, [], ◌∷◌, ◌++◌, slice_index_or, slice_set, bit_and, bit_or, w8, w32, w64, Bor, MutBor}
+use Rattle.pl_model.specs.declared.node.Node.TheVariants as node
+use Rattle.pl_model.specs.Transfer.{room}
+use Rattle.pl_model.specs.Transfer.{count as machine_count}
+use Rattle.pl_desc.specs.Rows.{at}
+use Rattle.pl_state.specs.Opens.{OpenOn}
+use Rattle.pl_splices.specs.Moves.{Goes, Fits, GoesOver, Tries, WouldMove}
+use Rattle.pl_splices.proofs.moving.pipe_to_file.Goals as goal
+
+-- src/moving.rt:71:1
+pub invariant_of-kernel-2 : goal.invariant_of-kernel-2
+invariant_of-kernel-2 g c = ?
+
+-- src/moving.rt:71:1
+pub returns-clause-done : goal.returns-clause-done
+returns-clause-done g c = ?
