@@ -2,3 +2,5 @@
 pub mod Trying
 -- What bytes that went over leave.
 pub mod Leaving
+-- A call is parked that keeps two descriptions.
+pub mod Parking
