@@ -4,3 +4,5 @@ pub mod Trying
 pub mod Leaving
 -- A call is parked that keeps two descriptions.
 pub mod Parking
+-- What the first try of a splice or a tee comes to.
+pub mod Begins
