@@ -6,3 +6,5 @@ pub mod Leaving
 pub mod Parking
 -- What the first try of a splice or a tee comes to.
 pub mod Begins
+-- What the checks of a splice and of a tee come to.
+pub mod Checking
