@@ -1,7 +1,6 @@
 -- What the first try of a splice or a tee comes to, once its checks are passed.
-use Rattle.std.proofs.Common.{◌≡◌, ◌≢◌, ℕ, Bool, true, false, [], ◌∷◌, Some, None, IfSome, IsSome, refl, sym, ◌∙◌, ap, subst, nat_eq, arith}
-use Rattle.std.specs.Prelude.{◌<◌, not}
-use Rattle.std.specs.Set.{is_member}
+use Rattle.std.proofs.Common.{◌≡◌, ◌≢◌, ℕ, Bool, true, false, [], ◌∷◌, Some, None, IfSome, IsSome, refl, sym, ◌∙◌, ap, subst, arith}
+use Rattle.std.specs.Prelude.{not}
 use Rattle.pl_model.specs.declared.calls.Call.{Call}
 use Rattle.pl_model.specs.declared.calls.Call.TheVariants as call
 use Rattle.pl_model.specs.declared.calls.Step.{Step}
@@ -20,7 +19,7 @@ use Rattle.pl_model.specs.Numbered.{numbers}
 use Rattle.pl_parked.specs.declared.call.ParkedCall.{ParkedCall}
 use Rattle.pl_desc.specs.Rows.{at}
 use Rattle.pl_state.specs.Contents.{Contents, contents, core_of}
-use Rattle.pl_state.specs.Sound.{IsPipe, IsWaiting, AreApart, MayGo, MayKeep, OnNode, GoApart, KeepsNodes, Keeps, MayWait}
+use Rattle.pl_state.specs.Sound.{IsPipe, IsWaiting, AreApart, MayGo, MayKeep, KeepsNodes, Keeps, MayWait}
 use Rattle.pl_state.specs.Parking.{refusal, with_call}
 use Rattle.pl_state.specs.Makes.{MakesAtKeys, MayWantAtKeys}
 use Rattle.pl_state.proofs.Known.{Caller}
@@ -30,7 +29,7 @@ use Rattle.pl_state.proofs.holders.OnNodes.{keeps-two}
 use Rattle.pl_state.proofs.waiting.ParkedCalls.{call_settles}
 use Rattle.pl_transfers.proofs.by_call.Refusing.{refused, parks, is_left}
 use Rattle.pl_splices.specs.declared.sides.Side.{Side}
-use Rattle.pl_splices.specs.Moves.{Goes, IsMove, trial, Ends, StillWaits, WouldMove, call_between}
+use Rattle.pl_splices.specs.Moves.{Goes, IsMove, trial, Ends, WouldMove, call_between}
 use Rattle.pl_splices.proofs.Resembling.{resembling-settled}
 use Rattle.pl_splices.proofs.by_call.Trying.{say_one, move-tries}
 use Rattle.pl_splices.proofs.by_call.Parking.{either_one}

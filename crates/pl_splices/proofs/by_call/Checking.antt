@@ -1,7 +1,6 @@
 -- What the checks of a splice and of a tee come to at the kernel's keys.
-use Rattle.std.proofs.Common.{◌≡◌, ℕ, Bool, true, false, cond, [], ◌∷◌, Option, Some, None, refl, sym, ◌∙◌, ap, nat_eq}
+use Rattle.std.proofs.Common.{◌≡◌, ℕ, Bool, true, false, cond, [], ◌∷◌, Option, Some, None, refl, sym, ◌∙◌, ap}
 use Rattle.std.specs.Prelude.{◌||◌, ◌&&◌, not, ◌==◌, ℤ, is_some}
-use Rattle.std.proofs.lemmas.Bool.{eq-eqb}
 use Rattle.pl_model.specs.declared.calls.Call.{Call}
 use Rattle.pl_model.specs.declared.calls.Step.{Step}
 use Rattle.pl_model.specs.declared.calls.Step.TheVariants.{Begin}
@@ -13,23 +12,19 @@ use Rattle.pl_model.specs.declared.replies.Errno.TheVariants.{EBADF, EINVAL, ESP
 use Rattle.pl_model.specs.declared.replies.Reply.TheVariants.{Fault}
 use Rattle.pl_model.specs.Flags.{has, append, splice_nonblock}
 use Rattle.pl_model.specs.Modes.{reads, writes}
-use Rattle.pl_model.specs.Keys.{Node}
 use Rattle.pl_model.specs.State.{Core, Open}
 use Rattle.pl_model.specs.Trial.{Begins, found, answered, tried, refuse_if}
 use Rattle.pl_model.specs.Transfer.{count}
 use Rattle.pl_model.specs.Begin.{open_for, may_wait_between, is_pipe, is_same_pipe, is_too_far, begin_splice, begin_tee}
 use Rattle.pl_model.specs.Step.{begin, stepped}
 use Rattle.pl_model.specs.Numbered.{numbers}
-use Rattle.pl_decisions.specs.declared.moves.SpliceSide.{SpliceSide}
 use Rattle.pl_decisions.specs.Moves.{fault_of_splice, fault_of_tee, is_pipe as code_is_pipe, is_same_pipe as code_is_same_pipe}
 use Rattle.pl_decisions.specs.Names.{unless_fault}
 use Rattle.pl_decisions.proofs.Deciding.{check_splice-is, check_tee-is}
-use Rattle.pl_desc.specs.Descs.{Opened}
 use Rattle.pl_state.specs.declared.access.OpenNode.{OpenNode}
 use Rattle.pl_state.specs.Contents.{Contents, contents, node_of, description_of, core_of}
 use Rattle.pl_state.specs.Opens.{Opens}
 use Rattle.pl_state.specs.Makes.{MakesAtKeys}
-use Rattle.pl_state.specs.Sound.{AreApart, IsPipe}
 use Rattle.pl_state.proofs.Known.{Caller}
 use Rattle.pl_state.proofs.by_call.Begun.{open-found, does_same, step-refused, step-answered}
 

@@ -1,15 +1,13 @@
-use Rattle.std.proofs.Common.{◌≡◌, [], ◌∷◌, None, false, sym, ap, subst, ◌∙◌, IsSome}
+use Rattle.std.proofs.Common.{◌≡◌, [], ◌∷◌, None, false, sym, ap, subst, ◌∙◌}
 use Rattle.std.specs.Prelude.{not}
 use Rattle.pl_model.specs.declared.calls.Step.TheVariants.{Begin}
 use Rattle.pl_model.specs.declared.replies.Reply.TheVariants.{Parked}
 use Rattle.pl_model.specs.Step.{begin}
 use Rattle.pl_model.specs.Trial.{Wait, tried, still}
-use Rattle.pl_desc.specs.Rows.{at}
 use Rattle.pl_state.specs.KernelView.{view_of}
 use Rattle.pl_state.specs.Contents.{Contents, core_of}
 use Rattle.pl_state.specs.Makes.{MakesAtKeys}
 use Rattle.pl_state.specs.Parking.{refusal, with_call}
-use Rattle.pl_state.specs.Sound.{KeepsNodes}
 use Rattle.pl_state.proofs.Known.{Caller, caller}
 use Rattle.pl_nodes.proofs.Keyed.{on_err}
 use Rattle.pl_splices.specs.Moves.{Goes, Tries, Ends, StillWaits, WouldMove, trial, call_between}

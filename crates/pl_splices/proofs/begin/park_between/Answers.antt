@@ -6,7 +6,6 @@ use Rattle.pl_desc.specs.Descs.{Descs}
 use Rattle.pl_state.specs.KernelView.{view_of}
 use Rattle.pl_state.specs.Contents.{Contents, contents, nodes_of}
 use Rattle.pl_state.specs.Sound.{IsSound, AreCounted, KeepsNodes}
-use Rattle.pl_state.specs.Parking.{with_call}
 use Rattle.pl_state.proofs.waiting.ParkedCalls.{few_holds, call_sound, held_is, park_held}
 use Rattle.pl_state.proofs.Known.{known}
 use Rattle.pl_splices.specs.Moves.{call_between}
