@@ -4,3 +4,9 @@ pub mod Trying
 pub mod Leaving
 -- Bytes that went over, by what the sides are on.
 pub mod Moving
+-- A call is parked that keeps two descriptions.
+pub mod Parking
+-- What the first try of a splice or a tee comes to.
+pub mod Begins
+-- What the checks of a splice and of a tee come to.
+pub mod Checking

@@ -102,6 +102,8 @@ fn begin_move<A: Allocator + Copy>(
     ensures undone { OnErr result (kernel.new ≡ kernel.old) }
     ensures wanted { OnErr result (MayWantAtKeys {A = A} kernel.old (Step.Begin pid call)) }
 {
+    // A proof learns here what holds of the kernel.
+    let _ = &kernel.descs;
     if let Some(reply) = try_move(kernel, from, to, len, is_tee)? {
         return Ok(reply);
     }
