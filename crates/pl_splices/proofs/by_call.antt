@@ -2,3 +2,5 @@
 pub mod Trying
 -- What bytes that went over leave.
 pub mod Leaving
+-- What a side has to give, and has room for.
+pub mod Sizing

@@ -1,0 +1,98 @@
+-- What a side has to give, and has room for, at the kernel's keys.
+use Rattle.std.proofs.Common.{◌≡◌, ℕ, List, [], Option, Some, None, IfSome, sym, ◌∙◌, ap, subst, length}
+use Rattle.std.specs.Prelude.{◌-◌, ◌≤◌, nat_lt, unwrap_or}
+use Rattle.pl_model.specs.declared.node.Node.TheVariants as node
+use Rattle.pl_model.specs.declared.cases.Source.{Source}
+use Rattle.pl_model.specs.declared.cases.Target.{Target}
+use Rattle.pl_model.specs.State.{Core, Pipe, empty_pipe}
+use Rattle.pl_model.specs.Live.{readers, writers}
+use Rattle.pl_model.specs.Modes.{reads, writes as writes_mode}
+use Rattle.pl_model.specs.Transfer.{room}
+use Rattle.pl_model.specs.Splice.{Side as MachineSide, source_of, target_of}
+use Rattle.pl_model.specs.Numbered.{numbers}
+use Rattle.pl_model.proofs.settling.WhoIsLive.{readers-is, writers-is}
+use Rattle.pl_desc.specs.Rows.{at}
+use Rattle.pl_desc.specs.Descs.{Opened, ends_on}
+use Rattle.pl_state.specs.Contents.{Contents, node_of, core_of}
+use Rattle.pl_state.specs.Opens.{OpenOn}
+use Rattle.pl_state.specs.Sound.{IsWhole}
+use Rattle.pl_state.proofs.by_call.Begun.{ends-is, pipe_there, file_there}
+use Rattle.pl_splices.specs.declared.sides.Side.{Side}
+use Rattle.pl_splices.specs.Sides.{side_of}
+use Rattle.pl_splices.proofs.by_call.Trying.{of_one, say_one}
+
+-- what is said of what is there, or else of another, holds where it is there
+pub said_of : {X : Type 0} (o : Option X) (other : X) (P : X → Type 0) → P (unwrap_or o other) → IfSome o P
+said_of None other P h = tt
+said_of (Some x) other P h = h
+
+module _ {A : Type 0} (k now : Contents A) (whole : IsWhole A k) (view : k ≡ now) (s : Side) (on : OpenOn now s.key s.node) where
+  abbrev core : Core A numbers
+  core = core_of k
+
+  abbrev on_old : OpenOn k s.key s.node
+  on_old = subst (λ (z : Contents A). OpenOn z s.key s.node) (sym view) on
+
+  abbrev at_side : MachineSide numbers
+  at_side = side_of s on_old.opened
+
+  said_source : (x : Source) → x ≡ source_of core at_side (node_of s.node) → IfSome (at now.opened s.key) (λ o. x ≡ source_of (core_of now) (side_of s o) (node_of s.node))
+  said_source x is = subst (λ (z : Contents A). IfSome (at z.opened s.key) (λ o. x ≡ source_of (core_of z) (side_of s o) (node_of s.node))) view
+      (say_one (at k.opened s.key) on_old.opened (λ o. x ≡ source_of core (side_of s o) (node_of s.node)) on_old.here is)
+
+  said_target : (x : Target) → x ≡ target_of core at_side (node_of s.node) → IfSome (at now.opened s.key) (λ o. x ≡ target_of (core_of now) (side_of s o) (node_of s.node))
+  said_target x is = subst (λ (z : Contents A). IfSome (at z.opened s.key) (λ o. x ≡ target_of (core_of z) (side_of s o) (node_of s.node))) view
+      (say_one (at k.opened s.key) on_old.opened (λ o. x ≡ target_of core (side_of s o) (node_of s.node)) on_old.here is)
+
+  -- where a file begins
+  start_is : (start : ℕ) → IfSome (at now.opened s.key) (λ o. start ≡ unwrap_or s.given o.offset) → start ≡ unwrap_or s.given on_old.opened.offset
+  start_is start h = of_one (at k.opened s.key) on_old.opened (λ o. start ≡ unwrap_or s.given o.offset) on_old.here
+      (subst (λ (z : Contents A). IfSome (at z.opened s.key) (λ o. start ≡ unwrap_or s.given o.offset)) (sym view) h)
+
+  -- a pipe
+  module _ (p : ℕ) (is : s.node ≡ node.Pipe p) where
+    abbrev there : (y : Pipe) × (at k.nodes.pipes p ≡ Some y)
+    there = pipe_there k whole s.key p (subst (OpenOn k s.key) is on_old)
+
+    pub pipe_source : (held many : ℕ) → IfSome (at k.nodes.pipes p) (λ x. held ≡ length x.bytes) → many ≡ ends_on writes_mode k.opened s.node
+        → IfSome (at now.opened s.key) (λ o. Source.Pipe held (nat_lt 0 many) ≡ source_of (core_of now) (side_of s o) (node_of s.node))
+    unfolding core_of
+    pipe_source held many h w = said_source (Source.Pipe held (nat_lt 0 many)) (
+        ap (λ n. Source.Pipe n (nat_lt 0 many)) (of_one (at k.nodes.pipes p) there.0 (λ x. held ≡ length x.bytes) there.1 h)
+        ∙ ap (λ n. Source.Pipe (length there.0.bytes) (nat_lt 0 n)) (w ∙ ap (ends_on writes_mode k.opened) is)
+        ∙ sym (ap (λ n. source_of core at_side (node_of n)) is
+          ∙ ap (λ z. Source.Pipe (length (unwrap_or z empty_pipe).bytes) (nat_lt 0 (writers core p))) there.1
+          ∙ ap (λ b. Source.Pipe (length there.0.bytes) b) (writers-is core p ∙ ends-is k whole writes_mode (node.Pipe p))))
+
+    pub pipe_target : (free many : ℕ) → IfSome (at k.nodes.pipes p) (λ x. free ≡ room x) → many ≡ ends_on reads k.opened s.node
+        → IfSome (at now.opened s.key) (λ o. Target.Pipe free (nat_lt 0 many) ≡ target_of (core_of now) (side_of s o) (node_of s.node))
+    unfolding core_of
+    pipe_target free many h r = said_target (Target.Pipe free (nat_lt 0 many)) (
+        ap (λ n. Target.Pipe n (nat_lt 0 many)) (of_one (at k.nodes.pipes p) there.0 (λ x. free ≡ room x) there.1 h)
+        ∙ ap (λ n. Target.Pipe (room there.0) (nat_lt 0 n)) (r ∙ ap (ends_on reads k.opened) is)
+        ∙ sym (ap (λ n. target_of core at_side (node_of n)) is
+          ∙ ap (λ z. Target.Pipe (room (unwrap_or z empty_pipe)) (nat_lt 0 (readers core p))) there.1
+          ∙ ap (λ b. Target.Pipe (room there.0) b) (readers-is core p ∙ ends-is k whole reads (node.Pipe p))))
+
+  -- a file
+  module _ (f : ℕ) (is : s.node ≡ node.File f) (start : ℕ) (starts : IfSome (at now.opened s.key) (λ o. start ≡ unwrap_or s.given o.offset)) where
+    abbrev file : (y : List ℕ) × (at k.nodes.files f ≡ Some y)
+    file = file_there k whole s.key f (subst (OpenOn k s.key) is on_old)
+
+    pub file_source : (len left : ℕ) → IfSome (at k.nodes.files f) (λ bytes. len ≡ length bytes) → left ≡ len - start
+        → IfSome (at now.opened s.key) (λ o. Source.File left ≡ source_of (core_of now) (side_of s o) (node_of s.node))
+    unfolding core_of
+    file_source len left h l = said_source (Source.File left) (
+        ap (λ n. Source.File n) l
+        ∙ ap (λ n. Source.File (n - start)) (of_one (at k.nodes.files f) file.0 (λ bytes. len ≡ length bytes) file.1 h)
+        ∙ ap (λ n. Source.File (length file.0 - n)) (start_is start starts)
+        ∙ sym (ap (λ n. source_of core at_side (node_of n)) is
+          ∙ ap (λ z. Source.File (length (unwrap_or z []) - unwrap_or s.given on_old.opened.offset)) file.1))
+
+    pub file_target : (left : ℕ) → left ≡ k.limits.file_max - start
+        → IfSome (at now.opened s.key) (λ o. Target.File left ≡ target_of (core_of now) (side_of s o) (node_of s.node))
+    unfolding core_of
+    file_target left l = said_target (Target.File left) (
+        ap (λ n. Target.File n) l
+        ∙ ap (λ n. Target.File (k.limits.file_max - n)) (start_is start starts)
+        ∙ sym (ap (λ n. target_of core at_side (node_of n)) is))
