@@ -1,6 +1,7 @@
 -- What a side has to give, and has room for, at the kernel's keys.
-use Rattle.std.proofs.Common.{◌≡◌, ℕ, List, [], Option, Some, None, IfSome, sym, ◌∙◌, ap, subst, length}
+use Rattle.std.proofs.Common.{◌≡◌, ℕ, Bool, List, [], Option, Some, None, IfSome, sym, ◌∙◌, ap, subst, length}
 use Rattle.std.specs.Prelude.{◌-◌, ◌≤◌, nat_lt, unwrap_or}
+use Rattle.pl_model.specs.declared.node.Node.{Node}
 use Rattle.pl_model.specs.declared.node.Node.TheVariants as node
 use Rattle.pl_model.specs.declared.cases.Source.{Source}
 use Rattle.pl_model.specs.declared.cases.Target.{Target}
@@ -8,7 +9,7 @@ use Rattle.pl_model.specs.State.{Core, Pipe, empty_pipe}
 use Rattle.pl_model.specs.Live.{readers, writers}
 use Rattle.pl_model.specs.Modes.{reads, writes as writes_mode}
 use Rattle.pl_model.specs.Transfer.{room}
-use Rattle.pl_model.specs.Splice.{Side as MachineSide, source_of, target_of}
+use Rattle.pl_model.specs.Splice.{Side as MachineSide, source_of, target_of, to_be_had, room_of}
 use Rattle.pl_model.specs.Numbered.{numbers}
 use Rattle.pl_model.proofs.settling.WhoIsLive.{readers-is, writers-is}
 use Rattle.pl_desc.specs.Rows.{at}
@@ -19,7 +20,8 @@ use Rattle.pl_state.specs.Sound.{IsWhole}
 use Rattle.pl_state.proofs.by_call.Begun.{ends-is, pipe_there, file_there}
 use Rattle.pl_splices.specs.declared.sides.Side.{Side}
 use Rattle.pl_splices.specs.Sides.{side_of}
-use Rattle.pl_splices.proofs.by_call.Trying.{of_one, say_one}
+use Rattle.pl_splices.specs.Moves.{Goes, Fits}
+use Rattle.pl_splices.proofs.by_call.Trying.{of_one, say_one, of_both, source_side, target_side}
 
 -- what is said of what is there, or else of another, holds where it is there
 pub said_of : {X : Type 0} (o : Option X) (other : X) (P : X → Type 0) → P (unwrap_or o other) → IfSome o P
@@ -96,3 +98,31 @@ module _ {A : Type 0} (k now : Contents A) (whole : IsWhole A k) (view : k ≡ n
         ap (λ n. Target.File n) l
         ∙ ap (λ n. Target.File (k.limits.file_max - n)) (start_is start starts)
         ∙ sym (ap (λ n. target_of core at_side (node_of n)) is))
+
+-- bytes that fit are there, and there is room for them
+module _ {A : Type 0} (k : Contents A) (from to : Side) (is_tee : Bool) (goes : Goes k from to is_tee) (many : ℕ) (fits : Fits k from to many) where
+  abbrev both : (many ≤ to_be_had (source_of (core_of k) (source_side k from to is_tee goes) (node_of from.node))) × (many ≤ room_of (target_of (core_of k) (target_side k from to is_tee goes) (node_of to.node)))
+  both = of_both k from to is_tee goes (λ a b. (many ≤ to_be_had (source_of (core_of k) a (node_of from.node))) × (many ≤ room_of (target_of (core_of k) b (node_of to.node)))) fits
+
+  had : (n : Node) → from.node ≡ n → many ≤ to_be_had (source_of (core_of k) (source_side k from to is_tee goes) (node_of n))
+  had n is = subst (λ n. many ≤ to_be_had (source_of (core_of k) (source_side k from to is_tee goes) (node_of n))) is both.0
+
+  free : (n : Node) → to.node ≡ n → many ≤ room_of (target_of (core_of k) (target_side k from to is_tee goes) (node_of n))
+  free n is = subst (λ n. many ≤ room_of (target_of (core_of k) (target_side k from to is_tee goes) (node_of n))) is both.1
+
+  pub pipe_held : (p : ℕ) → from.node ≡ node.Pipe p → IfSome (at k.nodes.pipes p) (λ x. many ≤ length x.bytes)
+  unfolding core_of
+  pipe_held p is = said_of (at k.nodes.pipes p) empty_pipe (λ x. many ≤ length x.bytes) (had (node.Pipe p) is)
+
+  pub pipe_room : (p : ℕ) → to.node ≡ node.Pipe p → IfSome (at k.nodes.pipes p) (λ x. many ≤ room x)
+  unfolding core_of
+  pipe_room p is = said_of (at k.nodes.pipes p) empty_pipe (λ x. many ≤ room x) (free (node.Pipe p) is)
+
+  pub file_left : (f : ℕ) → from.node ≡ node.File f → IfSome (at k.opened from.key) (λ o. IfSome (at k.nodes.files f) (λ bytes. many ≤ length bytes - unwrap_or from.given o.offset))
+  unfolding core_of
+  file_left f is = say_one (at k.opened from.key) goes.source.opened (λ o. IfSome (at k.nodes.files f) (λ bytes. many ≤ length bytes - unwrap_or from.given o.offset)) goes.source.here
+      (said_of (at k.nodes.files f) [] (λ bytes. many ≤ length bytes - unwrap_or from.given goes.source.opened.offset) (had (node.File f) is))
+
+  pub file_room : (f : ℕ) → to.node ≡ node.File f → IfSome (at k.opened to.key) (λ o. many ≤ k.limits.file_max - unwrap_or to.given o.offset)
+  unfolding core_of
+  file_room f is = say_one (at k.opened to.key) goes.target.opened (λ o. many ≤ k.limits.file_max - unwrap_or to.given o.offset) goes.target.here (free (node.File f) is)
