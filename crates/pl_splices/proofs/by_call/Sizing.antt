@@ -1,27 +1,32 @@
 -- What a side has to give, and has room for, at the kernel's keys.
-use Rattle.std.proofs.Common.{◌≡◌, ℕ, Bool, List, [], Option, Some, None, IfSome, sym, ◌∙◌, ap, subst, length}
+use Rattle.std.proofs.Common.{◌≡◌, ℕ, Bool, List, [], Option, Some, None, IfSome, refl, sym, ◌∙◌, ap, subst, length, take}
 use Rattle.std.specs.Prelude.{◌-◌, ◌≤◌, nat_lt, unwrap_or}
 use Rattle.pl_model.specs.declared.node.Node.{Node}
 use Rattle.pl_model.specs.declared.node.Node.TheVariants as node
+use Rattle.pl_model.specs.declared.cases.MoveCase.{MoveCase}
 use Rattle.pl_model.specs.declared.cases.Source.{Source}
 use Rattle.pl_model.specs.declared.cases.Target.{Target}
+use Rattle.pl_model.specs.declared.replies.Reply.{Reply}
 use Rattle.pl_model.specs.State.{Core, Pipe, empty_pipe}
 use Rattle.pl_model.specs.Live.{readers, writers}
 use Rattle.pl_model.specs.Modes.{reads, writes as writes_mode}
-use Rattle.pl_model.specs.Transfer.{room}
-use Rattle.pl_model.specs.Splice.{Side as MachineSide, source_of, target_of, to_be_had, room_of}
+use Rattle.pl_model.specs.Trial.{Done, Wait, still}
+use Rattle.pl_model.specs.Transfer.{room, count}
+use Rattle.pl_model.specs.Splice.{Side as MachineSide, source_of, target_of, to_be_had, room_of, move_case, move_row, moved, bytes_from, leaves, enters, source_advanced, target_put}
 use Rattle.pl_model.specs.Numbered.{numbers}
 use Rattle.pl_model.proofs.settling.WhoIsLive.{readers-is, writers-is}
 use Rattle.pl_desc.specs.Rows.{at}
-use Rattle.pl_desc.specs.Descs.{Opened, ends_on}
+use Rattle.pl_desc.specs.Descs.{ends_on}
 use Rattle.pl_state.specs.Contents.{Contents, node_of, core_of}
 use Rattle.pl_state.specs.Opens.{OpenOn}
 use Rattle.pl_state.specs.Sound.{IsWhole}
 use Rattle.pl_state.proofs.by_call.Begun.{ends-is, pipe_there, file_there}
+use Rattle.pl_state.proofs.by_call.Moving.{flowed-still}
 use Rattle.pl_splices.specs.declared.sides.Side.{Side}
 use Rattle.pl_splices.specs.Sides.{side_of}
-use Rattle.pl_splices.specs.Moves.{Goes, Fits}
-use Rattle.pl_splices.proofs.by_call.Trying.{of_one, say_one, of_both, source_side, target_side}
+use Rattle.pl_splices.specs.Moves.{Goes, Fits, GoesOver, Ends, StillWaits, WouldMove, trial}
+use Rattle.pl_splices.proofs.by_call.Trying.{of_one, say_one, of_both, source_side, target_side, trial-is}
+use Rattle.pl_splices.proofs.Resembling.{resembles-refl}
 
 -- what is said of what is there, or else of another, holds where it is there
 pub said_of : {X : Type 0} (o : Option X) (other : X) (P : X → Type 0) → P (unwrap_or o other) → IfSome o P
@@ -126,3 +131,59 @@ module _ {A : Type 0} (k : Contents A) (from to : Side) (is_tee : Bool) (goes : 
   pub file_room : (f : ℕ) → to.node ≡ node.File f → IfSome (at k.opened to.key) (λ o. many ≤ k.limits.file_max - unwrap_or to.given o.offset)
   unfolding core_of
   file_room f is = say_one (at k.opened to.key) goes.target.opened (λ o. many ≤ k.limits.file_max - unwrap_or to.given o.offset) goes.target.here (free (node.File f) is)
+
+-- what was decided of both sides is what the machine decides
+module _ {A : Type 0} (k : Contents A) (from to : Side) (is_tee : Bool) (goes : Goes k from to is_tee) (len : ℕ) (source : Source) (target : Target)
+    (gives : IfSome (at k.opened from.key) (λ o. source ≡ source_of (core_of k) (side_of from o) (node_of from.node)))
+    (takes : IfSome (at k.opened to.key) (λ o. target ≡ target_of (core_of k) (side_of to o) (node_of to.node)))
+    (row : MoveCase) (decided : row ≡ move_case source target len) where
+  abbrev a : MachineSide numbers
+  a = source_side k from to is_tee goes
+
+  abbrev b : MachineSide numbers
+  b = target_side k from to is_tee goes
+
+  source_is : source ≡ source_of (core_of k) a (node_of from.node)
+  source_is = of_one (at k.opened from.key) goes.source.opened (λ o. source ≡ source_of (core_of k) (side_of from o) (node_of from.node)) goes.source.here gives
+
+  target_is : target ≡ target_of (core_of k) b (node_of to.node)
+  target_is = of_one (at k.opened to.key) goes.target.opened (λ o. target ≡ target_of (core_of k) (side_of to o) (node_of to.node)) goes.target.here takes
+
+  pub decided-is : trial k from to len is_tee ≡ move_row (core_of k) a b is_tee row
+  decided-is = trial-is k from to is_tee goes len row (sym (decided ∙ (λ i. move_case (source_is i) (target_is i) len)))
+
+  -- a row that moves nothing
+  pub ends_still : (reply : Reply A) → move_row (core_of k) a b is_tee row ≡ Done (core_of k) still reply → Ends k from to len is_tee reply k
+  ends_still reply is = record {
+    state = core_of k;
+    flow = still;
+    came = decided-is ∙ is;
+    leaves = record { left = sym (flowed-still k); like = resembles-refl (core_of k); calls = refl };
+  }
+
+  pub waits_still : move_row (core_of k) a b is_tee row ≡ Wait (core_of k) still 0 → StillWaits k from to len is_tee k
+  waits_still is = record { came = decided-is ∙ is; same = refl }
+
+  -- one that moves some bytes
+  module _ (many : ℕ) (is : row ≡ MoveCase.Moves many) where
+    abbrev bytes : List ℕ
+    bytes = take many (bytes_from (core_of k) a a.description.node)
+
+    moves : trial k from to len is_tee ≡ moved (core_of k) a b is_tee bytes
+    moves = decided-is ∙ ap (move_row (core_of k) a b is_tee) is
+
+    pub would_move : WouldMove k from to len is_tee
+    would_move = record {
+      state = target_put (source_advanced (core_of k) a a.description.node (length bytes)) b b.description.node bytes;
+      flow = record { out = leaves is_tee a.description.node (length bytes); into = enters b.description.node bytes };
+      many = length bytes;
+      came = moves;
+    }
+
+    pub ends_over : (new : Contents A) → GoesOver k from to is_tee many new → Ends k from to len is_tee (count many) new
+    ends_over new o = record {
+      state = o.state;
+      flow = o.flow;
+      came = moves ∙ of_both k from to is_tee goes (λ a b. moved (core_of k) a b is_tee (take many (bytes_from (core_of k) a a.description.node)) ≡ Done o.state o.flow (count many)) o.came;
+      leaves = o.leaves;
+    }
