@@ -68,8 +68,8 @@ module _ {A : Type 0} (k now : Contents A) (whole : IsWhole A k) (view : k ≡ n
         ap (λ n. Source.Pipe n (nat_lt 0 many)) (of_one (at k.nodes.pipes p) there.0 (λ x. held ≡ length x.bytes) there.1 h)
         ∙ ap (λ n. Source.Pipe (length there.0.bytes) (nat_lt 0 n)) (w ∙ ap (ends_on writes_mode k.opened) is)
         ∙ sym (ap (λ n. source_of core at_side (node_of n)) is
-          ∙ ap (λ z. Source.Pipe (length (unwrap_or z empty_pipe).bytes) (nat_lt 0 (writers core p))) there.1
-          ∙ ap (λ b. Source.Pipe (length there.0.bytes) b) (writers-is core p ∙ ends-is k whole writes_mode (node.Pipe p))))
+        ∙ ap (λ z. Source.Pipe (length (unwrap_or z empty_pipe).bytes) (nat_lt 0 (writers core p))) there.1
+        ∙ ap (λ b. Source.Pipe (length there.0.bytes) b) (writers-is core p ∙ ends-is k whole writes_mode (node.Pipe p))))
 
     pub pipe_target : (free many : ℕ) → IfSome (at k.nodes.pipes p) (λ x. free ≡ room x) → many ≡ ends_on reads k.opened s.node
         → IfSome (at now.opened s.key) (λ o. Target.Pipe free (nat_lt 0 many) ≡ target_of (core_of now) (side_of s o) (node_of s.node))
@@ -78,8 +78,8 @@ module _ {A : Type 0} (k now : Contents A) (whole : IsWhole A k) (view : k ≡ n
         ap (λ n. Target.Pipe n (nat_lt 0 many)) (of_one (at k.nodes.pipes p) there.0 (λ x. free ≡ room x) there.1 h)
         ∙ ap (λ n. Target.Pipe (room there.0) (nat_lt 0 n)) (r ∙ ap (ends_on reads k.opened) is)
         ∙ sym (ap (λ n. target_of core at_side (node_of n)) is
-          ∙ ap (λ z. Target.Pipe (room (unwrap_or z empty_pipe)) (nat_lt 0 (readers core p))) there.1
-          ∙ ap (λ b. Target.Pipe (room there.0) b) (readers-is core p ∙ ends-is k whole reads (node.Pipe p))))
+        ∙ ap (λ z. Target.Pipe (room (unwrap_or z empty_pipe)) (nat_lt 0 (readers core p))) there.1
+        ∙ ap (λ b. Target.Pipe (room there.0) b) (readers-is core p ∙ ends-is k whole reads (node.Pipe p))))
 
   -- a file
   module _ (f : ℕ) (is : s.node ≡ node.File f) (start : ℕ) (starts : IfSome (at now.opened s.key) (λ o. start ≡ unwrap_or s.given o.offset)) where
@@ -94,7 +94,7 @@ module _ {A : Type 0} (k now : Contents A) (whole : IsWhole A k) (view : k ≡ n
         ∙ ap (λ n. Source.File (n - start)) (of_one (at k.nodes.files f) file.0 (λ bytes. len ≡ length bytes) file.1 h)
         ∙ ap (λ n. Source.File (length file.0 - n)) (start_is start starts)
         ∙ sym (ap (λ n. source_of core at_side (node_of n)) is
-          ∙ ap (λ z. Source.File (length (unwrap_or z []) - unwrap_or s.given on_old.opened.offset)) file.1))
+        ∙ ap (λ z. Source.File (length (unwrap_or z []) - unwrap_or s.given on_old.opened.offset)) file.1))
 
     pub file_target : (left : ℕ) → left ≡ k.limits.file_max - start
         → IfSome (at now.opened s.key) (λ o. Target.File left ≡ target_of (core_of now) (side_of s o) (node_of s.node))
