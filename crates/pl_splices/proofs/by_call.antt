@@ -10,3 +10,5 @@ pub mod Parking
 pub mod Begins
 -- What the checks of a splice and of a tee come to.
 pub mod Checking
+-- What a side has to give, and has room for.
+pub mod Sizing
