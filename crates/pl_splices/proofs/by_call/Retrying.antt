@@ -1,9 +1,11 @@
 -- What a splice or a tee that is tried again comes to at the kernel's keys.
 use Rattle.std.proofs.Common.{◌≡◌, ◌≢◌, ℕ, ◌<◌, Bool, true, false, List, [], ◌∷◌, Option, Some, None, IfSome, IsSome, refl, sym, ◌∙◌, ap, subst, nat_eq, slice_index_or, arith}
-use Rattle.std.specs.Prelude.{◌||◌, All}
+use Rattle.std.specs.Prelude.{◌||◌, All, ℤ}
 use Rattle.std.specs.Set.{is_member}
 use Rattle.std.proofs.lemmas.Bool.{eq-eqb}
 use Rattle.pl_model.specs.declared.calls.Call.{Call}
+use Rattle.pl_model.specs.declared.calls.Call.TheVariants as call
+use Rattle.pl_model.specs.declared.flags.SpliceFlags.{SpliceFlags}
 use Rattle.pl_model.specs.declared.calls.Step.TheVariants.{Resume}
 use Rattle.pl_model.specs.declared.node.Node.{Node}
 use Rattle.pl_model.specs.declared.replies.Reply.{Reply}
@@ -22,7 +24,7 @@ use Rattle.pl_desc.specs.Rows.{at}
 use Rattle.pl_desc.specs.Descs.{Opened}
 use Rattle.pl_state.specs.Contents.{Contents, waiting_of, core_of}
 use Rattle.pl_state.specs.Opens.{OpenOn}
-use Rattle.pl_state.specs.Sound.{IsSound, IsPipe, AreBoth, AreApart, MayGo, MayKeepFile, GoApart, OnNode, KeepsNodes}
+use Rattle.pl_state.specs.Sound.{IsSound, IsPipe, AreBoth, AreApart, Keeps, KeepsOne, MayGo, MayKeepFile, GoApart, OnNode, KeepsNodes}
 use Rattle.pl_state.specs.Makes.{MakesAtKeys, MayWantAtKeys}
 use Rattle.pl_state.proofs.Known.{Parts}
 use Rattle.pl_state.proofs.holders.OnNodes.{is-pipe}
@@ -32,7 +34,7 @@ use Rattle.pl_state.proofs.by_call.Begun.{does_plain, does_same, wants_plain}
 use Rattle.pl_state.proofs.by_call.Moving.{flowed-still}
 use Rattle.pl_transfers.proofs.by_call.Resuming.{came, parked-is}
 use Rattle.pl_splices.specs.declared.sides.Side.{Side}
-use Rattle.pl_splices.specs.Moves.{Ends, StillWaits, WouldMove, MoveWaits, trial}
+use Rattle.pl_splices.specs.Moves.{Ends, StillWaits, WouldMove, MoveWaits, Goes, IsMove, trial}
 use Rattle.pl_splices.proofs.Resembling.{settles-from}
 use Rattle.pl_splices.proofs.by_call.Trying.{move-tries, of_one}
 
@@ -75,27 +77,55 @@ module _ {A : Type 0} (m : Parts A) (n : ℕ) (w : ParkedCall A) (here : get nat
   second_there = subst (λ ks. IsSome (at m.descs.opened (slice_index_or ks 1 0))) (sym (same ∙ two))
       (member_there m n w here b (ap (λ ks. is_member nat_eq ks b) two ∙ or_right _ _ (ap (λ z. z || false) (eq-eqb b b refl))))
 
--- the keys of two sides are those that a call keeps
-pub keeps_sides : (from to : Side) (kept kept' : List ℕ) (a b : ℕ) → kept ≡ kept' → AreBoth a b kept' → from.key ≡ slice_index_or kept 0 0 → to.key ≡ slice_index_or kept 1 0 → kept' ≡ from.key ∷ to.key ∷ []
-keeps_sides from to kept kept' a b same two first second =
-    let from_is : from.key ≡ a = first ∙ ap (λ ks. slice_index_or ks 0 0) (same ∙ two) in
-    let to_is : to.key ≡ b = second ∙ ap (λ ks. slice_index_or ks 1 0) (same ∙ two) in
-    two ∙ (λ i. sym from_is i ∷ sym to_is i ∷ [])
+-- The sides of a parked call, whose keys are those that it keeps.
+module _ {A : Type 0} (k : Contents A) (sound : IsSound A k) (n : ℕ) (w : ParkedCall A) (here : get nat_eq k.calls.calls n ≡ Some w) (kept : List ℕ) (same : kept ≡ w.kept) (a b : ℕ) (two : AreBoth a b w.kept)
+    (from to : Side) (first : from.key ≡ slice_index_or kept 0 0) (second : to.key ≡ slice_index_or kept 1 0) (on_first : OpenOn k (slice_index_or kept 0 0) from.node) (on_second : OpenOn k (slice_index_or kept 1 0) to.node) where
+  keeps_sides : w.kept ≡ from.key ∷ to.key ∷ []
+  keeps_sides =
+      let from_is : from.key ≡ a = first ∙ ap (λ ks. slice_index_or ks 0 0) (same ∙ two) in
+      let to_is : to.key ≡ b = second ∙ ap (λ ks. slice_index_or ks 1 0) (same ∙ two) in
+      two ∙ (λ i. sym from_is i ∷ sym to_is i ∷ [])
 
--- the nodes of the sides of a call that waits on them
-module _ {A : Type 0} (k : Contents A) (w : ParkedCall A) (from to : Side) (keeps : KeepsNodes (at k.opened) w) (kept : w.kept ≡ from.key ∷ to.key ∷ []) (source : OpenOn k from.key from.node) (target : OpenOn k to.key to.node) where
-  pub may_go : MayGo w.call from.node to.node
+  source : OpenOn k from.key from.node
+  source = subst (λ z. OpenOn k z from.node) (sym first) on_first
+
+  target : OpenOn k to.key to.node
+  target = subst (λ z. OpenOn k z to.node) (sym second) on_second
+
+  keeps : KeepsNodes (at k.opened) w
+  keeps = subst (λ o. IfSome o (KeepsNodes (at k.opened))) here (sound.on_nodes n)
+
+  may_go : MayGo w.call from.node to.node
   may_go =
-      let both : IfSome (at k.opened from.key) (λ x. IfSome (at k.opened to.key) (λ y. MayGo w.call x.node y.node)) = subst (GoApart (at k.opened) w.call) kept keeps.apart in
+      let both : IfSome (at k.opened from.key) (λ x. IfSome (at k.opened to.key) (λ y. MayGo w.call x.node y.node)) = subst (GoApart (at k.opened) w.call) keeps_sides keeps.apart in
       let one : IfSome (at k.opened to.key) (λ y. MayGo w.call source.opened.node y.node) = of_one (at k.opened from.key) source.opened (λ x. IfSome (at k.opened to.key) (λ y. MayGo w.call x.node y.node)) source.here both in
       let go : MayGo w.call source.opened.node target.opened.node = of_one (at k.opened to.key) target.opened (λ y. MayGo w.call source.opened.node y.node) target.here one in
       subst (λ z. MayGo w.call z to.node) source.node (subst (λ z. MayGo w.call source.opened.node z) target.node go)
 
   on_kept : All (OnNode (at k.opened) w) (from.key ∷ to.key ∷ [])
-  on_kept = subst (All (OnNode (at k.opened) w)) kept keeps.on
+  on_kept = subst (All (OnNode (at k.opened) w)) keeps_sides keeps.on
 
   piped : (key : ℕ) (node : Node) → ¬ MayKeepFile w.call → OnNode (at k.opened) w key → OpenOn k key node → IsPipe node
   piped key node no_file on is = subst IsPipe is.node (of_one (at k.opened key) is.opened (λ (o : Opened). IsPipe o.node) is.here (is-pipe w no_file (at k.opened key) on))
 
-  pub are_pipes : ¬ MayKeepFile w.call → IsPipe from.node × IsPipe to.node
-  are_pipes no_file = (piped from.key from.node no_file (on_kept 0 0 (omega arith)) source, piped to.key to.node no_file (on_kept 1 0 (omega arith)) target)
+  pub waits_so : (len : ℕ) (is_tee : Bool) → IsMove w.call from to len is_tee → w.taken ≡ 0 → MoveWaits k n from to len is_tee
+  waits_so len is_tee asked none = record { call = w; here = here; asked = asked; kept = keeps_sides; none_taken = none }
+
+  pub goes_so : (is_tee : Bool) → (MayGo w.call from.node to.node → AreApart from.node to.node) → (is_tee ≡ true → ¬ MayKeepFile w.call) → Goes k from to is_tee
+  goes_so is_tee apart no_file = record {
+    source = source;
+    target = target;
+    apart = apart may_go;
+    pipes = λ t. (piped from.key from.node (no_file t) (on_kept 0 0 (omega arith)) source, piped to.key to.node (no_file t) (on_kept 1 0 (omega arith)) target);
+  }
+
+-- any other call that waits keeps one description
+pub keeps_one : {A : Type 0} (x : Call A) (kept : List ℕ) → Keeps x kept
+    → ((a : ℤ) (f : Option ℕ) (b : ℤ) (h : Option ℕ) (n : ℕ) (flags : SpliceFlags) → x ≡ call.Splice a f b h n flags → ⊥)
+    → ((a b : ℤ) (n : ℕ) (flags : SpliceFlags) → x ≡ call.Tee a b n flags → ⊥) → KeepsOne x
+keeps_one (call.Read fd n) kept k no_splice no_tee = tt
+keeps_one (call.Write fd bytes) kept k no_splice no_tee = tt
+keeps_one (call.OpenName name mode flags) kept k no_splice no_tee = tt
+keeps_one (call.Splice a f b h n flags) kept k no_splice no_tee = absurd (no_splice a f b h n flags refl)
+keeps_one (call.Tee a b n flags) kept k no_splice no_tee = absurd (no_tee a b n flags refl)
+keeps_one other kept k no_splice no_tee = absurd k
