@@ -1,5 +1,5 @@
 -- What a splice or a tee that is tried again comes to at the kernel's keys.
-use Rattle.std.proofs.Common.{◌≡◌, ◌≢◌, ℕ, ◌<◌, Bool, true, false, List, [], ◌∷◌, Option, Some, None, IfSome, IsSome, refl, sym, ◌∙◌, ap, subst, nat_eq, slice_index_or, arith}
+use Rattle.std.proofs.Common.{◌≡◌, ℕ, Bool, true, false, List, [], ◌∷◌, Option, Some, IfSome, IsSome, refl, sym, ◌∙◌, ap, subst, nat_eq, slice_index_or, arith}
 use Rattle.std.specs.Prelude.{◌||◌, All, ℤ}
 use Rattle.std.specs.Set.{is_member}
 use Rattle.std.proofs.lemmas.Bool.{eq-eqb}

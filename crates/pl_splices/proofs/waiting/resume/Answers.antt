@@ -5,7 +5,7 @@ use Rattle.pl_parked.specs.declared.call.ParkedCall.{ParkedCall}
 use Rattle.pl_desc.specs.Rows.{at}
 use Rattle.pl_state.specs.Contents.{Contents}
 use Rattle.pl_state.specs.KernelView.{view_of}
-use Rattle.pl_state.specs.Sound.{IsSound, IsWaiting, AreApart, AreBoth, Keeps, KeepsOne, MayGo, MayKeepFile, MayWait}
+use Rattle.pl_state.specs.Sound.{IsSound, IsWaiting, AreBoth, Keeps, KeepsOne, MayGo, MayKeepFile, MayWait}
 use Rattle.pl_state.proofs.Known.{known, parts_of}
 use Rattle.pl_transfers.proofs.by_call.Resuming.{resume-none}
 use Rattle.pl_splices.specs.Moves.{Goes, IsMove, MoveWaits}

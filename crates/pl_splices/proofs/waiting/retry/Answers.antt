@@ -1,5 +1,4 @@
-use Rattle.std.proofs.Common.{◌≡◌, subst}
-use Rattle.pl_state.specs.Contents.{Contents}
+use Rattle.std.proofs.Common.{subst}
 use Rattle.pl_state.specs.Sound.{IsSound}
 use Rattle.pl_nodes.proofs.Keyed.{on_err}
 use Rattle.pl_splices.specs.Moves.{Tries}
