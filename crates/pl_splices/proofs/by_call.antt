@@ -12,3 +12,5 @@ pub mod Begins
 pub mod Checking
 -- What a side has to give, and has room for.
 pub mod Sizing
+-- What a call that waits comes to when it is tried again.
+pub mod Retrying

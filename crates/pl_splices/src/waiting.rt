@@ -46,6 +46,8 @@ fn retry<A: Allocator + Copy>(
     ensures undone { OnErr result (kernel.new ≡ kernel.old) }
     ensures wanted { OnErr result (MayWantAtKeys {A = A} kernel.old (Step.Resume number)) }
 {
+    // A proof learns here what holds of the kernel.
+    let _ = &kernel.descs;
     let Some(reply) = try_move(kernel, from, to, len, is_tee)? else {
         return Ok(Reply::Parked(number));
     };

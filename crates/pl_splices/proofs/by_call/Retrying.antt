@@ -1,0 +1,131 @@
+-- What a splice or a tee that is tried again comes to at the kernel's keys.
+use Rattle.std.proofs.Common.{◌≡◌, ℕ, Bool, true, false, List, [], ◌∷◌, Option, Some, IfSome, IsSome, refl, sym, ◌∙◌, ap, subst, nat_eq, slice_index_or, arith}
+use Rattle.std.specs.Prelude.{◌||◌, All, ℤ}
+use Rattle.std.specs.Set.{is_member}
+use Rattle.std.proofs.lemmas.Bool.{eq-eqb}
+use Rattle.pl_model.specs.declared.calls.Call.{Call}
+use Rattle.pl_model.specs.declared.calls.Call.TheVariants as call
+use Rattle.pl_model.specs.declared.flags.SpliceFlags.{SpliceFlags}
+use Rattle.pl_model.specs.declared.calls.Step.TheVariants.{Resume}
+use Rattle.pl_model.specs.declared.node.Node.{Node}
+use Rattle.pl_model.specs.declared.replies.Reply.{Reply}
+use Rattle.pl_model.specs.declared.replies.Reply.TheVariants.{Parked}
+use Rattle.pl_model.specs.Map.{get}
+use Rattle.pl_model.specs.Keys.{Plain}
+use Rattle.pl_model.specs.State.{Core}
+use Rattle.pl_model.specs.Settle.{settle}
+use Rattle.pl_model.specs.Trial.{Trial, Done, Wait, still, flowed}
+use Rattle.pl_model.specs.Transfer.{count}
+use Rattle.pl_model.specs.Step.{core_step, ended, tried_again, without_call, parked_again}
+use Rattle.pl_model.specs.Numbered.{numbers}
+use Rattle.pl_model.proofs.settling.Members.{or_right}
+use Rattle.pl_parked.specs.declared.call.ParkedCall.{ParkedCall}
+use Rattle.pl_desc.specs.Rows.{at}
+use Rattle.pl_desc.specs.Descs.{Opened}
+use Rattle.pl_state.specs.Contents.{Contents, waiting_of, core_of}
+use Rattle.pl_state.specs.Opens.{OpenOn}
+use Rattle.pl_state.specs.Sound.{IsSound, IsPipe, AreBoth, AreApart, Keeps, KeepsOne, MayGo, MayKeepFile, GoApart, OnNode, KeepsNodes}
+use Rattle.pl_state.specs.Makes.{MakesAtKeys, MayWantAtKeys}
+use Rattle.pl_state.proofs.Known.{Parts}
+use Rattle.pl_state.proofs.holders.OnNodes.{is-pipe}
+use Rattle.pl_state.proofs.waiting.Calls.{put_same}
+use Rattle.pl_state.proofs.waiting.Ending.{member_there}
+use Rattle.pl_state.proofs.by_call.Begun.{does_plain, does_same, wants_plain}
+use Rattle.pl_state.proofs.by_call.Moving.{flowed-still}
+use Rattle.pl_transfers.proofs.by_call.Resuming.{came, parked-is}
+use Rattle.pl_splices.specs.declared.sides.Side.{Side}
+use Rattle.pl_splices.specs.Moves.{Ends, StillWaits, WouldMove, MoveWaits, Goes, IsMove, trial}
+use Rattle.pl_splices.proofs.Resembling.{settles-from}
+use Rattle.pl_splices.proofs.by_call.Trying.{move-tries, of_one}
+
+module _ {A : Type 0} (k : Contents A) (sound : IsSound A k) (n : ℕ) (from to : Side) (len : ℕ) (is_tee : Bool) (w : MoveWaits k n from to len is_tee) where
+  abbrev c : Core A numbers
+  c = core_of k
+
+  comes : (t : Trial A numbers) → trial k from to len is_tee ≡ t → core_step c (Resume n) ≡ Plain (ended c (tried_again n (waiting_of w.call) t))
+  comes t e = came k sound n w.call w.here t (move-tries k from to len is_tee w.call.call (waiting_of w.call) true w.asked w.kept ∙ e)
+
+  -- it ends
+  pub retry-ends : (reply : Reply A) (between new : Contents A) → Ends k from to len is_tee reply between → core_of new ≡ settle (core_of between) (without_call (core_of between) n) → MakesAtKeys k (Resume n) reply new
+  retry-ends reply between new e is = does_plain k new (Resume n) _ reply (comes (Done e.state e.flow reply) e.came) refl
+      (is ∙ settles-from c (core_of between) e.leaves.like (without_call (core_of between) n) ∙ ap (λ z. settle c (without_call z n)) e.leaves.left)
+
+  -- it waits on
+  pub retry-waits : (new : Contents A) → StillWaits k from to len is_tee new → MakesAtKeys k (Resume n) (Parked n) new
+  retry-waits new s = subst (λ z. MakesAtKeys k (Resume n) (Parked n) z) (sym s.same) (does_same k sound (Resume n) _ (Parked n) (comes (Wait c still 0) s.came) refl (again ∙ flowed-still k))
+    where
+      same : parked_again (flowed c still) n (waiting_of w.call) ≡ flowed c still
+      same = ap (λ ps. record (flowed c still) { parked = ps }) (put_same (flowed c still).parked n (waiting_of w.call) (ap (λ z. get nat_eq z.parked n) (flowed-still k) ∙ parked-is k sound n (Some w.call) w.here))
+
+      again : parked_again (flowed c still) n (record (waiting_of w.call) { taken = 0 }) ≡ flowed c still
+      again = (λ i. parked_again (flowed c still) n (record (waiting_of w.call) { taken = sym w.none_taken i })) ∙ same
+
+  pub retry-wants : WouldMove {A = A} k from to len is_tee → MayWantAtKeys {A = A} k (Resume n)
+  retry-wants e = wants_plain k k (Resume n) _ (comes (Done e.state e.flow (count e.many)) e.came) refl
+
+  -- the call is parked still when its bytes went over
+  pub still-parked : (reply : Reply A) (new : Contents A) → Ends k from to len is_tee reply new → IsSome (get nat_eq new.calls.calls n)
+  still-parked reply new e = subst (λ o. IsSome o) (sym (ap (λ z. get nat_eq z.calls n) e.leaves.calls ∙ w.here)) refl
+
+-- A parked call that keeps two descriptions, as a list that is the one that it keeps has them.
+module _ {A : Type 0} (m : Parts A) (n : ℕ) (w : ParkedCall A) (here : get nat_eq m.calls.calls n ≡ Some w) (kept : List ℕ) (same : kept ≡ w.kept) (a b : ℕ) (two : AreBoth a b w.kept) where
+  pub first_there : IsSome (at m.descs.opened (slice_index_or kept 0 0))
+  first_there = subst (λ ks. IsSome (at m.descs.opened (slice_index_or ks 0 0))) (sym (same ∙ two))
+      (member_there m n w here a (ap (λ ks. is_member nat_eq ks a) two ∙ ap (λ z. z || is_member nat_eq (b ∷ []) a) (eq-eqb a a refl)))
+
+  pub second_there : IsSome (at m.descs.opened (slice_index_or kept 1 0))
+  second_there = subst (λ ks. IsSome (at m.descs.opened (slice_index_or ks 1 0))) (sym (same ∙ two))
+      (member_there m n w here b (ap (λ ks. is_member nat_eq ks b) two ∙ or_right _ _ (ap (λ z. z || false) (eq-eqb b b refl))))
+
+-- The sides of a parked call, whose keys are those that it keeps.
+module _ {A : Type 0} (k : Contents A) (sound : IsSound A k) (n : ℕ) (w : ParkedCall A) (here : get nat_eq k.calls.calls n ≡ Some w) (kept : List ℕ) (same : kept ≡ w.kept) (a b : ℕ) (two : AreBoth a b w.kept)
+    (from to : Side) (first : from.key ≡ slice_index_or kept 0 0) (second : to.key ≡ slice_index_or kept 1 0) (on_first : OpenOn k (slice_index_or kept 0 0) from.node) (on_second : OpenOn k (slice_index_or kept 1 0) to.node) where
+  keeps_sides : w.kept ≡ from.key ∷ to.key ∷ []
+  keeps_sides =
+      let from_is : from.key ≡ a = first ∙ ap (λ ks. slice_index_or ks 0 0) (same ∙ two) in
+      let to_is : to.key ≡ b = second ∙ ap (λ ks. slice_index_or ks 1 0) (same ∙ two) in
+      two ∙ (λ i. sym from_is i ∷ sym to_is i ∷ [])
+
+  source : OpenOn k from.key from.node
+  source = subst (λ z. OpenOn k z from.node) (sym first) on_first
+
+  target : OpenOn k to.key to.node
+  target = subst (λ z. OpenOn k z to.node) (sym second) on_second
+
+  keeps : KeepsNodes (at k.opened) w
+  keeps = subst (λ o. IfSome o (KeepsNodes (at k.opened))) here (sound.on_nodes n)
+
+  may_go : MayGo w.call from.node to.node
+  may_go =
+      let both : IfSome (at k.opened from.key) (λ x. IfSome (at k.opened to.key) (λ y. MayGo w.call x.node y.node)) = subst (GoApart (at k.opened) w.call) keeps_sides keeps.apart in
+      let one : IfSome (at k.opened to.key) (λ y. MayGo w.call source.opened.node y.node) = of_one (at k.opened from.key) source.opened (λ x. IfSome (at k.opened to.key) (λ y. MayGo w.call x.node y.node)) source.here both in
+      let go : MayGo w.call source.opened.node target.opened.node = of_one (at k.opened to.key) target.opened (λ y. MayGo w.call source.opened.node y.node) target.here one in
+      subst (λ z. MayGo w.call z to.node) source.node (subst (λ z. MayGo w.call source.opened.node z) target.node go)
+
+  on_kept : All (OnNode (at k.opened) w) (from.key ∷ to.key ∷ [])
+  on_kept = subst (All (OnNode (at k.opened) w)) keeps_sides keeps.on
+
+  piped : (key : ℕ) (node : Node) → ¬ MayKeepFile w.call → OnNode (at k.opened) w key → OpenOn k key node → IsPipe node
+  piped key node no_file on is = subst IsPipe is.node (of_one (at k.opened key) is.opened (λ (o : Opened). IsPipe o.node) is.here (is-pipe w no_file (at k.opened key) on))
+
+  pub waits_so : (len : ℕ) (is_tee : Bool) → IsMove w.call from to len is_tee → w.taken ≡ 0 → MoveWaits k n from to len is_tee
+  waits_so len is_tee asked none = record { call = w; here = here; asked = asked; kept = keeps_sides; none_taken = none }
+
+  pub goes_so : (is_tee : Bool) → (MayGo w.call from.node to.node → AreApart from.node to.node) → (is_tee ≡ true → ¬ MayKeepFile w.call) → Goes k from to is_tee
+  goes_so is_tee apart no_file = record {
+    source = source;
+    target = target;
+    apart = apart may_go;
+    pipes = λ t. (piped from.key from.node (no_file t) (on_kept 0 0 (omega arith)) source, piped to.key to.node (no_file t) (on_kept 1 0 (omega arith)) target);
+  }
+
+-- any other call that waits keeps one description
+pub keeps_one : {A : Type 0} (x : Call A) (kept : List ℕ) → Keeps x kept
+    → ((a : ℤ) (f : Option ℕ) (b : ℤ) (h : Option ℕ) (n : ℕ) (flags : SpliceFlags) → x ≡ call.Splice a f b h n flags → ⊥)
+    → ((a b : ℤ) (n : ℕ) (flags : SpliceFlags) → x ≡ call.Tee a b n flags → ⊥) → KeepsOne x
+keeps_one (call.Read fd n) kept k no_splice no_tee = tt
+keeps_one (call.Write fd bytes) kept k no_splice no_tee = tt
+keeps_one (call.OpenName name mode flags) kept k no_splice no_tee = tt
+keeps_one (call.Splice a f b h n flags) kept k no_splice no_tee = absurd (no_splice a f b h n flags refl)
+keeps_one (call.Tee a b n flags) kept k no_splice no_tee = absurd (no_tee a b n flags refl)
+keeps_one other kept k no_splice no_tee = absurd k
