@@ -13,11 +13,7 @@ use pl_transfers::resume_one;
 use std::alloc::Allocator;
 
 // The side of a description that a call keeps.
-fn kept_side<A: Allocator + Copy>(
-    kernel: &KernelState<A>,
-    key: usize,
-    given: Option<u64>,
-) -> Side
+fn kept_side<A: Allocator + Copy>(kernel: &KernelState<A>, key: usize, given: Option<u64>) -> Side
     requires { IsSome (at kernel.now.opened key) }
     ensures key { result.key ≡ key }
     ensures given { result.given ≡ given }

@@ -55,7 +55,7 @@ module _ (g : Over) (c : After-advance g) where
   room : c.args.count ≤ most - c.start_of-start.result
   room =
       let said : c.args.count ≤ k.limits.file_max - start = of_one (at k.opened c.args.to.key) on_g.opened (λ o. c.args.count ≤ k.limits.file_max - unwrap_or c.args.to.given o.offset) on_g.here
-          (subst (λ (z : Contents g.row.A.Denot). IfSome (at z.opened c.args.to.key) (λ o. c.args.count ≤ z.limits.file_max - unwrap_or c.args.to.given o.offset)) (sym c.kernel.view_is) c.requires.room) in
+      (subst (λ (z : Contents g.row.A.Denot). IfSome (at z.opened c.args.to.key) (λ o. c.args.count ≤ z.limits.file_max - unwrap_or c.args.to.given o.offset)) (sym c.kernel.view_is) c.requires.room) in
       let limit : most ≡ k.limits.file_max = c.kernel.invariant.0.limit in
       subst (λ n. c.args.count ≤ most - n) (sym start_is) (subst (λ n. c.args.count ≤ n - start) (sym limit) said)
 
