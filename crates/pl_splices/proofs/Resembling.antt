@@ -1,7 +1,7 @@
 -- A state in which only bytes and offsets changed is tidy as before.
 use Rattle.std.proofs.Common.{◌≡◌, ℕ, Bool, true, false, cond, List, Option, Some, None, IsSome, refl, sym, ◌∙◌, ap, subst, inl, inr, nat_eq}
 use Rattle.std.proofs.Math.Path.{fun_ext}
-use Rattle.std.specs.Prelude.{◌||◌, ◌&&◌, not, nat_lt}
+use Rattle.std.specs.Prelude.{◌||◌, ◌&&◌, nat_lt}
 use Rattle.std.specs.List.{list_any}
 use Rattle.std.specs.Set.{is_member}
 use Rattle.std.proofs.lemmas.Bool.Decides.{eqb_tells}
@@ -9,9 +9,9 @@ use Rattle.pl_model.specs.declared.calls.Mode.{Mode}
 use Rattle.pl_model.specs.Modes.{any_mode, reads, writes}
 use Rattle.pl_model.specs.Map.{set_at}
 use Rattle.pl_model.specs.Keys.{Node, PipeNode, FileNode, same_node}
-use Rattle.pl_model.specs.State.{Core, Description, Pipe, empty_pipe, set_pipe, set_file, set_description}
-use Rattle.pl_model.specs.Live.{in_use, in_rows, in_parked, pids, is_live, is_end, is_open, readers, writers as writers_of}
-use Rattle.pl_model.specs.Settle.{settle, settled_pipe, is_kept, is_hung, had_writer, with_ends, hangs}
+use Rattle.pl_model.specs.State.{Core, Description, Pipe, set_pipe, set_file, set_description}
+use Rattle.pl_model.specs.Live.{in_rows, in_parked, pids, is_live, is_end, is_open, readers, writers as writers_of}
+use Rattle.pl_model.specs.Settle.{settle, settled_pipe, is_kept, is_hung, had_writer, with_ends}
 use Rattle.pl_model.specs.Numbered.{numbers}
 use Rattle.pl_model.specs.Laws.{IsSettled}
 use Rattle.pl_model.proofs.settling.FromSettled.{settle-before}

@@ -1,5 +1,4 @@
 -- The sides of a splice, as the machine has them.
-use Rattle.std.specs.Prelude.{ℕ, Option}
 use Rattle.pl_model.specs.Splice.{Side as MachineSide}
 use Rattle.pl_model.specs.Numbered.{numbers}
 use Rattle.pl_desc.specs.Descs.{Opened}

@@ -1,16 +1,14 @@
 -- What bytes that went over leave: a kernel that is sound.
-use Rattle.std.proofs.Common.{◌≡◌, ℕ, Bool, true, false, List, Option, Some, None, IfSome, IsSome, refl, sym, ◌∙◌, ap, subst, nat_eq}
+use Rattle.std.proofs.Common.{◌≡◌, ℕ, Bool, true, false, Option, Some, None, IsSome, refl, sym, subst, nat_eq}
 use Rattle.std.specs.Prelude.{option_map, if◌then◌else◌}
 use Rattle.pl_model.specs.declared.node.Node.{Node}
 use Rattle.pl_model.specs.declared.node.Node.TheVariants as node
 use Rattle.pl_model.specs.Map.{change_at}
-use Rattle.pl_model.specs.Laws.{IsSettled}
 use Rattle.pl_model.specs.Settle.{settle}
-use Rattle.pl_model.specs.State.{Pipe}
-use Rattle.pl_desc.specs.Rows.{at, is_pid}
+use Rattle.pl_desc.specs.Rows.{at}
 use Rattle.pl_desc.specs.Descs.{Opened}
-use Rattle.pl_state.specs.Contents.{Contents, Nodes, IsThere, core_of}
-use Rattle.pl_state.specs.Sound.{IsSound, IsWhole, AreThere, WaitOnNodes, Belong, IsWaiting}
+use Rattle.pl_state.specs.Contents.{Contents, IsThere, core_of}
+use Rattle.pl_state.specs.Sound.{IsSound, AreThere}
 use Rattle.pl_state.proofs.holders.OnNodes.{Fades, fades-same, faded, wait-by}
 use Rattle.pl_state.proofs.holders.There.{settled_after, there-still}
 use Rattle.pl_splices.specs.Resembling.{Resembles}

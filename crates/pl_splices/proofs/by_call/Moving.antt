@@ -1,5 +1,5 @@
 -- Bytes that went over, by what the sides are on.
-use Rattle.std.proofs.Common.{◌≡◌, ◌≢◌, ◌≤◌, ◌<◌, ℕ, ◌+◌, ◌-◌, Bool, true, false, cond, min, List, [], ◌++◌, length, take, drop, Option, Some, None, IfSome, IsSome, refl, sym, ◌∙◌, ap, subst, nat_eq, arith}
+use Rattle.std.proofs.Common.{◌≡◌, ◌≢◌, ◌≤◌, ℕ, ◌+◌, ◌-◌, Bool, true, false, List, [], ◌++◌, length, take, drop, Option, Some, None, IfSome, IsSome, refl, sym, ◌∙◌, ap, subst, nat_eq, arith}
 use Rattle.std.specs.Prelude.{is_some, unwrap_or, option_map, if◌then◌else◌}
 use Rattle.std.proofs.lemmas.List.{length-drop, length-take-le}
 use Rattle.pl_model.specs.declared.node.Node.{Node}
@@ -9,20 +9,20 @@ use Rattle.pl_model.specs.Keys.{PipeNode, FileNode}
 use Rattle.pl_model.specs.Keys.{Node as KeyNode}
 use Rattle.pl_model.specs.State.{Core, Pipe, empty_pipe, set_pipe, set_file}
 use Rattle.pl_model.specs.Live.{is_open}
-use Rattle.pl_model.specs.Trial.{Trial, Flow, Done, flowed, gained, lost, pipe_at}
-use Rattle.pl_model.specs.Transfer.{room, count, put_bytes, file_at, moved_to}
+use Rattle.pl_model.specs.Trial.{Trial, Flow, Done, flowed, gained, lost}
+use Rattle.pl_model.specs.Transfer.{count, put_bytes, moved_to}
 use Rattle.pl_model.specs.Splice.{Side as MachineSide, moved, bytes_from, leaves, enters, advanced, source_advanced, target_put}
 use Rattle.pl_model.specs.Numbered.{numbers}
 use Rattle.pl_model.proofs.settling.FromSettled.{at_other}
 use Rattle.pl_desc.specs.Rows.{at}
 use Rattle.pl_desc.specs.Descs.{Opened}
-use Rattle.pl_file.specs.File.{written, fitting}
+use Rattle.pl_file.specs.File.{written}
 use Rattle.pl_nodes.proofs.Keyed.{change_at-is}
 use Rattle.pl_state.specs.Contents.{Contents, IsThere, with_pipes, node_of, description_of, core_of}
 use Rattle.pl_state.specs.Opens.{OpenOn}
 use Rattle.pl_state.specs.Sound.{IsSound}
 use Rattle.pl_state.proofs.by_call.Begun.{pipe_held}
-use Rattle.pl_state.proofs.by_call.Moving.{changed_is, changed_sound, flowed-in, flowed-out}
+use Rattle.pl_state.proofs.by_call.Moving.{changed_is, changed_sound, flowed-in}
 use Rattle.pl_state.proofs.holders.OnNodes.{Fades, fades-same}
 use Rattle.pl_transfers.proofs.by_call.Redescribing.{redescribed_is, redescribed_sound}
 use Rattle.pl_transfers.proofs.by_call.Filing.{written-is}

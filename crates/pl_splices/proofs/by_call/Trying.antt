@@ -1,18 +1,14 @@
 -- What a try of a splice or a tee comes to at the kernel's keys.
-use Rattle.std.proofs.Common.{◌≡◌, ℕ, Bool, true, false, [], ◌∷◌, Option, Some, None, IfSome, refl, sym, ◌∙◌, ap, subst}
-use Rattle.std.specs.Prelude.{option_map, ◌≤◌}
+use Rattle.std.proofs.Common.{◌≡◌, ℕ, Bool, true, false, [], ◌∷◌, Option, Some, None, IfSome, sym, ◌∙◌, ap, subst}
+use Rattle.std.specs.Prelude.{option_map}
 use Rattle.pl_model.specs.declared.calls.Call.{Call}
 use Rattle.pl_model.specs.declared.calls.Call.TheVariants as call
 use Rattle.pl_model.specs.declared.cases.MoveCase.{MoveCase}
-use Rattle.pl_model.specs.declared.cases.Source.{Source}
-use Rattle.pl_model.specs.declared.cases.Target.{Target}
 use Rattle.pl_model.specs.State.{Core, Waiting}
-use Rattle.pl_model.specs.Trial.{Trial}
-use Rattle.pl_model.specs.Splice.{side, Side as MachineSide, try_move, move_row, move_case, source_of, target_of, to_be_had, room_of}
+use Rattle.pl_model.specs.Splice.{side, Side as MachineSide, try_move, move_row, move_case, source_of, target_of}
 use Rattle.pl_model.specs.Step.{try, with_kept, with_both, kept_at}
 use Rattle.pl_model.specs.Numbered.{numbers}
 use Rattle.pl_desc.specs.Rows.{at}
-use Rattle.pl_desc.specs.Descs.{Opened}
 use Rattle.pl_state.specs.Contents.{Contents, node_of, description_of, core_of}
 use Rattle.pl_splices.specs.declared.sides.Side.{Side}
 use Rattle.pl_splices.specs.Sides.{side_of}
