@@ -1,7 +1,6 @@
 //! One try of a splice or a tee.
 ghost use Rattle.std.specs.Prelude.{◌≡◌, ◌≢◌, ◌≤◌, IfOk, OnOk, OnErr, IfSome, length, unwrap_or, ◌-◌, false};
-ghost use Rattle.pl_model.specs.declared.node.Node.TheVariants as node;
-ghost use Rattle.pl_model.specs.Transfer.{room, count as machine_count};
+ghost use Rattle.pl_model.specs.Transfer.{room};
 ghost use Rattle.pl_desc.specs.Rows.{at};
 ghost use Rattle.pl_state.specs.Opens.{OpenOn};
 ghost use Rattle.pl_splices.specs.Moves.{Goes, Fits, GoesOver, Tries, WouldMove};

@@ -1,6 +1,5 @@
 //! The two sides of a splice or a tee.
-ghost use Rattle.std.specs.Prelude.{◌≡◌, ◌-◌, is_some, unwrap_or, length, IfSome, IsSome, Some, if◌then◌else◌};
-ghost use Rattle.std.specs.Prelude.{nat_lt, ◌≤◌};
+ghost use Rattle.std.specs.Prelude.{◌≡◌, ◌-◌, is_some, unwrap_or, IfSome, IsSome, Some, if◌then◌else◌};
 ghost use Rattle.pl_model.specs.Map.{change_at};
 ghost use Rattle.pl_model.specs.Splice.{source_of as machine_source, target_of as machine_target};
 ghost use Rattle.pl_desc.specs.Rows.{at};
