@@ -22,10 +22,10 @@ use pl_transfers::{open_for, refusal_to_wait};
 use std::alloc::Allocator;
 
 // A pipe whose description doesn't wait (POSIX.1-2017, read and write, O_NONBLOCK).
-fn is_nonblocking_pipe(open: OpenNode) -> bool
-    ensures { result ≡ (is_pipe open.node && open.nonblock) }
+fn is_nonblocking_pipe(found: OpenNode) -> bool
+    ensures { result ≡ (is_pipe found.node && found.nonblock) }
 {
-    matches!(open.node, Node::Pipe(_)) && open.nonblock
+    matches!(found.node, Node::Pipe(_)) && found.nonblock
 }
 
 // Parks a call that keeps the descriptions of two keys, under the next number, which is answered. The caller holds them for it.
