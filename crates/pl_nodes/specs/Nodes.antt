@@ -1,9 +1,10 @@
 -- What descriptions are on, as contracts see it.
-use Rattle.std.specs.Prelude.{ℕ, List, [], Option, None, Some, ◌≡◌, take, drop, unwrap_or}
+use Rattle.std.specs.Prelude.{ℕ, Bool, List, [], Option, None, Some, ◌≡◌, ◌≤◌, take, drop, unwrap_or, if◌then◌else◌}
 use Rattle.pl_model.specs.declared.node.Node.{Node}
 use Rattle.pl_model.specs.Map.{Map}
 use Rattle.pl_model.specs.State.{Pipe}
 use Rattle.pl_segments.specs.declared.slice.Slice.{Slice}
+use Rattle.pl_segments.specs.Sharing.{named, slots_at}
 
 -- the pipes and the bytes of the files by key, the slots in which each keeps its bytes, what the names stand for, in the order of
 -- their bytes, the key that the next pipe or file gets, how many segments hold all bytes, and the most bytes of a file
@@ -15,6 +16,20 @@ pub record Nodes : Type 0 where
   pub next : ℕ
   pub segments : ℕ
   pub file_max : ℕ
+
+-- How bytes are kept: the slots of each pipe and file by key, and how many segments hold them all.
+pub record Memory : Type 0 where
+  pub slots : List (List Slice)
+  pub segments : ℕ
+
+abbrev pub memory_of : Nodes → Memory
+memory_of n = record { slots = n.slots; segments = n.segments }
+
+-- Some pipes and files lost all their slots, and the others kept theirs. No segment came.
+pub record Shrinks (old new : Memory) : Type 0 where
+  pub slots : (key : ℕ) → (goes : Bool) × (slots_at new.slots key ≡ (if goes then [] else slots_at old.slots key))
+  pub fewer_named : (key : ℕ) → named new.slots key ≤ named old.slots key
+  pub fewer : new.segments ≤ old.segments
 
 -- the files and the names are as they were
 pub record SameFiles (old new : Nodes) : Type 0 where

@@ -9,7 +9,7 @@ use Rattle.pl_parked.specs.Calls.{Calls}
 use Rattle.pl_desc.specs.Rows.{at, is_pid}
 use Rattle.pl_desc.specs.Descs.{Descs}
 use Rattle.pl_state.specs.declared.state.KernelState.TheInside.{Inside}
-use Rattle.pl_nodes.specs.Nodes.{SameFiles}
+use Rattle.pl_nodes.specs.Nodes.{SameFiles, memory_of}
 use Rattle.pl_nodes.specs.Nodes.{Nodes as KeptNodes}
 use Rattle.pl_state.specs.Contents.{Contents, Nodes, nodes_of, contents, with_pipes}
 use Rattle.pl_state.specs.KernelView.{view_of}
@@ -58,8 +58,8 @@ module _ {A : Type 0} (k : Inside A) (invariant : IsSound A (view_of k) × AreCo
   still_sound descs same = subst (λ (d : Descs). (IsSound A (contents d (nodes_of k.nodes) k.parked k.limits)) × (AreCounted A d k.parked.calls)) same invariant
 
 -- what a call on a pipe leaves: other pipes, and all else as it was
-pub moved_view : {A : Type 0} (k : Inside A) (new : KeptNodes) → SameFiles k.nodes new → with_pipes (view_of k) new.pipes ≡ view_of (record k { nodes = new })
-moved_view k new same = (λ i. contents k.descs (record { pipes = new.pipes; files = sym same.files i; names = sym same.names i; file_max = sym same.file_max i }) k.parked k.limits)
+pub moved_view : {A : Type 0} (k : Inside A) (new : KeptNodes) → SameFiles k.nodes new → with_pipes (view_of k) (nodes_of new) ≡ view_of (record k { nodes = new })
+moved_view k new same = (λ i. contents k.descs (record { pipes = new.pipes; files = sym same.files i; names = sym same.names i; file_max = sym same.file_max i; memory = memory_of new }) k.parked k.limits)
 
 -- A call is parked, and waits on a description that is open on a pipe.
 pub record CallOnPipe {A : Type 0} (k : Contents A) : Type 0 where

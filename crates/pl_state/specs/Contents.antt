@@ -16,19 +16,22 @@ use Rattle.pl_parked.specs.Calls.{Calls}
 use Rattle.pl_desc.specs.Rows.{at, Tables, is_pid, row_at}
 use Rattle.pl_desc.specs.Descs.{Opened, Descs}
 use Rattle.pl_nodes.specs.Nodes.{Nodes as KeptNodes}
+use Rattle.pl_nodes.specs.Nodes.{Memory, memory_of}
 use Rattle.pl_state.specs.declared.access.Access.{Access}
 use Rattle.pl_state.specs.declared.access.Access.TheVariants.{Reading, Writing}
 
--- The nodes: pipes and files by key, the names of files and FIFOs, and the most bytes of a file.
+-- The nodes: pipes and files by key, the names of files and FIFOs, the most bytes of a file, and how bytes are kept, of which
+-- processes see nothing.
 pub record Nodes : Type 0 where
   pub pipes : List (Option PipeState)
   pub files : List (Option (List ℕ))
   pub names : Map (List ℕ) Node
   pub file_max : ℕ
+  pub memory : Memory
 
--- what processes see of the nodes, however their bytes are kept
+-- what the kernel has of its nodes
 abbrev pub nodes_of : KeptNodes → Nodes
-nodes_of n = record { pipes = n.pipes; files = n.files; names = n.names; file_max = n.file_max }
+nodes_of n = record { pipes = n.pipes; files = n.files; names = n.names; file_max = n.file_max; memory = memory_of n }
 
 -- the node is there
 abbrev pub IsThere : Nodes → Node → Type 0
@@ -47,9 +50,9 @@ pub record Contents (A : Type 0) : Type 0 where
 abbrev pub contents : {A : Type 0} → Descs → Nodes → Calls A → Limits → Contents A
 contents descs nodes calls limits = record { tables = descs.tables; opened = descs.opened; nodes = nodes; calls = calls; limits = limits }
 
--- with other pipes
-abbrev pub with_pipes : {A : Type 0} → Contents A → List (Option PipeState) → Contents A
-with_pipes k pipes = record k { nodes = record k.nodes { pipes = pipes } }
+-- with the pipes of other nodes, kept as they are there
+abbrev pub with_pipes : {A : Type 0} → Contents A → Nodes → Contents A
+with_pipes k new = record k { nodes = record k.nodes { pipes = new.pipes; memory = new.memory } }
 
 -- there is such a process
 abbrev pub IsProcess : {A : Type 0} → Contents A → ℕ → Type 0

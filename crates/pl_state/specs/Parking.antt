@@ -35,7 +35,7 @@ module _ {A : Type 0} where
   -- the bytes came to the end of the pipe, and nothing else changed
   pub record Adds (old : Contents A) (pipe : ℕ) (bytes : List ℕ) (new : Contents A) : Type 0 where
     pub pipes : at new.nodes.pipes ≡ change_at pipe (λ x. record x { bytes = x.bytes ++ bytes }) (at old.nodes.pipes)
-    pub rest : new ≡ with_pipes old new.nodes.pipes
+    pub rest : new ≡ with_pipes old new.nodes
 
   -- the call of the number is a read of so many bytes, which waits on the description of the key
   pub record ReadWaits (k : Contents A) (number key n : ℕ) : Type 0 where

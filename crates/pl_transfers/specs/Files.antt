@@ -35,7 +35,7 @@ module _ {A : Type 0} (old : Contents A) (key file : ℕ) where
     pub wrote : OfFile old key file (λ o held. count ≡ length (take (old.limits.file_max - place_of o held) bytes))
     pub files : OfFile old key file (λ o held. at new.nodes.files ≡ change_at file (λ b. put_bytes b (place_of o held) (take (old.limits.file_max - place_of o held) bytes)) (at old.nodes.files))
     pub opened : OfFile old key file (λ o held. at new.opened ≡ change_at key (λ x. record x { offset = place_of o held + count }) (at old.opened))
-    pub rest : new ≡ record old { opened = new.opened; nodes = record old.nodes { files = new.nodes.files } }
+    pub rest : new ≡ record old { opened = new.opened; nodes = record old.nodes { files = new.nodes.files; memory = new.nodes.memory } }
 
   -- no byte of a write fits
   abbrev pub IsFull : Type 0

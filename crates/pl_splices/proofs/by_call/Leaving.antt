@@ -33,9 +33,9 @@ fades_changed m k q f same = by (nat_eq k q) (m q) where
 -- The same descriptions are on the same nodes, and the same calls wait.
 module _ {A : Type 0} (k new : Contents A) (sound : IsSound A k) (like : Resembles (core_of k) (core_of new))
     (fades : (d : ℕ) → Fades (at k.opened d) (at new.opened d)) (still : (n : Node) → IsThere k.nodes n → IsThere new.nodes n)
-    (rest : new ≡ record k { opened = new.opened; nodes = record k.nodes { pipes = new.nodes.pipes; files = new.nodes.files } }) where
+    (rest : new ≡ record k { opened = new.opened; nodes = record k.nodes { pipes = new.nodes.pipes; files = new.nodes.files; memory = new.nodes.memory } }) where
   abbrev left : Contents A
-  left = record k { opened = new.opened; nodes = record k.nodes { pipes = new.nodes.pipes; files = new.nodes.files } }
+  left = record k { opened = new.opened; nodes = record k.nodes { pipes = new.nodes.pipes; files = new.nodes.files; memory = new.nodes.memory } }
 
   still_there : (n : Node) → IsThere k.nodes n → IsThere left.nodes n
   still_there (node.Pipe p) h = still (node.Pipe p) h

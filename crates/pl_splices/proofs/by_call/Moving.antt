@@ -18,7 +18,7 @@ use Rattle.pl_desc.specs.Rows.{at}
 use Rattle.pl_desc.specs.Descs.{Opened}
 use Rattle.pl_file.specs.File.{written}
 use Rattle.pl_nodes.proofs.Keyed.{change_at-is}
-use Rattle.pl_state.specs.Contents.{Contents, IsThere, with_pipes, node_of, description_of, core_of}
+use Rattle.pl_state.specs.Contents.{Contents, Nodes, IsThere, with_pipes, node_of, description_of, core_of}
 use Rattle.pl_state.specs.Opens.{OpenOn}
 use Rattle.pl_state.specs.Sound.{IsSound}
 use Rattle.pl_state.proofs.by_call.Begun.{pipe_held}
@@ -97,7 +97,7 @@ module _ {A : Type 0} (k : Contents A) (sound : IsSound A k) (from to : Side) (p
   pipe_q = is_q
 
   -- the bytes are copied
-  module _ (pipes : List (Option Pipe)) (after : at pipes ≡ change_at q (λ x. record x { bytes = x.bytes ++ bytes }) (at k.nodes.pipes)) where
+  module _ (pipes : Nodes) (after : at pipes.pipes ≡ change_at q (λ x. record x { bytes = x.bytes ++ bytes }) (at k.nodes.pipes)) where
     copied_is : core_of (with_pipes k pipes) ≡ set_pipe c q grown
     copied_is = changed_is k sound to.key q on_q v is_q (v.bytes ++ bytes) pipes (λ x. record x { bytes = x.bytes ++ bytes }) refl after
 
@@ -112,14 +112,14 @@ module _ {A : Type 0} (k : Contents A) (sound : IsSound A k) (from to : Side) (p
     })
 
   -- they are moved
-  module _ (pipes : List (Option Pipe)) (after : at pipes ≡ change_at q (λ x. record x { bytes = x.bytes ++ bytes }) (change_at p (λ x. record x { bytes = drop many x.bytes }) (at k.nodes.pipes))) where
+  module _ (pipes : Nodes) (after : at pipes.pipes ≡ change_at q (λ x. record x { bytes = x.bytes ++ bytes }) (change_at p (λ x. record x { bytes = drop many x.bytes }) (at k.nodes.pipes))) where
     abbrev taken : ℕ → Option Pipe
     taken = set_at nat_eq (at k.nodes.pipes) p (Some less)
 
     taken_q : taken q ≡ Some v
     taken_q = at_other (at k.nodes.pipes) p q (Some less) apart ∙ is_q
 
-    pipes_are : at pipes ≡ set_at nat_eq taken q (Some grown)
+    pipes_are : at pipes.pipes ≡ set_at nat_eq taken q (Some grown)
     pipes_are = after ∙ ap (change_at q (λ x. record x { bytes = x.bytes ++ bytes })) (change_at-is p (λ x. record x { bytes = drop many x.bytes }) (at k.nodes.pipes) u is_p)
         ∙ change_at-is q (λ x. record x { bytes = x.bytes ++ bytes }) taken v taken_q
 
@@ -236,7 +236,7 @@ module _ {A : Type 0} (k : Contents A) (sound : IsSound A k) (from to : Side) (f
       ∙ ap (λ z. moved_on core giver taker false (FileNode f) (PipeNode q) (take many (drop start_f (unwrap_or z [])))) is_f
       ∙ ap (λ n. Done (advanced core giver n) flow_in (count n)) part_long
 
-  module _ (pipes : List (Option Pipe)) (after : at pipes ≡ change_at q (λ x. record x { bytes = x.bytes ++ part }) (at k.nodes.pipes))
+  module _ (pipes : Nodes) (after : at pipes.pipes ≡ change_at q (λ x. record x { bytes = x.bytes ++ part }) (at k.nodes.pipes))
       (opened : List (Option Opened)) (moves : at opened ≡ (if is_some from.given then at k.opened else change_at from.key (λ x. record x { offset = start_f + many }) (at k.opened))) where
     abbrev filled : Contents A
     filled = with_pipes k pipes
@@ -323,7 +323,7 @@ module _ {A : Type 0} (k : Contents A) (sound : IsSound A k) (from to : Side) (p
       ∙ ap (λ z. Done (advanced (set_file old_core g (put_bytes (unwrap_or z []) start_g front)) keeper (length front)) (record { out = Some (p, length front); into = None }) (count (length front))) is_g
       ∙ ap (λ n. Done (advanced (set_file old_core g put) keeper n) (record { out = Some (p, n); into = None }) (count n)) front_long
 
-  module _ (pipes : List (Option Pipe)) (after : at pipes ≡ change_at p (λ x. record x { bytes = drop many x.bytes }) (at k.nodes.pipes))
+  module _ (pipes : Nodes) (after : at pipes.pipes ≡ change_at p (λ x. record x { bytes = drop many x.bytes }) (at k.nodes.pipes))
       (files : List (Option (List ℕ))) (wrote : at files ≡ change_at g (written start_g front) (at k.nodes.files))
       (opened : List (Option Opened)) (moves : at opened ≡ (if is_some to.given then at k.opened else change_at to.key (λ x. record x { offset = start_g + many }) (at k.opened))) where
     abbrev shorter : Pipe
@@ -333,7 +333,7 @@ module _ {A : Type 0} (k : Contents A) (sound : IsSound A k) (from to : Side) (p
     emptied = with_pipes k pipes
 
     abbrev wrote_k : Contents A
-    wrote_k = record k { nodes = record k.nodes { pipes = pipes; files = files } }
+    wrote_k = record k { nodes = record k.nodes { pipes = pipes.pipes; files = files; memory = pipes.memory } }
 
     abbrev emptied_core : Core A numbers
     emptied_core = set_pipe old_core p shorter

@@ -8,7 +8,7 @@ use Rattle.pl_model.specs.Settle.{settle}
 use Rattle.pl_model.specs.Trial.{still, loses, gains, flowed}
 use Rattle.pl_model.proofs.settling.Changes.{put-settled}
 use Rattle.pl_desc.specs.Rows.{at}
-use Rattle.pl_state.specs.Contents.{Contents, with_pipes, core_of}
+use Rattle.pl_state.specs.Contents.{Contents, Nodes, with_pipes, core_of}
 use Rattle.pl_state.specs.Opens.{OpenOn}
 use Rattle.pl_state.specs.Sound.{IsSound}
 use Rattle.pl_nodes.proofs.Keyed.{change_at-is}
@@ -16,12 +16,12 @@ use Rattle.pl_state.proofs.by_call.Begun.{pipe_held}
 use Rattle.pl_state.proofs.holders.There.{settled_after, there-put}
 
 -- a pipe with an end is put in the place of what it was, and is hung as it was
-module _ {A : Type 0} (k : Contents A) (sound : IsSound A k) (d p : ℕ) (on : OpenOn k d (node.Pipe p)) (x : Pipe) (is : at k.nodes.pipes p ≡ Some x) (y : Pipe) (same_hung : y.hung ≡ x.hung) (pipes : List (Option Pipe))
-    (f : Pipe → Pipe) (gives : f x ≡ y) (after : at pipes ≡ change_at p f (at k.nodes.pipes)) where
+module _ {A : Type 0} (k : Contents A) (sound : IsSound A k) (d p : ℕ) (on : OpenOn k d (node.Pipe p)) (x : Pipe) (is : at k.nodes.pipes p ≡ Some x) (y : Pipe) (same_hung : y.hung ≡ x.hung) (pipes : Nodes)
+    (f : Pipe → Pipe) (gives : f x ≡ y) (after : at pipes.pipes ≡ change_at p f (at k.nodes.pipes)) where
   abbrev new : Contents A
   new = with_pipes k pipes
 
-  put_pipes : at pipes ≡ set_at nat_eq (at k.nodes.pipes) p (Some y)
+  put_pipes : at pipes.pipes ≡ set_at nat_eq (at k.nodes.pipes) p (Some y)
   put_pipes = after ∙ change_at-is p f (at k.nodes.pipes) x is ∙ ap (λ z. set_at nat_eq (at k.nodes.pipes) p (Some z)) gives
 
   pub put_is : core_of new ≡ set_pipe (core_of k) p y
@@ -51,8 +51,8 @@ module _ {A : Type 0} (k : Contents A) (sound : IsSound A k) (d p : ℕ) (on : O
   }
 
 -- it has other bytes
-module _ {A : Type 0} (k : Contents A) (sound : IsSound A k) (d p : ℕ) (on : OpenOn k d (node.Pipe p)) (x : Pipe) (is : at k.nodes.pipes p ≡ Some x) (bytes : List ℕ) (pipes : List (Option Pipe))
-    (f : Pipe → Pipe) (gives : f x ≡ record x { bytes = bytes }) (after : at pipes ≡ change_at p f (at k.nodes.pipes)) where
+module _ {A : Type 0} (k : Contents A) (sound : IsSound A k) (d p : ℕ) (on : OpenOn k d (node.Pipe p)) (x : Pipe) (is : at k.nodes.pipes p ≡ Some x) (bytes : List ℕ) (pipes : Nodes)
+    (f : Pipe → Pipe) (gives : f x ≡ record x { bytes = bytes }) (after : at pipes.pipes ≡ change_at p f (at k.nodes.pipes)) where
   pub changed_is : core_of (with_pipes k pipes) ≡ set_pipe (core_of k) p (record x { bytes = bytes })
   changed_is = put_is k sound d p on x is (record x { bytes = bytes }) refl pipes f gives after
 

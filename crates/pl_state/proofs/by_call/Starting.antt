@@ -19,6 +19,7 @@ use Rattle.pl_model.proofs.settling.Sound.{opening-settled}
 use Rattle.pl_model.proofs.streams.StreamRuns.{opening_below}
 use Rattle.pl_desc.specs.Rows.{at, table_of, rows_in, is_pid, row_at, free_pid, count_at}
 use Rattle.pl_desc.specs.Descs.{Descs, IsTidy}
+use Rattle.pl_nodes.specs.Nodes.{Memory}
 use Rattle.pl_state.specs.Contents.{Contents, contents, core_of}
 use Rattle.pl_state.specs.Sound.{IsSound, AreCounted}
 use Rattle.pl_state.specs.Makes.{MakesAtKeys, MayWantAtKeys, Stands}
@@ -73,8 +74,8 @@ module _ {A : Type 0} (m : Known A) where
       start-sound = stays-sound m descs' (ap (λ z. at z.opened) rest) start-held (belong-more calls.calls (is_pid descs.tables) (is_pid descs'.tables) sound.belong pid pids)
 
 -- a new kernel
-abbrev nothing : {A : Type 0} → Limits → Contents A
-nothing limits = record { tables = []; opened = []; nodes = record { pipes = []; files = []; names = []; file_max = limits.file_max }; calls = record { calls = []; next = limits.first_call }; limits = limits }
+abbrev nothing : {A : Type 0} → Memory → Limits → Contents A
+nothing memory limits = record { tables = []; opened = []; nodes = record { pipes = []; files = []; names = []; file_max = limits.file_max; memory = memory }; calls = record { calls = []; next = limits.first_call }; limits = limits }
 
 no_table : (pid : ℕ) → table_of [] pid ≡ None
 no_table pid = by (nat_lt 0 pid)
@@ -86,8 +87,8 @@ no_table pid = by (nat_lt 0 pid)
 abbrev same : Renaming
 same = record { to = λ x. x; back = λ x. x; to-back = λ x. refl; back-to = λ x. refl }
 
-module _ (A : Type 0) (limits : Limits) where
-  core-nothing : core_of {A = A} (nothing limits) ≡ (opening {A = A} limits).core
+module _ (A : Type 0) (memory : Memory) (limits : Limits) where
+  core-nothing : core_of {A = A} (nothing memory limits) ≡ (opening {A = A} limits).core
   unfolding core_of
   core-nothing = λ i. record {
     processes = λ pid. is_some (no_table pid i);
@@ -101,7 +102,7 @@ module _ (A : Type 0) (limits : Limits) where
     limits = limits;
   }
 
-  pub sound_nothing : limits.first_call ≤ last_call → IsSound A (nothing limits)
+  pub sound_nothing : limits.first_call ≤ last_call → IsSound A (nothing memory limits)
   sound_nothing few = record {
     whole = record {
       rise = omega arith;
@@ -119,12 +120,12 @@ module _ (A : Type 0) (limits : Limits) where
   pub held_nothing : (descs : Descs) → descs.loose ≡ [] → IsTidy descs → AreCounted A descs []
   held_nothing descs none tidy = record { tidy = tidy; counted = λ d. ap (λ xs. count_at xs d) none }
 
-  pub stands_nothing : Stands (nothing limits) (opening {A = A} limits)
+  pub stands_nothing : Stands (nothing memory limits) (opening {A = A} limits)
   stands_nothing = record {
     numbered = record { description = same; pipe = same; file = same };
     renamed = renamed;
     below = opening_below limits;
   }
     where
-      renamed : rename (record { description = same; pipe = same; file = same }) (core_of {A = A} (nothing limits)) ≡ (opening {A = A} limits).core
+      renamed : rename (record { description = same; pipe = same; file = same }) (core_of {A = A} (nothing memory limits)) ≡ (opening {A = A} limits).core
       renamed = ap (rename (record { description = same; pipe = same; file = same })) core-nothing

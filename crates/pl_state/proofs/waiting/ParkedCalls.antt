@@ -113,8 +113,8 @@ module _ {A : Type 0} (k : Contents A) (sound : IsSound A k) (key : ℕ) (o : Op
     abbrev moved : Core A numbers
     moved = set_pipe c p (record x { bytes = bytes })
 
-    moved_is : core_of (with_pipes with_it new.nodes.pipes) ≡ parked moved (waiting_of w)
-    moved_is = changed_is with_it park_sound key p (record { opened = on.opened; here = on.here; node = on.node }) x is bytes new.nodes.pipes (λ y. record y { bytes = y.bytes ++ more }) refl adds.pipes ∙ ap (λ z. set_pipe z p (record x { bytes = bytes })) park_is
+    moved_is : core_of (with_pipes with_it new.nodes) ≡ parked moved (waiting_of w)
+    moved_is = changed_is with_it park_sound key p (record { opened = on.opened; here = on.here; node = on.node }) x is bytes new.nodes (λ y. record y { bytes = y.bytes ++ more }) refl adds.pipes ∙ ap (λ z. set_pipe z p (record x { bytes = bytes })) park_is
 
     moved_live : (d : ℕ) → is_live (parked moved (waiting_of w)) d ≡ is_live c d
     unfolding in_rows in_parked pids
@@ -128,7 +128,7 @@ module _ {A : Type 0} (k : Contents A) (sound : IsSound A k) (key : ℕ) (o : Op
         settles is = moved-settled c (parked moved (waiting_of w)) sound.settled (record { descriptions = refl; files = refl; names = refl }) moved_live p x is (pipe_held k sound.whole key p on) bytes refl
 
     pub park_moves_sound : IsSound A new
-    park_moves_sound = subst (IsSound A) (sym adds.rest) (changed_sound with_it park_sound key p (record { opened = on.opened; here = on.here; node = on.node }) x is bytes new.nodes.pipes (λ y. record y { bytes = y.bytes ++ more }) refl adds.pipes)
+    park_moves_sound = subst (IsSound A) (sym adds.rest) (changed_sound with_it park_sound key p (record { opened = on.opened; here = on.here; node = on.node }) x is bytes new.nodes (λ y. record y { bytes = y.bytes ++ more }) refl adds.pipes)
 
 -- few holds are loose
 pub few_holds : {A : Type 0} (descs : Descs) (k : Contents A) → IsSound A k → AreCounted A descs k.calls.calls → (key : ℕ) → count_at descs.loose key < 2 ^ 100

@@ -12,7 +12,7 @@ use Rattle.pl_model.proofs.settling.Parking.{again_live}
 use Rattle.pl_parked.specs.declared.call.ParkedCall.{ParkedCall}
 use Rattle.pl_desc.specs.Rows.{at, is_pid}
 use Rattle.pl_desc.specs.Descs.{Descs}
-use Rattle.pl_state.specs.Contents.{Contents, with_pipes, waiting_of, core_of}
+use Rattle.pl_state.specs.Contents.{Contents, Nodes, with_pipes, waiting_of, core_of}
 use Rattle.pl_state.specs.Sound.{IsSound, IsWaiting, AreCounted, MayWait, KeepsNodes}
 use Rattle.pl_state.proofs.Known.{CallOnPipe}
 use Rattle.pl_state.proofs.waiting.Calls.{put-parked, get-parked, get_put, Rise-put}
@@ -22,7 +22,7 @@ use Rattle.pl_state.proofs.holders.There.{settled_after}
 use Rattle.pl_state.proofs.by_call.Moving.{changed_is, changed_sound}
 
 -- more bytes are taken, and its pipe with other bytes
-module _ {A : Type 0} (k : Contents A) (o : CallOnPipe k) (taken : ℕ) (may : MayWait o.call.call taken) (more : List ℕ) (pipes : List (Option Pipe)) (after : at pipes ≡ change_at o.pipe (λ y. record y { bytes = y.bytes ++ more }) (at k.nodes.pipes)) where
+module _ {A : Type 0} (k : Contents A) (o : CallOnPipe k) (taken : ℕ) (may : MayWait o.call.call taken) (more : List ℕ) (pipes : Nodes) (after : at pipes.pipes ≡ change_at o.pipe (λ y. record y { bytes = y.bytes ++ more }) (at k.nodes.pipes)) where
   open o use {sound, number as n, call as w, here, key, kept, pipe as p, on, held as x, there as is}
 
   abbrev c : Core A numbers

@@ -20,7 +20,7 @@ use Rattle.pl_model.specs.Numbered.{numbers}
 use Rattle.pl_state.specs.declared.access.OpenNode.{OpenNode}
 use Rattle.pl_state.specs.declared.access.OpenEnd.{OpenEnd}
 use Rattle.pl_desc.specs.Rows.{at}
-use Rattle.pl_state.specs.Contents.{Contents, with_pipes, contents, description_of, core_of}
+use Rattle.pl_state.specs.Contents.{Contents, Nodes, with_pipes, contents, description_of, core_of}
 use Rattle.pl_state.specs.Opens.{Opens, of_end}
 use Rattle.pl_state.specs.LastHold.{has_writer}
 use Rattle.pl_state.specs.Parking.{refusal, call_on, with_call}
@@ -101,7 +101,7 @@ module _ {A : Type 0} (m : Caller A) (fd : ℤ) (n : ℕ) where
         gave : core_step c x ≡ Plain (ended c (record { state = set_pipe c o.pipe (record p { bytes = drop many p.bytes }); reply = Bytes (take many p.bytes); flow = loses o.pipe many }))
         gave = came (ReadCase.Gives many) r ∙ ap (λ z. Plain (ended c (record { state = z; reply = Bytes (take many p.bytes); flow = loses o.pipe many }))) (flowed-out k o.pipe p is many)
 
-        pub read-gives : (bytes : List ℕ) → bytes ≡ take many p.bytes → (pipes : List (Option Pipe)) → at pipes ≡ change_at o.pipe (λ x. record x { bytes = drop many x.bytes }) (at k.nodes.pipes)
+        pub read-gives : (bytes : List ℕ) → bytes ≡ take many p.bytes → (pipes : Nodes) → at pipes.pipes ≡ change_at o.pipe (λ x. record x { bytes = drop many x.bytes }) (at k.nodes.pipes)
             → MakesAtKeys k x (Bytes bytes) (with_pipes k pipes)
         read-gives bytes b pipes after = does_plain k (with_pipes k pipes) x _ (Bytes bytes) gave (ap (λ z. Bytes z) b)
             (changed_core k sound o.key o.pipe opens.on p is (drop many p.bytes) pipes (λ x. record x { bytes = drop many x.bytes }) refl after)

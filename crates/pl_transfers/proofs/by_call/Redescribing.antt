@@ -70,7 +70,7 @@ module _ {A : Type 0} (k : Contents A) (sound : IsSound A k) (d : ℕ) (o : Open
 
   -- and its file has other bytes
   module _ (g : ℕ) (held : List ℕ) (there : at k.nodes.files g ≡ Some held) (h : List ℕ → List ℕ) (files : at new.nodes.files ≡ change_at g h (at k.nodes.files))
-      (rest : new ≡ record k { opened = new.opened; nodes = record k.nodes { files = new.nodes.files } }) where
+      (rest : new ≡ record k { opened = new.opened; nodes = record k.nodes { files = new.nodes.files; memory = new.nodes.memory } }) where
     abbrev pub rewritten_core : Core A numbers
     rewritten_core = set_description (set_file (core_of k) g (h held)) d (description_of (f o))
 
@@ -88,10 +88,10 @@ module _ {A : Type 0} (k : Contents A) (sound : IsSound A k) (d : ℕ) (o : Open
     pub rewritten : core_of new ≡ settle (core_of k) rewritten_core
     rewritten = rewritten_is ∙ sym (write-settled c sound.settled d (description_of o) (description_of (f o)) described same_place mode g held file_there (h held))
 
-    nodes_still : AreThere (at new.opened) (record k.nodes { files = new.nodes.files })
-    nodes_still = there-still (at new.opened) k.nodes (record k.nodes { files = new.nodes.files }) refl still there_still
+    nodes_still : AreThere (at new.opened) (record k.nodes { files = new.nodes.files; memory = new.nodes.memory })
+    nodes_still = there-still (at new.opened) k.nodes (record k.nodes { files = new.nodes.files; memory = new.nodes.memory }) refl still there_still
       where
-        still : (n : Node) → IsThere k.nodes n → IsThere (record k.nodes { files = new.nodes.files }) n
+        still : (n : Node) → IsThere k.nodes n → IsThere (record k.nodes { files = new.nodes.files; memory = new.nodes.memory }) n
         still (node.Pipe p) i = i
         still (node.File q) i = subst (λ (m : ℕ → Option (List ℕ)). IsSome (m q)) (sym files_are) (set_some (at k.nodes.files) g q (Some (h held)) (λ e. refl) i)
 
@@ -103,7 +103,7 @@ module _ {A : Type 0} (k : Contents A) (sound : IsSound A k) (d : ℕ) (o : Open
         there = nodes_still;
         limit = sound.limit;
         once = sound.once;
-        settled = settled_after (core_of (record k { opened = new.opened; nodes = record k.nodes { files = new.nodes.files } })) c rewritten_core (sym (ap core_of rest) ∙ rewritten);
+        settled = settled_after (core_of (record k { opened = new.opened; nodes = record k.nodes { files = new.nodes.files; memory = new.nodes.memory } })) c rewritten_core (sym (ap core_of rest) ∙ rewritten);
       };
       waiting = sound.waiting;
       belong = sound.belong;

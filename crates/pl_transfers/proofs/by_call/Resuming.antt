@@ -19,7 +19,7 @@ use Rattle.pl_model.specs.Numbered.{numbers}
 use Rattle.pl_model.proofs.settling.FromSettled.{settle-before, had-writer-bytes}
 use Rattle.pl_parked.specs.declared.call.ParkedCall.{ParkedCall}
 use Rattle.pl_desc.specs.Rows.{at}
-use Rattle.pl_state.specs.Contents.{Contents, with_pipes, waiting_of, core_of}
+use Rattle.pl_state.specs.Contents.{Contents, Nodes, with_pipes, waiting_of, core_of}
 use Rattle.pl_state.specs.LastHold.{has_reader, has_writer}
 use Rattle.pl_state.specs.Sound.{IsSound, MayWait}
 use Rattle.pl_state.specs.Makes.{MakesAtKeys, MayWantAtKeys}
@@ -108,7 +108,7 @@ module _ {A : Type 0} (k : Contents A) (o : CallOnPipe k) where
             same = ap (λ ps. record (flowed state still) { parked = ps }) (put_same (flowed state still).parked n (waiting_of w) (ap (λ z. get nat_eq z.parked n) (flowed-still k) ∙ parked-is k sound n (Some w) here))
 
     module _ (count_of : ℕ) (r : read ≡ ReadCase.Gives count_of) where
-      pub resume-read-gives : (bytes : List ℕ) → bytes ≡ take count_of y.bytes → (pipes : List (Option Pipe)) → at pipes ≡ change_at p (λ x. record x { bytes = drop count_of x.bytes }) (at k.nodes.pipes)
+      pub resume-read-gives : (bytes : List ℕ) → bytes ≡ take count_of y.bytes → (pipes : Nodes) → at pipes.pipes ≡ change_at p (λ x. record x { bytes = drop count_of x.bytes }) (at k.nodes.pipes)
           → (new : Contents A) → core_of new ≡ settle (core_of (with_pipes k pipes)) (without_call (core_of (with_pipes k pipes)) n) → MakesAtKeys k (Resume n) (Bytes bytes) new
       resume-read-gives bytes b pipes after new new_is =
           ends_moved k sound n w here p y is (drop count_of y.bytes) (loses p count_of) (Bytes bytes) (with_pipes k pipes) new
@@ -132,7 +132,7 @@ module _ {A : Type 0} (k : Contents A) (o : CallOnPipe k) where
     pub resume-write-cut : (new : Contents A) → Comes_to WriteCase.CutShort → core_of new ≡ settle state (without_call state n) → MakesAtKeys k (Resume n) (Count w.taken true) new
     resume-write-cut new r new_is = ends_still k sound n w here (Count w.taken true) new (tries_write WriteCase.CutShort r) new_is
 
-    module _ (from to : ℕ) (part : List ℕ) (is_part : part ≡ slice_range bytes from to) (pipes : List (Option Pipe)) (after : at pipes ≡ change_at p (λ x. record x { bytes = x.bytes ++ part }) (at k.nodes.pipes)) where
+    module _ (from to : ℕ) (part : List ℕ) (is_part : part ≡ slice_range bytes from to) (pipes : Nodes) (after : at pipes.pipes ≡ change_at p (λ x. record x { bytes = x.bytes ++ part }) (at k.nodes.pipes)) where
       pub resume-write-ends : Comes_to (WriteCase.Ends from to) → (new : Contents A) → core_of new ≡ settle (core_of (with_pipes k pipes)) (without_call (core_of (with_pipes k pipes)) n) → MakesAtKeys k (Resume n) (Count to false) new
       resume-write-ends r new new_is =
           ends_moved k sound n w here p y is (y.bytes ++ part) (gains p part) (Count to false) (with_pipes k pipes) new

@@ -20,7 +20,7 @@ use Rattle.pl_desc.specs.Rows.{at}
 use Rattle.pl_decisions.specs.Capacities.{capacity_set}
 use Rattle.pl_decisions.specs.Offsets.{or_refused}
 use Rattle.pl_decisions.proofs.Deciding.{set_capacity-is}
-use Rattle.pl_state.specs.Contents.{Contents, contents, with_pipes, core_of}
+use Rattle.pl_state.specs.Contents.{Contents, Nodes, contents, with_pipes, core_of}
 use Rattle.pl_state.specs.Sound.{IsWhole}
 use Rattle.pl_state.specs.Makes.{MakesAtKeys, MayWantAtKeys}
 use Rattle.pl_state.proofs.Known.{Caller}
@@ -107,7 +107,7 @@ module _ {A : Type 0} (m : Caller A) (fd : ℤ) where
         pub set-wants : MayWantAtKeys k x
         set-wants = wants_plain k k x _ (step-answered k pid call process (set_pipe c p (record y { capacity = n })) (Size n) answers) refl
 
-        module _ (end : HasEnd k p) (pipes : List (Option Pipe)) (after : at pipes ≡ change_at p (λ z. record z { capacity = n }) (at nodes.pipes)) where
+        module _ (end : HasEnd k p) (pipes : Nodes) (after : at pipes.pipes ≡ change_at p (λ z. record z { capacity = n }) (at nodes.pipes)) where
           pub set-made : MakesAtKeys k x (Size n) (with_pipes k pipes)
           set-made =
               does_plain k (with_pipes k pipes) x _ (Size n) (step-answered k pid call process (set_pipe c p (record y { capacity = n })) (Size n) answers) refl

@@ -20,7 +20,7 @@ use Rattle.pl_model.specs.Numbered.{numbers}
 use Rattle.pl_state.specs.declared.access.OpenNode.{OpenNode}
 use Rattle.pl_state.specs.declared.access.OpenEnd.{OpenEnd}
 use Rattle.pl_desc.specs.Rows.{at}
-use Rattle.pl_state.specs.Contents.{Contents, with_pipes, contents, description_of, core_of}
+use Rattle.pl_state.specs.Contents.{Contents, Nodes, with_pipes, contents, description_of, core_of}
 use Rattle.pl_state.specs.Opens.{Opens, of_end}
 use Rattle.pl_state.specs.LastHold.{has_reader}
 use Rattle.pl_state.specs.Parking.{refusal, call_on, with_call, Adds}
@@ -116,7 +116,7 @@ module _ {A : Type 0} (m : Caller A) (fd : ℤ) (bytes : List ℕ) where
         wrote : core_step c x ≡ Plain (ended c (record { state = set_pipe c o.pipe (record p { bytes = p.bytes ++ more }); reply = count to; flow = gains o.pipe more }))
         wrote = came (WriteCase.Ends from to) r ∙ ap (λ z. Plain (ended c (record { state = z; reply = count to; flow = gains o.pipe more }))) (flowed-in k o.pipe p is more)
 
-        pub write-ends : (part : List ℕ) → part ≡ more → (pipes : List (Option Pipe)) → at pipes ≡ change_at o.pipe (λ x. record x { bytes = x.bytes ++ part }) (at k.nodes.pipes)
+        pub write-ends : (part : List ℕ) → part ≡ more → (pipes : Nodes) → at pipes.pipes ≡ change_at o.pipe (λ x. record x { bytes = x.bytes ++ part }) (at k.nodes.pipes)
             → MakesAtKeys k x (Count to false) (with_pipes k pipes)
         write-ends part b pipes after = does_plain k (with_pipes k pipes) x _ (Count to false) wrote refl
             (changed_core k sound o.key o.pipe opens.on p is (p.bytes ++ more) pipes (λ x. record x { bytes = x.bytes ++ part }) (ap (λ z. record p { bytes = p.bytes ++ z }) b) after)

@@ -57,14 +57,14 @@ module _ (g : Over) (c : After-advance g) where
   moves : at c.advance.new.descs.opened ≡ (if is_some c.args.from.given then at k.opened else change_at c.args.from.key (λ x. record x { offset = start + c.args.count }) (at k.opened))
   moves = c.advance.ensures.opened ∙ ap (λ n. if is_some c.args.from.given then at k.opened else change_at c.args.from.key (λ (x : Opened). record x { offset = n + c.args.count }) (at k.opened)) start_is
 
-  new_is : record (with_pipes k c.move_file_pipe.new.self.pipes) { opened = c.advance.new.descs.opened } ≡ contents c.advance.new.descs (nodes_of c.move_file_pipe.new.self) c.kernel.inside.parked c.kernel.inside.limits
+  new_is : record (with_pipes k (nodes_of c.move_file_pipe.new.self)) { opened = c.advance.new.descs.opened } ≡ contents c.advance.new.descs (nodes_of c.move_file_pipe.new.self) c.kernel.inside.parked c.kernel.inside.limits
   new_is =
       ap (λ (z : Contents g.row.A.Denot). record z { opened = c.advance.new.descs.opened }) (moved_view c.kernel.inside c.move_file_pipe.new.self c.in_ok-move_file_pipe.ensures.files)
       ∙ ap (λ (d : Descs). contents d (nodes_of c.move_file_pipe.new.self) c.kernel.inside.parked c.kernel.inside.limits) (sym c.advance.ensures.rest)
 
 pub invariant_of-kernel-2 : goal.invariant_of-kernel-2
 invariant_of-kernel-2 g c = (
-  subst (IsSound g.row.A.Denot) (new_is g c) (from_file_sound (k g c) c.kernel.invariant.0 c.args.from c.args.to c.args.source c.args.target (on_f g c) (on_q g c) (file g c).0 (pipe g c).0 (file g c).1 (pipe g c).1 c.args.count (left g c) c.move_file_pipe.new.self.pipes (after g c) c.advance.new.descs.opened (moves g c)),
+  subst (IsSound g.row.A.Denot) (new_is g c) (from_file_sound (k g c) c.kernel.invariant.0 c.args.from c.args.to c.args.source c.args.target (on_f g c) (on_q g c) (file g c).0 (pipe g c).0 (file g c).1 (pipe g c).1 c.args.count (left g c) (nodes_of c.move_file_pipe.new.self) (after g c) c.advance.new.descs.opened (moves g c)),
   record { tidy = c.advance.ensures.tidy; counted = λ q. ap (λ (d : Descs). count_at d.loose q) c.advance.ensures.rest ∙ c.kernel.invariant.1.counted q },
 )
 
@@ -72,4 +72,4 @@ pub returns-clause-done : goal.returns-clause-done
 returns-clause-done g c =
     let new = contents c.advance.new.descs (nodes_of c.move_file_pipe.new.self) c.kernel.inside.parked c.kernel.inside.limits in
     subst (λ z. GoesOver z c.args.from c.args.to false c.args.count new) c.kernel.view_is
-    (subst (GoesOver (k g c) c.args.from c.args.to false c.args.count) (new_is g c) (from_file (k g c) c.kernel.invariant.0 c.args.from c.args.to c.args.source c.args.target (on_f g c) (on_q g c) (file g c).0 (pipe g c).0 (file g c).1 (pipe g c).1 c.args.count (left g c) c.move_file_pipe.new.self.pipes (after g c) c.advance.new.descs.opened (moves g c)))
+    (subst (GoesOver (k g c) c.args.from c.args.to false c.args.count) (new_is g c) (from_file (k g c) c.kernel.invariant.0 c.args.from c.args.to c.args.source c.args.target (on_f g c) (on_q g c) (file g c).0 (pipe g c).0 (file g c).1 (pipe g c).1 c.args.count (left g c) (nodes_of c.move_file_pipe.new.self) (after g c) c.advance.new.descs.opened (moves g c)))

@@ -6,7 +6,7 @@ use Rattle.pl_model.specs.State.{Pipe}
 use Rattle.pl_desc.specs.Rows.{at, count_at}
 use Rattle.pl_desc.specs.Descs.{Opened, Descs}
 use Rattle.pl_file.specs.File.{written, fitting}
-use Rattle.pl_nodes.specs.Nodes.{bytes_of}
+use Rattle.pl_nodes.specs.Nodes.{bytes_of, memory_of}
 use Rattle.pl_state.specs.KernelView.{view_of}
 use Rattle.pl_state.specs.Contents.{Contents, contents, nodes_of}
 use Rattle.pl_state.specs.Opens.{OpenOn}
@@ -77,18 +77,18 @@ module _ (g : Over) (c : After-advance g) where
   abbrev new : Contents g.row.A.Denot
   new = contents c.advance.new.descs (nodes_of c.move_pipe_file.new.self) c.kernel.inside.parked c.kernel.inside.limits
 
-  new_is : record k { opened = c.advance.new.descs.opened; nodes = record k.nodes { pipes = c.move_pipe_file.new.self.pipes; files = c.move_pipe_file.new.self.files } } ≡ new
+  new_is : record k { opened = c.advance.new.descs.opened; nodes = record k.nodes { pipes = c.move_pipe_file.new.self.pipes; files = c.move_pipe_file.new.self.files; memory = memory_of c.move_pipe_file.new.self } } ≡ new
   new_is =
-      (λ i. record k { opened = c.advance.new.descs.opened; nodes = record { pipes = c.move_pipe_file.new.self.pipes; files = c.move_pipe_file.new.self.files; names = sym c.move_pipe_file.ensures.names i; file_max = sym c.move_pipe_file.ensures.file_max i } })
+      (λ i. record k { opened = c.advance.new.descs.opened; nodes = record { pipes = c.move_pipe_file.new.self.pipes; files = c.move_pipe_file.new.self.files; names = sym c.move_pipe_file.ensures.names i; file_max = sym c.move_pipe_file.ensures.file_max i; memory = memory_of c.move_pipe_file.new.self } })
       ∙ ap (λ (d : Descs). contents d (nodes_of c.move_pipe_file.new.self) c.kernel.inside.parked c.kernel.inside.limits) (sym c.advance.ensures.rest)
 
 pub invariant_of-kernel-2 : goal.invariant_of-kernel-2
 invariant_of-kernel-2 g c = (
-  subst (IsSound g.row.A.Denot) (new_is g c) (to_file_sound (k g c) c.kernel.invariant.0 c.args.from c.args.to c.args.source c.args.target (on_p g c) (on_g g c) (pipe g c).0 (file g c).0 (pipe g c).1 (file g c).1 c.args.count c.requires.some (held g c) c.move_pipe_file.new.self.pipes (after g c) c.move_pipe_file.new.self.files (wrote g c) c.advance.new.descs.opened (moves g c)),
+  subst (IsSound g.row.A.Denot) (new_is g c) (to_file_sound (k g c) c.kernel.invariant.0 c.args.from c.args.to c.args.source c.args.target (on_p g c) (on_g g c) (pipe g c).0 (file g c).0 (pipe g c).1 (file g c).1 c.args.count c.requires.some (held g c) (nodes_of c.move_pipe_file.new.self) (after g c) c.move_pipe_file.new.self.files (wrote g c) c.advance.new.descs.opened (moves g c)),
   record { tidy = c.advance.ensures.tidy; counted = λ q. ap (λ (d : Descs). count_at d.loose q) c.advance.ensures.rest ∙ c.kernel.invariant.1.counted q },
 )
 
 pub returns-clause-done : goal.returns-clause-done
 returns-clause-done g c =
     subst (λ z. GoesOver z c.args.from c.args.to false c.args.count (new g c)) c.kernel.view_is
-    (subst (GoesOver (k g c) c.args.from c.args.to false c.args.count) (new_is g c) (to_file (k g c) c.kernel.invariant.0 c.args.from c.args.to c.args.source c.args.target (on_p g c) (on_g g c) (pipe g c).0 (file g c).0 (pipe g c).1 (file g c).1 c.args.count c.requires.some (held g c) c.move_pipe_file.new.self.pipes (after g c) c.move_pipe_file.new.self.files (wrote g c) c.advance.new.descs.opened (moves g c)))
+    (subst (GoesOver (k g c) c.args.from c.args.to false c.args.count) (new_is g c) (to_file (k g c) c.kernel.invariant.0 c.args.from c.args.to c.args.source c.args.target (on_p g c) (on_g g c) (pipe g c).0 (file g c).0 (pipe g c).1 (file g c).1 c.args.count c.requires.some (held g c) (nodes_of c.move_pipe_file.new.self) (after g c) c.move_pipe_file.new.self.files (wrote g c) c.advance.new.descs.opened (moves g c)))

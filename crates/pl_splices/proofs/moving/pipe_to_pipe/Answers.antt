@@ -5,7 +5,7 @@ use Rattle.pl_model.specs.State.{Pipe}
 use Rattle.pl_desc.specs.Rows.{at}
 use Rattle.pl_nodes.specs.Nodes.{bytes_of}
 use Rattle.pl_state.specs.KernelView.{view_of}
-use Rattle.pl_state.specs.Contents.{Contents}
+use Rattle.pl_state.specs.Contents.{Contents, nodes_of}
 use Rattle.pl_state.specs.Opens.{OpenOn}
 use Rattle.pl_state.specs.Sound.{IsSound}
 use Rattle.pl_state.proofs.Known.{moved_view}
@@ -44,20 +44,20 @@ pub invariant_of-kernel : goal.invariant_of-kernel
 invariant_of-kernel g c =
     let w = (goal.at.invariant_of-kernel g c).After-kernel in
     let after = c.in_ok-copy_pipe_pipe.ensures.ok ∙ ap (λ z. change_at c.args.target (λ (x : Pipe). record x { bytes = x.bytes ++ z }) (at (k g w).nodes.pipes)) (front g w) in
-    (subst (IsSound g.row.A.Denot) (moved_view c.kernel.inside c.copy_pipe_pipe.new.self c.in_ok-copy_pipe_pipe.ensures.files) (copied_sound (k g w) c.kernel.invariant.0 c.args.from c.args.to c.args.source c.args.target (on_p g w) (on_q g w) c.requires.apart (p g w).0 (q g w).0 (p g w).1 (q g w).1 c.args.count (held g w) c.copy_pipe_pipe.new.self.pipes after), c.kernel.invariant.1)
+    (subst (IsSound g.row.A.Denot) (moved_view c.kernel.inside c.copy_pipe_pipe.new.self c.in_ok-copy_pipe_pipe.ensures.files) (copied_sound (k g w) c.kernel.invariant.0 c.args.from c.args.to c.args.source c.args.target (on_p g w) (on_q g w) c.requires.apart (p g w).0 (q g w).0 (p g w).1 (q g w).1 c.args.count (held g w) (nodes_of c.copy_pipe_pipe.new.self) after), c.kernel.invariant.1)
 
 pub invariant_of-kernel-in-Continue-branch-2 : goal.invariant_of-kernel-in-Continue-branch-2
 invariant_of-kernel-in-Continue-branch-2 g c =
     let w = (goal.at.invariant_of-kernel-in-Continue-branch-2 g c).After-kernel in
     let after = c.in_ok-move_pipe_pipe.ensures.ok ∙ ap (λ z. change_at c.args.target (λ (x : Pipe). record x { bytes = x.bytes ++ z }) (change_at c.args.source (λ (x : Pipe). record x { bytes = drop c.args.count x.bytes }) (at (k g w).nodes.pipes))) (front g w) in
-    (subst (IsSound g.row.A.Denot) (moved_view c.kernel.inside c.move_pipe_pipe.new.self c.in_ok-move_pipe_pipe.ensures.files) (moved_sound (k g w) c.kernel.invariant.0 c.args.from c.args.to c.args.source c.args.target (on_p g w) (on_q g w) c.requires.apart (p g w).0 (q g w).0 (p g w).1 (q g w).1 c.args.count (held g w) c.move_pipe_pipe.new.self.pipes after), c.kernel.invariant.1)
+    (subst (IsSound g.row.A.Denot) (moved_view c.kernel.inside c.move_pipe_pipe.new.self c.in_ok-move_pipe_pipe.ensures.files) (moved_sound (k g w) c.kernel.invariant.0 c.args.from c.args.to c.args.source c.args.target (on_p g w) (on_q g w) c.requires.apart (p g w).0 (q g w).0 (p g w).1 (q g w).1 c.args.count (held g w) (nodes_of c.move_pipe_pipe.new.self) after), c.kernel.invariant.1)
 
 pub returns-in_ok-copy_pipe_pipe-clause-done : goal.returns-in_ok-copy_pipe_pipe-clause-done
 returns-in_ok-copy_pipe_pipe-clause-done g c =
     let w = (goal.at.returns-in_ok-copy_pipe_pipe-clause-done g c).After-kernel in
     let after = c.in_ok-copy_pipe_pipe.ensures.ok ∙ ap (λ z. change_at c.args.target (λ (x : Pipe). record x { bytes = x.bytes ++ z }) (at (k g w).nodes.pipes)) (front g w) in
     let new = view_of (record c.kernel.inside { nodes = c.copy_pipe_pipe.new.self }) in
-    let over = subst (GoesOver (k g w) c.args.from c.args.to true c.args.count) (moved_view c.kernel.inside c.copy_pipe_pipe.new.self c.in_ok-copy_pipe_pipe.ensures.files) (copied (k g w) c.kernel.invariant.0 c.args.from c.args.to c.args.source c.args.target (on_p g w) (on_q g w) c.requires.apart (p g w).0 (q g w).0 (p g w).1 (q g w).1 c.args.count (held g w) c.copy_pipe_pipe.new.self.pipes after) in
+    let over = subst (GoesOver (k g w) c.args.from c.args.to true c.args.count) (moved_view c.kernel.inside c.copy_pipe_pipe.new.self c.in_ok-copy_pipe_pipe.ensures.files) (copied (k g w) c.kernel.invariant.0 c.args.from c.args.to c.args.source c.args.target (on_p g w) (on_q g w) c.requires.apart (p g w).0 (q g w).0 (p g w).1 (q g w).1 c.args.count (held g w) (nodes_of c.copy_pipe_pipe.new.self) after) in
     subst (λ z. GoesOver z c.args.from c.args.to c.args.is_tee c.args.count new) c.kernel.view_is (subst (λ b. GoesOver (k g w) c.args.from c.args.to b c.args.count new) (sym c.if-is_tee.true) over)
 
 pub returns-in_ok-move_pipe_pipe-clause-done : goal.returns-in_ok-move_pipe_pipe-clause-done
@@ -65,5 +65,5 @@ returns-in_ok-move_pipe_pipe-clause-done g c =
     let w = (goal.at.returns-in_ok-move_pipe_pipe-clause-done g c).After-kernel in
     let after = c.in_ok-move_pipe_pipe.ensures.ok ∙ ap (λ z. change_at c.args.target (λ (x : Pipe). record x { bytes = x.bytes ++ z }) (change_at c.args.source (λ (x : Pipe). record x { bytes = drop c.args.count x.bytes }) (at (k g w).nodes.pipes))) (front g w) in
     let new = view_of (record c.kernel.inside { nodes = c.move_pipe_pipe.new.self }) in
-    let over = subst (GoesOver (k g w) c.args.from c.args.to false c.args.count) (moved_view c.kernel.inside c.move_pipe_pipe.new.self c.in_ok-move_pipe_pipe.ensures.files) (moved_over (k g w) c.kernel.invariant.0 c.args.from c.args.to c.args.source c.args.target (on_p g w) (on_q g w) c.requires.apart (p g w).0 (q g w).0 (p g w).1 (q g w).1 c.args.count (held g w) c.move_pipe_pipe.new.self.pipes after) in
+    let over = subst (GoesOver (k g w) c.args.from c.args.to false c.args.count) (moved_view c.kernel.inside c.move_pipe_pipe.new.self c.in_ok-move_pipe_pipe.ensures.files) (moved_over (k g w) c.kernel.invariant.0 c.args.from c.args.to c.args.source c.args.target (on_p g w) (on_q g w) c.requires.apart (p g w).0 (q g w).0 (p g w).1 (q g w).1 c.args.count (held g w) (nodes_of c.move_pipe_pipe.new.self) after) in
     subst (λ z. GoesOver z c.args.from c.args.to c.args.is_tee c.args.count new) c.kernel.view_is (subst (λ b. GoesOver (k g w) c.args.from c.args.to b c.args.count new) (sym c.if-is_tee.false) over)

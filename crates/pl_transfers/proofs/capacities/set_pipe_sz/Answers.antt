@@ -5,7 +5,7 @@ use Rattle.pl_model.specs.declared.replies.Reply.TheVariants.{Size}
 use Rattle.pl_model.specs.State.{Pipe}
 use Rattle.pl_desc.specs.Rows.{at}
 use Rattle.pl_decisions.specs.Capacities.{capacity_set}
-use Rattle.pl_state.specs.Contents.{core_of}
+use Rattle.pl_state.specs.Contents.{core_of, nodes_of}
 use Rattle.pl_state.specs.KernelView.{view_of}
 use Rattle.pl_state.specs.Makes.{MakesAtKeys}
 use Rattle.pl_state.specs.Sound.{IsSound}
@@ -62,7 +62,7 @@ invariant_of-kernel-2 g c =
     let y = there g s in
     let end = (pipe_held g s).0 in (
       subst (IsSound g.row.A.Denot) (moved_view c.kernel.inside c.set_capacity.new.self c.set_capacity.ensures.files)
-          (put_sound k c.kernel.invariant.0 end.0 c.in-Some.pipe end.1 y.0 y.1 (record y.0 { capacity = c.in-Ok.capacity }) refl c.set_capacity.new.self.pipes (λ x. record x { capacity = c.in-Ok.capacity }) refl c.in-Ok-set_capacity.ensures.ok),
+          (put_sound k c.kernel.invariant.0 end.0 c.in-Some.pipe end.1 y.0 y.1 (record y.0 { capacity = c.in-Ok.capacity }) refl (nodes_of c.set_capacity.new.self) (λ x. record x { capacity = c.in-Ok.capacity }) refl c.in-Ok-set_capacity.ensures.ok),
       c.kernel.invariant.1,
     )
 
@@ -74,4 +74,4 @@ returns-clause-done g c =
     let y = there g s in
     let end = (pipe_held g s).0 in
     rw (← c.kernel.view_is) (subst (MakesAtKeys k (Begin c.args.pid (Call.SetPipeSz c.args.fd c.args.size)) (Size c.in-Ok.capacity)) (moved_view c.kernel.inside c.set_capacity.new.self c.set_capacity.ensures.files)
-    (set-made (calls_on g w) c.args.fd c.args.size c.in-Some.pipe (named g w ∙ c.in-Some.is) y.0 y.1 c.in-Ok.capacity (set_to g s ∙ c.in-Ok.is) end c.set_capacity.new.self.pipes c.in-Ok-set_capacity.ensures.ok))
+    (set-made (calls_on g w) c.args.fd c.args.size c.in-Some.pipe (named g w ∙ c.in-Some.is) y.0 y.1 c.in-Ok.capacity (set_to g s ∙ c.in-Ok.is) end (nodes_of c.set_capacity.new.self) c.in-Ok-set_capacity.ensures.ok))

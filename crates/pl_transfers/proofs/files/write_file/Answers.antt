@@ -10,6 +10,7 @@ use Rattle.pl_model.specs.Transfer.{put_bytes}
 use Rattle.pl_desc.specs.Rows.{at, count_at}
 use Rattle.pl_desc.specs.Descs.{Opened, Descs}
 use Rattle.pl_file.specs.File.{written}
+use Rattle.pl_nodes.specs.Nodes.{memory_of}
 use Rattle.pl_state.specs.KernelView.{view_of}
 use Rattle.pl_state.specs.Contents.{Contents, contents}
 use Rattle.pl_state.specs.Opens.{OpenOn}
@@ -76,8 +77,8 @@ module _ (g : Over) (c : After-set_offset g) where
   abbrev after : Contents g.row.A.Denot
   after = view_of (record c.kernel.inside { descs = c.set_offset.new.self; nodes = c.write_file.new.self })
 
-  rest : after ≡ record (view_of c.kernel.inside) { opened = after.opened; nodes = record (view_of c.kernel.inside).nodes { files = after.nodes.files } }
-  rest = (λ i. contents (c.set_offset.ensures.rest i) (record { pipes = c.in_ok-count.ensures.pipes.pipes i; files = c.write_file.new.self.files; names = c.in_ok-count.ensures.pipes.names i; file_max = c.in_ok-count.ensures.pipes.file_max i }) c.kernel.inside.parked c.kernel.inside.limits)
+  rest : after ≡ record (view_of c.kernel.inside) { opened = after.opened; nodes = record (view_of c.kernel.inside).nodes { files = after.nodes.files; memory = after.nodes.memory } }
+  rest = (λ i. contents (c.set_offset.ensures.rest i) (record { pipes = c.in_ok-count.ensures.pipes.pipes i; files = c.write_file.new.self.files; names = c.in_ok-count.ensures.pipes.names i; file_max = c.in_ok-count.ensures.pipes.file_max i; memory = memory_of c.write_file.new.self }) c.kernel.inside.parked c.kernel.inside.limits)
 
 pub invariant_of-kernel-2 : goal.invariant_of-kernel-2
 invariant_of-kernel-2 g c =

@@ -9,7 +9,7 @@ use Rattle.pl_model.specs.Transfer.{read_case}
 use Rattle.pl_state.specs.KernelView.{view_of}
 use Rattle.pl_model.specs.State.{Pipe}
 use Rattle.pl_state.specs.declared.access.OpenEnd.{OpenEnd}
-use Rattle.pl_state.specs.Contents.{Contents}
+use Rattle.pl_state.specs.Contents.{Contents, nodes_of}
 use Rattle.pl_state.specs.Opens.{Opens, of_end}
 use Rattle.pl_desc.specs.Rows.{at}
 use Rattle.pl_state.specs.LastHold.{has_writer}
@@ -64,7 +64,7 @@ pub invariant_of-kernel-in-Gives : goal.invariant_of-kernel-in-Gives
 invariant_of-kernel-in-Gives g c =
     let w = (goal.at.invariant_of-kernel-in-Gives g c).After-case_of_read in
     let p = on_pipe g w in
-    (subst (IsSound g.row.A.Denot) (moved_view c.kernel.inside c.read_pipe.new.self c.in_ok-bytes-in-Gives.ensures.files) (changed_sound (k g w) c.kernel.invariant.0 (o g w).key (o g w).pipe (on_end g w).on p.0 p.1 (drop c.in-Gives.count p.0.bytes) c.read_pipe.new.self.pipes (λ x. record x { bytes = drop c.in-Gives.count x.bytes }) refl c.in_ok-bytes-in-Gives.ensures.ok), c.kernel.invariant.1)
+    (subst (IsSound g.row.A.Denot) (moved_view c.kernel.inside c.read_pipe.new.self c.in_ok-bytes-in-Gives.ensures.files) (changed_sound (k g w) c.kernel.invariant.0 (o g w).key (o g w).pipe (on_end g w).on p.0 p.1 (drop c.in-Gives.count p.0.bytes) (nodes_of c.read_pipe.new.self) (λ x. record x { bytes = drop c.in-Gives.count x.bytes }) refl c.in_ok-bytes-in-Gives.ensures.ok), c.kernel.invariant.1)
 
 pub returns-in-Some-clause-done : goal.returns-in-Some-clause-done
 returns-in-Some-clause-done g c =
@@ -86,7 +86,7 @@ returns-in_ok-bytes-in-Gives-clause-done g c =
     let p = on_pipe g w in
     let given : c.unwrap.result ≡ c.in_ok-bytes-in-Gives.bytes.items = subst (λ o. IfSome o (λ made. made ≡ c.in_ok-bytes-in-Gives.bytes.items)) c.unwrap.ensures c.from_vec.ensures.list in
     let taken : c.in_ok-bytes-in-Gives.bytes.items ≡ take c.in-Gives.count p.0.bytes = subst (λ o. IfSome o (λ x. c.in_ok-bytes-in-Gives.bytes.items ≡ take c.in-Gives.count x.bytes)) p.1 c.in_ok-bytes-in-Gives.ensures.bytes in
-    rw (← c.kernel.view_is) (subst (MakesAtKeys (k g w) (Begin c.args.pid (Call.Read c.args.fd c.args.n)) (Bytes c.unwrap.result)) (moved_view c.kernel.inside c.read_pipe.new.self c.in_ok-bytes-in-Gives.ensures.files) (read-gives (calls_on g w) c.args.fd c.args.n (o g w) (on_end g w) (some g w) p.0 p.1 c.in-Gives.count (comes_to g w ∙ c.in-Gives.is) c.unwrap.result (given ∙ taken) c.read_pipe.new.self.pipes c.in_ok-bytes-in-Gives.ensures.ok))
+    rw (← c.kernel.view_is) (subst (MakesAtKeys (k g w) (Begin c.args.pid (Call.Read c.args.fd c.args.n)) (Bytes c.unwrap.result)) (moved_view c.kernel.inside c.read_pipe.new.self c.in_ok-bytes-in-Gives.ensures.files) (read-gives (calls_on g w) c.args.fd c.args.n (o g w) (on_end g w) (some g w) p.0 p.1 c.in-Gives.count (comes_to g w ∙ c.in-Gives.is) c.unwrap.result (given ∙ taken) (nodes_of c.read_pipe.new.self) c.in_ok-bytes-in-Gives.ensures.ok))
 
 pub returns-in-EndOfFile-clause-done : goal.returns-in-EndOfFile-clause-done
 returns-in-EndOfFile-clause-done g c =

@@ -13,7 +13,7 @@ use Rattle.pl_decisions.specs.Decided.{FitsRoom}
 use Rattle.pl_state.specs.KernelView.{view_of}
 use Rattle.pl_model.specs.State.{Pipe}
 use Rattle.pl_state.specs.declared.access.OpenEnd.{OpenEnd}
-use Rattle.pl_state.specs.Contents.{Contents}
+use Rattle.pl_state.specs.Contents.{Contents, nodes_of}
 use Rattle.pl_state.specs.Opens.{Opens, of_end}
 use Rattle.pl_desc.specs.Rows.{at}
 use Rattle.pl_state.specs.LastHold.{has_reader}
@@ -69,7 +69,7 @@ pub invariant_of-kernel-in-Ends-1 : goal.invariant_of-kernel-in-Ends-1
 invariant_of-kernel-in-Ends-1 g c =
     let w = (goal.at.invariant_of-kernel-in-Ends-1 g c).After-case_of_write in
     let p = on_pipe g w in
-    (subst (IsSound g.row.A.Denot) (moved_view c.kernel.inside c.write_pipe.new.self c.in_ok-write_pipe-in-Ends.ensures.files) (changed_sound (k g w) c.kernel.invariant.0 (o g w).key (o g w).pipe (on_end g w).on p.0 p.1 _ c.write_pipe.new.self.pipes (λ x. record x { bytes = x.bytes ++ slice_range c.as_slice.result.now c.in-Ends.from c.in-Ends.to }) refl c.in_ok-write_pipe-in-Ends.ensures.ok), c.kernel.invariant.1)
+    (subst (IsSound g.row.A.Denot) (moved_view c.kernel.inside c.write_pipe.new.self c.in_ok-write_pipe-in-Ends.ensures.files) (changed_sound (k g w) c.kernel.invariant.0 (o g w).key (o g w).pipe (on_end g w).on p.0 p.1 _ (nodes_of c.write_pipe.new.self) (λ x. record x { bytes = x.bytes ++ slice_range c.as_slice.result.now c.in-Ends.from c.in-Ends.to }) refl c.in_ok-write_pipe-in-Ends.ensures.ok), c.kernel.invariant.1)
 
 pub returns-in-Some-clause-done : goal.returns-in-Some-clause-done
 returns-in-Some-clause-done g c =
@@ -97,7 +97,7 @@ returns-in_ok-write_pipe-in-Ends-clause-done g c =
     let p = on_pipe g w in
     let bytes_are = ap (λ z. slice_range z c.in-Ends.from c.in-Ends.to) c.as_slice.ensures.value in
     rw (← c.kernel.view_is) (subst (MakesAtKeys (k g w) (Begin c.args.pid (Call.Write c.args.fd c.args.bytes)) (Count c.in-Ends.to false)) (moved_view c.kernel.inside c.write_pipe.new.self c.in_ok-write_pipe-in-Ends.ensures.files)
-    (write-ends (calls_on g w) c.args.fd c.args.bytes (o g w) (on_end g w) (some g w) p.0 p.1 c.in-Ends.from c.in-Ends.to (comes_to g w ∙ c.in-Ends.is) (slice_range c.as_slice.result.now c.in-Ends.from c.in-Ends.to) bytes_are c.write_pipe.new.self.pipes c.in_ok-write_pipe-in-Ends.ensures.ok))
+    (write-ends (calls_on g w) c.args.fd c.args.bytes (o g w) (on_end g w) (some g w) p.0 p.1 c.in-Ends.from c.in-Ends.to (comes_to g w ∙ c.in-Ends.is) (slice_range c.as_slice.result.now c.in-Ends.from c.in-Ends.to) bytes_are (nodes_of c.write_pipe.new.self) c.in_ok-write_pipe-in-Ends.ensures.ok))
 
 pub returns-in_ok-number-in-Waits-clause-done : goal.returns-in_ok-number-in-Waits-clause-done
 returns-in_ok-number-in-Waits-clause-done g c =

@@ -9,7 +9,7 @@ use Rattle.pl_parked.specs.declared.call.ParkedCall.{ParkedCall}
 use Rattle.pl_desc.specs.Rows.{at, is_pid, count_at}
 use Rattle.pl_nodes.specs.Nodes.{SameFiles}
 use Rattle.pl_state.specs.KernelView.{view_of}
-use Rattle.pl_state.specs.Contents.{Contents, with_pipes, contents, nodes_of}
+use Rattle.pl_state.specs.Contents.{Contents, with_pipes, contents, nodes_of, Nodes}
 use Rattle.pl_state.specs.Opens.{OpenOn}
 use Rattle.pl_state.specs.Sound.{IsSound, AreCounted, MayKeep}
 use Rattle.pl_state.specs.Parking.{with_call, call_on, written, Adds}
@@ -49,8 +49,8 @@ module _ (g : Over) (c : After-hold g) where
   abbrev with_it : Contents g.row.A.Denot
   with_it = with_call old (call_on c.args.end.key c.args.pid c.args.call c.args.taken)
 
-  abbrev pipes : List (Option Pipe)
-  pipes = c.write_pipe.new.self.pipes
+  abbrev pipes : Nodes
+  pipes = nodes_of c.write_pipe.new.self
 
   abbrev more : List ℕ
   more = take c.args.taken (written c.args.call)
@@ -64,7 +64,7 @@ module _ (g : Over) (c : After-hold g) where
   held_moved : SameFiles c.kernel.inside.nodes c.write_pipe.new.self → with_pipes with_it pipes ≡ contents c.hold.new.self (nodes_of c.write_pipe.new.self) with_it.calls c.kernel.inside.limits
   held_moved same =
       sym (ap (λ (z : Contents g.row.A.Denot). with_pipes z pipes) held_with)
-      ∙ (λ i. contents c.hold.new.self (record { pipes = pipes; files = sym same.files i; names = sym same.names i; file_max = sym same.file_max i }) with_it.calls c.kernel.inside.limits)
+      ∙ (λ i. contents c.hold.new.self (record { pipes = pipes.pipes; files = sym same.files i; names = sym same.names i; file_max = sym same.file_max i; memory = pipes.memory }) with_it.calls c.kernel.inside.limits)
 
 pub unwrap-call-requires : goal.unwrap-call-requires
 unwrap-call-requires g c = lent_some (λ (b : Bor (ParkedCall g.row.A.Denot)). b.now) c.get.result (w g c) (c.get.ensures ∙ here g c)

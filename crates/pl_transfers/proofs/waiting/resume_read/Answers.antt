@@ -8,7 +8,7 @@ use Rattle.pl_model.specs.Transfer.{read_case}
 use Rattle.pl_state.specs.KernelView.{view_of}
 use Rattle.pl_state.specs.Opens.{OpenOn}
 use Rattle.pl_desc.specs.Rows.{at}
-use Rattle.pl_state.specs.Contents.{Contents, core_of}
+use Rattle.pl_state.specs.Contents.{Contents, core_of, nodes_of}
 use Rattle.pl_state.specs.LastHold.{has_writer}
 use Rattle.pl_state.specs.Makes.{MakesAtKeys}
 use Rattle.pl_state.specs.Parking.{ReadWaits}
@@ -77,7 +77,7 @@ returns-in_err-bytes-in-Gives-clause-wanted g c =
 pub invariant_of-kernel-in-Gives : goal.invariant_of-kernel-in-Gives
 invariant_of-kernel-in-Gives g c =
     let o = o g (goal.at.invariant_of-kernel-in-Gives g c).After-case_of_read in
-    (subst (IsSound g.row.A.Denot) (moved_view c.kernel.inside c.read_pipe.new.self c.in_ok-bytes-in-Gives.ensures.files) (changed_sound (view_of c.kernel.inside) o.sound o.key o.pipe o.on o.held o.there (drop c.in-Gives.count o.held.bytes) c.read_pipe.new.self.pipes (λ x. record x { bytes = drop c.in-Gives.count x.bytes }) refl c.in_ok-bytes-in-Gives.ensures.ok), c.kernel.invariant.1)
+    (subst (IsSound g.row.A.Denot) (moved_view c.kernel.inside c.read_pipe.new.self c.in_ok-bytes-in-Gives.ensures.files) (changed_sound (view_of c.kernel.inside) o.sound o.key o.pipe o.on o.held o.there (drop c.in-Gives.count o.held.bytes) (nodes_of c.read_pipe.new.self) (λ x. record x { bytes = drop c.in-Gives.count x.bytes }) refl c.in_ok-bytes-in-Gives.ensures.ok), c.kernel.invariant.1)
 
 pub returns-in_ok-bytes-in-Gives-clause-done : goal.returns-in_ok-bytes-in-Gives-clause-done
 returns-in_ok-bytes-in-Gives-clause-done g c =
@@ -85,7 +85,7 @@ returns-in_ok-bytes-in-Gives-clause-done g c =
     let given : c.unwrap.result ≡ c.in_ok-bytes-in-Gives.bytes.items = subst (λ o. IfSome o (λ made. made ≡ c.in_ok-bytes-in-Gives.bytes.items)) c.unwrap.ensures c.from_vec.ensures.list in
     let taken : c.in_ok-bytes-in-Gives.bytes.items ≡ take c.in-Gives.count (o g v).held.bytes = subst (λ o. IfSome o (λ x. c.in_ok-bytes-in-Gives.bytes.items ≡ take c.in-Gives.count x.bytes)) (o g v).there c.in_ok-bytes-in-Gives.ensures.bytes in
     subst (λ z. MakesAtKeys z (Resume c.args.number) (Bytes c.unwrap.result) c.end_call.new.kernel) c.kernel.view_is
-    (resume-read-gives (k g v) (o g v) (w g v).fd c.args.n (w g v).asked c.in-Gives.count (comes_to g v ∙ c.in-Gives.is) c.unwrap.result (given ∙ taken) c.read_pipe.new.self.pipes c.in_ok-bytes-in-Gives.ensures.ok c.end_call.new.kernel
+    (resume-read-gives (k g v) (o g v) (w g v).fd c.args.n (w g v).asked c.in-Gives.count (comes_to g v ∙ c.in-Gives.is) c.unwrap.result (given ∙ taken) (nodes_of c.read_pipe.new.self) c.in_ok-bytes-in-Gives.ensures.ok c.end_call.new.kernel
     (subst (λ z. core_of c.end_call.new.kernel ≡ settle (core_of z) (without_call (core_of z) c.args.number)) (sym (moved_view c.kernel.inside c.read_pipe.new.self c.in_ok-bytes-in-Gives.ensures.files)) c.end_call.ensures))
 
 pub returns-in-EndOfFile-clause-done : goal.returns-in-EndOfFile-clause-done

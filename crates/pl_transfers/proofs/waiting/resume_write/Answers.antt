@@ -15,7 +15,7 @@ use Rattle.pl_decisions.specs.Decided.{FitsRoom}
 use Rattle.pl_state.specs.KernelView.{view_of}
 use Rattle.pl_state.specs.Opens.{OpenOn}
 use Rattle.pl_desc.specs.Rows.{at}
-use Rattle.pl_state.specs.Contents.{Contents, core_of, with_pipes}
+use Rattle.pl_state.specs.Contents.{Contents, core_of, with_pipes, nodes_of}
 use Rattle.pl_state.specs.LastHold.{has_reader}
 use Rattle.pl_state.specs.Makes.{MakesAtKeys}
 use Rattle.pl_state.specs.Parking.{WriteWaits, written}
@@ -111,7 +111,7 @@ returns-in_err-write_pipe-in-Ends-clause-wanted g c =
 pub invariant_of-kernel-in-Ends : goal.invariant_of-kernel-in-Ends
 invariant_of-kernel-in-Ends g c =
     let o = o g (goal.at.invariant_of-kernel-in-Ends g c).After-case_of_write in
-    (subst (IsSound g.row.A.Denot) (moved_view c.kernel.inside c.write_pipe.new.self c.in_ok-write_pipe-in-Ends.ensures.files) (changed_sound (view_of c.kernel.inside) o.sound o.key o.pipe o.on o.held o.there _ c.write_pipe.new.self.pipes (λ x. record x { bytes = x.bytes ++ slice_range c.bytes_of.result.now c.in-Ends.from c.in-Ends.to }) refl c.in_ok-write_pipe-in-Ends.ensures.ok), c.kernel.invariant.1)
+    (subst (IsSound g.row.A.Denot) (moved_view c.kernel.inside c.write_pipe.new.self c.in_ok-write_pipe-in-Ends.ensures.files) (changed_sound (view_of c.kernel.inside) o.sound o.key o.pipe o.on o.held o.there _ (nodes_of c.write_pipe.new.self) (λ x. record x { bytes = x.bytes ++ slice_range c.bytes_of.result.now c.in-Ends.from c.in-Ends.to }) refl c.in_ok-write_pipe-in-Ends.ensures.ok), c.kernel.invariant.1)
 
 pub overflow_cast-result : goal.overflow_cast-result
 overflow_cast-result g c =
@@ -137,7 +137,7 @@ invariant_of-kernel-in-Waits g c =
     let A = g.row.A.Denot in
     let v = (goal.at.invariant_of-kernel-in-Waits g c).After-case_of_write in
     let k = view_of c.kernel.inside in
-    let pipes = c.write_pipe-in-Waits.new.self.pipes in
+    let pipes = nodes_of c.write_pipe-in-Waits.new.self in
     let part = slice_range c.bytes_of-in-Waits.result.now c.in-Waits.from c.in-Waits.to in
     let may_on = may g v c.in-Waits.from c.in-Waits.to c.in-Waits.is in
     let moved = ap (λ (z : Contents A). record z { calls = c.set_taken.new.self }) (moved_view c.kernel.inside c.write_pipe-in-Waits.new.self c.in_ok-write_pipe-in-Waits.ensures.files) in
@@ -169,14 +169,14 @@ returns-in_ok-write_pipe-in-Ends-clause-done g c =
     let bytes = bytes_are g v.before c.get.result c.unwrap-call.result c.bytes_of.result.now c.get.ensures c.unwrap-call.ensures c.bytes_of.ensures.value in
     let is_part = ap (λ z. slice_range z c.in-Ends.from c.in-Ends.to) bytes in
     subst (λ z. MakesAtKeys z (Resume c.args.number) (Count c.in-Ends.to false) new) c.kernel.view_is
-    (resume-write-ends (k g v) (o g v) (w g v).fd (written (w g v).call.call) (w g v).asked c.in-Ends.from c.in-Ends.to part is_part c.write_pipe.new.self.pipes c.in_ok-write_pipe-in-Ends.ensures.ok (comes_to g v ∙ c.in-Ends.is) new
+    (resume-write-ends (k g v) (o g v) (w g v).fd (written (w g v).call.call) (w g v).asked c.in-Ends.from c.in-Ends.to part is_part (nodes_of c.write_pipe.new.self) c.in_ok-write_pipe-in-Ends.ensures.ok (comes_to g v ∙ c.in-Ends.is) new
     (subst (λ z. core_of new ≡ settle (core_of z) (without_call (core_of z) c.args.number)) (sym (moved_view c.kernel.inside c.write_pipe.new.self c.in_ok-write_pipe-in-Ends.ensures.files)) c.end_call-in-Ends.ensures))
 
 pub returns-in_ok-write_pipe-in-Waits-clause-done : goal.returns-in_ok-write_pipe-in-Waits-clause-done
 returns-in_ok-write_pipe-in-Waits-clause-done g c =
     let v = (goal.at.returns-in_ok-write_pipe-in-Waits-clause-done g c).After-case_of_write in
     let k = view_of c.kernel.inside in
-    let pipes = c.write_pipe-in-Waits.new.self.pipes in
+    let pipes = nodes_of c.write_pipe-in-Waits.new.self in
     let part = slice_range c.bytes_of-in-Waits.result.now c.in-Waits.from c.in-Waits.to in
     let bytes = bytes_are g v.before c.get-in-Waits.result c.unwrap-call-in-Waits.result c.bytes_of-in-Waits.result.now c.get-in-Waits.ensures c.unwrap-call-in-Waits.ensures c.bytes_of-in-Waits.ensures.value in
     let is_part = ap (λ z. slice_range z c.in-Waits.from c.in-Waits.to) bytes in
