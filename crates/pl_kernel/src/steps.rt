@@ -3,6 +3,7 @@ ghost use Rattle.std.specs.Prelude.{◌≡◌, true, IfOk, OnErr, IsOk};
 ghost use Rattle.pl_model.specs.Memory.{is_frugal, is_frugal_call};
 ghost use Rattle.pl_state.specs.Contents.{IsProcess};
 ghost use Rattle.pl_state.specs.Makes.{MakesAtKeys, MayWantAtKeys};
+ghost use Rattle.pl_splices.specs.Shares.{SharesByStep};
 
 use pl_descriptors::{close, dup, dup_fd, dup2, exit, fork, get_fl, set_fl, start};
 use pl_model::{Call, Reply, Step};
@@ -19,6 +20,7 @@ fn begin<A: Allocator + Copy>(
 ) -> Result<Reply<A>, NoMemory>
     requires { IsProcess kernel.old pid }
     ensures done { IfOk result (λ reply. MakesAtKeys kernel.old (Step.Begin pid call) reply kernel.new) }
+    ensures shares { SharesByStep {A = A} kernel.old (Step.Begin pid call) kernel.new }
     ensures undone { OnErr result (kernel.new ≡ kernel.old) }
     ensures wanted { OnErr result (MayWantAtKeys {A = A} kernel.old (Step.Begin pid call)) }
     ensures frugal { is_frugal_call call ≡ true → IsOk result }
@@ -63,6 +65,7 @@ pub(crate) fn act<A: Allocator + Copy>(
     step: Step<A>,
 ) -> Result<Reply<A>, NoMemory>
     ensures done { IfOk result (λ reply. MakesAtKeys kernel.old step reply kernel.new) }
+    ensures shares { SharesByStep {A = A} kernel.old step kernel.new }
     ensures undone { OnErr result (kernel.new ≡ kernel.old) }
     ensures wanted { OnErr result (MayWantAtKeys {A = A} kernel.old step) }
     ensures frugal { is_frugal step ≡ true → IsOk result }

@@ -1,5 +1,5 @@
 -- A call on what is under one key, with the store of all.
-use Rattle.std.proofs.Common.{◌≡◌, ◌≤◌, ℕ, ◌<◌, ◌^◌, List, [], Option, Some, None, refl, sym, ◌∙◌, ap, subst, slice_set, length, map, inl, inr, arith}
+use Rattle.std.proofs.Common.{◌≡◌, ◌≤◌, ℕ, ◌<◌, ◌^◌, List, [], Option, Some, None, refl, sym, ◌∙◌, ap, subst, slice_set, length, map, set, inl, inr, arith}
 use Rattle.std.specs.Prelude.{option_map}
 use Rattle.std.proofs.lemmas.Bool.Decides.{eqb_tells}
 use Rattle.std.proofs.lemmas.List.{get_or-set_same, get_or-set_other}
@@ -14,10 +14,11 @@ use Rattle.pl_nodes.specs.declared.content.Content.{Content}
 use Rattle.pl_nodes.specs.declared.content.Content.TheVariants.{Pipe, File}
 use Rattle.pl_nodes.specs.Contents.{as_pipe, as_file}
 use Rattle.pl_nodes.specs.declared.nodes.Nodes.TheInside.{Inside}
-use Rattle.pl_nodes.specs.Nodes.{Nodes}
+use Rattle.pl_nodes.specs.Nodes.{Nodes, Shrinks, memory_of}
 use Rattle.pl_nodes.specs.NodesView.{pipe_in, file_in, slots_in, lists, names_of, one_if, AreNamed, view_of, IsSound}
-use Rattle.pl_nodes.proofs.Keyed.{put-back, within}
-use Rattle.pl_nodes.proofs.Lists.{lists-at, lists-length, named-few}
+use Rattle.pl_nodes.proofs.Keyed.{put-back, put-alike, within}
+use Rattle.pl_nodes.proofs.Lists.{lists-at, lists-length, lists-set, named-few}
+use Rattle.pl_nodes.proofs.Slices.{all-lost}
 use Rattle.pl_nodes.proofs.Named.{NamedAlike, put-named, named-none}
 use Rattle.pl_nodes.proofs.OneChanged.{content-held, changed-shared}
 
@@ -66,6 +67,20 @@ module _ {A : Type 0} (k : Inside A) (key : ℕ) (old : Content A) (there : at k
       named = put-named k.contents.slots key old new there alike k.names.entries sound.named;
       most = sound.most;
     }
+
+    -- it lost all its slots
+    pub emptied-shrinks : slots_in (Some new) ≡ [] → live_count store.held ≤ live_count k.store.held → (flat : Nodes) → view_of k ≡ flat
+        → Shrinks (memory_of flat) (memory_of (view_of (with_content store new)))
+    emptied-shrinks none fewer flat is =
+        let gone = lists-set k.contents.slots key (Some new) ∙ ap (set (lists k.contents.slots) key) none in
+        let shrinks = all-lost (memory_of (view_of k)) (memory_of (view_of (with_content store new))) key (λ q. ap (λ ls. slots_at ls q) gone) fewer in
+        subst (λ (v : Nodes). Shrinks (memory_of v) (memory_of (view_of (with_content store new)))) is shrinks
+
+  -- it has the slots that it had
+  pub still-memory : (new : Content A) → slots_in (Some new) ≡ slots_in (Some old) → (flat : Nodes) → view_of k ≡ flat → memory_of (view_of (with_content k.store new)) ≡ memory_of flat
+  still-memory new same flat is =
+      ap (λ (ls : List (List Slice)). record { slots = ls; segments = live_count k.store.held }) (put-alike slots_in k.contents.slots key (Some new) (same ∙ sym (ap slots_in there)))
+      ∙ ap memory_of is
 
   -- where it was refused the content is as it was, and so are the segments
   module _ (store : Segments) (kept : store.held ≡ k.store.held) (new : Content A) (same : new ≡ old) where

@@ -8,14 +8,15 @@ use Rattle.pl_model.specs.Numbers.{most_file_bytes}
 use Rattle.pl_model.specs.declared.node.Node.{Node}
 use Rattle.pl_model.specs.Nodes.{key_of, has_name}
 use Rattle.pl_segments.specs.declared.slice.Slice.{Slice}
-use Rattle.pl_segments.specs.Segments.{Segments, segment_at, at}
+use Rattle.pl_segments.specs.Segments.{Segments, segment_at, at, live_count}
 use Rattle.pl_segments.specs.Turns.{Turns}
 use Rattle.pl_segments.specs.Sharing.{slots_at, AreShared}
 use Rattle.slab.specs.Slab.{Slab, Updates}
 use Rattle.pl_nodes.specs.declared.content.Content.{Content}
 use Rattle.pl_nodes.specs.declared.nodes.Nodes.TheInside.{Inside}
-use Rattle.pl_nodes.specs.Nodes.{Nodes}
+use Rattle.pl_nodes.specs.Nodes.{Nodes, Shrinks, memory_of}
 use Rattle.pl_nodes.specs.NodesView.{slots_in, lists, named_as, AreNamed, view_of, IsSound}
+use Rattle.pl_nodes.proofs.Slices.{all-lost}
 use Rattle.pl_nodes.proofs.Named.{NamedAlike, still-named, named-is}
 use Rattle.pl_nodes.proofs.OneChanged.{pipes_seen, files_seen, seen-at, within-lists, gone-lists, gone-shared, new-lists, new-shared}
 
@@ -24,9 +25,9 @@ module _ {A : Type 0} (k : Inside A) (sound : IsSound k) where
   pub says-unnamed : (flat : Nodes) → view_of k ≡ flat → (n : Node) → has_name flat.names n ≡ false → named_as n (at k.contents.slots (key_of n)) ≡ false
   says-unnamed flat is n none = named-is k.names.entries k.contents.slots sound.named n ∙ ap (λ (v : Nodes). has_name v.names n) is ∙ none
 
-  -- it goes, and had no name
+  -- it goes
   module _ (store : Segments) (after : Slab (Content A)) (key : ℕ) (old : Content A) (there : at k.contents.slots key ≡ Some old)
-      (turned : Turns (segment_at k.store) (slots_in (Some old)) (segment_at store) []) (u : Updates k.contents after key None) (alike : NamedAlike (Some old) None) where
+      (turned : Turns (segment_at k.store) (slots_in (Some old)) (segment_at store) []) (u : Updates k.contents after key None) where
     gone-short : (q : ℕ) → length (slots_at (set (lists k.contents.slots) key []) q) ≤ most_file_bytes
     gone-short q = elim (eqb_tells q key) as (λ _. length (slots_at (set (lists k.contents.slots) key []) q) ≤ most_file_bytes) [
       | inl e ↦
@@ -36,13 +37,20 @@ module _ {A : Type 0} (k : Inside A) (sound : IsSound k) where
       | inr e ↦ subst (λ (xs : List Slice). length xs ≤ most_file_bytes) (sym (get_or-set_other (lists k.contents.slots) key q [] [] e.1)) (sound.short q)
     ]
 
-    pub gone-sound : IsSound (record k { store = store; contents = after })
-    gone-sound = record {
+    -- it had no name
+    pub gone-sound : NamedAlike (Some old) None → IsSound (record k { store = store; contents = after })
+    gone-sound alike = record {
       shared = gone-shared (segment_at k.store) (segment_at store) k.contents after key old there sound.shared turned u;
       short = λ q. subst (λ (xs : List Slice). length xs ≤ most_file_bytes) (sym (gone-lists (segment_at k.store) (segment_at store) k.contents after key old there sound.shared turned u q)) (gone-short q);
       named = still-named k.contents.slots after.slots key u.others (Some old) None there u.changed alike k.names.entries sound.named;
       most = sound.most;
     }
+
+    pub gone-shrinks : live_count store.held ≤ live_count k.store.held → (flat : Nodes) → view_of k ≡ flat → Shrinks (memory_of flat) (memory_of (view_of (record k { store = store; contents = after })))
+    gone-shrinks fewer flat is =
+        let gone = gone-lists (segment_at k.store) (segment_at store) k.contents after key old there sound.shared turned u in
+        let shrinks = all-lost (memory_of (view_of k)) (memory_of (view_of (record k { store = store; contents = after }))) key gone fewer in
+        subst (λ (v : Nodes). Shrinks (memory_of v) (memory_of (view_of (record k { store = store; contents = after })))) is shrinks
 
   -- where nothing is there is neither a pipe nor a file
   pub vacant-seen : (before : Slab (Content A)) → before.slots ≡ k.contents.slots → (key : ℕ) → at before.slots key ≡ None → (flat : Nodes) → view_of k ≡ flat → (at flat.pipes key ≡ None) × (at flat.files key ≡ None)
@@ -71,3 +79,6 @@ module _ {A : Type 0} (k : Inside A) (sound : IsSound k) where
       named = named;
       most = sound.most;
     }
+
+    pub came-slots : (flat : Nodes) → view_of k ≡ flat → (q : ℕ) → slots_at (lists after.slots) q ≡ slots_at flat.slots q
+    came-slots flat is q = new-lists (segment_at k.store) before after key new free came-shared empty u q ∙ ap (λ cs. slots_at (lists cs) q) same ∙ ap (λ (v : Nodes). slots_at v.slots q) is

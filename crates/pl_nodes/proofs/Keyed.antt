@@ -1,5 +1,5 @@
 -- Lists by key, and maps that change at one key.
-use Rattle.std.proofs.Common.{◌≡◌, ◌≢◌, ℕ, zero, suc, ◌<◌, Bool, true, false, List, [], ◌∷◌, Option, Some, None, refl, sym, ◌∙◌, ap, subst, inl, inr, nat_eq, length, slice_set, arith}
+use Rattle.std.proofs.Common.{◌≡◌, ◌≢◌, ℕ, zero, suc, ◌<◌, Bool, true, false, List, [], ◌∷◌, Option, Some, None, refl, sym, ◌∙◌, ap, subst, inl, inr, nat_eq, length, map, slice_set, arith}
 use Rattle.std.proofs.Math.Path.{fun_ext}
 use Rattle.std.specs.Prelude.{if◌then◌else◌, option_map, Result, Ok, Err, IfOk, OnErr}
 use Rattle.std.proofs.lemmas.Bool.{eq-eqb, ne_eqb, eqb-true}
@@ -23,6 +23,12 @@ pub put-back : {V : Type 0} (xs : List (Option V)) (k : ℕ) (x y : V) → at xs
 put-back [] k x y there e = refl
 put-back (z ∷ xs) zero x y there e = ap (λ o. o ∷ xs) (ap (λ v. Some v) e ∙ sym there)
 put-back (z ∷ xs) (suc k) x y there e = ap (λ zs. z ∷ zs) (put-back xs k x y there e)
+
+-- what is put reads as what was there
+pub put-alike : {V W : Type 0} (f : Option V → W) (xs : List (Option V)) (key : ℕ) (o : Option V) → f o ≡ f (at xs key) → map f (slice_set xs key o) ≡ map f xs
+put-alike f [] key o e = refl
+put-alike f (x ∷ xs) zero o e = ap (λ y. y ∷ map f xs) e
+put-alike f (x ∷ xs) (suc key) o e = ap (λ ys. f x ∷ ys) (put-alike f xs key o e)
 
 -- a map that has this at a key and agrees elsewhere
 pub is_set_at : {V : Type 0} (m n : ℕ → V) (k : ℕ) (v : V) → n k ≡ v → ((q : ℕ) → q ≢ k → n q ≡ m q) → n ≡ set_at nat_eq m k v

@@ -45,7 +45,7 @@ none-named (xs ∷ all) key none =
     let rest = none-named all key (λ q. none (suc q)) in
     omega (arith, here, rest)
 
-same-named : (all others : List (List Slice)) (key : ℕ) → ((q : ℕ) → slots_at others q ≡ slots_at all q) → named others key ≡ named all key
+pub same-named : (all others : List (List Slice)) (key : ℕ) → ((q : ℕ) → slots_at others q ≡ slots_at all q) → named others key ≡ named all key
 same-named all [] key same = sym (none-named all key (λ q. sym (same q)))
 same-named [] (ys ∷ others) key same = none-named (ys ∷ others) key same
 same-named (xs ∷ all) (ys ∷ others) key same =

@@ -1,19 +1,23 @@
 -- Of slots: which lie within others, which segments they name, and how many segments are there.
-use Rattle.std.proofs.Common.{◌≡◌, ℕ, zero, suc, ◌+◌, ◌-◌, ◌≤◌, Bool, true, false, cond, List, [], ◌∷◌, ◌++◌, Option, Some, None, refl, sym, ◌∙◌, ap, inl, inr, nat_eq, set, arith}
+use Rattle.std.proofs.Common.{◌≡◌, ℕ, zero, suc, ◌+◌, ◌-◌, ◌≤◌, Bool, true, false, cond, List, [], ◌∷◌, ◌++◌, Option, Some, None, refl, sym, ◌∙◌, ap, inl, inr, nat_eq, nat_lt, set, arith}
 use Rattle.std.specs.Prelude.{if◌then◌else◌, nat_le, is_some, not, count_by, ◌&&◌, ◌||◌}
-use Rattle.std.proofs.lemmas.Bool.{and_from, and_parts, or_left, or_right, leb-true, le-leb, cases_lt}
+use Rattle.std.specs.List.{range_with_len}
+use Rattle.std.proofs.lemmas.Bool.{and_from, and_parts, or_left, or_right, leb-true, le-leb, cases_lt, ltb_from_iff}
 use Rattle.std.proofs.lemmas.Bool.Decides.{leb_tells, eqb_tells}
+use Rattle.std.proofs.lemmas.List.{get_or-set_other}
 use Rattle.std.proofs.lemmas.List.Sums.{sum_by-cons}
 use Rattle.pl_segments.specs.declared.slice.Slice.{Slice}
 use Rattle.pl_segments.specs.Segments.{Segment, at, holders_in, live_count, IsGood, AreGood}
 use Rattle.pl_segments.specs.Slices.{one_if, naming}
 use Rattle.pl_segments.specs.Turns.{Turns}
-use Rattle.pl_segments.specs.Sharing.{named, slots_at}
+use Rattle.pl_segments.specs.Sharing.{named, slots_at, AreShared}
 use Rattle.pl_segments.specs.Slots.{solid_of, cut_front, cut_end, drop_bytes, front_of}
 use Rattle.pl_segments.proofs.Storing.{live-is}
+use Rattle.pl_segments.proofs.Shared.{held-named}
 use Rattle.pl_segments.proofs.Fronting.{drop-whole, drop-part, front-whole, front-part, front-none}
 use Rattle.pl_ring.specs.Parts.{within, within_any, strange}
-use Rattle.pl_nodes.proofs.Lists.{none-live}
+use Rattle.pl_nodes.specs.Nodes.{Memory, Shrinks, NamesBelow, segments_named}
+use Rattle.pl_nodes.proofs.Lists.{none-live, same-named}
 
 -- what lies within the first bytes of a slice lies within it
 within-cut : (z x : Slice) (n : ℕ) → n ≤ x.len → within z (cut_end n x) ≡ true → within z x ≡ true
@@ -130,3 +134,63 @@ pub named-fewer : (all : List (List Slice)) (p : ℕ) (ys : List Slice) (key : �
 named-fewer [] p ys key l = omega arith
 named-fewer (xs ∷ all) zero ys key l = omega (arith, l)
 named-fewer (xs ∷ all) (suc p) ys key l = let r = named-fewer all p ys key l in omega (arith, r)
+
+-- the slots of one list all go
+gone-here : (all : List (List Slice)) (p : ℕ) → slots_at (set all p []) p ≡ []
+gone-here [] p = refl
+gone-here (xs ∷ all) zero = refl
+gone-here (xs ∷ all) (suc p) = gone-here all p
+
+gone-at : (all : List (List Slice)) (p q : ℕ) → slots_at (set all p []) q ≡ (if nat_eq p q then [] else slots_at all q)
+gone-at all p q = elim (eqb_tells p q) as (λ _. slots_at (set all p []) q ≡ (if nat_eq p q then [] else slots_at all q)) [
+  | inl e ↦ ap (slots_at (set all p [])) (sym e.1) ∙ gone-here all p ∙ ap (λ b. if b then [] else slots_at all q) (sym e.0)
+  | inr e ↦ get_or-set_other all p q [] [] (λ h. e.1 (sym h)) ∙ ap (λ b. if b then [] else slots_at all q) (sym e.0)
+]
+
+-- what was under a key lost all its slots
+pub all-lost : (old new : Memory) (key : ℕ) → ((q : ℕ) → slots_at new.slots q ≡ slots_at (set old.slots key []) q) → new.segments ≤ old.segments → Shrinks old new
+all-lost old new key same fewer = record {
+  slots = λ q. (nat_eq key q, same q ∙ gone-at old.slots key q);
+  fewer_named = λ segment.
+      let e = same-named (set old.slots key []) new.slots segment same in
+      let l = named-fewer old.slots key [] segment (omega arith) in
+      omega (arith, e, l);
+  fewer = fewer;
+}
+
+-- where slots all go no segment comes
+pub none-left : (held other : List (Option Segment)) (xs : List Slice) → AreGood other → Turns (at held) xs (at other) [] → live_count other ≤ live_count held
+none-left held other xs good turns = fewer-segments held other xs [] good turns (λ key. omega arith)
+
+onward : (a q : ℕ) → a + 1 + q ≡ a + suc q
+onward a q = omega arith
+
+-- keys from a place on, of which none passes a test
+none-counted : (p : ℕ → Bool) (a n : ℕ) → ((q : ℕ) → p (a + q) ≡ false) → count_by p (range_with_len a n) ≡ 0
+none-counted p a zero none = refl
+none-counted p a (suc n) none =
+    let first : a ≡ a + 0 = omega arith in
+    let here : one_if (p a) ≡ 0 = ap one_if (ap p first ∙ none zero) in
+    let all = sum_by-cons (λ key. cond (p key) 1 0) a (range_with_len (a + 1) n) in
+    let rest = none-counted p (a + 1) n (λ q. ap p (onward a q) ∙ none (suc q)) in
+    omega (arith, all, here, rest)
+
+-- a list has as many segments as keys pass a test that tells where they are
+keys-counted : (p : ℕ → Bool) (held : List (Option Segment)) (a n : ℕ) → ((q : ℕ) → is_some (at held q) ≡ p (a + q)) → ((q : ℕ) → n ≤ q → p (a + q) ≡ false) → count_by is_some held ≡ count_by p (range_with_len a n)
+keys-counted p [] a n there none = sym (none-counted p a n (λ q. sym (there q)))
+keys-counted p (o ∷ held) a zero there none = none-live (o ∷ held) (λ q is. let no : false ≡ true = sym (none q (omega arith)) ∙ sym (there q) ∙ is in absurd (cc))
+keys-counted p (o ∷ held) a (suc n) there none =
+    let first : a + 0 ≡ a = omega arith in
+    let here : one_if (is_some o) ≡ one_if (p a) = ap one_if (there zero ∙ ap p first) in
+    let segments = count-cons o held in
+    let keys = sum_by-cons (λ key. cond (p key) 1 0) a (range_with_len (a + 1) n) in
+    let rest = keys-counted p held (a + 1) n (λ q. there (suc q) ∙ ap p (sym (onward a q))) (λ q l. ap p (onward a q) ∙ none (suc q) (omega (arith, l))) in
+    omega (arith, segments, keys, here, rest)
+
+-- a store has as many segments as slots name
+pub named-live : (held : List (Option Segment)) (all : List (List Slice)) → AreGood held → AreShared (at held) all → (n : ℕ) → NamesBelow n all → live_count held ≡ segments_named all n
+named-live held all good shared n below =
+    live-is held
+    ∙ keys-counted (λ key. nat_lt 0 (named all key)) held 0 n
+    (λ q. ltb_from_iff (held-named held all good shared q) ∙ ap (λ key. nat_lt 0 (named all key)) (omega arith))
+    (λ q l. ap (λ key. nat_lt 0 (named all key)) (omega arith) ∙ ap (nat_lt 0) (below q l))

@@ -1,5 +1,5 @@
 -- A name goes from what it stood for.
-use Rattle.std.proofs.Common.{◌≡◌, ◌≤◌, ℕ, zero, suc, false, List, [], ◌∷◌, Option, Some, refl, sym, ◌∙◌, ap, subst, length, map, slice_set}
+use Rattle.std.proofs.Common.{◌≡◌, ◌≤◌, ℕ, false, Option, Some, refl, sym, ◌∙◌, ap, subst, length, map, slice_set}
 use Rattle.std.specs.declared.vec.Vec.{Vec}
 use Rattle.std.specs.BTreeMap.{BTreeMap}
 use Rattle.pl_model.specs.Numbers.{most_file_bytes}
@@ -11,12 +11,7 @@ use Rattle.pl_nodes.specs.declared.content.Content.TheVariants.{Pipe, File}
 use Rattle.pl_nodes.specs.declared.nodes.Nodes.TheInside.{Inside}
 use Rattle.pl_nodes.specs.Contents.{with_named}
 use Rattle.pl_nodes.specs.NodesView.{pipe_in, file_in, slots_in, names_of, AreNamed, view_of, IsSound}
-
--- what is put reads as what was there
-put-alike : {V W : Type 0} (f : Option V → W) (xs : List (Option V)) (key : ℕ) (o : Option V) → f o ≡ f (at xs key) → map f (slice_set xs key o) ≡ map f xs
-put-alike f [] key o e = refl
-put-alike f (x ∷ xs) zero o e = ap (λ y. y ∷ map f xs) e
-put-alike f (x ∷ xs) (suc key) o e = ap (λ ys. f x ∷ ys) (put-alike f xs key o e)
+use Rattle.pl_nodes.proofs.Keyed.{put-alike}
 
 module _ {A : Type 0} where
   same-pipe : (m : Map) (x : Content A) → pipe_in m (Some (with_named false x)) ≡ pipe_in m (Some x)

@@ -1,5 +1,6 @@
 -- What descriptions are on, as contracts see it.
-use Rattle.std.specs.Prelude.{ℕ, Bool, List, [], Option, None, Some, ◌≡◌, ◌≤◌, take, drop, unwrap_or, if◌then◌else◌}
+use Rattle.std.specs.Prelude.{ℕ, Bool, List, [], Option, None, Some, ◌≡◌, ◌≤◌, nat_lt, take, drop, count_by, unwrap_or, if◌then◌else◌}
+use Rattle.std.specs.List.{range_with_len}
 use Rattle.pl_model.specs.declared.node.Node.{Node}
 use Rattle.pl_model.specs.Map.{Map}
 use Rattle.pl_model.specs.State.{Pipe}
@@ -30,6 +31,14 @@ pub record Shrinks (old new : Memory) : Type 0 where
   pub slots : (key : ℕ) → (goes : Bool) × (slots_at new.slots key ≡ (if goes then [] else slots_at old.slots key))
   pub fewer_named : (key : ℕ) → named new.slots key ≤ named old.slots key
   pub fewer : new.segments ≤ old.segments
+
+-- no slot names a segment whose key is n or more
+abbrev pub NamesBelow : ℕ → List (List Slice) → Type 0
+NamesBelow n slots = (key : ℕ) → n ≤ key → named slots key ≡ 0
+
+-- how many segments with keys below n some slot names, however many slots name each
+abbrev pub segments_named : List (List Slice) → ℕ → ℕ
+segments_named slots n = count_by (λ key. nat_lt 0 (named slots key)) (range_with_len 0 n)
 
 -- the files and the names are as they were
 pub record SameFiles (old new : Nodes) : Type 0 where

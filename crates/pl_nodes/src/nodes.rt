@@ -2,6 +2,7 @@
 ghost use Rattle.std.specs.Prelude.{ℕ, ◌≡◌, ◌≤◌, [], None};
 ghost use Rattle.pl_model.specs.Numbers.{most_file_bytes};
 ghost use Rattle.pl_segments.specs.Segments.{at};
+ghost use Rattle.pl_nodes.specs.Nodes.{NamesBelow, segments_named};
 
 use crate::content::Content;
 use pl_model::Node;
@@ -65,9 +66,10 @@ impl<A: Allocator + Copy> Nodes<A> {
         self.contents.vacant_key()
     }
 
-    /// How many segments hold the bytes of the pipes and files.
+    /// How many segments hold the bytes of the pipes and files: those that some slot names, and no other, so that none is lost.
     pub fn segments(&self) -> usize
         ensures value { result ≡ self.now.segments }
+        ensures named { (n : ℕ) → NamesBelow n self.now.slots → result ≡ segments_named self.now.slots n }
         ensures none { ((key : ℕ) → at self.now.pipes key ≡ None) → ((key : ℕ) → at self.now.files key ≡ None) → result ≡ 0 }
     {
         self.store.in_use()

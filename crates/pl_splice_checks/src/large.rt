@@ -23,6 +23,9 @@ const READ: &[(Ask, Want)] = &[
     (Read(1, 2, 1_048_576), Bytes(Part(0, 1_048_576))),
 ];
 
+/// At most two slots for each 4,096 bytes of a capacity of 1,048,576.
+const MOST_SLOTS: u32 = 512;
+
 /// A copy shares its bytes: at most three segments of memory are new.
 #[test]
 fn a_copy_takes_three_segments(rt: HostRuntime) -> Result<(), Fail> {
@@ -31,6 +34,9 @@ fn a_copy_takes_three_segments(rt: HostRuntime) -> Result<(), Fail> {
     let before = bench.segments();
     bench.all_answer(COPIED)?;
     assert!(rt; bench.segments() <= before.saturating_add(3));
+    for fd in [0, 2] {
+        assert!(rt; matches!(bench.slots(1, fd), Some(slots) if slots <= MOST_SLOTS));
+    }
     bench.all_answer(READ)?;
     bench.ends_empty(&[])
 }

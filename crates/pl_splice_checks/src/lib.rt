@@ -24,6 +24,8 @@ mod rows;
 #[cfg(test)]
 mod sessions;
 #[cfg(test)]
+mod shared;
+#[cfg(test)]
 mod trials;
 #[cfg(test)]
 mod waiting;

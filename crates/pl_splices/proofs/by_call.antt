@@ -14,3 +14,5 @@ pub mod Checking
 pub mod Sizing
 -- What a call that waits comes to when it is tried again.
 pub mod Retrying
+-- What comes of memory.
+pub mod Sharing

@@ -1,3 +1,4 @@
 pub mod Resembling
 pub mod Sides
 pub mod Moves
+pub mod Shares

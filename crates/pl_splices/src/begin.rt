@@ -10,6 +10,7 @@ ghost use Rattle.pl_state.specs.Sound.{IsWaiting, KeepsNodes};
 ghost use Rattle.pl_state.specs.Parking.{with_call};
 ghost use Rattle.pl_state.specs.Makes.{MakesAtKeys, MayWantAtKeys};
 ghost use Rattle.pl_splices.specs.Moves.{Goes, IsMove, call_between};
+ghost use Rattle.pl_splices.specs.Shares.{SharesBetween, SharesByStep};
 
 use crate::moving::try_move;
 use crate::sides::Side;
@@ -99,6 +100,7 @@ fn begin_move<A: Allocator + Copy>(
     requires asks { IsMove call from to len is_tee }
     requires begins { machine_begin (core_of kernel.old) pid call ≡ tried (core_of kernel.old) (from.key ∷ to.key ∷ []) false (not nonblock) }
     ensures done { IfOk result (λ reply. MakesAtKeys kernel.old (Step.Begin pid call) reply kernel.new) }
+    ensures shares { SharesBetween kernel.old from to kernel.new }
     ensures undone { OnErr result (kernel.new ≡ kernel.old) }
     ensures wanted { OnErr result (MayWantAtKeys {A = A} kernel.old (Step.Begin pid call)) }
 {
@@ -134,6 +136,7 @@ pub fn splice<A: Allocator + Copy>(
 ) -> Result<Reply<A>, NoMemory>
     requires { IsProcess kernel.old pid }
     ensures done { IfOk result (λ reply. MakesAtKeys kernel.old (Step.Begin pid (Call.Splice from from_offset to to_offset len flags)) reply kernel.new) }
+    ensures shares { SharesByStep {A = A} kernel.old (Step.Begin pid (Call.Splice from from_offset to to_offset len flags)) kernel.new }
     ensures undone { OnErr result (kernel.new ≡ kernel.old) }
     ensures wanted { OnErr result (MayWantAtKeys {A = A} kernel.old (Step.Begin pid (Call.Splice from from_offset to to_offset len flags))) }
 {
@@ -208,6 +211,7 @@ pub fn tee<A: Allocator + Copy>(
 ) -> Result<Reply<A>, NoMemory>
     requires { IsProcess kernel.old pid }
     ensures done { IfOk result (λ reply. MakesAtKeys kernel.old (Step.Begin pid (Call.Tee from to len flags)) reply kernel.new) }
+    ensures shares { SharesByStep {A = A} kernel.old (Step.Begin pid (Call.Tee from to len flags)) kernel.new }
     ensures undone { OnErr result (kernel.new ≡ kernel.old) }
     ensures wanted { OnErr result (MayWantAtKeys {A = A} kernel.old (Step.Begin pid (Call.Tee from to len flags))) }
 {

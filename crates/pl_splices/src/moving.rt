@@ -4,6 +4,7 @@ ghost use Rattle.pl_model.specs.Transfer.{room};
 ghost use Rattle.pl_desc.specs.Rows.{at};
 ghost use Rattle.pl_state.specs.Opens.{OpenOn};
 ghost use Rattle.pl_splices.specs.Moves.{Goes, Fits, GoesOver, Tries, WouldMove};
+ghost use Rattle.pl_splices.specs.Shares.{SharesSlots, AddsNone, SharesBetween, place_in};
 
 use crate::sides::{Side, advance, source_of, start_of, target_of};
 use pl_decisions::case_of_move;
@@ -27,6 +28,7 @@ fn pipe_to_pipe<A: Allocator + Copy>(
     requires held { IfSome (at kernel.old.nodes.pipes source) (λ x. count ≤ length x.bytes) }
     requires room { IfSome (at kernel.old.nodes.pipes target) (λ x. count ≤ room x) }
     ensures done { OnOk result (GoesOver kernel.old from to is_tee count kernel.new) }
+    ensures shares { OnOk result (SharesSlots kernel.old.nodes.memory kernel.new.nodes.memory source target) }
     ensures undone { OnErr result (kernel.new ≡ kernel.old) }
 {
     // A proof learns here what holds of the kernel.
@@ -81,6 +83,7 @@ fn pipe_to_file<A: Allocator + Copy>(
     requires held { IfSome (at kernel.old.nodes.pipes source) (λ x. count ≤ length x.bytes) }
     requires room { IfSome (at kernel.old.opened to.key) (λ o. count ≤ kernel.old.limits.file_max - unwrap_or to.given o.offset) }
     ensures done { OnOk result (GoesOver kernel.old from to false count kernel.new) }
+    ensures shares { OnOk result (IfSome (at kernel.old.nodes.files target) (λ bytes. place_in (at kernel.old.opened to.key) to.given ≤ length bytes) → AddsNone kernel.old.nodes.memory kernel.new.nodes.memory) }
     ensures undone { OnErr result (kernel.new ≡ kernel.old) }
 {
     let start = start_of(kernel, to);
@@ -106,6 +109,7 @@ fn move_bytes<A: Allocator + Copy>(
     requires some { 1 ≤ count }
     requires fits { Fits kernel.old from to count }
     ensures done { OnOk result (GoesOver kernel.old from to is_tee count kernel.new) }
+    ensures shares { SharesBetween kernel.old from to kernel.new }
     ensures undone { OnErr result (kernel.new ≡ kernel.old) }
 {
     match (from.node, to.node) {
@@ -134,6 +138,7 @@ pub(crate) fn try_move<A: Allocator + Copy>(
     requires goes { Goes kernel.old from to is_tee }
     requires some { len ≢ 0 }
     ensures done { IfOk result (λ reply. Tries kernel.old from to len is_tee reply kernel.new) }
+    ensures shares { SharesBetween kernel.old from to kernel.new }
     ensures undone { OnErr result (kernel.new ≡ kernel.old) }
     ensures wanted { OnErr result (WouldMove {A = A} kernel.old from to len is_tee) }
 {

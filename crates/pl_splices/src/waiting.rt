@@ -4,6 +4,7 @@ ghost use Rattle.pl_desc.specs.Rows.{at};
 ghost use Rattle.pl_state.specs.Opens.{OpenOn};
 ghost use Rattle.pl_state.specs.Makes.{MakesAtKeys, MayWantAtKeys};
 ghost use Rattle.pl_splices.specs.Moves.{Goes, MoveWaits};
+ghost use Rattle.pl_splices.specs.Shares.{SharesBetween, SharesByStep};
 
 use crate::moving::try_move;
 use crate::sides::Side;
@@ -39,6 +40,7 @@ fn retry<A: Allocator + Copy>(
     requires goes { Goes kernel.old from to is_tee }
     requires some { len ≢ 0 }
     ensures done { IfOk result (λ reply. MakesAtKeys kernel.old (Step.Resume number) reply kernel.new) }
+    ensures shares { SharesBetween kernel.old from to kernel.new }
     ensures undone { OnErr result (kernel.new ≡ kernel.old) }
     ensures wanted { OnErr result (MayWantAtKeys {A = A} kernel.old (Step.Resume number)) }
 {
@@ -59,6 +61,7 @@ pub fn resume<A: Allocator + Copy>(
     number: u64,
 ) -> Result<Reply<A>, NoMemory>
     ensures done { IfOk result (λ reply. MakesAtKeys kernel.old (Step.Resume number) reply kernel.new) }
+    ensures shares { SharesByStep {A = A} kernel.old (Step.Resume number) kernel.new }
     ensures undone { OnErr result (kernel.new ≡ kernel.old) }
     ensures wanted { OnErr result (MayWantAtKeys {A = A} kernel.old (Step.Resume number)) }
 {

@@ -19,5 +19,7 @@ pub mod Gone
 pub mod GivenUp
 -- Holds of several descriptions are given up one after another.
 pub mod EachInTurn
+-- What goes takes no segment from others, and makes none.
+pub mod Shrinking
 -- Where no process is and no name, nothing is.
 pub mod Deserted

@@ -9,6 +9,7 @@ use Rattle.pl_model.specs.State.{Pipe}
 use Rattle.pl_model.specs.Settle.{with_ends}
 use Rattle.pl_desc.specs.Rows.{at, count_at, change_count, one_less}
 use Rattle.pl_desc.specs.Descs.{Opened, Descs, IsTidy, ends_on, last_hold}
+use Rattle.pl_nodes.specs.Nodes.{Shrinks}
 use Rattle.pl_state.specs.Contents.{Nodes}
 
 -- a description on the pipe reads, or writes
@@ -57,6 +58,7 @@ pub record Releases (old new : Descs) (before after : Nodes) (key : ℕ) : Type 
   pub loose : count_at new.loose ≡ change_count key one_less (count_at old.loose)
   pub tables : new.tables ≡ old.tables
   pub tidy : IsTidy new
+  pub shrinks : Shrinks before.memory after.memory
   pub stays : last_hold old key ≡ false → after ≡ before
   pub leaves : last_hold old key ≡ true → IfSome (at old.opened key) (λ o. Leaves old.opened new.opened before after o.node)
 

@@ -4,7 +4,7 @@ ghost use Rattle.pl_model.specs.Map.{set_at, kept_if};
 ghost use Rattle.pl_model.specs.Nodes.{has_name};
 ghost use Rattle.pl_desc.specs.Rows.{at, count_at, change_count, one_less};
 ghost use Rattle.pl_desc.specs.Descs.{IsTidy, last_hold};
-ghost use Rattle.pl_nodes.specs.Nodes.{SameFiles, SamePipes};
+ghost use Rattle.pl_nodes.specs.Nodes.{SameFiles, SamePipes, Shrinks, memory_of};
 ghost use Rattle.pl_state.specs.Contents.{IsThere, nodes_of};
 ghost use Rattle.pl_state.specs.LastHold.{with_these_ends, Leaves, ReleasesAll};
 ghost use Rattle.pl_state.specs.Sound.{AreThere, times};
@@ -27,6 +27,7 @@ fn leave_pipe<A: Allocator + Copy>(
     requires { IsSome (at nodes.old.pipes pipe) }
     ensures pipes { at nodes.new.pipes ≡ set_at nat_eq (at nodes.old.pipes) pipe (option_map (with_these_ends has_reader has_writer had_writer) (kept_if ((has_reader || has_writer) || has_name nodes.old.names (Node.Pipe pipe)) (at nodes.old.pipes pipe))) }
     ensures files { SameFiles nodes.old nodes.new }
+    ensures shrinks { Shrinks (memory_of nodes.old) (memory_of nodes.new) }
 {
     let was_hung = nodes.is_hung(pipe);
     match hung_after_close(has_reader, has_writer, was_hung, had_writer) {
@@ -52,6 +53,7 @@ fn leave_file<A: Allocator + Copy>(
     requires { IsSome (at nodes.old.files file) }
     ensures files { at nodes.new.files ≡ set_at nat_eq (at nodes.old.files) file (kept_if ((has_reader || has_writer) || has_name nodes.old.names (Node.File file)) (at nodes.old.files file)) }
     ensures pipes { SamePipes nodes.old nodes.new }
+    ensures shrinks { Shrinks (memory_of nodes.old) (memory_of nodes.new) }
 {
     if has_reader || has_writer || nodes.has_name(Node::File(file)) {
         return;
@@ -84,6 +86,7 @@ pub fn release<A: Allocator + Copy>(descs: &mut Descs<A>, nodes: &mut Nodes<A>, 
     ensures loose { count_at descs.new.loose ≡ change_count key one_less (count_at descs.old.loose) }
     ensures tables { descs.new.tables ≡ descs.old.tables }
     ensures tidy { IsTidy descs.new }
+    ensures shrinks { Shrinks (memory_of nodes.old) (memory_of nodes.new) }
     ensures stays { last_hold descs.old key ≡ false → nodes.new ≡ nodes.old }
     ensures leaves { last_hold descs.old key ≡ true → IfSome (at descs.old.opened key) (λ o. Leaves descs.old.opened descs.new.opened (nodes_of nodes.old) (nodes_of nodes.new) o.node) }
 {

@@ -170,6 +170,35 @@ impl<A: Allocator + Copy> Bench<A> {
         self.kernel.stats().segments
     }
 
+    /// Fails where bytes are kept in another number of segments, after the step that was asked last.
+    pub fn has_segments(&self, ask: Ask, want: u64) -> Result<(), Fail> {
+        let segments = self.segments();
+        if segments == want {
+            return Ok(());
+        }
+        let (made, name) = (self.made, self.name);
+        Err(Fail::new(format_args!(
+            "step {made} of {name}, {ask:?}, leaves {segments} segments and not {want}"
+        )))
+    }
+
+    /// In how many slots the bytes of the pipe of a descriptor stand, if it is open on one.
+    pub fn slots(&self, pid: u32, fd: i32) -> Option<u32> {
+        self.kernel.slots(pid, fd)
+    }
+
+    /// Fails where another number of slots is told of a descriptor, after the step that was asked last.
+    pub fn has_slots(&self, ask: Ask, pid: u32, fd: i32, want: Option<u32>) -> Result<(), Fail> {
+        let slots = self.slots(pid, fd);
+        if slots == want {
+            return Ok(());
+        }
+        let (made, name) = (self.made, self.name);
+        Err(Fail::new(format_args!(
+            "step {made} of {name}, {ask:?}, leaves {slots:?} slots and not {want:?} under {fd} of {pid}"
+        )))
+    }
+
     /// Makes the steps, in order, and fails at the first that doesn't answer what its row says.
     pub fn all_answer(&mut self, rows: &[(Ask, Want)]) -> Result<(), Fail> {
         for (ask, want) in rows {

@@ -16,6 +16,8 @@ pub mod OpensAgain
 pub mod Seeking
 -- What the capacity of a pipe is, and is set to, at the kernel's keys.
 pub mod Sizing
+-- In how many slots a pipe's bytes stand, whatever keys the machine has for it.
+pub mod Slots
 -- A call that waits at its first try is refused, or parked.
 pub mod Refusing
 -- A parked call is tried again and waits on, at the kernel's keys.

@@ -2,7 +2,7 @@
 ghost use Rattle.std.specs.Prelude.{◌≡◌, IfOk, OnErr, IfSome};
 ghost use Rattle.pl_state.specs.Contents.{IsProcess, core_of};
 ghost use Rattle.pl_state.specs.Makes.{MakesAtKeys, MayWantAtKeys};
-ghost use Rattle.pl_transfers.specs.Capacities.{pipe_named, HasEnd};
+ghost use Rattle.pl_transfers.specs.Capacities.{pipe_named, slots_named, HasEnd, WithinCapacity};
 
 use pl_decisions::capacity_for;
 use pl_model::{Call, Errno, Node, Reply, Step};
@@ -35,6 +35,18 @@ pub fn get_pipe_sz<A: Allocator + Copy>(kernel: &KernelState<A>, pid: u32, fd: i
         return Reply::Fault(Errno::EBADF);
     };
     Reply::Size(kernel.nodes.capacity(pipe) as u32)
+}
+
+/// In how many slots the bytes stand of the pipe that a descriptor of a process names, or `None` where there is no such process, or
+/// its descriptor isn't open on a pipe. They are at most two for each 4,096 bytes of its capacity. It takes no memory.
+pub fn slots<A: Allocator + Copy>(kernel: &KernelState<A>, pid: u32, fd: i32) -> Option<u32>
+    ensures value { result ≡ slots_named {A = A} kernel.now pid fd }
+    ensures few { WithinCapacity {A = A} kernel.now pid fd result }
+{
+    let pipe = pipe_named(kernel, pid, fd)?;
+    // A proof learns here how great a capacity may be.
+    let _capacity = kernel.nodes.capacity(pipe);
+    Some(kernel.nodes.slots(pipe) as u32)
 }
 
 /// Sets how many bytes the pipe that a descriptor of a process, which is there, names can hold: a size rounded up to a power of

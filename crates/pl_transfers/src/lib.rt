@@ -8,7 +8,7 @@ mod parking;
 mod transfers;
 mod waiting;
 
-pub use capacities::{get_pipe_sz, set_pipe_sz};
+pub use capacities::{get_pipe_sz, set_pipe_sz, slots};
 pub use offsets::lseek;
 pub use transfers::{open_for, pipe, read, write};
 pub use waiting::{interrupt, refusal_to_wait, resume_one};

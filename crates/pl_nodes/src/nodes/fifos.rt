@@ -1,10 +1,11 @@
 //! FIFOs: pipes with a name.
-ghost use Rattle.std.specs.Prelude.{◌≡◌, ◌↔◌, IfOk, OnErr, IsSome, Some, None, Err, nat_eq};
+ghost use Rattle.std.specs.Prelude.{◌≡◌, ◌↔◌, ℕ, IfOk, OnErr, IsSome, Some, None, Err, nat_eq};
 ghost use Rattle.std.specs.Ordering.{nat_cmp};
 ghost use Rattle.std.specs.Cmp.Lexicographic.{slice_cmp, pointwise};
 ghost use Rattle.pl_model.specs.State.{empty_pipe};
 ghost use Rattle.pl_model.specs.Map.{set_at, get, put_in_order};
 ghost use Rattle.pl_segments.specs.Segments.{at};
+ghost use Rattle.pl_segments.specs.Sharing.{slots_at};
 
 use super::Nodes;
 use crate::content::{Content, PipeNode};
@@ -15,8 +16,8 @@ use pl_ring::Ring;
 use std::alloc::Allocator;
 
 impl<A: Allocator + Copy> Nodes<A> {
-    /// Makes an empty pipe of this name, of 65,536 bytes of capacity, and answers its key (POSIX.1-2017, mkfifo). An error leaves all
-    /// as it was, and the name is dropped.
+    /// Makes an empty pipe of this name, of 65,536 bytes of capacity, and answers its key (POSIX.1-2017, mkfifo). It has no slots, and
+    /// all others keep theirs. An error leaves all as it was, and the name is dropped.
     ///
     /// # Errors
     ///
@@ -29,6 +30,7 @@ impl<A: Allocator + Copy> Nodes<A> {
         ensures names { IfOk result (λ key. self.new.names ≡ put_in_order (slice_cmp nat_cmp) self.old.names name.items (Node.Pipe key)) }
         ensures exists { (result ≡ Err MakeFault.Exists) ↔ IsSome (get (pointwise nat_eq) self.old.names name.items) }
         ensures files { at self.new.files ≡ at self.old.files }
+        ensures slots { (key : ℕ) → slots_at self.new.slots key ≡ slots_at self.old.slots key }
         ensures segments { self.new.segments ≡ self.old.segments }
         ensures file_max { self.new.file_max ≡ self.old.file_max }
         ensures err { OnErr result (self.new ≡ self.old) }

@@ -6,7 +6,7 @@ ghost use Rattle.pl_model.specs.Nodes.{has_name};
 ghost use Rattle.pl_segments.specs.Segments.{segment_at, at};
 ghost use Rattle.pl_segments.specs.Turns.{Holds, Turns};
 ghost use Rattle.pl_file.specs.File.{written, fitting};
-ghost use Rattle.pl_nodes.specs.Nodes.{SamePipes};
+ghost use Rattle.pl_nodes.specs.Nodes.{SamePipes, Shrinks, memory_of};
 
 use super::Nodes;
 use crate::content::Content;
@@ -77,11 +77,12 @@ impl<A: Allocator + Copy> Nodes<A> {
         Ok(written)
     }
 
-    /// Empties a file (POSIX.1-2017, open, O_TRUNC). It takes no memory.
+    /// Empties a file (POSIX.1-2017, open, O_TRUNC). It takes no memory, and no slot and no segment comes.
     pub fn empty_file(&mut self, key: usize)
         requires { IsSome (at self.old.files key) }
         ensures ok { at self.new.files ≡ change_at key (λ bytes. []) (at self.old.files) }
         ensures pipes { SamePipes self.old self.new }
+        ensures shrinks { Shrinks (memory_of self.old) (memory_of self.new) }
     {
         let Some(node) = self.contents[key].as_file_mut() else {
             unreachable!()
@@ -89,16 +90,19 @@ impl<A: Allocator + Copy> Nodes<A> {
         node.file.truncate(&mut self.store);
     }
 
-    /// Lets a file go that has no name, with its bytes. It takes no memory.
+    /// Lets a file go that has no name, with its bytes. It takes no memory, and no slot and no segment comes.
     pub fn discard_file(&mut self, key: usize)
         requires here { IsSome (at self.old.files key) }
         requires unnamed { has_name self.old.names (Node.File key) ≡ false }
         ensures ok { at self.new.files ≡ set_at nat_eq (at self.old.files) key None }
         ensures pipes { SamePipes self.old self.new }
+        ensures shrinks { Shrinks (memory_of self.old) (memory_of self.new) }
     {
         let Content::File(gone) = self.contents.remove(key) else {
             unreachable!()
         };
         let_go(&mut self.store, gone.file);
+        // A proof learns here that a segment that is there is held.
+        let _segments = self.store.in_use();
     }
 }

@@ -1,10 +1,11 @@
 //! Names of what is under a key, looked up by their bytes.
-ghost use Rattle.std.specs.Prelude.{◌≡◌, ◌↔◌, [], IfOk, OnErr, IsErr, IsSome, Some, None, Err, nat_eq};
+ghost use Rattle.std.specs.Prelude.{◌≡◌, ◌↔◌, ℕ, [], IfOk, OnErr, IsErr, IsSome, Some, None, Err, nat_eq};
 ghost use Rattle.std.specs.Ordering.{nat_cmp};
 ghost use Rattle.std.specs.Cmp.Lexicographic.{slice_cmp, pointwise};
 ghost use Rattle.pl_model.specs.Map.{set_at, get, without, put_in_order};
 ghost use Rattle.pl_model.specs.Nodes.{has_name};
 ghost use Rattle.pl_segments.specs.Segments.{at};
+ghost use Rattle.pl_segments.specs.Sharing.{slots_at};
 
 use super::Nodes;
 use crate::content::{Content, FileNode};
@@ -14,7 +15,8 @@ use pl_model::Node;
 use std::alloc::Allocator;
 
 impl<A: Allocator + Copy> Nodes<A> {
-    /// Makes an empty file of this name, and answers its key. An error leaves all as it was, and the name is dropped.
+    /// Makes an empty file of this name, and answers its key. It has no slots, and all others keep theirs. An error leaves all as it
+    /// was, and the name is dropped.
     ///
     /// # Errors
     ///
@@ -27,6 +29,7 @@ impl<A: Allocator + Copy> Nodes<A> {
         ensures names { IfOk result (λ key. self.new.names ≡ put_in_order (slice_cmp nat_cmp) self.old.names name.items (Node.File key)) }
         ensures exists { (result ≡ Err MakeFault.Exists) ↔ IsSome (get (pointwise nat_eq) self.old.names name.items) }
         ensures pipes { at self.new.pipes ≡ at self.old.pipes }
+        ensures slots { (key : ℕ) → slots_at self.new.slots key ≡ slots_at self.old.slots key }
         ensures segments { self.new.segments ≡ self.old.segments }
         ensures file_max { self.new.file_max ≡ self.old.file_max }
         ensures err { OnErr result (self.new ≡ self.old) }

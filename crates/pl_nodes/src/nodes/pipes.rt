@@ -1,5 +1,5 @@
 //! Pipes.
-ghost use Rattle.std.specs.Prelude.{◌≡◌, ◌↔◌, ◌+◌, ◌-◌, ◌*◌, ◌/◌, ◌<◌, ◌≤◌, ◌++◌, false, [], length, take, drop, IfOk, OnErr, OnOk, IsSome, IfSome, Some, None, Err, nat_eq};
+ghost use Rattle.std.specs.Prelude.{◌≡◌, ◌↔◌, ◌+◌, ◌-◌, ◌*◌, ◌/◌, ◌<◌, ◌≤◌, ◌++◌, ℕ, false, [], length, take, drop, IfOk, OnErr, OnOk, IsSome, IfSome, Some, None, Err, nat_eq};
 ghost use Rattle.pl_model.specs.Numbers.{most_capacity};
 ghost use Rattle.pl_model.specs.Capacity.{IsPipeCapacity};
 ghost use Rattle.pl_model.specs.State.{empty_pipe};
@@ -9,7 +9,7 @@ ghost use Rattle.pl_model.specs.Nodes.{has_name};
 ghost use Rattle.pl_segments.specs.Segments.{segment_size, segment_at, at};
 ghost use Rattle.pl_segments.specs.Turns.{Holds, Turns};
 ghost use Rattle.pl_segments.specs.Sharing.{slots_at};
-ghost use Rattle.pl_nodes.specs.Nodes.{SameFiles};
+ghost use Rattle.pl_nodes.specs.Nodes.{SameFiles, Shrinks, memory_of};
 
 use super::Nodes;
 use crate::content::{Content, PipeNode};
@@ -29,8 +29,8 @@ fn let_go<A: Allocator + Copy>(store: &mut Store<A>, ring: Ring<A>)
 }
 
 impl<A: Allocator + Copy> Nodes<A> {
-    /// Makes an empty pipe of 65,536 bytes of capacity (pipe(7), Pipe capacity), and answers its key. An error leaves all as it
-    /// was.
+    /// Makes an empty pipe of 65,536 bytes of capacity (pipe(7), Pipe capacity), and answers its key. It has no slots, and all others
+    /// keep theirs. An error leaves all as it was.
     pub fn make_pipe(&mut self) -> Result<usize, NoMemory>
         ensures vacant { IfOk result (λ key. (at self.old.pipes key ≡ None) × (at self.old.files key ≡ None)) }
         ensures key { IfOk result (λ key. key ≡ self.old.next) }
@@ -38,6 +38,7 @@ impl<A: Allocator + Copy> Nodes<A> {
         ensures files { at self.new.files ≡ at self.old.files }
         ensures names { self.new.names ≡ self.old.names }
         ensures file_max { self.new.file_max ≡ self.old.file_max }
+        ensures slots { (key : ℕ) → slots_at self.new.slots key ≡ slots_at self.old.slots key }
         ensures segments { self.new.segments ≡ self.old.segments }
         ensures err { OnErr result (self.new ≡ self.old) }
     {
@@ -154,8 +155,8 @@ impl<A: Allocator + Copy> Nodes<A> {
         Ok(())
     }
 
-    /// Sets how many bytes a pipe can hold: a power of two, from 4,096 to 1,048,576 (fcntl(2), F_SETPIPE_SZ). An error leaves
-    /// all as it was.
+    /// Sets how many bytes a pipe can hold: a power of two, from 4,096 to 1,048,576 (fcntl(2), F_SETPIPE_SZ). All slots and
+    /// segments stay as they are. An error leaves all as it was.
     ///
     /// # Errors
     ///
@@ -167,7 +168,7 @@ impl<A: Allocator + Copy> Nodes<A> {
         ensures ok { OnOk result (at self.new.pipes ≡ change_at key (λ x. record x { capacity = capacity }) (at self.old.pipes)) }
         ensures busy { (result ≡ Err CapacityFault.Busy) ↔ IfSome (at self.old.pipes key) (λ x. capacity < length x.bytes) }
         ensures files { SameFiles self.old self.new }
-        ensures segments { self.new.segments ≡ self.old.segments }
+        ensures memory { memory_of self.new ≡ memory_of self.old }
         ensures err { OnErr result (self.new ≡ self.old) }
     {
         let Some(node) = self.contents[key].as_pipe_mut() else {
@@ -177,38 +178,44 @@ impl<A: Allocator + Copy> Nodes<A> {
     }
 
     /// Makes a pipe what a new one is: empty, of 65,536 bytes of capacity, and not hung. So is a FIFO left by its last end, since
-    /// it keeps nothing for the next (POSIX.1-2017, close). It takes no memory.
+    /// it keeps nothing for the next (POSIX.1-2017, close). It takes no memory, and no slot and no segment comes.
     pub fn reset_pipe(&mut self, key: usize)
         requires { IsSome (at self.old.pipes key) }
         ensures ok { at self.new.pipes ≡ change_at key (λ x. empty_pipe) (at self.old.pipes) }
         ensures files { SameFiles self.old self.new }
+        ensures shrinks { Shrinks (memory_of self.old) (memory_of self.new) }
     {
         let Some(node) = self.contents[key].as_pipe_mut() else {
             unreachable!()
         };
         node.ring.reset(&mut self.store);
         node.hung = false;
+        // A proof learns here that a segment that is there is held.
+        let _segments = self.store.in_use();
     }
 
-    /// Lets a pipe go that has no name, with its bytes. It takes no memory.
+    /// Lets a pipe go that has no name, with its bytes. It takes no memory, and no slot and no segment comes.
     pub fn discard_pipe(&mut self, key: usize)
         requires here { IsSome (at self.old.pipes key) }
         requires unnamed { has_name self.old.names (Node.Pipe key) ≡ false }
         ensures ok { at self.new.pipes ≡ set_at nat_eq (at self.old.pipes) key None }
         ensures files { SameFiles self.old self.new }
+        ensures shrinks { Shrinks (memory_of self.old) (memory_of self.new) }
     {
         let Content::Pipe(gone) = self.contents.remove(key) else {
             unreachable!()
         };
         let_go(&mut self.store, gone.ring);
+        // A proof learns here that a segment that is there is held.
+        let _segments = self.store.in_use();
     }
 
-    /// Says whether a pipe is hung. It takes no memory.
+    /// Says whether a pipe is hung. It takes no memory, and all slots and segments stay as they are.
     pub fn set_hung(&mut self, key: usize, hung: bool)
         requires { IsSome (at self.old.pipes key) }
         ensures ok { at self.new.pipes ≡ change_at key (λ x. record x { hung = hung }) (at self.old.pipes) }
         ensures files { SameFiles self.old self.new }
-        ensures segments { self.new.segments ≡ self.old.segments }
+        ensures memory { memory_of self.new ≡ memory_of self.old }
     {
         let Some(node) = self.contents[key].as_pipe_mut() else {
             unreachable!()

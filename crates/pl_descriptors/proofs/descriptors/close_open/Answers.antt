@@ -48,7 +48,7 @@ module _ (g : Over) (c : After-release-arg-2-1 g) where
 
 -- the hold is given up
 released : (g : Over) (c : After-release g) → Releases c.remove.new.self c.release.new.descs (nodes_of c.kernel.inside.nodes) (nodes_of c.release.new.nodes) c.unwrap-key.result
-released g c = record { opened = c.release.ensures.opened; loose = c.release.ensures.loose; tables = c.release.ensures.tables; tidy = c.release.ensures.tidy; stays = λ last. ap nodes_of (c.release.ensures.stays last); leaves = c.release.ensures.leaves }
+released g c = record { opened = c.release.ensures.opened; loose = c.release.ensures.loose; tables = c.release.ensures.tables; tidy = c.release.ensures.tidy; shrinks = c.release.ensures.shrinks; stays = λ last. ap nodes_of (c.release.ensures.stays last); leaves = c.release.ensures.leaves }
 
 pub release-requires-clause-held : goal.release-requires-clause-held
 release-requires-clause-held g c = (may_release (parts_of (calls g c).kernel) _ (key g c) (loosed g c) c.kernel.inside.parked (gives g c)).0

@@ -50,7 +50,7 @@ module _ (g : Over) (c : In-Some g) where
 
 -- the hold is given up
 released : (g : Over) (c : After-release g) → Releases c.take_fd.new.self c.release.new.descs (nodes_of c.loop-key.kernel-inside.nodes) (nodes_of c.release.new.nodes) c.in-Some.key
-released g c = record { opened = c.release.ensures.opened; loose = c.release.ensures.loose; tables = c.release.ensures.tables; tidy = c.release.ensures.tidy; stays = λ last. ap nodes_of (c.release.ensures.stays last); leaves = c.release.ensures.leaves }
+released g c = record { opened = c.release.ensures.opened; loose = c.release.ensures.loose; tables = c.release.ensures.tables; tidy = c.release.ensures.tidy; shrinks = c.release.ensures.shrinks; stays = λ last. ap nodes_of (c.release.ensures.stays last); leaves = c.release.ensures.leaves }
 
 pub release-requires-clause-held : goal.release-requires-clause-held
 release-requires-clause-held g c =
@@ -123,7 +123,7 @@ loop-number-smaller g c =
     let S = c.loop-number.kernel in
     let call = next g (goal.at.loop-number-smaller g c).In-Some-next_of_process in
     let here : get nat_eq S.calls.calls c.in-Some-next_of_process.number ≡ Some call.0 = ap (λ (z : Contents g.row.A.Denot). get nat_eq z.calls.calls c.in-Some-next_of_process.number) (sym c.kernel-in-loop-number.view_is) ∙ call.1 in
-    drops_one S c.end_call.new.kernel c.in-Some-next_of_process.number c.end_call.ensures call.0 here
+    drops_one S c.end_call.new.kernel c.in-Some-next_of_process.number c.end_call.ensures.settled call.0 here
 
 pub loop-number-preserved : goal.loop-number-preserved
 loop-number-preserved g c =
@@ -138,10 +138,10 @@ loop-number-preserved g c =
     let least = subst (λ (z : Contents A). (other : ℕ) → c.loop-number.from ≤ other → IfSome (get nat_eq z.calls.calls other) (λ call. call.pid ≡ pid → c.in-Some-next_of_process.number ≤ other)) c.kernel-in-loop-number.view_is c.in-Some-next_of_process.ensures.least in
     let own = subst (λ (z : Contents A). is_others (core_of z) pid c.in-Some-next_of_process.number ≡ false) c.kernel-in-loop-number.view_is (own_call (in_turn g w) c.kernel-in-loop-number.invariant.0 pid c.in-Some-next_of_process.number call.0 call.1 call.2) in
     record {
-      leaving = subst (λ z. IsExiting C pid z) (sym c.end_call.ensures) (exiting_drops C pid (core_of S) c.in-Some-next_of_process.number own was.leaving);
-      process = (λ i. drops_process S N c.in-Some-next_of_process.number c.end_call.ensures i pid) ∙ was.process;
-      closed = λ fd. (λ i. drops_rows S N c.in-Some-next_of_process.number c.end_call.ensures i pid fd) ∙ was.closed fd;
-      dropped = drops_through S N c.in-Some-next_of_process.number c.end_call.ensures pid c.loop-number.from was.dropped least;
+      leaving = subst (λ z. IsExiting C pid z) (sym c.end_call.ensures.settled) (exiting_drops C pid (core_of S) c.in-Some-next_of_process.number own was.leaving);
+      process = (λ i. drops_process S N c.in-Some-next_of_process.number c.end_call.ensures.settled i pid) ∙ was.process;
+      closed = λ fd. (λ i. drops_rows S N c.in-Some-next_of_process.number c.end_call.ensures.settled i pid fd) ∙ was.closed fd;
+      dropped = drops_through S N c.in-Some-next_of_process.number c.end_call.ensures.settled pid c.loop-number.from was.dropped least;
     }
 
 -- as the process ends, it names nothing, no call of it is parked, and the rest is as its exit leaves it

@@ -10,6 +10,7 @@ use Rattle.pl_state.specs.Makes.{MakesAtKeys}
 use Rattle.pl_state.specs.Parking.{refusal, with_call}
 use Rattle.pl_state.proofs.Known.{Caller, caller}
 use Rattle.pl_nodes.proofs.Keyed.{on_err}
+use Rattle.pl_splices.specs.Shares.{SharesBetween}
 use Rattle.pl_splices.specs.Moves.{Goes, Tries, Ends, StillWaits, WouldMove, trial, call_between}
 use Rattle.pl_splices.proofs.by_call.Begins.{move-ends, move-wants, move-refused, move-waits, move-waits-wants}
 use Rattle.pl_splices.proofs.begin.begin_move.Given.{Over}
@@ -88,3 +89,12 @@ returns-clause-done g c =
     let number : c.in_ok-number.number ≡ (k g w).calls.next = c.in_ok-number.ensures.number ∙ ap (λ (z : Contents g.row.A.Denot). z.calls.next) (sym (as_before g v)) in
     subst (λ (z : Contents g.row.A.Denot). MakesAtKeys z x (Parked c.in_ok-number.number) c.park_between.new.kernel) c.kernel.view_is
     (subst (λ z. MakesAtKeys (k g w) x (Parked z) c.park_between.new.kernel) (sym number) (subst (λ (z : Contents g.row.A.Denot). MakesAtKeys (k g w) x (Parked (k g w).calls.next) z) (sym new) does))
+
+-- a call that is parked, or finds no memory for that, left of memory what its try did
+pub returns-in_err-number-clause-shares : goal.returns-in_err-number-clause-shares
+returns-in_err-number-clause-shares g c =
+    subst (λ (z : Contents g.row.A.Denot). SharesBetween c.args.kernel.now c.args.from c.args.to z) (sym c.in_err-number.ensures.err) c.try_move.ensures.shares
+
+pub returns-clause-shares : goal.returns-clause-shares
+returns-clause-shares g c =
+    subst (λ (z : Contents g.row.A.Denot). SharesBetween c.args.kernel.now c.args.from c.args.to z) (sym c.in_ok-number.ensures.ok) c.try_move.ensures.shares

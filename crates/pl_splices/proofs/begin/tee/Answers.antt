@@ -1,7 +1,9 @@
-use Rattle.std.proofs.Common.{◌≡◌, None, sym, ap, subst, ◌∙◌, w32}
+use Rattle.std.proofs.Common.{◌≡◌, None, sym, ap, subst, ◌∙◌, w32, Some}
 use Rattle.std.specs.Prelude.{◌&&◌, ◌||◌}
 use Rattle.std.proofs.lemmas.Int.{to_z-of_z}
 use Rattle.std.proofs.lemmas.Bool.{eq-eqb, ne_eqb}
+use Rattle.pl_model.specs.declared.calls.Call.{Call}
+use Rattle.pl_model.specs.declared.calls.Step.TheVariants.{Begin}
 use Rattle.pl_model.specs.Flags.{has, splice_nonblock}
 use Rattle.pl_model.specs.Modes.{reads, writes}
 use Rattle.pl_model.specs.Begin.{open_for}
@@ -10,6 +12,9 @@ use Rattle.pl_state.specs.KernelView.{view_of}
 use Rattle.pl_state.specs.Contents.{Contents, core_of}
 use Rattle.pl_state.specs.Opens.{Opens}
 use Rattle.pl_state.proofs.Known.{Caller, caller}
+use Rattle.pl_desc.specs.Rows.{at}
+use Rattle.pl_splices.specs.Shares.{way_named, place_in}
+use Rattle.pl_splices.proofs.by_call.Sharing.{by_step-same, by_way, way_named-is}
 use Rattle.pl_splices.proofs.by_call.Checking.{tee-none, tee-unsourced, tee-untargeted, tee-refused, tee-passes}
 use Rattle.pl_splices.proofs.begin.tee.Given.{Over}
 use Rattle.pl_splices.proofs.begin.tee.Goals.{After-kernel, In-Some, In-Some-open_for, After-begin_move-arg-1, then-contains, else-contains+then-is_nonblocking_pipe, else-contains+else-is_nonblocking_pipe}
@@ -66,3 +71,24 @@ begin_move-requires-clause-begins g c =
     let at_pass = goal.at.begin_move-requires-clause-begins g c in
     rw (← c.kernel.view_is, to_z-of_z w32 c.args.from c.ranges.from, to_z-of_z w32 c.args.to c.ranges.to) (tee-passes (calls g at_pass.After-kernel) c.args.from c.args.to c.args.len c.args.flags (ne_eqb c.args.len 0 c.if-len-eq0.false)
     c.in-Some.source (source g at_pass.In-Some) c.in-Some-open_for.target (target g at_pass.In-Some-open_for) (sym c.tee_fault.ensures ∙ c.in_default-tee_fault.is) c.if-contains.nonblock (nonblocks g c))
+
+pub returns-then-len-eq0-clause-shares : goal.returns-then-len-eq0-clause-shares
+returns-then-len-eq0-clause-shares g c = by_step-same c.args.kernel.now (Begin c.args.pid (Call.Tee c.args.from c.args.to c.args.len c.args.flags))
+
+pub returns-in_default-clause-shares : goal.returns-in_default-clause-shares
+returns-in_default-clause-shares g c = by_step-same c.args.kernel.now (Begin c.args.pid (Call.Tee c.args.from c.args.to c.args.len c.args.flags))
+
+pub returns-in_default-open_for-clause-shares : goal.returns-in_default-open_for-clause-shares
+returns-in_default-open_for-clause-shares g c = by_step-same c.args.kernel.now (Begin c.args.pid (Call.Tee c.args.from c.args.to c.args.len c.args.flags))
+
+pub returns-in-Some-tee_fault-clause-shares : goal.returns-in-Some-tee_fault-clause-shares
+returns-in-Some-tee_fault-clause-shares g c = by_step-same c.args.kernel.now (Begin c.args.pid (Call.Tee c.args.from c.args.to c.args.len c.args.flags))
+
+pub returns-clause-shares : goal.returns-clause-shares
+returns-clause-shares g c =
+    let at_pass = goal.at.returns-clause-shares g c in
+    let k = view_of c.kernel.inside in
+    by_way c.args.kernel.now (Begin c.args.pid (Call.Tee c.args.from c.args.to c.args.len c.args.flags)) _ c.begin_move.new.kernel
+    (subst (λ (z : Contents g.row.A.Denot). way_named z c.args.pid c.args.from c.args.to None ≡ Some (record { from = c.in-Some.source.node; to = c.in-Some-open_for.target.node; place = place_in (at z.opened c.in-Some-open_for.target.key) None })) c.kernel.view_is
+    (way_named-is k c.args.pid c.args.from c.args.to None c.in-Some.source c.in-Some-open_for.target (source g at_pass.In-Some) (target g at_pass.In-Some-open_for)))
+    c.begin_move.ensures.shares

@@ -12,6 +12,7 @@ use Rattle.pl_state.specs.Contents.{Contents, contents, nodes_of}
 use Rattle.pl_state.specs.Opens.{OpenOn}
 use Rattle.pl_state.specs.Sound.{IsSound}
 use Rattle.pl_state.proofs.by_call.Begun.{pipe_there, file_there}
+use Rattle.pl_splices.specs.Shares.{AddsNone, place_in}
 use Rattle.pl_splices.specs.Moves.{GoesOver}
 use Rattle.pl_splices.proofs.by_call.Trying.{of_one}
 use Rattle.pl_splices.proofs.by_call.Moving.{to_file, to_file_sound}
@@ -92,3 +93,11 @@ pub returns-clause-done : goal.returns-clause-done
 returns-clause-done g c =
     subst (λ z. GoesOver z c.args.from c.args.to false c.args.count (new g c)) c.kernel.view_is
     (subst (GoesOver (k g c) c.args.from c.args.to false c.args.count) (new_is g c) (to_file (k g c) c.kernel.invariant.0 c.args.from c.args.to c.args.source c.args.target (on_p g c) (on_g g c) (pipe g c).0 (file g c).0 (pipe g c).1 (file g c).1 c.args.count c.requires.some (held g c) (nodes_of c.move_pipe_file.new.self) (after g c) c.move_pipe_file.new.self.files (wrote g c) c.advance.new.descs.opened (moves g c)))
+
+pub returns-clause-shares : goal.returns-clause-shares
+returns-clause-shares g c =
+    let begins : c.start_of-start.result ≡ place_in (at (k g c).opened c.args.to.key) c.args.to.given = start_is g c ∙ ap (λ o. place_in o c.args.to.given) (sym (on_g g c).here) in
+    subst (λ (z : Contents g.row.A.Denot). IfSome (at z.nodes.files c.args.target) (λ bytes. place_in (at z.opened c.args.to.key) c.args.to.given ≤ length bytes) → AddsNone z.nodes.memory (new g c).nodes.memory) c.kernel.view_is
+    (λ within.
+        let here = subst (λ n. IfSome (at (k g c).nodes.files c.args.target) (λ (bytes : List ℕ). n ≤ length bytes)) (sym begins) within in
+        record { fewer = c.in-Ok.ensures.segments here; named_before = c.in-Ok.ensures.none_added here })

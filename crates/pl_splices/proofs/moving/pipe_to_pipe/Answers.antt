@@ -3,13 +3,14 @@ use Rattle.pl_model.specs.declared.node.Node.TheVariants as node
 use Rattle.pl_model.specs.Map.{change_at}
 use Rattle.pl_model.specs.State.{Pipe}
 use Rattle.pl_desc.specs.Rows.{at}
-use Rattle.pl_nodes.specs.Nodes.{bytes_of}
+use Rattle.pl_nodes.specs.Nodes.{bytes_of, memory_of}
 use Rattle.pl_state.specs.KernelView.{view_of}
 use Rattle.pl_state.specs.Contents.{Contents, nodes_of}
 use Rattle.pl_state.specs.Opens.{OpenOn}
 use Rattle.pl_state.specs.Sound.{IsSound}
 use Rattle.pl_state.proofs.Known.{moved_view}
 use Rattle.pl_state.proofs.by_call.Begun.{pipe_there}
+use Rattle.pl_splices.specs.Shares.{SharesSlots}
 use Rattle.pl_splices.specs.Moves.{GoesOver}
 use Rattle.pl_splices.proofs.by_call.Moving.{copied, copied_sound, moved_over, moved_sound}
 use Rattle.pl_splices.proofs.moving.pipe_to_pipe.Given.{Over}
@@ -67,3 +68,13 @@ returns-in_ok-move_pipe_pipe-clause-done g c =
     let new = view_of (record c.kernel.inside { nodes = c.move_pipe_pipe.new.self }) in
     let over = subst (GoesOver (k g w) c.args.from c.args.to false c.args.count) (moved_view c.kernel.inside c.move_pipe_pipe.new.self c.in_ok-move_pipe_pipe.ensures.files) (moved_over (k g w) c.kernel.invariant.0 c.args.from c.args.to c.args.source c.args.target (on_p g w) (on_q g w) c.requires.apart (p g w).0 (q g w).0 (p g w).1 (q g w).1 c.args.count (held g w) (nodes_of c.move_pipe_pipe.new.self) after) in
     subst (λ z. GoesOver z c.args.from c.args.to c.args.is_tee c.args.count new) c.kernel.view_is (subst (λ b. GoesOver (k g w) c.args.from c.args.to b c.args.count new) (sym c.if-is_tee.false) over)
+
+pub returns-in_ok-copy_pipe_pipe-clause-shares : goal.returns-in_ok-copy_pipe_pipe-clause-shares
+returns-in_ok-copy_pipe_pipe-clause-shares g c =
+    subst (λ (z : Contents g.row.A.Denot). SharesSlots z.nodes.memory (memory_of c.copy_pipe_pipe.new.self) c.args.source c.args.target) c.kernel.view_is
+    (record { few = c.in_ok-copy_pipe_pipe.ensures.segments; parts = c.in_ok-copy_pipe_pipe.ensures.parts })
+
+pub returns-in_ok-move_pipe_pipe-clause-shares : goal.returns-in_ok-move_pipe_pipe-clause-shares
+returns-in_ok-move_pipe_pipe-clause-shares g c =
+    subst (λ (z : Contents g.row.A.Denot). SharesSlots z.nodes.memory (memory_of c.move_pipe_pipe.new.self) c.args.source c.args.target) c.kernel.view_is
+    (record { few = c.in_ok-move_pipe_pipe.ensures.segments; parts = c.in_ok-move_pipe_pipe.ensures.parts })

@@ -3,6 +3,7 @@ use Rattle.pl_model.specs.declared.cases.MoveCase.{MoveCase}
 use Rattle.pl_model.specs.declared.replies.Errno.TheVariants.{EFBIG, EPIPE}
 use Rattle.pl_model.specs.declared.replies.Reply.TheVariants.{Fault}
 use Rattle.pl_model.specs.Transfer.{count}
+use Rattle.pl_splices.proofs.by_call.Sharing.{shares-same}
 use Rattle.pl_splices.specs.Moves.{WouldMove}
 use Rattle.pl_nodes.proofs.Keyed.{on_err}
 use Rattle.pl_splices.proofs.by_call.Sizing.{ends_still, waits_still, would_move, ends_over}
@@ -27,3 +28,15 @@ returns-in-TooBig-clause-done g c = ends_still c.args.kernel.now c.args.from c.a
 
 pub returns-in_ok-move_bytes-in-Moves-clause-done : goal.returns-in_ok-move_bytes-in-Moves-clause-done
 returns-in_ok-move_bytes-in-Moves-clause-done g c = ends_over c.args.kernel.now c.args.from c.args.to c.args.is_tee c.requires.goes c.args.len c.source_of-source.result c.target_of-target.result c.source_of-source.ensures c.target_of-target.ensures c.case_of_move.result c.case_of_move.ensures.case c.in-Moves.count c.in-Moves.is c.move_bytes.new.kernel c.in_ok-move_bytes-in-Moves.ensures.done
+
+pub returns-in-Broken-clause-shares : goal.returns-in-Broken-clause-shares
+returns-in-Broken-clause-shares g c = shares-same c.args.kernel.now c.args.from.node c.args.to.node _
+
+pub returns-in-EndOfInput-clause-shares : goal.returns-in-EndOfInput-clause-shares
+returns-in-EndOfInput-clause-shares g c = shares-same c.args.kernel.now c.args.from.node c.args.to.node _
+
+pub returns-in-Waits-clause-shares : goal.returns-in-Waits-clause-shares
+returns-in-Waits-clause-shares g c = shares-same c.args.kernel.now c.args.from.node c.args.to.node _
+
+pub returns-in-TooBig-clause-shares : goal.returns-in-TooBig-clause-shares
+returns-in-TooBig-clause-shares g c = shares-same c.args.kernel.now c.args.from.node c.args.to.node _

@@ -1,5 +1,6 @@
 use Rattle.std.proofs.Common.{◌≡◌, ◌<◌, ℕ, Some, true, arith, refl, sym, ap, subst, ◌∙◌, nat_eq, false, IfSome, IsSome, Bor, slice_index_or}
 use Rattle.std.specs.Prelude.{option_map}
+use Rattle.pl_model.specs.declared.calls.Step.TheVariants.{Resume}
 use Rattle.pl_model.specs.Map.{get}
 use Rattle.pl_parked.specs.declared.call.ParkedCall.{ParkedCall}
 use Rattle.pl_desc.specs.Rows.{at}
@@ -8,6 +9,7 @@ use Rattle.pl_state.specs.KernelView.{view_of}
 use Rattle.pl_state.specs.Sound.{IsSound, IsWaiting, AreBoth, Keeps, KeepsOne, MayGo, MayKeepFile, MayWait}
 use Rattle.pl_state.proofs.Known.{known, parts_of}
 use Rattle.pl_transfers.proofs.by_call.Resuming.{resume-none}
+use Rattle.pl_splices.proofs.by_call.Sharing.{by_step-same, by_way, way_resumed-is, by_other}
 use Rattle.pl_splices.specs.Moves.{Goes, IsMove, MoveWaits}
 use Rattle.pl_splices.proofs.by_call.Trying.{say_one}
 use Rattle.pl_splices.proofs.by_call.Retrying.{first_there, second_there, waits_so, goes_so, keeps_one}
@@ -140,3 +142,27 @@ resume_one-requires g c =
     let w = c.in-Some.call.now in
     say_one (get nat_eq c.args.kernel.now.calls.calls c.args.number) w (λ (w : ParkedCall g.row.A.Denot). KeepsOne w.call) (here_now g v)
     (keeps_one w.call w.kept (waiting g v).keeps c.in_default-call.not-Splice c.in_default-call.not-Tee)
+
+pub returns-in_default-clause-shares : goal.returns-in_default-clause-shares
+returns-in_default-clause-shares g c = by_step-same c.args.kernel.now (Resume c.args.number)
+
+pub returns-in-Splice-clause-shares : goal.returns-in-Splice-clause-shares
+returns-in-Splice-clause-shares g c =
+    let w = (goal.at.returns-in-Splice-clause-shares g c).After-kept_side-to in
+    let waits = splice_waits g w in
+    let goes = splice_goes g w in
+    by_way c.args.kernel.now (Resume c.args.number) _ c.retry.new.kernel
+    (way_resumed-is c.args.kernel.now c.args.number c.kept_side-from.result c.kept_side-to.result c.in-Splice.len false waits goes.source goes.target) c.retry.ensures.shares
+
+pub returns-in-Tee-clause-shares : goal.returns-in-Tee-clause-shares
+returns-in-Tee-clause-shares g c =
+    let w = (goal.at.returns-in-Tee-clause-shares g c).After-kept_side-to-in-Tee in
+    let waits = tee_waits g w in
+    let goes = tee_goes g w in
+    by_way c.args.kernel.now (Resume c.args.number) _ c.retry-in-Tee.new.kernel
+    (way_resumed-is c.args.kernel.now c.args.number c.kept_side-from-in-Tee.result c.kept_side-to-in-Tee.result c.in-Tee.len true waits goes.source goes.target) c.retry-in-Tee.ensures.shares
+
+pub returns-in_default-call-clause-shares : goal.returns-in_default-call-clause-shares
+returns-in_default-call-clause-shares g c =
+    let v = (goal.at.returns-in_default-call-clause-shares g c).In-Some in
+    by_other c.args.kernel.now c.args.number c.in-Some.call.now (here_now g v) c.in_default-call.not-Splice c.in_default-call.not-Tee c.resume_one.new.kernel

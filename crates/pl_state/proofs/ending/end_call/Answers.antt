@@ -6,10 +6,12 @@ use Rattle.pl_model.specs.Step.{without_call}
 use Rattle.pl_parked.specs.Calls.{Calls}
 use Rattle.pl_desc.specs.Rows.{is_pid, count_at, at}
 use Rattle.pl_state.specs.KernelView.{view_of}
-use Rattle.pl_state.specs.Contents.{Nodes, nodes_of, contents, core_of}
+use Rattle.pl_nodes.specs.Nodes.{Shrinks}
+use Rattle.pl_state.specs.Contents.{Contents, Nodes, nodes_of, contents, core_of}
 use Rattle.pl_state.specs.LastHold.{ReleasesAll}
 use Rattle.pl_state.specs.Sound.{IsSound, IsWaiting, AreCounted, times, KeepsNodes}
 use Rattle.pl_state.proofs.by_call.Exiting.{drops_process}
+use Rattle.pl_state.proofs.holders.Shrinking.{released-shrinks}
 use Rattle.pl_state.proofs.holders.Belonging.{belong-same}
 use Rattle.pl_state.proofs.Known.{Parts, known, parts_of}
 use Rattle.pl_state.proofs.waiting.Calls.{get_without}
@@ -59,9 +61,14 @@ invariant_of-kernel g c =
       ended_held (parts g v) n call (here g v) descs (nodes g w) (released g w),
     )
 
-pub returns : goal.returns
-returns g c =
-    let w = (goal.at.returns g c).After-release_all in
-    let v = (goal.at.returns g c).After-as_slice in
+pub returns-clause-settled : goal.returns-clause-settled
+returns-clause-settled g c =
+    let w = (goal.at.returns-clause-settled g c).After-release_all in
+    let v = (goal.at.returns-clause-settled g c).After-as_slice in
     subst (λ (z : Calls g.row.A.Denot). core_of (contents c.release_all.new.descs (nodes g w) z c.kernel.inside.limits) ≡ settle (core_of c.args.kernel.now) (without_call (core_of c.args.kernel.now) c.args.number)) (sym c.take.ensures.rest)
     (ended (parts g v) c.args.number c.unwrap-call.result (here g v) c.release_all.new.descs (nodes g w) (released g w) ∙ ap (λ z. settle (core_of z) (without_call (core_of z) c.args.number)) c.kernel.view_is)
+
+pub returns-clause-shrinks : goal.returns-clause-shrinks
+returns-clause-shrinks g c =
+    let w = (goal.at.returns-clause-shrinks g c).After-release_all in
+    subst (λ (z : Contents g.row.A.Denot). Shrinks z.nodes.memory (nodes g w).memory) c.kernel.view_is (released-shrinks c.unwrap-call.result.kept c.kernel.inside.descs c.release_all.new.descs (nodes_of c.kernel.inside.nodes) (nodes g w) (released g w))

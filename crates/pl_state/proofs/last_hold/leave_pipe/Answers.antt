@@ -1,5 +1,7 @@
-use Rattle.std.proofs.Common.{◌∙◌, sym}
+use Rattle.std.proofs.Common.{◌∙◌, sym, subst}
 use Rattle.pl_state.proofs.holders.Hung.{left_hung, left_reset, left_none}
+use Rattle.pl_nodes.specs.Nodes.{Shrinks, memory_of}
+use Rattle.pl_state.proofs.holders.Shrinking.{shrinks-same}
 use Rattle.pl_state.proofs.last_hold.leave_pipe.Goals as goal
 
 pub returns-in-Some-clause-pipes : goal.returns-in-Some-clause-pipes
@@ -16,3 +18,6 @@ pub returns-else-has_name-clause-pipes : goal.returns-else-has_name-clause-pipes
 returns-else-has_name-clause-pipes g c =
     left_none c.args.pipe c.args.nodes.now c.discard_pipe.new.self c.args.has_reader c.args.has_writer c.is_hung-was_hung.result c.args.had_writer c.is_hung-was_hung.ensures
     (sym c.hung_after_close.ensures ∙ c.in-None.is) (sym c.has_name.ensures ∙ c.if-has_name.false) c.discard_pipe.ensures.ok
+
+pub returns-in-Some-clause-shrinks : goal.returns-in-Some-clause-shrinks
+returns-in-Some-clause-shrinks g c = subst (Shrinks (memory_of c.args.nodes.now)) (sym c.set_hung.ensures.memory) (shrinks-same (memory_of c.args.nodes.now))

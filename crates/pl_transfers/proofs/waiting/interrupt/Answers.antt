@@ -23,7 +23,7 @@ module _ (g : Over) (c : After-end_call g) where
   ends : MakesAtKeys k (Interrupt c.args.number) (if nat_lt 0 c.in-Some.call.now.taken then Count c.in-Some.call.now.taken false else Fault EINTR) c.end_call.new.kernel
   ends =
       let here : get nat_eq k.calls.calls c.args.number ≡ Some c.in-Some.call.now = sym c.get.ensures ∙ ap (option_map (λ (b : Bor (ParkedCall g.row.A.Denot)). b.now)) c.in-Some.is in
-      let ended = subst (λ z. core_of c.end_call.new.kernel ≡ settle (core_of z) (without_call (core_of z) c.args.number)) (sym c.kernel.view_is) c.end_call.ensures in
+      let ended = subst (λ z. core_of c.end_call.new.kernel ≡ settle (core_of z) (without_call (core_of z) c.args.number)) (sym c.kernel.view_is) c.end_call.ensures.settled in
       interrupt-ends k c.kernel.invariant.0 c.args.number c.in-Some.call.now here c.end_call.new.kernel ended
 
   -- by whether bytes were taken

@@ -30,7 +30,7 @@ pub returns-in_default : goal.returns-in_default
 returns-in_default g c =
     let v = (goal.at.returns-in_default g c).After-kernel in
     let new = c.end_call.new.kernel in
-    let ended = subst (λ z. core_of new ≡ settle (core_of z) (without_call (core_of z) c.args.number)) (sym c.kernel.view_is) c.end_call.ensures in
+    let ended = subst (λ z. core_of new ≡ settle (core_of z) (without_call (core_of z) c.args.number)) (sym c.kernel.view_is) c.end_call.ensures.settled in
     rw (← c.kernel.view_is) (open-many (m g v) c.args.number c.args.pid c.args.key true (waits g v) refl (sym c.lowest.ensures ∙ c.in_default.is) new ended)
 
 pub install-requires-clause-place : goal.install-requires-clause-place

@@ -86,13 +86,13 @@ returns-in_ok-bytes-in-Gives-clause-done g c =
     let taken : c.in_ok-bytes-in-Gives.bytes.items ≡ take c.in-Gives.count (o g v).held.bytes = subst (λ o. IfSome o (λ x. c.in_ok-bytes-in-Gives.bytes.items ≡ take c.in-Gives.count x.bytes)) (o g v).there c.in_ok-bytes-in-Gives.ensures.bytes in
     subst (λ z. MakesAtKeys z (Resume c.args.number) (Bytes c.unwrap.result) c.end_call.new.kernel) c.kernel.view_is
     (resume-read-gives (k g v) (o g v) (w g v).fd c.args.n (w g v).asked c.in-Gives.count (comes_to g v ∙ c.in-Gives.is) c.unwrap.result (given ∙ taken) (nodes_of c.read_pipe.new.self) c.in_ok-bytes-in-Gives.ensures.ok c.end_call.new.kernel
-    (subst (λ z. core_of c.end_call.new.kernel ≡ settle (core_of z) (without_call (core_of z) c.args.number)) (sym (moved_view c.kernel.inside c.read_pipe.new.self c.in_ok-bytes-in-Gives.ensures.files)) c.end_call.ensures))
+    (subst (λ z. core_of c.end_call.new.kernel ≡ settle (core_of z) (without_call (core_of z) c.args.number)) (sym (moved_view c.kernel.inside c.read_pipe.new.self c.in_ok-bytes-in-Gives.ensures.files)) c.end_call.ensures.settled))
 
 pub returns-in-EndOfFile-clause-done : goal.returns-in-EndOfFile-clause-done
 returns-in-EndOfFile-clause-done g c =
     let v = (goal.at.returns-in-EndOfFile-clause-done g c).After-case_of_read in
     let new = c.end_call-in-EndOfFile.new.kernel in
-    let ended = subst (λ z. core_of new ≡ settle (core_of z) (without_call (core_of z) c.args.number)) (sym c.kernel.view_is) c.end_call-in-EndOfFile.ensures in
+    let ended = subst (λ z. core_of new ≡ settle (core_of z) (without_call (core_of z) c.args.number)) (sym c.kernel.view_is) c.end_call-in-EndOfFile.ensures.settled in
     rw (c.no_bytes.ensures) (subst (λ z. MakesAtKeys z (Resume c.args.number) (Bytes []) new) c.kernel.view_is (resume-read-end (k g v) (o g v) (w g v).fd c.args.n (w g v).asked new (comes_to g v ∙ c.in-EndOfFile.is) ended))
 
 pub returns-in-Waits-clause-done : goal.returns-in-Waits-clause-done

@@ -150,14 +150,14 @@ pub returns-in-Broken-clause-done : goal.returns-in-Broken-clause-done
 returns-in-Broken-clause-done g c =
     let v = (goal.at.returns-in-Broken-clause-done g c).After-case_of_write in
     let new = c.end_call.new.kernel in
-    let ended = subst (λ z. core_of new ≡ settle (core_of z) (without_call (core_of z) c.args.number)) (sym c.kernel.view_is) c.end_call.ensures in
+    let ended = subst (λ z. core_of new ≡ settle (core_of z) (without_call (core_of z) c.args.number)) (sym c.kernel.view_is) c.end_call.ensures.settled in
     subst (λ z. MakesAtKeys z (Resume c.args.number) (Fault EPIPE) new) c.kernel.view_is (resume-write-broken (k g v) (o g v) (w g v).fd (written (w g v).call.call) (w g v).asked new (comes_to g v ∙ c.in-Broken.is) ended)
 
 pub returns-in-CutShort-clause-done : goal.returns-in-CutShort-clause-done
 returns-in-CutShort-clause-done g c =
     let v = (goal.at.returns-in-CutShort-clause-done g c).After-case_of_write in
     let new = c.end_call-in-CutShort.new.kernel in
-    let ended = subst (λ z. core_of new ≡ settle (core_of z) (without_call (core_of z) c.args.number)) (sym c.kernel.view_is) c.end_call-in-CutShort.ensures in
+    let ended = subst (λ z. core_of new ≡ settle (core_of z) (without_call (core_of z) c.args.number)) (sym c.kernel.view_is) c.end_call-in-CutShort.ensures.settled in
     subst (λ z. MakesAtKeys z (Resume c.args.number) (Count c.args.taken true) new) c.kernel.view_is
     (subst (λ n. MakesAtKeys (k g v) (Resume c.args.number) (Count n true) new) (w g v).taken_so_far (resume-write-cut (k g v) (o g v) (w g v).fd (written (w g v).call.call) (w g v).asked new (comes_to g v ∙ c.in-CutShort.is) ended))
 
@@ -170,7 +170,7 @@ returns-in_ok-write_pipe-in-Ends-clause-done g c =
     let is_part = ap (λ z. slice_range z c.in-Ends.from c.in-Ends.to) bytes in
     subst (λ z. MakesAtKeys z (Resume c.args.number) (Count c.in-Ends.to false) new) c.kernel.view_is
     (resume-write-ends (k g v) (o g v) (w g v).fd (written (w g v).call.call) (w g v).asked c.in-Ends.from c.in-Ends.to part is_part (nodes_of c.write_pipe.new.self) c.in_ok-write_pipe-in-Ends.ensures.ok (comes_to g v ∙ c.in-Ends.is) new
-    (subst (λ z. core_of new ≡ settle (core_of z) (without_call (core_of z) c.args.number)) (sym (moved_view c.kernel.inside c.write_pipe.new.self c.in_ok-write_pipe-in-Ends.ensures.files)) c.end_call-in-Ends.ensures))
+    (subst (λ z. core_of new ≡ settle (core_of z) (without_call (core_of z) c.args.number)) (sym (moved_view c.kernel.inside c.write_pipe.new.self c.in_ok-write_pipe-in-Ends.ensures.files)) c.end_call-in-Ends.ensures.settled))
 
 pub returns-in_ok-write_pipe-in-Waits-clause-done : goal.returns-in_ok-write_pipe-in-Waits-clause-done
 returns-in_ok-write_pipe-in-Waits-clause-done g c =

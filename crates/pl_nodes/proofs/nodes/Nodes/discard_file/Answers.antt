@@ -7,7 +7,8 @@ use Rattle.pl_nodes.specs.Nodes.{Nodes}
 use Rattle.pl_nodes.specs.NodesView.{file_named}
 use Rattle.pl_nodes.proofs.AtKey.{held}
 use Rattle.pl_nodes.proofs.OneChanged.{pipes_seen, files_seen, gone-seen, gone-list}
-use Rattle.pl_nodes.proofs.Coming.{says-unnamed, gone-sound}
+use Rattle.pl_nodes.proofs.Slices.{none-left}
+use Rattle.pl_nodes.proofs.Coming.{says-unnamed, gone-sound, gone-shrinks}
 use Rattle.pl_nodes.proofs.nodes.Nodes.discard_file.Goals as goal
 
 pub let_go-requires : goal.let_go-requires
@@ -38,3 +39,10 @@ returns-clause-pipes g c =
       names = ap (λ (v : Nodes). v.names) c.self.view_is;
       file_max = ap (λ (v : Nodes). v.file_max) c.self.view_is;
     }
+
+pub returns-clause-shrinks : goal.returns-clause-shrinks
+returns-clause-shrinks g c =
+    let k = c.self.inside in
+    let there = c.remove.ensures.value ∙ ap (λ x. Some x) c.in-File.is in
+    gone-shrinks k c.self.invariant c.let_go.new.store c.remove.new.self c.args.key (File c.in-File.gone) there c.let_go.ensures c.remove.ensures.updates
+    (none-left k.store.held c.let_go.new.store.held c.in-File.gone.file c.in_use-segments.ensures.good c.let_go.ensures) c.args.self.now c.self.view_is

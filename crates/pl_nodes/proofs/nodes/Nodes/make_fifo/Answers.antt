@@ -18,7 +18,7 @@ use Rattle.pl_nodes.specs.declared.fault.MakeFault.TheVariants.{Exists, NoMemory
 use Rattle.pl_nodes.specs.Nodes.{Nodes}
 use Rattle.pl_nodes.specs.NodesView.{names_of, slots_in, lists, AreNamed}
 use Rattle.pl_nodes.proofs.OneChanged.{pipes_seen, files_seen, seen, new-seen, new-unseen}
-use Rattle.pl_nodes.proofs.Coming.{came-shared, came-sound, vacant-seen}
+use Rattle.pl_nodes.proofs.Coming.{came-shared, came-sound, came-slots, vacant-seen}
 use Rattle.pl_nodes.proofs.Names.{compares, insert-names, there, not-there}
 use Rattle.pl_nodes.proofs.Named.{none-found, new-named}
 use Rattle.pl_nodes.proofs.nodes.Nodes.make_fifo.Given.{Over}
@@ -67,6 +67,11 @@ returns-clause-files g c =
     new-unseen m c.reserve.new.self c.insert_reserved.new.self c.insert_reserved.result (new g c) c.insert_reserved.ensures.was_vacant (shared g c) (empty g c) c.insert_reserved.ensures.updates files_seen refl
     ∙ ap (λ cs. seen files_seen m cs) (same g c)
     ∙ ap (λ (v : Nodes). at v.files) c.self.view_is
+
+pub returns-clause-slots : goal.returns-clause-slots
+returns-clause-slots g c =
+    came-slots c.self.inside c.self.invariant c.reserve.new.self c.insert_reserved.new.self (same g c) c.insert_reserved.result (new g c)
+    c.insert_reserved.ensures.was_vacant (empty g c) c.insert_reserved.ensures.updates c.args.self.now c.self.view_is
 
 pub returns-clause-names : goal.returns-clause-names
 returns-clause-names g c =

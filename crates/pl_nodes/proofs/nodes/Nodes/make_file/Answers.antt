@@ -15,7 +15,7 @@ use Rattle.pl_nodes.specs.declared.fault.MakeFault.TheVariants.{Exists, NoMemory
 use Rattle.pl_nodes.specs.Nodes.{Nodes}
 use Rattle.pl_nodes.specs.NodesView.{names_of, AreNamed}
 use Rattle.pl_nodes.proofs.OneChanged.{pipes_seen, files_seen, seen, new-seen, new-unseen}
-use Rattle.pl_nodes.proofs.Coming.{came-shared, came-sound, vacant-seen}
+use Rattle.pl_nodes.proofs.Coming.{came-shared, came-sound, came-slots, vacant-seen}
 use Rattle.pl_nodes.proofs.Names.{compares, insert-names, there, not-there}
 use Rattle.pl_nodes.proofs.Named.{none-found, new-named}
 use Rattle.pl_nodes.proofs.nodes.Nodes.make_file.Given.{Over}
@@ -64,6 +64,11 @@ returns-clause-pipes g c =
     c.insert_reserved.ensures.was_vacant (came-shared k c.self.invariant c.reserve.new.self c.insert_reserved.new.self (same g c) c.insert_reserved.result new c.insert_reserved.ensures.was_vacant c.new.ensures u) c.new.ensures u pipes_seen refl
     ∙ ap (λ cs. seen pipes_seen m cs) (same g c)
     ∙ ap (λ (v : Nodes). at v.pipes) c.self.view_is
+
+pub returns-clause-slots : goal.returns-clause-slots
+returns-clause-slots g c =
+    came-slots c.self.inside c.self.invariant c.reserve.new.self c.insert_reserved.new.self (same g c) c.insert_reserved.result (File (record { file = c.new.result; named = true }))
+    c.insert_reserved.ensures.was_vacant c.new.ensures c.insert_reserved.ensures.updates c.args.self.now c.self.view_is
 
 pub returns-clause-names : goal.returns-clause-names
 returns-clause-names g c =

@@ -8,7 +8,7 @@ use Rattle.pl_ring.specs.Ring.{Ring}
 use Rattle.pl_nodes.specs.declared.content.Content.TheVariants.{Pipe}
 use Rattle.pl_nodes.specs.Nodes.{Nodes}
 use Rattle.pl_nodes.proofs.OneChanged.{pipes_seen, files_seen, seen, new-seen, new-unseen}
-use Rattle.pl_nodes.proofs.Coming.{came-shared, came-unnamed, came-sound, vacant-seen}
+use Rattle.pl_nodes.proofs.Coming.{came-shared, came-unnamed, came-sound, came-slots, vacant-seen}
 use Rattle.pl_nodes.proofs.nodes.Nodes.make_pipe.Given.{Over}
 use Rattle.pl_nodes.proofs.nodes.Nodes.make_pipe.Goals.{After-insert_reserved}
 use Rattle.pl_nodes.proofs.nodes.Nodes.make_pipe.Goals as goal
@@ -54,3 +54,8 @@ returns-clause-files g c =
     c.insert_reserved.ensures.was_vacant (came-shared k c.self.invariant c.reserve.new.self c.insert_reserved.new.self (same g c) c.insert_reserved.result new c.insert_reserved.ensures.was_vacant empty u) empty u files_seen refl
     ∙ ap (λ cs. seen files_seen m cs) (same g c)
     ∙ ap (λ (v : Nodes). at v.files) c.self.view_is
+
+pub returns-clause-slots : goal.returns-clause-slots
+returns-clause-slots g c =
+    came-slots c.self.inside c.self.invariant c.reserve.new.self c.insert_reserved.new.self (same g c) c.insert_reserved.result (Pipe (record { ring = c.in_ok-ring.ring; hung = false; named = false }))
+    c.insert_reserved.ensures.was_vacant (ap (λ (r : Ring). r.slots) c.in_ok-ring.ensures) c.insert_reserved.ensures.updates c.args.self.now c.self.view_is

@@ -4,7 +4,8 @@ use Rattle.pl_segments.specs.Segments.{segment_at}
 use Rattle.pl_segments.specs.Slices.{all_read}
 use Rattle.pl_ring.specs.Ring.{Ring}
 use Rattle.pl_nodes.specs.declared.content.Content.TheVariants.{Pipe}
-use Rattle.pl_nodes.proofs.AtKey.{pipe-there, held, still-sound}
+use Rattle.pl_nodes.proofs.AtKey.{pipe-there, held, still-sound, emptied-shrinks}
+use Rattle.pl_nodes.proofs.Slices.{none-left}
 use Rattle.pl_nodes.proofs.Pipes.{pipe-done, pipe-files}
 use Rattle.pl_nodes.proofs.Files.{became-none}
 use Rattle.pl_nodes.proofs.nodes.Nodes.reset_pipe.Goals as goal
@@ -37,3 +38,11 @@ returns-clause-files g c =
     let there = pipe-there k.contents.slots c.args.key c.index_mut.result.now node c.index_mut.ensures.value c.in-Some.ensures.value in
     pipe-files k c.args.key node there c.self.invariant c.args.self.now c.self.view_is c.reset.new.store (record node { ring = c.reset.new.self; hung = false })
     (became-none (segment_at k.store) node.ring.slots (segment_at c.reset.new.store) c.reset.new.self.slots (ap (λ (r : Ring). r.slots) c.reset.ensures.value) c.reset.ensures.turns)
+
+pub returns-clause-shrinks : goal.returns-clause-shrinks
+returns-clause-shrinks g c =
+    let k = c.self.inside in
+    let node = c.in-Some.node.now in
+    let there = pipe-there k.contents.slots c.args.key c.index_mut.result.now node c.index_mut.ensures.value c.in-Some.ensures.value in
+    emptied-shrinks k c.args.key (Pipe node) there c.self.invariant c.reset.new.store (Pipe (record node { ring = c.reset.new.self; hung = false }))
+    (ap (λ (r : Ring). r.slots) c.reset.ensures.value) (none-left k.store.held c.reset.new.store.held node.ring.slots c.in_use-segments.ensures.good c.reset.ensures.turns) c.args.self.now c.self.view_is

@@ -10,7 +10,7 @@ use Rattle.pl_segments.specs.Turns.{Turns}
 use Rattle.pl_segments.proofs.Turning.{turns-same}
 use Rattle.pl_ring.specs.Ring.{Ring}
 use Rattle.pl_nodes.specs.declared.content.Content.TheVariants.{Pipe}
-use Rattle.pl_nodes.proofs.AtKey.{pipe-there, held, still-sound, slots-short, refused-seen}
+use Rattle.pl_nodes.proofs.AtKey.{pipe-there, held, still-sound, still-memory, slots-short, refused-seen}
 use Rattle.pl_nodes.proofs.Pipes.{pipe-total, pipe-said, pipe-told, pipe-done, pipe-files}
 use Rattle.pl_nodes.proofs.nodes.Nodes.set_capacity.Given.{Over}
 use Rattle.pl_nodes.proofs.nodes.Nodes.set_capacity.Goals.{After-set_capacity}
@@ -74,6 +74,13 @@ returns-clause-files g c =
     let k = c.self.inside in
     let node = c.in-Some.node.now in
     pipe-files k c.args.key node (there g at_call) c.self.invariant c.args.self.now c.self.view_is k.store (record node { ring = c.set_capacity.new.self }) (turns g at_call)
+
+pub returns-clause-memory : goal.returns-clause-memory
+returns-clause-memory g c =
+    let at_call = (goal.at.returns-clause-memory g c).After-set_capacity in
+    let k = c.self.inside in
+    let node = c.in-Some.node.now in
+    still-memory k c.args.key (Pipe node) (there g at_call) c.self.invariant (Pipe (record node { ring = c.set_capacity.new.self })) (same g at_call) c.args.self.now c.self.view_is
 
 pub returns-clause-err : goal.returns-clause-err
 returns-clause-err g c =

@@ -2,7 +2,7 @@ use Rattle.std.proofs.Common.{refl}
 use Rattle.pl_segments.specs.Segments.{segment_at}
 use Rattle.pl_segments.proofs.Turning.{turns-same}
 use Rattle.pl_nodes.specs.declared.content.Content.TheVariants.{Pipe}
-use Rattle.pl_nodes.proofs.AtKey.{pipe-there, held, still-sound, slots-short}
+use Rattle.pl_nodes.proofs.AtKey.{pipe-there, held, still-sound, still-memory, slots-short}
 use Rattle.pl_nodes.proofs.Pipes.{pipe-done, pipe-files}
 use Rattle.pl_nodes.proofs.nodes.Nodes.set_hung.Goals as goal
 
@@ -32,3 +32,10 @@ returns-clause-files g c =
     let there = pipe-there k.contents.slots c.args.key c.index_mut.result.now node c.index_mut.ensures.value c.in-Some.ensures.value in
     pipe-files k c.args.key node there c.self.invariant c.args.self.now c.self.view_is k.store (record node { hung = c.args.hung })
     (turns-same m node.ring.slots (held k c.args.key (Pipe node) there c.self.invariant).lie)
+
+pub returns-clause-memory : goal.returns-clause-memory
+returns-clause-memory g c =
+    let k = c.self.inside in
+    let node = c.in-Some.node.now in
+    let there = pipe-there k.contents.slots c.args.key c.index_mut.result.now node c.index_mut.ensures.value c.in-Some.ensures.value in
+    still-memory k c.args.key (Pipe node) there c.self.invariant (Pipe (record node { hung = c.args.hung })) refl c.args.self.now c.self.view_is
