@@ -1,4 +1,5 @@
 use Rattle.std.proofs.Common.{ap, sym, subst, ◌∙◌}
+use Rattle.pl_nodes.specs.Nodes.{NamesBelow, segments_named}
 use Rattle.pl_state.specs.Contents.{Contents}
 use Rattle.pl_state.specs.KernelView.{view_of}
 use Rattle.pl_state.specs.Makes.{Stands}
@@ -15,3 +16,8 @@ returns-clause-none g c = λ s. λ stands. λ deserted.
 
 pub returns-clause-value : goal.returns-clause-value
 returns-clause-value g c = c.segments.ensures.value ∙ ap (λ (z : Contents g.row.A.Denot). z.nodes.memory.segments) (c.state.view_is ∙ c.self.view_is)
+
+pub returns-clause-named : goal.returns-clause-named
+returns-clause-named g c = λ n. λ below.
+    let same = ap (λ (z : Contents g.row.A.Denot). z.nodes.memory.slots) (c.state.view_is ∙ c.self.view_is) in
+    c.segments.ensures.named n (subst (NamesBelow n) (sym same) below) ∙ ap (λ slots. segments_named slots n) same
