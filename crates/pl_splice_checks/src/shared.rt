@@ -44,10 +44,16 @@ const PIPE_AND_FILE: &[(Ask, Want)] = &[
     (Write(1, 1, Part(0, 10_000)), Count(10_000)),
 ];
 
-/// Bytes that go from a pipe to the beginning of a file, and to its end.
+/// Bytes that go from a pipe to the beginning of a file, and then over its end.
 const TO_THE_FILE: &[(Ask, Want)] = &[
-    (Splice(1, (0, None), (2, None), 6_000, WITHOUT), Count(6_000)),
-    (Splice(1, (0, None), (2, Some(5_000)), 4_000, WITHOUT), Count(4_000)),
+    (
+        Splice(1, (0, None), (2, None), 6_000, WITHOUT),
+        Count(6_000),
+    ),
+    (
+        Splice(1, (0, None), (2, Some(5_000)), 4_000, WITHOUT),
+        Count(4_000),
+    ),
 ];
 
 #[test]
@@ -65,10 +71,26 @@ fn a_splice_to_a_file_makes_no_segment(rt: HostRuntime) -> Result<(), Fail> {
 /// Steps, and what is then told of the slots under descriptors of processes: none of what is no pipe, or isn't open.
 const SLOTS: &[(Ask, Want, &[(u32, i32, Option<u32>)])] = &[
     (Start, Pid(1), &[(1, 0, None), (0, 0, None)]),
-    (Pipe(1), Fds(0, 1), &[(1, 0, Some(0)), (1, 1, Some(0)), (1, 2, None), (2, 0, None)]),
-    (Open(1, F, Mode::Both, NEW), Fd(2), &[(1, 2, None), (1, -1, None), (1, 256, None)]),
-    (Write(1, 1, Text("a")), Count(1), &[(1, 0, Some(1)), (1, 1, Some(1)), (1, 2, None)]),
-    (Read(1, 0, 1), Bytes(Text("a")), &[(1, 0, Some(0)), (1, 1, Some(0))]),
+    (
+        Pipe(1),
+        Fds(0, 1),
+        &[(1, 0, Some(0)), (1, 1, Some(0)), (1, 2, None), (2, 0, None)],
+    ),
+    (
+        Open(1, F, Mode::Both, NEW),
+        Fd(2),
+        &[(1, 2, None), (1, -1, None), (1, 256, None)],
+    ),
+    (
+        Write(1, 1, Text("a")),
+        Count(1),
+        &[(1, 0, Some(1)), (1, 1, Some(1)), (1, 2, None)],
+    ),
+    (
+        Read(1, 0, 1),
+        Bytes(Text("a")),
+        &[(1, 0, Some(0)), (1, 1, Some(0))],
+    ),
     (Close(1, 0), Unit, &[(1, 0, None), (1, 1, Some(0))]),
 ];
 

@@ -1,30 +1,29 @@
 -- What a splice or a tee that moves nothing, is parked, or ends with its call, leaves of memory.
-use Rattle.std.proofs.Common.{◌≡◌, ◌≢◌, ◌+◌, ◌≤◌, ℕ, ℤ, Bool, true, false, List, [], ◌∷◌, ◌++◌, length, Option, Some, None, IfSome, refl, sym, ◌∙◌, ap, subst, nat_eq, arith}
-use Rattle.std.specs.Prelude.{Result, Ok, Err, OnOk, OnErr, if◌then◌else◌, unwrap_or, option_and_then}
+use Rattle.std.proofs.Common.{◌≡◌, ◌≤◌, ℕ, ℤ, Bool, true, false, List, [], ◌∷◌, ◌++◌, Option, Some, None, IfSome, refl, sym, ◌∙◌, ap, subst, nat_eq, arith}
+use Rattle.std.specs.Prelude.{Result, Ok, Err, OnOk, OnErr, if◌then◌else◌, option_and_then}
 use Rattle.pl_model.specs.declared.calls.Call.{Call}
 use Rattle.pl_model.specs.declared.calls.Call.TheVariants as call
 use Rattle.pl_model.specs.declared.flags.SpliceFlags.{SpliceFlags}
 use Rattle.pl_model.specs.declared.calls.Step.{Step}
-use Rattle.pl_model.specs.declared.calls.Step.TheVariants.{Begin, Resume}
+use Rattle.pl_model.specs.declared.calls.Step.TheVariants.{Resume}
 use Rattle.pl_model.specs.declared.node.Node.{Node}
 use Rattle.pl_model.specs.declared.node.Node.TheVariants.{Pipe, File}
 use Rattle.pl_model.specs.Map.{get}
 use Rattle.pl_model.specs.Modes.{reads, writes}
 use Rattle.pl_parked.specs.declared.call.ParkedCall.{ParkedCall}
 use Rattle.pl_segments.specs.declared.slice.Slice.{Slice}
-use Rattle.pl_segments.specs.Sharing.{named, slots_at}
+use Rattle.pl_segments.specs.Sharing.{slots_at}
 use Rattle.pl_ring.specs.Parts.{strange}
 use Rattle.pl_ring.proofs.Lying.{strange-append, strange-first}
 use Rattle.pl_segments.specs.Slots.{solid_of}
 use Rattle.pl_desc.specs.Rows.{at, row_of}
-use Rattle.pl_desc.specs.Descs.{Opened}
 use Rattle.pl_nodes.specs.Nodes.{Memory, Shrinks}
 use Rattle.pl_state.specs.declared.access.OpenNode.{OpenNode}
 use Rattle.pl_state.specs.Contents.{Contents}
 use Rattle.pl_state.specs.Opens.{OpenOn, Opens}
 use Rattle.pl_splices.specs.declared.sides.Side.{Side}
 use Rattle.pl_splices.specs.Moves.{IsMove, MoveWaits}
-use Rattle.pl_splices.specs.Shares.{SharesSlots, AddsNone, Shares, SharesBetween, SharesByStep, Way, place_in, way_between, way_named, way_kept, way_waiting, way_of}
+use Rattle.pl_splices.specs.Shares.{Shares, SharesBetween, SharesByStep, Way, place_in, way_between, way_named, way_kept, way_waiting, way_of}
 
 -- slots lie within themselves
 strange-own : (xs ys : List Slice) → strange (xs ++ ys) xs ≤ 3
@@ -115,8 +114,8 @@ module _ {A : Type 0} (k : Contents A) (number : ℕ) (from to : Side) (len : �
       ∙ waiting-is waits.call.call waits.asked
 
 -- bytes of a step go this way
-pub by_way : {A : Type 0} (old : Contents A) (x : Step A) (way : Way) (new : Contents A) → way_of old x ≡ Some way → Shares old way.from way.to way.place new.nodes.memory → SharesByStep old x new
-by_way old x way new is shares = subst (λ o. IfSome o (λ (way : Way). Shares old way.from way.to way.place new.nodes.memory)) (sym is) shares
+pub by_way : {A : Type 0} (old : Contents A) (x : Step A) (road : Way) (new : Contents A) → way_of old x ≡ Some road → Shares old road.from road.to road.place new.nodes.memory → SharesByStep old x new
+by_way old x road new is shares = subst (λ o. IfSome o (λ (way : Way). Shares old way.from way.to way.place new.nodes.memory)) (sym is) shares
 
 -- another call has no such way
 no_way : {A : Type 0} (k : Contents A) (x : Call A) (kept : List ℕ)

@@ -1,5 +1,5 @@
 -- A pipe changes, and is hung as it was.
-use Rattle.std.proofs.Common.{◌≡◌, ℕ, List, ◌++◌, drop, Option, Some, refl, sym, ◌∙◌, ap, nat_eq}
+use Rattle.std.proofs.Common.{◌≡◌, ℕ, List, ◌++◌, drop, Some, refl, sym, ◌∙◌, ap, nat_eq}
 use Rattle.std.specs.Prelude.{unwrap_or}
 use Rattle.pl_model.specs.declared.node.Node.TheVariants as node
 use Rattle.pl_model.specs.Map.{set_at, change_at}

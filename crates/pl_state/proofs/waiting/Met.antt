@@ -1,6 +1,6 @@
 -- A kernel in which opens met is sound.
 use Rattle.std.proofs.Common.{◌≡◌, ℕ, ◌+◌, Bool, true, false, cond, [], ◌∷◌, Option, Some, None, IfSome, refl, sym, ◌∙◌, subst, nat_eq}
-use Rattle.std.specs.Prelude.{All, IsTrue, option_map}
+use Rattle.std.specs.Prelude.{IsTrue, option_map}
 use Rattle.pl_model.specs.declared.calls.Mode.{Mode}
 use Rattle.pl_model.specs.declared.node.Node.{Node}
 use Rattle.pl_model.specs.declared.node.Node.TheVariants as node

@@ -1,6 +1,6 @@
 -- A call is parked, at the kernel's keys.
 use Rattle.std.proofs.Common.{◌≡◌, ◌≢◌, ℕ, ◌+◌, Bool, true, false, cond, List, [], ◌∷◌, ◌++◌, Some, refl, sym, ◌∙◌, ap, subst, nat_eq, arith, IfSome}
-use Rattle.std.specs.Prelude.{◌≤◌, ◌<◌, ◌*◌, ◌^◌, IsSome, IsTrue, All}
+use Rattle.std.specs.Prelude.{◌≤◌, ◌<◌, ◌*◌, ◌^◌, IsSome, IsTrue}
 use Rattle.std.specs.Set.{is_member}
 use Rattle.std.proofs.lemmas.Bool.{eqb-true}
 use Rattle.pl_model.specs.declared.node.Node.TheVariants as node
@@ -23,7 +23,7 @@ use Rattle.pl_desc.specs.Descs.{Opened, Descs, IsTidy}
 use Rattle.pl_state.specs.Contents.{Contents, with_pipes, contents, waiting_of, core_of}
 use Rattle.pl_state.specs.Opens.{OpenOn}
 use Rattle.pl_state.specs.Parking.{call_on, with_call, Adds}
-use Rattle.pl_state.specs.Sound.{IsSound, IsWaiting, AreCounted, MayWait, KeepsOne, Keeps, most_kept, times, keeping, OnNode, KeepsNodes, MayKeep}
+use Rattle.pl_state.specs.Sound.{IsSound, IsWaiting, AreCounted, MayWait, KeepsOne, Keeps, most_kept, times, keeping, KeepsNodes, MayKeep}
 use Rattle.pl_state.proofs.Known.{Known}
 use Rattle.pl_state.proofs.waiting.Calls.{more-parked, get_more}
 use Rattle.pl_state.proofs.by_call.Begun.{there, lives, pipe_held}

@@ -1,8 +1,8 @@
 -- A parked call is tried again and waits on, at the kernel's keys.
-use Rattle.std.proofs.Common.{◌≡◌, ℕ, List, ◌++◌, Option, Some, refl, sym, ◌∙◌, ap, subst, nat_eq, arith}
-use Rattle.std.specs.Prelude.{option_map, IfSome, IsTrue, All}
+use Rattle.std.proofs.Common.{◌≡◌, ℕ, List, ◌++◌, Some, refl, sym, ◌∙◌, ap, subst, nat_eq, arith}
+use Rattle.std.specs.Prelude.{option_map, IfSome, IsTrue}
 use Rattle.pl_model.specs.Map.{get, put, change_at}
-use Rattle.pl_model.specs.State.{Core, Pipe, set_pipe}
+use Rattle.pl_model.specs.State.{Core, set_pipe}
 use Rattle.pl_model.specs.Live.{in_rows, in_parked, pids, is_live}
 use Rattle.pl_model.specs.Settle.{settle}
 use Rattle.pl_model.specs.Step.{parked_again}

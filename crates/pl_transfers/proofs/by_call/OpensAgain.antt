@@ -1,6 +1,6 @@
 -- What an open that waits comes to as it is tried again, at the kernel's keys.
 use Rattle.std.proofs.Common.{◌≡◌, ℕ, ◌+◌, ◌<◌, Bool, true, false, cond, Option, Some, None, IfSome, refl, sym, ◌∙◌, ap, subst, nat_eq, arith}
-use Rattle.std.specs.Prelude.{All, IsTrue, pos, option_map, ◌≤◌}
+use Rattle.std.specs.Prelude.{IsTrue, pos, option_map, ◌≤◌}
 use Rattle.pl_model.specs.declared.calls.Step.TheVariants.{Resume}
 use Rattle.pl_model.specs.declared.replies.Reply.TheVariants.{Fd, Fault, Parked}
 use Rattle.pl_model.specs.declared.replies.Errno.TheVariants.{EMFILE}

@@ -1,5 +1,5 @@
 -- In how many slots a pipe's bytes stand, whatever keys the machine has for it.
-use Rattle.std.proofs.Common.{◌≡◌, ◌≤◌, ◌*◌, ◌/◌, ℕ, ℤ, pos, negsuc, Bool, true, false, cond, nat_lt, Option, Some, None, IfSome, refl, sym, ◌∙◌, ap, subst}
+use Rattle.std.proofs.Common.{◌≡◌, ◌≤◌, ◌*◌, ◌/◌, ℕ, ℤ, pos, negsuc, Bool, true, false, nat_lt, Option, Some, None, refl, sym, ◌∙◌, ap, subst}
 use Rattle.std.specs.Prelude.{option_map, option_and_then, unwrap_or, if◌then◌else◌}
 use Rattle.pl_model.specs.Numbers.{open_max}
 use Rattle.pl_model.specs.Keys.{PipeNode, FileNode}
@@ -7,7 +7,6 @@ use Rattle.pl_model.specs.Keys.{Node as KeyNode}
 use Rattle.pl_model.specs.State.{Core, Description, Open, Pipe, described, row, empty_pipe}
 use Rattle.pl_model.specs.Trial.{pipe_at}
 use Rattle.pl_model.specs.Capacity.{pipe_of}
-use Rattle.pl_model.specs.Begin.{open_fd}
 use Rattle.pl_model.specs.Numbered.{numbers, State}
 use Rattle.pl_model.specs.Renaming.{Renamings, rename, rename_node, rename_description}
 use Rattle.pl_segments.specs.Segments.{segment_size}

@@ -99,5 +99,5 @@ returns-clause-shares g c =
     let begins : c.start_of-start.result ≡ place_in (at (k g c).opened c.args.to.key) c.args.to.given = start_is g c ∙ ap (λ o. place_in o c.args.to.given) (sym (on_g g c).here) in
     subst (λ (z : Contents g.row.A.Denot). IfSome (at z.nodes.files c.args.target) (λ bytes. place_in (at z.opened c.args.to.key) c.args.to.given ≤ length bytes) → AddsNone z.nodes.memory (new g c).nodes.memory) c.kernel.view_is
     (λ within.
-        let here = subst (λ n. IfSome (at (k g c).nodes.files c.args.target) (λ (bytes : List ℕ). n ≤ length bytes)) (sym begins) within in
-        record { fewer = c.in-Ok.ensures.segments here; named_before = c.in-Ok.ensures.none_added here })
+    let here = subst (λ n. IfSome (at (k g c).nodes.files c.args.target) (λ (bytes : List ℕ). n ≤ length bytes)) (sym begins) within in
+    record { fewer = c.in-Ok.ensures.segments here; named_before = c.in-Ok.ensures.none_added here })

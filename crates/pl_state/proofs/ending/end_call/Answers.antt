@@ -1,5 +1,5 @@
 use Rattle.std.proofs.Common.{◌≡◌, ◌≤◌, ℕ, Some, sym, ap, subst, ◌∙◌, nat_eq}
-use Rattle.std.specs.Prelude.{IsTrue, All}
+use Rattle.std.specs.Prelude.{IsTrue}
 use Rattle.pl_model.specs.Map.{get, without}
 use Rattle.pl_model.specs.Settle.{settle}
 use Rattle.pl_model.specs.Step.{without_call}

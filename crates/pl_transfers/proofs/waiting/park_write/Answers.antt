@@ -1,7 +1,6 @@
-use Rattle.std.proofs.Common.{◌≡◌, ◌≢◌, ◌≤◌, ◌++◌, ℕ, List, Option, Some, refl, sym, ap, subst, ◌∙◌, nat_eq, length, take, Bor}
+use Rattle.std.proofs.Common.{◌≡◌, ◌≢◌, ◌≤◌, ◌++◌, ℕ, List, Some, refl, sym, ap, subst, ◌∙◌, nat_eq, length, take, Bor}
 use Rattle.std.proofs.lemmas.List.{length-take-le}
 use Rattle.pl_model.specs.declared.node.Node.TheVariants as node
-use Rattle.pl_model.specs.State.{Pipe}
 use Rattle.pl_model.specs.Map.{get, change_at}
 use Rattle.pl_model.specs.Numbers.{last_call}
 use Rattle.pl_parked.specs.Calls.{Calls}
