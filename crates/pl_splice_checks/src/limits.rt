@@ -1,9 +1,11 @@
 //! Splices to files of few bytes, up to their limit.
-use crate::rows::{AT_ONCE, F, FARTHEST, NEW, NOTHING, WITHOUT};
-use pl_model::Errno::{EAGAIN, EFBIG};
+use crate::rows::{APPEND, AT_ONCE, F, FARTHEST, NEW, NOTHING, PLAIN, TOO_FAR, WITHOUT};
+use pl_model::Errno::{EAGAIN, EFBIG, EINVAL};
 use pl_model::Mode;
 use pl_model::Whence::{Cur, End, Set};
-use pl_testing::asked::Ask::{self, Close, Lseek, Open, Pipe, Read, Resume, Splice, Start, Write};
+use pl_testing::asked::Ask::{
+    self, Close, Lseek, Open, Pipe, Read, Resume, SetFl, Splice, Start, Write,
+};
 use pl_testing::asked::Data::Text;
 use pl_testing::asked::Want::{self, Bytes, Count, Fault, Fd, Fds, Offset, Parked, Pid, Unit};
 use pl_testing::sessions::{NEW_KERNEL, Session};
@@ -51,6 +53,37 @@ pub(crate) const OF_FIVE_BYTES: &[Session] = &[
             (Close(1, 1), Unit),
             (Splice(1, (0, None), (2, None), 9, WITHOUT), Count(0)),
             (Splice(1, (0, None), (2, Some(5)), 9, WITHOUT), Count(0)),
+            (Lseek(1, 2, 0, End), Offset(5)),
+        ],
+        names: &[F],
+        ..NEW_KERNEL
+    },
+    // An offset that is too far, and a file that is appended to, are refused before that the file can take no more.
+    Session {
+        name: "refused_before_the_limit",
+        rows: &[
+            (Start, Pid(1)),
+            (Pipe(1), Fds(0, 1)),
+            (Open(1, F, Mode::Both, NEW), Fd(2)),
+            (Write(1, 2, Text("abcde")), Count(5)),
+            (Write(1, 1, Text("f")), Count(1)),
+            (
+                Splice(1, (0, None), (2, Some(TOO_FAR)), 9, WITHOUT),
+                Fault(EINVAL),
+            ),
+            (
+                Splice(1, (0, None), (2, Some(u64::MAX)), 9, AT_ONCE),
+                Fault(EINVAL),
+            ),
+            (SetFl(1, 2, APPEND), Unit),
+            (Splice(1, (0, None), (2, None), 9, WITHOUT), Fault(EINVAL)),
+            (
+                Splice(1, (0, None), (2, Some(5)), 9, AT_ONCE),
+                Fault(EINVAL),
+            ),
+            (SetFl(1, 2, PLAIN), Unit),
+            (Splice(1, (0, None), (2, None), 9, WITHOUT), Fault(EFBIG)),
+            (Read(1, 0, 9), Bytes(Text("f"))),
             (Lseek(1, 2, 0, End), Offset(5)),
         ],
         names: &[F],

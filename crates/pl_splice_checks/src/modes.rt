@@ -120,7 +120,7 @@ pub(crate) const SESSIONS: &[Session] = &[
         names: &[F],
         ..NEW_KERNEL
     },
-    // Where no number is left, what would wait is refused and moves nothing, and what needn't wait is answered as ever.
+    // Where no number is left, what would wait is refused and moves nothing, and what may not or needn't wait is answered as ever.
     Session {
         name: "no_number_is_left",
         first_call: NEVER_GIVEN,
@@ -131,11 +131,14 @@ pub(crate) const SESSIONS: &[Session] = &[
             (Splice(1, (0, None), (3, None), 5, WITHOUT), CallsSpent),
             (Tee(1, 0, 3, 5, WITHOUT), CallsSpent),
             (Splice(1, (0, None), (3, None), 5, AT_ONCE), Fault(EAGAIN)),
+            (Tee(1, 0, 3, 5, AT_ONCE), Fault(EAGAIN)),
             (Write(1, 1, Text("ab")), Count(2)),
             (Tee(1, 0, 3, 5, WITHOUT), Count(2)),
             (Write(1, 3, Many(b'x', 65_534)), Count(65_534)),
             (Splice(1, (0, None), (3, None), 5, WITHOUT), CallsSpent),
             (Tee(1, 0, 3, 5, WITHOUT), CallsSpent),
+            (Splice(1, (0, None), (3, None), 5, AT_ONCE), Fault(EAGAIN)),
+            (Tee(1, 0, 3, 5, AT_ONCE), Fault(EAGAIN)),
             (Read(1, 2, 2), Bytes(Text("ab"))),
             (Splice(1, (0, None), (3, None), 5, WITHOUT), Count(2)),
             (Resume(NEVER_GIVEN), NoCall),

@@ -2,11 +2,14 @@
 use crate::rows::{APPEND, AT_ONCE, F, FARTHEST, G, NEW, NOTHING, PLAIN, TOO_FAR, WITHOUT};
 use pl_model::Errno::{EAGAIN, EBADF, EINVAL, EPIPE, ESPIPE};
 use pl_model::Mode;
+use pl_model::Whence::Set;
 use pl_testing::asked::Ask::{
-    self, Close, Dup, Mkfifo, Open, Pipe, Read, SetFl, Splice, Start, Tee, Write,
+    self, Close, Dup, Lseek, Mkfifo, Open, Pipe, Read, SetFl, Splice, Start, Tee, Write,
 };
 use pl_testing::asked::Data::{Many, Text};
-use pl_testing::asked::Want::{self, Bytes, Count, Fault, Fd, Fds, NoProcess, Parked, Pid, Unit};
+use pl_testing::asked::Want::{
+    self, Bytes, Count, Fault, Fd, Fds, NoProcess, Offset, Parked, Pid, Unit,
+};
 use pl_testing::sessions::{NEW_KERNEL, Session};
 
 /// Of two reasons to refuse a call the first is answered, and no refusal changes anything.
@@ -311,6 +314,26 @@ pub(crate) const SESSIONS: &[Session] = &[
             (Splice(1, (0, None), (3, None), 5, WITHOUT), Count(0)),
         ],
         names: &[F, G],
+        ..NEW_KERNEL
+    },
+    // A tee of a file is refused also where nobody could read what it copies, which is what a splice of the file finds.
+    Session {
+        name: "a_tee_of_a_file_to_a_broken_pipe",
+        rows: &[
+            (Start, Pid(1)),
+            (Pipe(1), Fds(0, 1)),
+            (Open(1, F, Mode::Both, NEW), Fd(2)),
+            (Close(1, 0), Unit),
+            // at its end, and with bytes to give
+            (Tee(1, 2, 1, 5, WITHOUT), Fault(EINVAL)),
+            (Write(1, 2, Text("ab")), Count(2)),
+            (Lseek(1, 2, 0, Set), Offset(0)),
+            (Tee(1, 2, 1, 5, WITHOUT), Fault(EINVAL)),
+            (Tee(1, 2, 1, 5, AT_ONCE), Fault(EINVAL)),
+            (Splice(1, (2, None), (1, None), 5, WITHOUT), Fault(EPIPE)),
+            (Read(1, 2, 9), Bytes(Text("ab"))),
+        ],
+        names: &[F],
         ..NEW_KERNEL
     },
     // Two descriptions of one FIFO are one pipe.

@@ -2,13 +2,14 @@
 use crate::rows::{F, G, NEW, NOTHING, PLAIN, WITHOUT};
 use pl_model::Errno::{EINTR, EINVAL, EPIPE};
 use pl_model::Mode;
+use pl_model::Whence::{Cur, Set};
 use pl_testing::asked::Ask::{
-    self, Close, Dup2, Exit, Fork, Interrupt, Mkfifo, Open, Pipe, Read, Resume, SetPipeSz, Splice,
-    Start, Tee, Write,
+    self, Close, Dup2, Exit, Fork, Interrupt, Lseek, Mkfifo, Open, Pipe, Read, Resume, SetPipeSz,
+    Splice, Start, Tee, Write,
 };
 use pl_testing::asked::Data::{Many, Text};
 use pl_testing::asked::Want::{
-    self, Bytes, Count, Fault, Fd, Fds, NoCall, Parked, Pid, Size, Unit,
+    self, Bytes, Count, Fault, Fd, Fds, NoCall, Offset, Parked, Pid, Size, Unit,
 };
 use pl_testing::sessions::{NEW_KERNEL, Session};
 
@@ -33,6 +34,90 @@ pub(crate) const SESSIONS: &[Session] = &[
             (Resume(2), Fault(EPIPE)),
             (Read(1, 0, 9), Bytes(Text("ab"))),
             (Interrupt(2), NoCall),
+        ],
+        ..NEW_KERNEL
+    },
+    // It is seen also before that the target is full, and before the end of the source.
+    Session {
+        name: "the_reader_of_a_full_target_leaves",
+        rows: &[
+            (Start, Pid(1)),
+            (Pipe(1), Fds(0, 1)),
+            (Pipe(1), Fds(2, 3)),
+            (Write(1, 1, Text("ab")), Count(2)),
+            (Write(1, 3, Many(b'x', 65_536)), Count(65_536)),
+            (Splice(1, (0, None), (3, None), 5, WITHOUT), Parked(1)),
+            (Splice(1, (0, None), (3, None), 5, WITHOUT), Parked(2)),
+            (Tee(1, 0, 3, 5, WITHOUT), Parked(3)),
+            (Tee(1, 0, 3, 5, WITHOUT), Parked(4)),
+            (Close(1, 2), Unit),
+            (Resume(1), Fault(EPIPE)),
+            (Resume(3), Fault(EPIPE)),
+            (Read(1, 0, 9), Bytes(Text("ab"))),
+            (Close(1, 1), Unit),
+            (Resume(2), Fault(EPIPE)),
+            (Resume(4), Fault(EPIPE)),
+            (Read(1, 0, 9), NOTHING),
+        ],
+        ..NEW_KERNEL
+    },
+    // From a file to a full pipe a splice goes on waiting under its number, until there is room or nobody could read.
+    Session {
+        name: "a_file_and_a_full_target",
+        rows: &[
+            (Start, Pid(1)),
+            (Pipe(1), Fds(0, 1)),
+            (Open(1, F, Mode::Both, NEW), Fd(2)),
+            (Write(1, 2, Text("abc")), Count(3)),
+            (Lseek(1, 2, 0, Set), Offset(0)),
+            (Write(1, 1, Many(b'x', 65_536)), Count(65_536)),
+            (Splice(1, (2, None), (1, None), 5, WITHOUT), Parked(1)),
+            (Splice(1, (2, Some(1)), (1, None), 5, WITHOUT), Parked(2)),
+            (Splice(1, (2, None), (1, None), 5, WITHOUT), Parked(3)),
+            (Resume(1), Parked(1)),
+            (Resume(2), Parked(2)),
+            (Resume(1), Parked(1)),
+            (Read(1, 0, 1), Bytes(Text("x"))),
+            (Resume(2), Count(1)),
+            (Resume(2), NoCall),
+            (Resume(1), Parked(1)),
+            (Close(1, 0), Unit),
+            (Resume(1), Fault(EPIPE)),
+            (Resume(1), NoCall),
+            (Lseek(1, 2, 0, Cur), Offset(0)),
+            // at the end of the file
+            (Lseek(1, 2, 3, Set), Offset(3)),
+            (Resume(3), Fault(EPIPE)),
+            (Interrupt(3), NoCall),
+        ],
+        names: &[F],
+        ..NEW_KERNEL
+    },
+    // What a source without writers holds goes over as soon as there is room. Then its end is answered at once, also to a call that
+    // may wait, whether the target has room or not.
+    Session {
+        name: "the_end_of_the_source",
+        rows: &[
+            (Start, Pid(1)),
+            (Pipe(1), Fds(0, 1)),
+            (Pipe(1), Fds(2, 3)),
+            (Write(1, 1, Text("abc")), Count(3)),
+            (Write(1, 3, Many(b'x', 65_536)), Count(65_536)),
+            (Splice(1, (0, None), (3, None), 2, WITHOUT), Parked(1)),
+            (Splice(1, (0, None), (3, None), 5, WITHOUT), Parked(2)),
+            (Close(1, 1), Unit),
+            (Read(1, 2, 65_536), Bytes(Many(b'x', 65_536))),
+            (Resume(1), Count(2)),
+            (Resume(2), Count(1)),
+            (Splice(1, (0, None), (3, None), 5, WITHOUT), Count(0)),
+            (Tee(1, 0, 3, 5, WITHOUT), Count(0)),
+            (Write(1, 3, Many(b'y', 65_533)), Count(65_533)),
+            (Splice(1, (0, None), (3, None), 5, WITHOUT), Count(0)),
+            (Tee(1, 0, 3, 5, WITHOUT), Count(0)),
+            (Read(1, 2, 3), Bytes(Text("abc"))),
+            (Read(1, 2, 70_000), Bytes(Many(b'y', 65_533))),
+            // None of them took a number.
+            (Read(1, 2, 9), Parked(3)),
         ],
         ..NEW_KERNEL
     },
