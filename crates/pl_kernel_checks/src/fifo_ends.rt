@@ -34,18 +34,21 @@ const APPEND_AND_NONBLOCK: &[OpenFlags] = &[OpenFlags::APPEND, OpenFlags::NONBLO
 pub(crate) const SESSIONS: &[Session] = &[
     // The last close empties a FIFO and gives it its first capacity, and leaves its name; any other close leaves both.
     Session {
-        name: "the_last_close_of_a_fifo",
+        name: "a_fifo_with_no_end_forgets",
         rows: &[
             (Start, Pid(1)),
             (Mkfifo(1, F), Unit),
-            (Open(1, F, Mode::Both, PLAIN), Fd(0)),
-            (SetPipeSz(1, 0, 4_096), Size(4_096)),
-            (Write(1, 0, Text("ab")), Count(2)),
-            (Close(1, 0), Unit),
             (Mkfifo(1, F), Fault(EEXIST)),
+            (Open(1, F, Mode::Both, PLAIN), Fd(0)),
+            (Write(1, 0, Text("abc")), Count(3)),
+            (SetPipeSz(1, 0, 1), Size(4_096)),
+            (Close(1, 0), Unit),
             (Open(1, F, Mode::Read, NONBLOCK), Fd(0)),
-            (Read(1, 0, 9), NOTHING),
+            (Read(1, 0, 10), NOTHING),
             (GetPipeSz(1, 0), Size(65_536)),
+        ],
+        more: &[
+            (Mkfifo(1, F), Fault(EEXIST)),
             (Open(1, F, Mode::Write, NONBLOCK), Fd(1)),
             (SetPipeSz(1, 1, 131_072), Size(131_072)),
             (Write(1, 1, Many(b'c', 100_000)), Count(100_000)),

@@ -1,7 +1,7 @@
 //! The worked examples that several crates of tests make: tables of steps with the replies that are wanted.
 use crate::asked::Ask::{
-    self, Close, Dup, Dup2, Exit, Fork, GetFl, Interrupt, Lseek, Open, Pipe, PipeNonblock, Read,
-    Resume, SetFl, SetPipeSz, Splice, Start, Tee, Unlink, Write,
+    self, Close, Dup, Dup2, Exit, Fork, GetFl, Interrupt, Lseek, Mkfifo, Open, Pipe, PipeNonblock,
+    Read, Resume, SetFl, SetPipeSz, Splice, Start, Tee, Unlink, Write,
 };
 use crate::asked::Data::{Many, Text, TwoRuns};
 use crate::asked::Want::{
@@ -205,10 +205,12 @@ const NEW: &[OpenFlags] = &[OpenFlags::CREAT, OpenFlags::EXCL];
 
 const TRUNC: &[OpenFlags] = &[OpenFlags::TRUNC];
 
-/// What opens refuse, which flags a description keeps, and what an open empties. The name is left.
-pub const NAMES_AND_FLAGS: [(Ask, Want); 17] = [
+/// Which names are refused, which flags a description keeps, and what an open empties. The name is left.
+pub const NAMES_AND_FLAGS: [(Ask, Want); 19] = [
     (Start, Pid(1)),
     (Open(1, Text(""), Mode::Read, &[]), Fault(Errno::ENOENT)),
+    (Mkfifo(1, Text("a/b")), Fault(Errno::EINVAL)),
+    (Mkfifo(1, Many(b'a', 256)), Fault(Errno::ENAMETOOLONG)),
     (Open(1, Text("x"), Mode::Write, NEW), Fd(0)),
     (Open(1, Text("x"), Mode::Write, NEW), Fault(Errno::EEXIST)),
     (Read(1, 0, 1), Fault(Errno::EBADF)),
