@@ -1,6 +1,6 @@
 //! Want of memory where names stand for FIFOs.
 use crate::memory::refuse_each;
-use pl_model::Errno::{EAGAIN, EEXIST, EINTR, ENOENT, EPIPE};
+use pl_model::Errno::{EAGAIN, EEXIST, EINTR, ENFILE, ENOENT, ENXIO, EPIPE};
 use pl_model::{Mode, OpenFlags};
 use pl_testing::asked::Ask::{
     self, Close, Dup, Exit, Fork, GetPipeSz, Interrupt, Mkfifo, Open, Read, Resume, SetFl,
@@ -83,6 +83,23 @@ const SESSIONS: &[Session] = &[
             (Read(2, 6, 9), Bytes(Text("c"))),
         ],
         names: &[G, F],
+        ..NEW_KERNEL
+    },
+    Session {
+        name: "a_fifo_with_no_end_forgets",
+        rows: &[
+            (Start, Pid(1)),
+            (Mkfifo(1, F), Unit),
+            (Mkfifo(1, F), Fault(EEXIST)),
+            (Open(1, F, Mode::Both, PLAIN), Fd(0)),
+            (Write(1, 0, Text("abc")), Count(3)),
+            (SetPipeSz(1, 0, 1), Size(4_096)),
+            (Close(1, 0), Unit),
+            (Open(1, F, Mode::Read, NONBLOCK), Fd(0)),
+            (Read(1, 0, 10), NOTHING),
+            (GetPipeSz(1, 0), Size(65_536)),
+        ],
+        names: &[F],
         ..NEW_KERNEL
     },
     // A FIFO that is opened again after the last close is empty and has its first capacity, also where the open finds no memory at
@@ -181,6 +198,23 @@ const SESSIONS: &[Session] = &[
         names: &[F],
         ..NEW_KERNEL
     },
+    Session {
+        name: "an_open_that_was_met_stays_met",
+        rows: &[
+            (Start, Pid(1)),
+            (Start, Pid(2)),
+            (Mkfifo(1, F), Unit),
+            (Open(2, F, Mode::Write, NONBLOCK), Fault(ENXIO)),
+            (Open(1, F, Mode::Read, PLAIN), Parked(1)),
+            (Resume(1), Parked(1)),
+            (Open(2, F, Mode::Write, PLAIN), Fd(0)),
+            (Close(2, 0), Unit),
+            (Resume(1), Fd(0)),
+            (Read(1, 0, 10), NOTHING),
+        ],
+        names: &[F],
+        ..NEW_KERNEL
+    },
     // An open that finds no memory takes no number, is no end and meets nobody: all ends that come and go are those of other opens.
     Session {
         name: "opens_that_wait",
@@ -240,6 +274,26 @@ const SESSIONS: &[Session] = &[
             (Read(1, 0, 9), NOTHING),
         ],
         names: &[F, G],
+        ..NEW_KERNEL
+    },
+    // An open that waits is the 4,096th description, also where it finds no memory at first: it holds none then. The next is
+    // refused, and meets nobody.
+    Session {
+        name: "an_open_that_waits_as_the_last_description",
+        processes: 17,
+        full_tables: 16,
+        rows: &[
+            (Mkfifo(17, F), Unit),
+            (Open(17, F, Mode::Read, PLAIN), Fault(ENFILE)),
+            (Close(1, 0), Unit),
+            (Open(17, F, Mode::Read, PLAIN), Parked(1)),
+            (Open(17, F, Mode::Write, PLAIN), Fault(ENFILE)),
+            (Resume(1), Parked(1)),
+            (Interrupt(1), INTERRUPTED),
+            (Open(17, F, Mode::Both, PLAIN), Fd(0)),
+            (Open(17, F, Mode::Both, PLAIN), Fault(ENFILE)),
+        ],
+        names: &[F],
         ..NEW_KERNEL
     },
 ];

@@ -10,6 +10,8 @@ mod files;
 #[cfg(test)]
 mod frugal;
 #[cfg(test)]
+mod large;
+#[cfg(test)]
 mod memory;
 #[cfg(test)]
 mod passed_over;

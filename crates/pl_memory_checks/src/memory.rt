@@ -54,6 +54,7 @@ fn make_steps<B: Allocator>(
     n: u64,
 ) -> Result<(), Fail> {
     let mut bench = Scarce::new(example.name, alloc, heap, n, LIMITS)?;
+    bench.prepare(example.processes, example.full_tables)?;
     make_each(&mut bench, heap, example.rows)?;
     bench.ends_empty(example.names)
 }
@@ -135,6 +136,7 @@ fn replies_of_run<B: Allocator>(
     n: u64,
 ) -> Result<Vec<Option<Reply>>, Fail> {
     let mut bench = Scarce::new(example.name, alloc, heap, n, LIMITS)?;
+    bench.prepare(example.processes, example.full_tables)?;
     bench.run(example.rows)
 }
 
@@ -173,6 +175,7 @@ fn make_run<B: Allocator>(
     let passed = passed_over(heap, example, &replies, n)?;
     let place = passed.unwrap_or(replies.len());
     let mut other = Bench::new(example.name, alloc, alloc, LIMITS)?;
+    other.prepare(example.processes, example.full_tables)?;
     other.tell_refused(n);
     goes_on_without(alloc, &mut other, &replies, example.rows, place)
 }

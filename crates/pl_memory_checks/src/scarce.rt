@@ -39,10 +39,16 @@ impl<'a, B: Allocator> Scarce<'a, B> {
     ) -> Result<Self, Fail>
         requires { limits.file_max ≤ most_file_bytes }
     {
-        heap.refuse(n);
-        let mut bench = Bench::new(name, alloc, heap, limits)?;
-        bench.tell_refused(n);
-        Ok(Scarce { heap, bench })
+        let bench = Bench::new(name, alloc, heap, limits)?;
+        let mut scarce = Scarce { heap, bench };
+        scarce.refuse(n);
+        Ok(scarce)
+    }
+
+    /// From now on the `n`th request is refused, and the count begins anew; at 0 none is refused.
+    pub(crate) fn refuse(&mut self, n: u64) {
+        self.heap.refuse(n);
+        self.bench.tell_refused(n);
     }
 
     /// Makes the step, and answers whether it found memory. It fails where the step did, and doesn't answer what is wanted.
@@ -62,9 +68,25 @@ impl<'a, B: Allocator> Scarce<'a, B> {
         }
     }
 
-    /// So many processes start, and the first `full_tables` of them fill their tables.
+    /// In how many segments of memory bytes are kept.
+    pub(crate) fn segments(&self) -> u64 {
+        self.bench.segments()
+    }
+
+    /// So many processes start, and the first `full_tables` of them fill their tables; no request for memory is refused.
     pub(crate) fn prepare(&mut self, processes: u32, full_tables: u32) -> Result<(), Fail> {
-        self.bench.prepare(processes, full_tables)
+        let counted = self.heap.pause();
+        self.bench.prepare(processes, full_tables)?;
+        self.heap.go_on(counted);
+        Ok(())
+    }
+
+    /// Makes the steps, of which each answers what its row says; no request for memory is refused.
+    pub(crate) fn all_answer(&mut self, rows: &[(Ask, Want)]) -> Result<(), Fail> {
+        let counted = self.heap.pause();
+        self.bench.all_answer(rows)?;
+        self.heap.go_on(counted);
+        Ok(())
     }
 
     /// Ends every process, and takes the names away, which are all; no request for memory is refused. It fails where one
