@@ -1,6 +1,6 @@
 -- What is there under a key stays there, where something is made or changes.
 use Rattle.std.proofs.Common.{◌≡◌, ℕ, Bool, true, false, List, Option, Some, None, sym, subst, nat_eq, refl, ap, ◌∙◌}
-use Rattle.std.specs.Prelude.{IsSome, Result, Ok, Err, OnOk, OnErr, option_map, if◌then◌else◌}
+use Rattle.std.specs.Prelude.{IsSome, Result, Ok, Err, IfOk, OnOk, OnErr, option_map, if◌then◌else◌}
 use Rattle.std.proofs.lemmas.Bool.{eq-eqb}
 use Rattle.pl_model.specs.Map.{set_at, change_at}
 use Rattle.pl_model.specs.State.{Pipe}
@@ -40,6 +40,11 @@ stays-written (Err e) key old new f ok err = stays-same (at old.files) (at new.f
 pub stays-resized : {T E : Type 0} (r : Result T E) (key : ℕ) (old new : Nodes) (f : Pipe → Pipe) → OnOk r (at new.pipes ≡ change_at key f (at old.pipes)) → OnErr r (new ≡ old) → (q : ℕ) → IsSome (at old.pipes q) → IsSome (at new.pipes q)
 stays-resized (Ok x) key old new f ok err = stays-changed key (at old.pipes) (at new.pipes) f ok
 stays-resized (Err e) key old new f ok err = stays-same (at old.pipes) (at new.pipes) (ap (λ (v : Nodes). at v.pipes) err)
+
+-- a pipe that is made, or isn't
+pub stays-made : {E : Type 0} (r : Result ℕ E) (old new : Nodes) (x : Pipe) → IfOk r (λ key. at new.pipes ≡ set_at nat_eq (at old.pipes) key (Some x)) → OnErr r (new ≡ old) → (q : ℕ) → IsSome (at old.pipes q) → IsSome (at new.pipes q)
+stays-made (Ok key) old new x ok err = stays-set key (at old.pipes) (at new.pipes) x ok
+stays-made (Err e) old new x ok err = stays-same (at old.pipes) (at new.pipes) (ap (λ (v : Nodes). at v.pipes) err)
 
 -- a map that changes at two keys
 pub stays-twice : {V : Type 0} (key other : ℕ) (m n : ℕ → Option V) (f g : V → V) → n ≡ change_at key f (change_at other g m) → (q : ℕ) → IsSome (m q) → IsSome (n q)

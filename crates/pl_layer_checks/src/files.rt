@@ -318,11 +318,8 @@ const NAMES: &[(Naming, bool)] = &[
     (Naming::Unlink("b"), false),
     (Naming::Make("b"), false),
     (Naming::LookUp("b"), true),
-    // a FIFO isn't made where there is a file, nor a file or another FIFO where there is a FIFO
-    (Naming::Make("f"), false),
-    (Naming::MakeFifo("f"), true),
+    // neither a file nor another FIFO is made where there is a FIFO
     (Naming::MakeFifo("g"), false),
-    (Naming::Unlink("h"), false),
     (Naming::MakeFifo("g"), true),
     (Naming::Make("g"), true),
     (Naming::LookUp("g"), true),

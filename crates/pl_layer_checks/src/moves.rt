@@ -1,7 +1,7 @@
 //! Bytes that go between two pipes and a file over one store of segments, with memory and without.
 use crate::equal::is;
 use crate::nodes::weight;
-use pl_nodes::{NoMemory, Nodes, WriteFault};
+use pl_nodes::{CapacityFault, MakeFault, NoMemory, NoSuchName, Nodes, WriteFault};
 use pl_testing::refusing::Refusing;
 use std::alloc::{Allocator, Global};
 use std::marker::Model;
@@ -15,6 +15,7 @@ const FILE_MAX: usize = 10_000;
 /// Two pipes and a file. Bytes go from the first pipe to the second, from that to the file, and from the file to the first pipe.
 #[derive(Drop)]
 struct Ends<A: Allocator = Global> {
+    alloc: A,
     nodes: Nodes<A>,
     first: usize,
     second: usize,
@@ -51,6 +52,11 @@ enum Operation {
     ReadFile(usize, usize),
     /// So many bytes of the first pipe are read.
     Read(usize),
+    /// The first pipe is to hold 4,096 bytes at most.
+    Shrink,
+    /// A FIFO of this name is made.
+    MakeFifo(&'static str),
+    Unlink(&'static str),
     /// The second pipe becomes the first.
     Turn,
 }
@@ -66,6 +72,12 @@ enum Answer {
     TooBig,
     /// The weight of the bytes that are read.
     Weight(u32),
+    /// The pipe holds more bytes.
+    Busy,
+    /// The name stands for something.
+    Exists,
+    /// The name stands for nothing.
+    NoSuchName,
 }
 
 /// How many bytes the pipes and the file have, in how many slots those of the pipes stand, and how many segments there are.
@@ -74,13 +86,14 @@ type Told = ((usize, usize, usize), (usize, usize), usize);
 impl<A: Allocator + Copy> Ends<A> {
     fn new(alloc: A) -> Result<Ends<A>, NoMemory> {
         let mut nodes = Nodes::new(alloc, FILE_MAX);
+        let first = nodes.make_pipe()?;
+        let second = nodes.make_pipe()?;
         let name = Vec::from_slice(alloc, b"f")?;
         let Ok(file) = nodes.make_file(name) else {
             return Err(NoMemory);
         };
-        let first = nodes.make_pipe()?;
-        let second = nodes.make_pipe()?;
         Ok(Ends {
+            alloc,
             nodes,
             first,
             second,
@@ -146,6 +159,30 @@ impl<A: Allocator + Copy> Ends<A> {
         Ok(Answer::Weight(weight(bytes.as_slice())))
     }
 
+    fn shrink(&mut self) -> Result<Answer, NoMemory> {
+        match self.nodes.set_capacity(self.first, 4_096) {
+            Ok(()) => Ok(Answer::Done),
+            Err(CapacityFault::Busy) => Ok(Answer::Busy),
+            Err(CapacityFault::NoMemory) => Err(NoMemory),
+        }
+    }
+
+    fn make_fifo(&mut self, name: &str) -> Result<Answer, NoMemory> {
+        let name = Vec::from_slice(self.alloc, name.as_bytes())?;
+        match self.nodes.make_fifo(name) {
+            Ok(_) => Ok(Answer::Done),
+            Err(MakeFault::Exists) => Ok(Answer::Exists),
+            Err(MakeFault::NoMemory) => Err(NoMemory),
+        }
+    }
+
+    fn unlink(&mut self, name: &str) -> Answer {
+        match self.nodes.unlink(name.as_bytes()) {
+            Ok(_) => Answer::Done,
+            Err(NoSuchName) => Answer::NoSuchName,
+        }
+    }
+
     fn turn(&mut self) {
         mem::swap(&mut self.first, &mut self.second);
     }
@@ -160,9 +197,22 @@ impl<A: Allocator + Copy> Ends<A> {
             Operation::WriteFile(place, bytes) => return self.write_file(place, bytes),
             Operation::ReadFile(place, count) => return self.read_file(place, count),
             Operation::Read(count) => return self.read(count),
+            Operation::Shrink => return self.shrink(),
+            Operation::MakeFifo(name) => return self.make_fifo(name),
+            Operation::Unlink(name) => return Ok(self.unlink(name)),
             Operation::Turn => self.turn(),
         }
         Ok(Answer::Done)
+    }
+
+    /// What the first pipe, the second and the file hold. The pipes are empty then.
+    fn drain(&mut self) -> Result<(Answer, Answer, Answer), NoMemory> {
+        let first = self.read(65_536)?;
+        self.turn();
+        let second = self.read(65_536)?;
+        self.turn();
+        let file = self.read_file(0, FILE_MAX)?;
+        Ok((first, second, file))
     }
 
     fn tell(&self) -> Told {
@@ -177,6 +227,22 @@ impl<A: Allocator + Copy> Ends<A> {
 type Row = (Operation, Answer, Told);
 
 const ROWS: &[Row] = &[
+    // a FIFO isn't made where there is a file
+    (
+        Operation::MakeFifo("f"),
+        Answer::Exists,
+        ((0, 0, 0), (0, 0), 0),
+    ),
+    (
+        Operation::MakeFifo("g"),
+        Answer::Done,
+        ((0, 0, 0), (0, 0), 0),
+    ),
+    (
+        Operation::Unlink("h"),
+        Answer::NoSuchName,
+        ((0, 0, 0), (0, 0), 0),
+    ),
     (
         Operation::Write(b"abc"),
         Answer::Done,
@@ -209,10 +275,11 @@ const ROWS: &[Row] = &[
     ),
     // "bcb"
     (
-        Operation::Read(9),
+        Operation::Read(3),
         Answer::Weight(6_498_343),
         ((0, 1, 3), (0, 1), 2),
     ),
+    (Operation::Shrink, Answer::Done, ((0, 1, 3), (0, 1), 2)),
     // none past the end of the file
     (
         Operation::FromFile(3, 9),
@@ -256,6 +323,17 @@ const ROWS: &[Row] = &[
         Answer::Weight(122),
         ((0, 0, 10_000), (0, 0), 3),
     ),
+];
+
+/// After so many rows, what the first pipe, the second and the file hold.
+const CONTENTS: &[(usize, (&str, &str, &str))] = &[
+    (4, ("abc", "", "")),
+    (5, ("abc", "ab", "")),
+    (6, ("bc", "aba", "")),
+    (7, ("bc", "a", "ab")),
+    (8, ("bcb", "a", "ab")),
+    (9, ("bcb", "a", "abz")),
+    (12, ("", "a", "abz")),
 ];
 
 /// Does an operation, and again where it is refused, which leaves all as it was. Answers how often it was refused.
@@ -308,6 +386,36 @@ fn session<A: Allocator + Copy>(rt: &impl Abort, alloc: A) -> Result<u32, NoMemo
 #[test]
 fn bytes_that_are_shared(rt: HostRuntime) -> Result<(), Fail> {
     is(&rt, "refusals", session(&rt, rt.alloc())?, 0);
+    Ok(())
+}
+
+/// What new pipes and a new file hold after the first rows.
+fn contents<A: Allocator + Copy>(
+    alloc: A,
+    rows: &[Row],
+) -> Result<(Answer, Answer, Answer), NoMemory> {
+    let mut ends = Ends::new(alloc)?;
+    for row in rows {
+        let _answer = ends.make(row.0)?;
+    }
+    ends.drain()
+}
+
+fn weight_of(text: &str) -> Answer {
+    Answer::Weight(weight(text.as_bytes()))
+}
+
+#[test]
+fn contents_after_each_move(rt: HostRuntime) -> Result<(), Fail> {
+    for (count, (first, second, file)) in CONTENTS {
+        let rows = ROWS.get(..*count).ok_or("more rows than there are")?;
+        is(
+            &rt,
+            "what the pipes and the file hold",
+            contents(rt.alloc(), rows)?,
+            (weight_of(first), weight_of(second), weight_of(file)),
+        );
+    }
     Ok(())
 }
 

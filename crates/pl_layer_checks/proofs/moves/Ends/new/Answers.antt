@@ -7,13 +7,13 @@ use Rattle.pl_layer_checks.proofs.moves.Ends.new.Goals as goal
 pub invariant_of-result : goal.invariant_of-result
 invariant_of-result g c =
     let zero = c.new-nodes.result in
-    let one = c.make_file.new.self in
-    let two = c.make_pipe.new.self in
-    let three = c.make_pipe-2.new.self in
-    let first = there-set c.in_ok-first.first (at one.pipes) (at two.pipes) empty_pipe c.in_ok-first.ensures.ok in (
-      stays-set c.in_ok-second.second (at two.pipes) (at three.pipes) empty_pipe c.in_ok-second.ensures.ok c.in_ok-first.first first,
-      there-set c.in_ok-second.second (at two.pipes) (at three.pipes) empty_pipe c.in_ok-second.ensures.ok,
-      stays-same (at two.files) (at three.files) c.in_ok-second.ensures.files c.in-Ok.file
-          (stays-same (at one.files) (at two.files) c.in_ok-first.ensures.files c.in-Ok.file (there-set c.in-Ok.file (at zero.files) (at one.files) [] c.in-Ok.ensures.ok)),
-      elsewhere (at two.pipes) c.in_ok-first.first c.in_ok-second.second first c.in_ok-second.ensures.vacant.0,
+    let one = c.make_pipe.new.self in
+    let two = c.make_pipe-2.new.self in
+    let three = c.make_file.new.self in
+    let first = there-set c.in_ok-first.first (at zero.pipes) (at one.pipes) empty_pipe c.in_ok-first.ensures.ok in
+    let stays = stays-same (at two.pipes) (at three.pipes) c.make_file.ensures.pipes in (
+      stays c.in_ok-first.first (stays-set c.in_ok-second.second (at one.pipes) (at two.pipes) empty_pipe c.in_ok-second.ensures.ok c.in_ok-first.first first),
+      stays c.in_ok-second.second (there-set c.in_ok-second.second (at one.pipes) (at two.pipes) empty_pipe c.in_ok-second.ensures.ok),
+      there-set c.in-Ok.file (at two.files) (at three.files) [] c.in-Ok.ensures.ok,
+      elsewhere (at one.pipes) c.in_ok-first.first c.in_ok-second.second first c.in_ok-second.ensures.vacant.0,
     )
