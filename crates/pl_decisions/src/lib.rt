@@ -7,6 +7,7 @@ mod closing;
 mod moves;
 mod naming;
 mod opening;
+mod poll;
 mod seeking;
 mod transfers;
 
@@ -15,5 +16,6 @@ pub use closing::hung_after_close;
 pub use moves::{SpliceSide, case_of_move, splice_fault, tee_fault};
 pub use naming::name_fault;
 pub use opening::{open_fault, opens_at_once};
+pub use poll::mask_of;
 pub use seeking::sought;
 pub use transfers::{case_of_read, case_of_write};

@@ -1,13 +1,16 @@
 //! One step of the kernel, by the calls.
-ghost use Rattle.std.specs.Prelude.{◌≡◌, true, IfOk, OnErr, IsOk};
+ghost use Rattle.std.specs.Prelude.{◌≡◌, true, false, nat_eq, IfOk, OnErr, IsOk, IfSome};
 ghost use Rattle.pl_model.specs.Memory.{is_frugal, is_frugal_call};
+ghost use Rattle.pl_model.specs.Map.{get};
 ghost use Rattle.pl_state.specs.Contents.{IsProcess};
+ghost use Rattle.pl_state.specs.Sound.{IsPoll};
 ghost use Rattle.pl_state.specs.Makes.{MakesAtKeys, MayWantAtKeys};
 ghost use Rattle.pl_splices.specs.Shares.{SharesByStep};
 
 use pl_descriptors::{close, dup, dup_fd, dup2, exit, fork, get_fl, set_fl, start};
 use pl_model::{Call, Reply, Step};
 use pl_naming::{mkfifo, open_name, unlink};
+use pl_polls::{poll, resume_poll};
 use pl_splices::{resume, splice, tee};
 use pl_state::{KernelState, NoMemory};
 use pl_transfers::{get_pipe_sz, interrupt, lseek, pipe, read, set_pipe_sz, write};
@@ -45,6 +48,7 @@ fn begin<A: Allocator + Copy>(
             len,
             flags,
         } => tee(kernel, pid, from, to, len, flags),
+        Call::Poll { entries, wait } => poll(kernel, pid, entries, wait),
         Call::Dup { fd } => Ok(dup(kernel, pid, fd)),
         Call::Dup2 { fd, target } => Ok(dup2(kernel, pid, fd, target)),
         Call::DupFd { fd, least } => Ok(dup_fd(kernel, pid, fd, least)),
@@ -58,6 +62,33 @@ fn begin<A: Allocator + Copy>(
         Call::Fork => fork(kernel, pid),
         Call::Exit => Ok(exit(kernel, pid)),
     }
+}
+
+// Whether the call of a number is a poll.
+fn is_poll<A: Allocator + Copy>(kernel: &KernelState<A>, number: u64) -> bool
+    ensures polls { result ≡ true → IfSome (get nat_eq kernel.now.calls.calls number) (λ w. IsPoll w.call) }
+    ensures others { result ≡ false → IfSome (get nat_eq kernel.now.calls.calls number) (λ w. ¬ IsPoll w.call) }
+{
+    match kernel.parked.get(number) {
+        Some(parked) => matches!(parked.call, Call::Poll { .. }),
+        None => false,
+    }
+}
+
+// Tries the parked call of a number again.
+fn try_again<A: Allocator + Copy>(
+    kernel: &mut KernelState<A>,
+    number: u64,
+) -> Result<Reply<A>, NoMemory>
+    ensures done { IfOk result (λ reply. MakesAtKeys kernel.old (Step.Resume number) reply kernel.new) }
+    ensures shares { SharesByStep {A = A} kernel.old (Step.Resume number) kernel.new }
+    ensures undone { OnErr result (kernel.new ≡ kernel.old) }
+    ensures wanted { OnErr result (MayWantAtKeys {A = A} kernel.old (Step.Resume number)) }
+{
+    if is_poll(kernel, number) {
+        return resume_poll(kernel, number);
+    }
+    resume(kernel, number)
 }
 
 pub(crate) fn act<A: Allocator + Copy>(
@@ -78,7 +109,7 @@ pub(crate) fn act<A: Allocator + Copy>(
             }
             begin(kernel, pid, call)
         }
-        Step::Resume(number) => resume(kernel, number),
+        Step::Resume(number) => try_again(kernel, number),
         Step::Interrupt(number) => Ok(interrupt(kernel, number)),
     }
 }

@@ -6,5 +6,7 @@ pub mod Ways
 pub mod Keeps
 -- A step that is refused leaves a settled state as it was.
 pub mod Refusals
+-- What a poll comes to, as it begins and as it is tried again.
+pub mod Polls
 -- What the replies of a run say of the state that it leaves.
 pub mod AfterReplies

@@ -14,3 +14,5 @@ pub mod FifoExamples
 pub mod SpliceExamples
 -- The small examples of the lines of splices and tees, computed from the definitions.
 pub mod SpliceLineExamples
+-- The small examples of polls, computed from the definitions.
+pub mod PollExamples

@@ -28,6 +28,8 @@ pub mod BegunRuns
 pub mod MoveBegins
 -- A splice or a tee adds the bytes that its source holds at the moment.
 pub mod MoveMoments
+-- Polls over a run: they move no byte.
+pub mod PollRuns
 -- The parked calls are in order at the start, and under other keys.
 pub mod Orders
 -- The stream law of whole runs.

@@ -1,12 +1,13 @@
 -- How each call begins: its checks in order, and then its answer or its first try.
-use Rattle.std.specs.Prelude.{ℕ, ℤ, pos, negsuc, ◌+◌, ◌-◌, ◌+ℤ◌, Bool, true, false, not, ◌==◌, ◌&&◌, ◌||◌, nat_lt, nat_le, List, [], ◌∷◌, length, Option, option_and_then, is_none, is_some, if◌then◌else◌}
-use Rattle.std.specs.List.{list_any}
+use Rattle.std.specs.Prelude.{ℕ, ℤ, pos, negsuc, ◌+◌, ◌-◌, ◌+ℤ◌, Bool, true, false, not, ◌==◌, ◌&&◌, ◌||◌, nat_lt, nat_le, List, [], ◌∷◌, length, map, Option, option_and_then, option_map, is_none, is_some, if◌then◌else◌}
+use Rattle.std.specs.List.{list_any, filter, filter_map}
 use Rattle.std.specs.declared.option.Option.TheVariants.{None, Some}
 use Rattle.pl_model.specs.declared.calls.Mode.{Mode}
 use Rattle.pl_model.specs.declared.calls.Whence.{Whence}
 use Rattle.pl_model.specs.declared.calls.Whence.TheVariants.{Set, Cur, End}
 use Rattle.pl_model.specs.declared.flags.OpenFlags.{OpenFlags}
 use Rattle.pl_model.specs.declared.flags.SpliceFlags.{SpliceFlags}
+use Rattle.pl_model.specs.declared.flags.PollMask.{PollMask}
 use Rattle.pl_model.specs.declared.replies.Reply.TheVariants.{Pid, Fd, Fds, Bytes, Offset, Flags, Size, Unit}
 use Rattle.pl_model.specs.declared.replies.Errno.TheVariants.{EAGAIN, EBADF, EBUSY, EEXIST, EINVAL, EMFILE, ENAMETOOLONG, ENFILE, ENOENT, ENXIO, EOVERFLOW, EPERM, ESPIPE}
 use Rattle.pl_model.specs.Numbers.{last_call, open_max, most_descriptions, most_name_bytes, most_capacity, greatest_offset}
@@ -18,6 +19,7 @@ use Rattle.pl_model.specs.Live.{live_count}
 use Rattle.pl_model.specs.Trial.{Begins, Begun, Answered, Tried, pipe_at, answered, tried, refuse_if, found}
 use Rattle.pl_model.specs.Transfer.{count, file_at, moved_to}
 use Rattle.pl_model.specs.Capacity.{rounded_capacity, pipe_of, set_capacity}
+use Rattle.pl_model.specs.Poll.{masks, masks_reply}
 use Rattle.pl_model.specs.Tables.{lowest, lowest_pid, install, close_row, describe, create_file, forget_name, fork}
 use Rattle.pl_model.specs.Fifo.{create_fifo, can_open, meet}
 
@@ -35,6 +37,10 @@ is_descriptor (negsuc n) = false
 abbrev pub unsigned : ℤ → Option ℕ
 unsigned (pos n) = Some n
 unsigned (negsuc n) = None
+
+abbrev pub is_negative : ℤ → Bool
+is_negative (pos n) = false
+is_negative (negsuc n) = true
 
 -- Our own: a slash or a NUL. No name has one, as there are no directories.
 abbrev pub is_never_in_name : ℕ → Bool
@@ -76,6 +82,10 @@ module _ {K : Keys} where
   abbrev pub allowed : (Mode → Bool) → Option (Open K) → Option (Open K)
   allowed test None = None
   allowed test (Some o) = if test o.description.mode then Some o else None
+
+  -- the descriptions that are open
+  abbrev pub keys_of : List (Option (Open K)) → List K.Description
+  keys_of opens = filter_map (option_map (λ o. o.key)) opens
 
 module _ {A : Type 0} {K : Keys} where
   -- what the descriptor names
@@ -197,6 +207,19 @@ module _ {A : Type 0} {K : Keys} where
       refuse_if (not (is_pipe a.node && is_pipe b.node)) EINVAL
       (refuse_if (is_same_pipe a.node b.node) EINVAL
       (tried s (source.key ∷ target.key ∷ []) false (may_wait_between flags a b)))))
+
+  -- what the descriptors of a poll name, but for the negative ones
+  abbrev pub named_by : Core A K → ℕ → List (ℤ × PollMask) → List (Option (Open K))
+  named_by s pid entries = map (λ e. open_fd s pid e.0) (filter (λ e. not (is_negative e.0)) entries)
+
+  -- POSIX.1-2017, poll: EINVAL of more than OPEN_MAX entries. Where a descriptor isn't open, the poll is answered at once, as it has
+  -- found that.
+  unfoldable pub begin_poll : Core A K → ℕ → List (ℤ × PollMask) → (wait : Bool) → Begins A K
+  begin_poll s pid entries wait =
+      let opens = named_by s pid entries in
+      refuse_if (nat_lt open_max (length entries)) EINVAL
+      (if list_any is_none opens then answered s (masks_reply (masks s entries opens))
+      else tried s (keys_of opens) false wait)
 
   -- POSIX.1-2017, dup: EBADF, EMFILE.
   unfoldable pub begin_dup : Core A K → ℕ → ℤ → Begins A K

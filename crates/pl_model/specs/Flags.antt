@@ -1,6 +1,7 @@
 -- The bits of flags.
 use Rattle.std.specs.Prelude.{ℕ, ◌+◌, Bool, ◌==◌, bit_and, if◌then◌else◌}
 use Rattle.pl_model.specs.declared.flags.OpenFlags.{OpenFlags}
+use Rattle.pl_model.specs.declared.flags.PollMask.{PollMask}
 
 -- whether the set has the flag of this bit
 abbrev pub has : ℕ → ℕ → Bool
@@ -42,12 +43,35 @@ splice_more = 4
 abbrev pub splice_gift : ℕ
 splice_gift = 8
 
+-- POSIX.1-2017, poll, POLLIN: data may be read.
+abbrev pub poll_in : ℕ
+poll_in = 1
+
+-- POSIX.1-2017, poll, POLLOUT: data may be written.
+abbrev pub poll_out : ℕ
+poll_out = 4
+
+-- POSIX.1-2017, poll, POLLERR: nobody can read what would be written.
+abbrev pub poll_err : ℕ
+poll_err = 8
+
+-- POSIX.1-2017, poll, POLLHUP: every writer has left.
+abbrev pub poll_hup : ℕ
+poll_hup = 16
+
+-- POSIX.1-2017, poll, POLLNVAL: the descriptor isn't open.
+abbrev pub poll_nval : ℕ
+poll_nval = 32
+
 -- POSIX.1-2017, fcntl, F_SETFL: the file status flags that a description keeps, among any flags.
 abbrev pub status_flags : OpenFlags → OpenFlags
 status_flags flags = record { 0 = bit_and flags.0 (append + nonblock) }
 
 abbrev pub no_flags : OpenFlags
 no_flags = record { 0 = 0 }
+
+abbrev pub no_mask : PollMask
+no_mask = record { 0 = 0 }
 
 abbrev pub nonblock_if : Bool → OpenFlags
 nonblock_if b = record { 0 = if b then nonblock else 0 }

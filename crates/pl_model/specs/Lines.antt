@@ -2,12 +2,12 @@
 use Rattle.std.specs.Prelude.{ℕ, ◌^◌, ℤ, List, [], ◌∷◌, Bool, true, false, ◌==◌, if◌then◌else◌, Option, Some, None, codes}
 use Rattle.std.specs.Str.{bytes_eq}
 use Rattle.pl_model.specs.declared.calls.Call.{Call}
-use Rattle.pl_model.specs.declared.calls.Call.TheVariants.{Pipe, Mkfifo, OpenName, Read, Write, Splice, Tee, Dup, Dup2, DupFd, Close, Lseek, GetFl, SetFl, GetPipeSz, SetPipeSz, Unlink, Fork, Exit}
+use Rattle.pl_model.specs.declared.calls.Call.TheVariants.{Pipe, Mkfifo, OpenName, Read, Write, Splice, Tee, Poll, Dup, Dup2, DupFd, Close, Lseek, GetFl, SetFl, GetPipeSz, SetPipeSz, Unlink, Fork, Exit}
 use Rattle.pl_model.specs.declared.calls.Step.TheVariants.{Start, Begin, Resume, Interrupt}
 use Rattle.pl_model.specs.declared.flags.SpliceFlags.{SpliceFlags}
 use Rattle.pl_model.specs.declared.script.Line.{Line}
 use Rattle.pl_model.specs.declared.script.Line.TheVariants.{Do, File}
-use Rattle.pl_model.specs.Words.{◌>>=◌, words, without_return, number, signed, signed_long, bytes_of, name_of, mode_of, whence_of, open_flags_if_any, splice_flags_if_any, flags_or_none, offset_of}
+use Rattle.pl_model.specs.Words.{◌>>=◌, words, without_return, number, signed, signed_long, bytes_of, name_of, mode_of, whence_of, open_flags_if_any, splice_flags_if_any, flags_or_none, offset_of, entries_of, wait_of}
 
 abbrev pub is_comment : List ℕ → Bool
 is_comment [] = false
@@ -82,6 +82,14 @@ module _ {A : Type 0} where
     n ← len_and_flags rest
     Some (Tee f t n.0 n.1)
   tee_of _ = None
+
+  -- `P poll now ENTRY ..` and `P poll wait ENTRY ..`
+  unfoldable pub poll_of : List (List ℕ) → Option (Call A)
+  poll_of (when ∷ entries) = do
+    w ← wait_of when
+    es ← entries_of entries
+    Some (Poll es w)
+  poll_of [] = None
 
   -- `P dup FD`
   unfoldable pub dup_of : List (List ℕ) → Option (Call A)
@@ -169,6 +177,7 @@ module _ {A : Type 0} where
       else if bytes_eq name (codes "write") then write_of rest
       else if bytes_eq name (codes "splice") then splice_of rest
       else if bytes_eq name (codes "tee") then tee_of rest
+      else if bytes_eq name (codes "poll") then poll_of rest
       else if bytes_eq name (codes "dup") then dup_of rest
       else if bytes_eq name (codes "dup2") then dup2_of rest
       else if bytes_eq name (codes "dupfd") then dup_fd_of rest

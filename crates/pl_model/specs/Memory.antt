@@ -35,6 +35,7 @@ module _ {A : Type 0} where
   is_frugal_call (Call.Write fd bytes) = false
   is_frugal_call (Call.Splice from from_offset to to_offset len flags) = false
   is_frugal_call (Call.Tee from to len flags) = false
+  is_frugal_call (Call.Poll entries wait) = false
   is_frugal_call (Call.SetPipeSz fd size) = false
   is_frugal_call Call.Fork = false
 

@@ -1,15 +1,17 @@
 -- The text of a reply (our own).
-use Rattle.std.specs.Prelude.{ℕ, ◌/◌, ◌%◌, List, [], ◌∷◌, ◌++◌, Bool, true, false, Option, Some, None, codes, slice_index}
+use Rattle.std.specs.Prelude.{ℕ, ◌/◌, ◌%◌, List, [], ◌∷◌, ◌++◌, Bool, true, false, Option, Some, None, codes, slice_index, map}
+use Rattle.std.specs.List.{filter, flat_map}
 use Rattle.std.specs.Fmt.{decimal, signed_decimal}
 use Rattle.pl_model.specs.declared.calls.Mode.{Mode}
 use Rattle.pl_model.specs.declared.flags.OpenFlags.{OpenFlags}
+use Rattle.pl_model.specs.declared.flags.PollMask.{PollMask}
 use Rattle.pl_model.specs.declared.replies.Errno.{Errno}
 use Rattle.pl_model.specs.declared.replies.Errno.TheVariants.{EAGAIN, EBADF, EBUSY, EEXIST, EFBIG, EINTR, EINVAL, EMFILE, ENAMETOOLONG, ENFILE, ENOENT, ENXIO, EOVERFLOW, EPERM, EPIPE, ESPIPE}
 use Rattle.pl_model.specs.declared.replies.Reply.{Reply}
-use Rattle.pl_model.specs.declared.replies.Reply.TheVariants.{Pid, Fd, Fds, Count, Bytes, Offset, Flags, Size, Unit, Fault, Parked, NoProcess, NoCall, CallsSpent}
+use Rattle.pl_model.specs.declared.replies.Reply.TheVariants.{Pid, Fd, Fds, Count, Bytes, Offset, Flags, Size, Masks, Unit, Fault, Parked, NoProcess, NoCall, CallsSpent}
 use Rattle.pl_model.specs.declared.replies.Outcome.{Outcome}
 use Rattle.pl_model.specs.declared.replies.Outcome.TheVariants.{Replied, NoMemory}
-use Rattle.pl_model.specs.Flags.{has, append, nonblock}
+use Rattle.pl_model.specs.Flags.{has, append, nonblock, poll_in, poll_out, poll_err, poll_hup, poll_nval}
 
 abbrev pub lower_digits : List ℕ
 lower_digits = codes "0123456789abcdef"
@@ -64,6 +66,19 @@ append_and_nonblock false false = codes "-"
 unfoldable pub flags_text : OpenFlags → List ℕ
 flags_text flags = append_and_nonblock (has flags.0 append) (has flags.0 nonblock)
 
+-- what a mask can have, in the order in which it is shown
+abbrev pub mask_names : List (ℕ × List ℕ)
+mask_names = (poll_in, codes "in") ∷ (poll_out, codes "out") ∷ (poll_err, codes "err") ∷ (poll_hup, codes "hup") ∷ (poll_nval, codes "nval") ∷ []
+
+-- the names joined by commas, or `-` for none
+unfoldable pub names_text : List (List ℕ) → List ℕ
+names_text [] = codes "-"
+names_text (name ∷ []) = name
+names_text (name ∷ next ∷ names) = name ++ (codes "," ++ names_text (next ∷ names))
+
+unfoldable pub mask_text : PollMask → List ℕ
+mask_text mask = names_text (map (λ n. n.1) (filter (λ n. has mask.0 n.0) mask_names))
+
 module _ {A : Type 0} where
   -- the line of a reply, without its line feed
   unfoldable pub reply_text : Reply A → List ℕ
@@ -76,6 +91,7 @@ module _ {A : Type 0} where
   reply_text (Offset n) = codes "offset " ++ decimal n
   reply_text (Flags mode flags) = codes "flags " ++ (mode_text mode ++ (codes " " ++ flags_text flags))
   reply_text (Size n) = codes "size " ++ decimal n
+  reply_text (Masks ready masks) = codes "masks " ++ (decimal ready ++ flat_map (λ mask. codes " " ++ mask_text mask) masks)
   reply_text Unit = codes "ok"
   reply_text (Fault errno) = errno_text errno
   reply_text (Parked c) = codes "parked " ++ decimal c

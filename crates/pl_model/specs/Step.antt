@@ -16,7 +16,8 @@ use Rattle.pl_model.specs.Tables.{lowest, lowest_pid, install, start, exit}
 use Rattle.pl_model.specs.Trial.{Trial, Flow, Done, Wait, still, flowed, Begun, Refused, Answered, Tried, Begins, answered}
 use Rattle.pl_model.specs.Transfer.{read_node, write_node, count}
 use Rattle.pl_model.specs.Splice.{side, try_move}
-use Rattle.pl_model.specs.Begin.{begin_pipe, begin_read, begin_write, begin_splice, begin_tee, begin_dup, begin_dup2, begin_dup_fd, begin_mkfifo, begin_open_name, begin_close, begin_lseek, begin_get_fl, begin_set_fl, begin_get_pipe_sz, begin_set_pipe_sz, begin_unlink, begin_fork}
+use Rattle.pl_model.specs.Poll.{try_poll}
+use Rattle.pl_model.specs.Begin.{begin_pipe, begin_read, begin_write, begin_splice, begin_tee, begin_poll, begin_dup, begin_dup2, begin_dup_fd, begin_mkfifo, begin_open_name, begin_close, begin_lseek, begin_get_fl, begin_set_fl, begin_get_pipe_sz, begin_set_pipe_sz, begin_unlink, begin_fork}
 
 -- the state that a step leaves, its reply, and the bytes that it moved
 pub record Stepped (A : Type 0) (K : Keys) : Type 0 where
@@ -53,6 +54,7 @@ module _ {A : Type 0} {K : Keys} where
   try s w (Call.OpenName name mode flags) may_wait = try_open s w
   try s w (Call.Splice from from_offset to to_offset len flags) may_wait = with_both s w.kept (λ a b. try_move s (side a from_offset) (side b to_offset) len false)
   try s w (Call.Tee from to len flags) may_wait = with_both s w.kept (λ a b. try_move s (side a None) (side b None) len true)
+  try s w (Call.Poll entries wait) may_wait = try_poll s entries w.kept may_wait
   try s w call may_wait = Wait s still w.taken
 
   -- the checks of a call, in order
@@ -64,6 +66,7 @@ module _ {A : Type 0} {K : Keys} where
   begin s pid (Call.Write fd bytes) = begin_write s pid fd bytes
   begin s pid (Call.Splice from from_offset to to_offset len flags) = begin_splice s pid from from_offset to to_offset len flags
   begin s pid (Call.Tee from to len flags) = begin_tee s pid from to len flags
+  begin s pid (Call.Poll entries wait) = begin_poll s pid entries wait
   begin s pid (Call.Dup fd) = begin_dup s pid fd
   begin s pid (Call.Dup2 fd target) = begin_dup2 s pid fd target
   begin s pid (Call.DupFd fd least) = begin_dup_fd s pid fd least

@@ -5,6 +5,7 @@ use Rattle.std.specs.List.{concat}
 use Rattle.pl_model.specs.declared.calls.Call.{Call}
 use Rattle.pl_model.specs.declared.calls.Step.{Step}
 use Rattle.pl_model.specs.declared.calls.Step.TheVariants.{Begin}
+use Rattle.pl_model.specs.declared.flags.PollMask.{PollMask}
 use Rattle.pl_model.specs.declared.flags.SpliceFlags.{SpliceFlags}
 use Rattle.pl_model.specs.Numbers.{pipe_buf}
 use Rattle.pl_model.specs.Modes.{reads, writes}
@@ -28,6 +29,10 @@ use Rattle.pl_model.specs.Transfer.{count}
 abbrev pub may_wait : Option (Open numbers) → Bool
 may_wait None = false
 may_wait (Some o) = may_block o.description
+
+-- a call has no chunks of a pipe, and no outs
+abbrev pub MovesNothing : (chunks outs : List (List ℕ)) → Type 0
+MovesNothing chunks outs = (chunks ≡ []) × (outs ≡ [])
 
 module _ {A : Type 0} where
   -- What a write of these bytes adds to its pipe, in these chunks, where t of them were taken before.
@@ -96,6 +101,14 @@ pub record StreamLaw {A : Type 0} (s : State A) (xs : List (Step A × Bool)) : T
       let move = Begin pid call in
       xs ≡ before ++ (move, false) ∷ rest → TriesToCarry now.core move (PipeNode p) (PipeNode q) →
       EachAddsFirst s xs (tag_of (length before) move (step now move).reply) p q
+  -- a poll moves nothing, where it is parked as the run begins, and where it begins in it
+  pub waiting_poll : (p c : ℕ) (w : Waiting A numbers) (entries : List (ℤ × PollMask)) (wait : Bool) →
+      get nat_eq s.core.parked c ≡ Some w → w.call ≡ Call.Poll entries wait → MovesNothing (of (OfCall c) (chunks s xs p)) (of (OfCall c) (outs s xs p))
+  pub begun_poll : (before rest : List (Step A × Bool)) (p pid : ℕ) (entries : List (ℤ × PollMask)) (wait : Bool) →
+      let now = after s before in
+      let poll = Begin pid (Call.Poll entries wait) in
+      let tag = tag_of (length before) poll (step now poll).reply in
+      xs ≡ before ++ (poll, false) ∷ rest → MovesNothing (of tag (chunks s xs p)) (of tag (outs s xs p))
 
 -- Each run keeps the law.
 abbrev pub RunsKeepTheStreamLaw : Type 0 → Type 0

@@ -7,8 +7,9 @@ use Rattle.pl_model.specs.declared.calls.Mode.{Mode}
 use Rattle.pl_model.specs.declared.calls.Whence.{Whence}
 use Rattle.pl_model.specs.declared.flags.OpenFlags.{OpenFlags}
 use Rattle.pl_model.specs.declared.flags.SpliceFlags.{SpliceFlags}
+use Rattle.pl_model.specs.declared.flags.PollMask.{PollMask}
 use Rattle.pl_model.specs.Numbers.{most_bytes}
-use Rattle.pl_model.specs.Flags.{creat, excl, trunc, append, nonblock, splice_move, splice_nonblock, splice_more, splice_gift, no_flags}
+use Rattle.pl_model.specs.Flags.{creat, excl, trunc, append, nonblock, splice_move, splice_nonblock, splice_more, splice_gift, poll_in, poll_out, poll_err, poll_hup, poll_nval, no_flags, no_mask}
 
 -- what the second says of what the first gives, if it gives anything
 infixl 10 ◌>>=◌
@@ -163,6 +164,16 @@ splice_flag name =
     else if bytes_eq name (codes "gift") then Some splice_gift
     else None
 
+-- what a poll asks, by its name: its bit
+unfoldable pub poll_flag : List ℕ → Option ℕ
+poll_flag name =
+    if bytes_eq name (codes "in") then Some poll_in
+    else if bytes_eq name (codes "out") then Some poll_out
+    else if bytes_eq name (codes "err") then Some poll_err
+    else if bytes_eq name (codes "hup") then Some poll_hup
+    else if bytes_eq name (codes "nval") then Some poll_nval
+    else None
+
 -- the bits of these names, beside some that are there
 unfoldable pub with_flags : (List ℕ → Option ℕ) → ℕ → List (List ℕ) → Option ℕ
 with_flags flag_of bits [] = Some bits
@@ -202,3 +213,35 @@ flags_or_none word = if bytes_eq word (codes "-") then Some no_flags else (flags
 -- OFF: a number that fits 64 bits, or `-` for none
 unfoldable pub offset_of : List ℕ → Option (Option ℕ)
 offset_of word = if bytes_eq word (codes "-") then Some None else (number (2 ^ 64) word >>= λ n. Some (Some n))
+
+abbrev pub as_poll_mask : ℕ → PollMask
+as_poll_mask bits = record { 0 = bits }
+
+-- MASK: names joined by commas, or `-` for none
+unfoldable pub poll_mask_of : List ℕ → Option PollMask
+poll_mask_of word = if bytes_eq word (codes "-") then Some no_mask else (flags_of poll_flag word >>= λ bits. Some (as_poll_mask bits))
+
+abbrev pub is_colon : ℕ → Bool
+is_colon c = c == 58
+
+-- ENTRY: `FD:MASK`
+unfoldable pub entry_of : List ℕ → Option (ℤ × PollMask)
+entry_of word = do
+  fd ← signed (before_first is_colon word)
+  asked ← poll_mask_of (after_first is_colon word)
+  Some (fd, asked)
+
+-- `ENTRY ..`, any number of them
+unfoldable pub entries_of : List (List ℕ) → Option (List (ℤ × PollMask))
+entries_of [] = Some []
+entries_of (word ∷ words) = do
+  e ← entry_of word
+  es ← entries_of words
+  Some (e ∷ es)
+
+-- whether a poll waits: `wait`, or `now`
+unfoldable pub wait_of : List ℕ → Option Bool
+wait_of word =
+    if bytes_eq word (codes "now") then Some false
+    else if bytes_eq word (codes "wait") then Some true
+    else None

@@ -2,6 +2,7 @@
 use crate::bytes::Bytes8;
 use crate::flags::{OpenFlags, SpliceFlags};
 use crate::name::Name;
+use crate::polls::PollList;
 use std::alloc::{Allocator, Global};
 
 /// What an open file description may be used for (POSIX.1-2017, open).
@@ -80,6 +81,12 @@ pub enum Call<A: Allocator = Global> {
         to: i32,
         len: u32,
         flags: SpliceFlags,
+    },
+    /// Tells what each descriptor is ready for. With `wait` it waits until one of them is ready for anything (POSIX.1-2017, poll,
+    /// with no time-out, and without `wait` with one of 0).
+    Poll {
+        entries: PollList<A>,
+        wait: bool,
     },
     /// Names what a descriptor names by the least free descriptor too (POSIX.1-2017, dup).
     Dup {

@@ -1,4 +1,5 @@
-//! What a read or a write of a pipe comes to, and what a splice or a tee does, as the rows of three tables.
+//! What a read or a write of a pipe comes to, and what a splice or a tee does, as the rows of three tables; what a poll looks at.
+use crate::calls::Mode;
 
 /// What a read of a pipe comes to (POSIX.1-2017, read).
 #[derive(Clone, Copy, Debug, PartialEq, Eq)]
@@ -55,4 +56,20 @@ pub enum MoveCase {
     TooBig,
     /// The first so many bytes go over.
     Moves(usize),
+}
+
+/// What a poll looks at of an open file description (POSIX.1-2017, poll).
+#[derive(Clone, Copy, Debug, PartialEq, Eq)]
+pub enum Polled {
+    /// A regular file, for reading or writing.
+    File,
+    /// A pipe, by an end of this mode: it holds so many bytes and has room for so many. It is hung once its last writer left
+    /// while a reader stayed.
+    Pipe {
+        mode: Mode,
+        held: usize,
+        room: usize,
+        has_reader: bool,
+        hung: bool,
+    },
 }

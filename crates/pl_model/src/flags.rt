@@ -73,3 +73,39 @@ impl Flags for SpliceFlags {
         SpliceFlags(bits)
     }
 }
+
+/// What a poll asks of a descriptor, and what it finds (POSIX.1-2017, poll). The bits are those of Linux.
+#[derive(Clone, Copy, Debug, PartialEq, Eq)]
+pub struct PollMask(u8);
+
+bitflag_items! {
+    impl PollMask: u8 {
+        const IN = 1;
+        const OUT = 4;
+        const ERR = 8;
+        const HUP = 16;
+        const NVAL = 32;
+    }
+}
+
+impl Flags for PollMask {
+    type Bits = u8;
+
+    ghost exact = { ⊤ };
+
+    ghost table = { (codes "IN", 1) ∷ (codes "OUT", 4) ∷ (codes "ERR", 8) ∷ (codes "HUP", 16) ∷ (codes "NVAL", 32) ∷ [] };
+
+    ghost set_of = { λ f. f.0 };
+
+    fn flags<'a>() -> &'a [Flag<PollMask>] {
+        PollMask::FLAGS
+    }
+
+    fn bits(&self) -> u8 {
+        self.0
+    }
+
+    fn from_bits_retain(bits: u8) -> PollMask {
+        PollMask(bits)
+    }
+}

@@ -2,6 +2,7 @@
 use crate::bytes::Bytes8;
 use crate::calls::Mode;
 use crate::flags::OpenFlags;
+use crate::polls::MaskList;
 use std::alloc::{Allocator, Global};
 
 /// The errors of calls, by their names in the standard (POSIX.1-2017, errno.h). They have no numbers here.
@@ -44,6 +45,8 @@ pub enum Reply<A: Allocator = Global> {
     Flags { mode: Mode, flags: OpenFlags },
     /// The bytes that a pipe can hold: a power of two from 4,096 to 1,048,576.
     Size(u32),
+    /// What a poll found, for each of its entries; `ready` of the masks, from 0 to 256, aren't empty.
+    Masks { ready: u32, masks: MaskList<A> },
     /// The call is done, and has nothing to tell.
     Unit,
     /// The call failed. `EPIPE` stands for the error and the signal `SIGPIPE`.

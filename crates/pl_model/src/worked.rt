@@ -3,6 +3,7 @@ ghost use Rattle.pl_model.specs.Worked.{BytesBeforeEndOfFile, PartialAndWholeNot
 ghost use Rattle.pl_model.specs.WorkedFiles.{EndOfAFile, BadNames, RefusalsOfAnOpen, FlagsOfAnOpen, AppendingAndSeeking, UnlinkedFileLivesOn, NamesKeepTheirFiles, PipesHaveNoOffset, ScriptOfFiles, NamesInWords};
 ghost use Rattle.pl_model.specs.WorkedCapacity.{SizesAreRoundedUp, OnlyPipesHaveACapacity, CapacityIsRoom, WaitingWriteGetsRoom, ScriptOfCapacities, LinesOfCapacities};
 ghost use Rattle.pl_model.specs.WorkedFifo.{UnusedFifoForgets, OpensWithoutTheOtherEnd, ReadersWaitForAWriter, InterruptedOpen, MetThoughClosed, LastOpenThatWaits, LinesOfFifos};
+ghost use Rattle.pl_model.specs.WorkedPoll.{PollsOfAPipe, EndsThatLeave, HangingUpAFifo, FilesAndBothEnds, PollsThatDontWait, PollsKeepTheirEnds, PollWithoutANumber, ScriptOfPolls, LinesOfPolls};
 ghost use Rattle.pl_model.specs.WorkedSpliceLines.{LinesOfSplices};
 ghost use Rattle.pl_model.specs.WorkedStream.{RunsInPieces};
 ghost use Rattle.pl_model.specs.WorkedSplice.{SharedTail, BytesOfTheMoment, SpliceToAnOffset, SplicesAndTeesRefused, MovesThatWait, SplicesAtTheEndOfAFile, PiecesOfMoves};
@@ -78,6 +79,17 @@ pub fn splices<A: Allocator>()
     ensures pieces { PiecesOfMoves A }
 {}
 
+/// Polls, at once and waiting.
+pub fn polls<A: Allocator>()
+    ensures polls_of_a_pipe { PollsOfAPipe A }
+    ensures ends_that_leave { EndsThatLeave A }
+    ensures hanging_up_a_fifo { HangingUpAFifo A }
+    ensures files_and_both_ends { FilesAndBothEnds A }
+    ensures polls_that_dont_wait { PollsThatDontWait A }
+    ensures polls_keep_their_ends { PollsKeepTheirEnds A }
+    ensures poll_without_a_number { PollWithoutANumber A }
+{}
+
 /// The pieces in which the bytes of small runs go through a pipe, and what becomes of a write.
 pub fn pieces<A: Allocator>()
     ensures { RunsInPieces A }
@@ -101,4 +113,6 @@ pub fn scripts<A: Allocator>()
     ensures lines_of_capacities { LinesOfCapacities A }
     ensures lines_of_fifos { LinesOfFifos A }
     ensures lines_of_splices { LinesOfSplices A }
+    ensures polls { ScriptOfPolls A }
+    ensures lines_of_polls { LinesOfPolls A }
 {}

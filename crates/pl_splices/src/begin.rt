@@ -17,8 +17,8 @@ use crate::sides::Side;
 use bitflags::Flags;
 use pl_decisions::{SpliceSide, splice_fault, tee_fault};
 use pl_model::{Call, Errno, KeyList, Node, OpenFlags, Reply, SpliceFlags, Step};
-use pl_parked::{Parked, ParkedCall};
-use pl_state::{Access, KernelState, NoMemory, OpenNode};
+use pl_parked::ParkedCall;
+use pl_state::{Access, KernelState, NoMemory, OpenNode, park};
 use pl_transfers::{open_for, refusal_to_wait};
 use std::alloc::Allocator;
 
@@ -27,36 +27,6 @@ fn is_nonblocking_pipe(found: OpenNode) -> bool
     ensures { result ≡ (is_pipe found.node && found.nonblock) }
 {
     matches!(found.node, Node::Pipe(_)) && found.nonblock
-}
-
-// Parks a call that keeps the descriptions of two keys, under the next number, which is answered. The caller holds them for it.
-fn park_call<A: Allocator + Copy>(
-    alloc: A,
-    parked: &mut Parked<A>,
-    pid: u32,
-    call: Call<A>,
-    from: usize,
-    to: usize,
-) -> Result<u64, NoMemory>
-    requires { ¬ (parked.old.next ≡ last_call) }
-    ensures number { IfOk result (λ number. number ≡ parked.old.next) }
-    ensures ok { OnOk result (parked.new ≡ record { calls = parked.old.calls ++ (parked.old.next, call_between from to pid call) ∷ []; next = parked.old.next + 1 }) }
-    ensures err { OnErr result (parked.new ≡ parked.old) }
-{
-    let mut kept = Vec::with_capacity(alloc, 2)?;
-    kept.push_reserved(from);
-    kept.push_reserved(to);
-    let Ok(number) = parked.park(ParkedCall {
-        pid,
-        call,
-        kept: KeyList::from_vec(kept),
-        fifo: None,
-        taken: 0,
-        met: false,
-    }) else {
-        return Err(NoMemory);
-    };
-    Ok(number)
 }
 
 // Parks a call that keeps the descriptions of two keys.
@@ -77,10 +47,20 @@ fn park_between<A: Allocator + Copy>(
     ensures ok { OnOk result (kernel.new ≡ with_call kernel.old (call_between from to pid call)) }
     ensures err { OnErr result (kernel.new ≡ kernel.old) }
 {
-    let number = park_call(kernel.alloc, &mut kernel.parked, pid, call, from, to)?;
-    kernel.descs.hold(from);
-    kernel.descs.hold(to);
-    Ok(number)
+    let mut kept = Vec::with_capacity(kernel.alloc, 2)?;
+    kept.push_reserved(from);
+    kept.push_reserved(to);
+    park(
+        kernel,
+        ParkedCall {
+            pid,
+            call,
+            kept: KeyList::from_vec(kept),
+            fifo: None,
+            taken: 0,
+            met: false,
+        },
+    )
 }
 
 // The first try of a splice or a tee whose checks are passed.

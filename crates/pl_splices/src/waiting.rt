@@ -1,7 +1,9 @@
 //! How calls that wait are tried again, splices and tees among them.
-ghost use Rattle.std.specs.Prelude.{◌≡◌, ◌≢◌, IfOk, OnErr, IsSome};
+ghost use Rattle.std.specs.Prelude.{◌≡◌, ◌≢◌, nat_eq, IfOk, OnErr, IfSome, IsSome};
+ghost use Rattle.pl_model.specs.Map.{get};
 ghost use Rattle.pl_desc.specs.Rows.{at};
 ghost use Rattle.pl_state.specs.Opens.{OpenOn};
+ghost use Rattle.pl_state.specs.Sound.{IsPoll};
 ghost use Rattle.pl_state.specs.Makes.{MakesAtKeys, MayWantAtKeys};
 ghost use Rattle.pl_splices.specs.Moves.{Goes, MoveWaits};
 ghost use Rattle.pl_splices.specs.Shares.{SharesBetween, SharesByStep};
@@ -53,13 +55,15 @@ fn retry<A: Allocator + Copy>(
     Ok(reply)
 }
 
-/// Tries the parked call of a number again. The reply is what it comes to, its number where it waits on, or `NoCall` where there is none.
+/// Tries the parked call of a number again, which is no poll. The reply is what it comes to, its number where it waits on, or `NoCall`
+/// where there is none.
 ///
 /// The only error is want of memory, which leaves all as it was, the call parked.
 pub fn resume<A: Allocator + Copy>(
     kernel: &mut KernelState<A>,
     number: u64,
 ) -> Result<Reply<A>, NoMemory>
+    requires { IfSome (get nat_eq kernel.old.calls.calls number) (λ w. ¬ IsPoll w.call) }
     ensures done { IfOk result (λ reply. MakesAtKeys kernel.old (Step.Resume number) reply kernel.new) }
     ensures shares { SharesByStep {A = A} kernel.old (Step.Resume number) kernel.new }
     ensures undone { OnErr result (kernel.new ≡ kernel.old) }

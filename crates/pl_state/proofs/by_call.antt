@@ -12,3 +12,5 @@ pub mod Starting
 pub mod Closing
 -- What an exit comes to at the kernel's keys.
 pub mod Exiting
+-- What a call that is tried again comes to at the kernel's keys.
+pub mod Resumed

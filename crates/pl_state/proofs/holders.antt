@@ -19,6 +19,8 @@ pub mod Gone
 pub mod GivenUp
 -- Holds of several descriptions are given up one after another.
 pub mod EachInTurn
+-- Several descriptions are held, one after another.
+pub mod EachHeld
 -- What goes takes no segment from others, and makes none.
 pub mod Shrinking
 -- Where no process is and no name, nothing is.

@@ -6,7 +6,7 @@ use Rattle.pl_model.specs.declared.calls.Call.{Call}
 use Rattle.pl_model.specs.declared.calls.Call.TheVariants as call
 use Rattle.pl_model.specs.declared.node.Node.{Node}
 use Rattle.pl_model.specs.declared.node.Node.TheVariants as node
-use Rattle.pl_model.specs.Numbers.{last_call, pipe_buf}
+use Rattle.pl_model.specs.Numbers.{last_call, open_max, pipe_buf}
 use Rattle.pl_model.specs.Map.{Map, get, EachOnce}
 use Rattle.pl_model.specs.Laws.{IsSettled}
 use Rattle.pl_parked.specs.declared.call.ParkedCall.{ParkedCall}
@@ -15,14 +15,15 @@ use Rattle.pl_desc.specs.Rows.{at, is_pid, count_at}
 use Rattle.pl_desc.specs.Descs.{Opened, Descs, IsTidy}
 use Rattle.pl_state.specs.Contents.{Contents, Nodes, IsThere, core_of}
 
--- What may wait, with so many bytes taken: a read, an open, a splice and a tee take none, a write no more than it has, and none where
--- it is to go in whole.
+-- What may wait, with so many bytes taken: a read, an open, a splice, a tee and a poll take none, a write no more than it has, and none
+-- where it is to go in whole. A poll has no more entries than a process has descriptors.
 abbrev pub MayWait : {A : Type 0} → Call A → ℕ → Type 0
 MayWait (call.Read fd n) taken = taken ≡ 0
 MayWait (call.Write fd bytes) taken = (taken ≤ length bytes) × (length bytes ≤ pipe_buf → taken ≡ 0)
 MayWait (call.OpenName name mode flags) taken = taken ≡ 0
 MayWait (call.Splice from from_offset to to_offset len flags) taken = (taken ≡ 0) × (0 < len)
 MayWait (call.Tee from to len flags) taken = (taken ≡ 0) × (0 < len)
+MayWait (call.Poll entries wait) taken = (taken ≡ 0) × (length entries ≤ open_max)
 MayWait other taken = ⊥
 
 -- Our own: the descriptions that one call keeps.
@@ -44,14 +45,20 @@ KeepsOne (call.Write fd bytes) = ⊤
 KeepsOne (call.OpenName name mode flags) = ⊤
 KeepsOne other = ⊥
 
+-- a poll
+abbrev pub IsPoll : {A : Type 0} → Call A → Type 0
+IsPoll (call.Poll entries wait) = ⊤
+IsPoll other = ⊥
+
 -- What a call keeps as it waits: a read and a write the one description that they try, an open the one that it opens, a splice and
--- a tee the one that they take from and the one that they give to.
+-- a tee the one that they take from and the one that they give to, a poll all that it found open.
 abbrev pub Keeps : {A : Type 0} → Call A → List ℕ → Type 0
 Keeps (call.Read fd n) kept = (key : ℕ) × IsOnly key kept
 Keeps (call.Write fd bytes) kept = (key : ℕ) × IsOnly key kept
 Keeps (call.OpenName name mode flags) kept = (key : ℕ) × IsOnly key kept
 Keeps (call.Splice from from_offset to to_offset len flags) kept = (a : ℕ) × (b : ℕ) × AreBoth a b kept
 Keeps (call.Tee from to len flags) kept = (a : ℕ) × (b : ℕ) × AreBoth a b kept
+Keeps (call.Poll entries wait) kept = ⊤
 Keeps other kept = ⊥
 
 -- A parked call, which keeps no more descriptions than one call may name.
@@ -92,9 +99,10 @@ abbrev pub IsAt : {A : Type 0} → Call A → Option ℕ → ℕ → Type 0
 IsAt (call.OpenName name mode flags) fifo p = fifo ≡ Some p
 IsAt other fifo p = ⊤
 
--- splice(2): a splice may keep a regular file. No other call waits on one.
+-- splice(2); POSIX.1-2017, poll: a splice and a poll may keep a regular file. No other call waits with one.
 abbrev pub MayKeepFile : {A : Type 0} → Call A → Type 0
 MayKeepFile (call.Splice from from_offset to to_offset len flags) = ⊤
+MayKeepFile (call.Poll entries wait) = ⊤
 MayKeepFile other = ⊥
 
 -- what a call that waits may keep a description of

@@ -7,6 +7,7 @@
 mod access;
 mod ending;
 mod fault;
+mod holding;
 mod last_hold;
 mod opening;
 mod state;
@@ -14,6 +15,7 @@ mod state;
 pub use access::{Access, OpenEnd, OpenNode};
 pub use ending::end_call;
 pub use fault::NoMemory;
+pub use holding::{hold_all, park};
 pub use last_hold::{leave_unnamed, release, release_all};
 pub use opening::open_at;
 pub use state::KernelState;

@@ -1,5 +1,5 @@
 -- A step that is refused leaves a settled state as it was.
-use Rattle.std.proofs.Common.{ap, sym, subst, ◌∙◌, ℕ, Bool, true, false, cond, Option, List, [], ◌∷◌, ◌≡◌, refl, nat_eq}
+use Rattle.std.proofs.Common.{ap, sym, subst, ◌∙◌, ℕ, ℤ, Bool, true, false, cond, Option, List, [], ◌∷◌, ◌≡◌, refl, nat_eq}
 use Rattle.std.specs.declared.option.Option.TheVariants.{None, Some}
 use Rattle.std.specs.Prelude.{◌==◌, nat_lt, length, is_some}
 use Rattle.pl_model.specs.declared.calls.Call.{Call}
@@ -10,6 +10,7 @@ use Rattle.pl_model.specs.declared.cases.ReadCase.{ReadCase}
 use Rattle.pl_model.specs.declared.cases.WriteCase.{WriteCase}
 use Rattle.pl_model.specs.declared.cases.MoveCase.{MoveCase}
 use Rattle.pl_model.specs.declared.flags.OpenFlags.{OpenFlags}
+use Rattle.pl_model.specs.declared.flags.PollMask.{PollMask}
 use Rattle.pl_model.specs.declared.replies.Reply.{Reply}
 use Rattle.pl_model.specs.declared.replies.Reply.TheVariants.{Fault, NoProcess, NoCall, CallsSpent, Parked}
 use Rattle.pl_model.specs.declared.replies.Errno.TheVariants.{EEXIST, EINTR}
@@ -23,10 +24,11 @@ use Rattle.pl_model.specs.Settle.{settle}
 use Rattle.pl_model.specs.Trial.{Trial, Done, Wait, Flow, still, flowed, pipe_at, Begun, Begins, Refused, Answered, Tried, found, refuse_if}
 use Rattle.pl_model.specs.Transfer.{count, read_row, write_row, read_case, write_case, read_pipe, write_pipe, read_file, write_file, read_node, write_node}
 use Rattle.pl_model.specs.Splice.{Side, move_case, move_row, source_of, target_of, try_move}
+use Rattle.pl_model.specs.Poll.{try_poll}
 use Rattle.pl_model.specs.Tables.{lowest, lowest_pid, describe}
 use Rattle.pl_model.specs.Flags.{status_flags}
 use Rattle.pl_model.specs.Fifo.{create_fifo, meet}
-use Rattle.pl_model.specs.Begin.{check_name, await_other_end, open_named, begin_pipe, begin_mkfifo, begin_open_name, begin_read, begin_write, begin_splice, begin_tee, begin_dup, begin_dup2, begin_dup_fd, begin_close, begin_lseek, begin_get_fl, begin_set_fl, begin_get_pipe_sz, begin_set_pipe_sz, begin_unlink, begin_fork}
+use Rattle.pl_model.specs.Begin.{check_name, await_other_end, open_named, begin_pipe, begin_mkfifo, begin_open_name, begin_read, begin_write, begin_splice, begin_tee, begin_poll, begin_dup, begin_dup2, begin_dup_fd, begin_close, begin_lseek, begin_get_fl, begin_set_fl, begin_get_pipe_sz, begin_set_pipe_sz, begin_unlink, begin_fork}
 use Rattle.pl_model.specs.Step.{Stepped, with_kept, opened_by, try, try_open, begin, begun, happen, core_step, ended, first_tried, interrupted, parked, resumed, started, stepped, tried_again, waiting, without_call}
 use Rattle.pl_model.specs.Numbered.{numbers, State, After, next_numbers, step_of, step}
 use Rattle.pl_model.specs.Refused.{is_refused, with_call_ended}
@@ -43,6 +45,7 @@ module _ {A : Type 0} where
   begin-refused pid call (Reply.Offset n) = refl
   begin-refused pid call (Reply.Flags mode flags) = refl
   begin-refused pid call (Reply.Size n) = refl
+  begin-refused pid call (Reply.Masks ready masks) = refl
   begin-refused pid call Reply.Unit = refl
   begin-refused pid call (Fault errno) = refl
   begin-refused pid call (Parked c) = refl
@@ -111,6 +114,10 @@ module _ {A : Type 0} {K : Keys} where
   unfolding try_move
   move-fair s from to len is_tee = move_row-fair s from to is_tee (move_case (source_of s from from.description.node) (target_of s to to.description.node) len)
 
+  poll-fair : (s : Core A K) (entries : List (ℤ × PollMask)) (kept : List K.Description) (may_wait : Bool) → IsFair s (try_poll s entries kept may_wait)
+  unfolding try_poll
+  poll-fair s entries kept may_wait = search fair_if
+
   opened_by-fair : (s : Core A K) (pid : ℕ) (d : K.Description) (place : Option ℕ) → IsFair s (opened_by s pid d place)
   opened_by-fair s pid d None = (refl, refl)
   opened_by-fair s pid d (Some fd) = tt
@@ -124,6 +131,7 @@ module _ {A : Type 0} {K : Keys} where
   try-fair s w (Call.Write fd bytes) may_wait = fair_kept s _ _ (λ o. write_node-fair s o.key o.description o.description.node bytes w.taken may_wait)
   try-fair s w (Call.Splice from from_offset to to_offset len flags) may_wait = search (fair_kept, move-fair)
   try-fair s w (Call.Tee from to len flags) may_wait = search (fair_kept, move-fair)
+  try-fair s w (Call.Poll entries wait) may_wait = poll-fair s entries w.kept may_wait
   try-fair s w (Call.Pipe nonblock) may_wait = tt
   try-fair s w (Call.Mkfifo name) may_wait = tt
   try-fair s w (Call.OpenName name mode flags) may_wait = try_open-fair s w
@@ -155,7 +163,7 @@ module _ {A : Type 0} {K : Keys} where
   open_named-plain new s pid fd name (Some (PipeNode p)) mode flags = search (ways, refusable, open_waits-plain) depth 14
 
   begin-plain : (new : NewKeys K) (s : Core A K) (pid : ℕ) (call : Call A) → LeadsTo new (IsPlainBegun s pid call) (begin s pid call)
-  unfolding begin begin_pipe begin_mkfifo begin_open_name begin_read begin_write begin_splice begin_tee begin_dup begin_dup2 begin_dup_fd begin_close begin_lseek begin_get_fl begin_set_fl begin_get_pipe_sz begin_set_pipe_sz begin_unlink begin_fork
+  unfolding begin begin_pipe begin_mkfifo begin_open_name begin_read begin_write begin_splice begin_tee begin_poll begin_dup begin_dup2 begin_dup_fd begin_close begin_lseek begin_get_fl begin_set_fl begin_get_pipe_sz begin_set_pipe_sz begin_unlink begin_fork
   begin-plain new s pid (Call.Pipe nonblock) = search (ways, refusable) depth 14
   begin-plain new s pid (Call.Mkfifo name) = search (ways, refusable) depth 14
   begin-plain new s pid (Call.OpenName name mode flags) = search (ways, refusable, open_named-plain) depth 14
@@ -163,6 +171,7 @@ module _ {A : Type 0} {K : Keys} where
   begin-plain new s pid (Call.Write fd bytes) = search (ways, refusable, tries-plain) depth 14
   begin-plain new s pid (Call.Splice from from_offset to to_offset len flags) = search (ways, refusable, tries-plain) depth 16
   begin-plain new s pid (Call.Tee from to len flags) = search (ways, refusable, tries-plain) depth 16
+  begin-plain new s pid (Call.Poll entries wait) = search (ways, refusable, tries-plain) depth 14
   begin-plain new s pid (Call.Dup fd) = search (ways, refusable) depth 14
   begin-plain new s pid (Call.Dup2 fd target) = search (ways, refusable) depth 14
   begin-plain new s pid (Call.DupFd fd least) = search (ways, refusable) depth 14
@@ -193,6 +202,7 @@ module _ {A : Type 0} {K : Keys} where
   done-unchanged s u flow (Reply.Offset n) fair r = absurd (cc)
   done-unchanged s u flow (Reply.Flags mode flags) fair r = absurd (cc)
   done-unchanged s u flow (Reply.Size n) fair r = absurd (cc)
+  done-unchanged s u flow (Reply.Masks ready masks) fair r = absurd (cc)
   done-unchanged s u flow Reply.Unit fair r = absurd (cc)
   done-unchanged s u flow (Fault errno) fair r = ((λ i. flowed (fair.0 i) (fair.1 i)) ∙ flowed-still s, fair.1)
   done-unchanged s u flow (Parked c) fair r = absurd (cc)
@@ -226,6 +236,7 @@ module _ {A : Type 0} {K : Keys} where
     replied u flow (Reply.Offset n) fair r = cc
     replied u flow (Reply.Flags mode flags) fair r = cc
     replied u flow (Reply.Size n) fair r = cc
+    replied u flow (Reply.Masks ready masks) fair r = cc
     replied u flow Reply.Unit fair r = cc
     replied u flow (Fault errno) fair r = cc
     replied u flow (Parked n) fair r = cc
@@ -323,7 +334,7 @@ module _ {A : Type 0} {K : Keys} where
       first_checked s pid call name (refuse_if (is_some (named s name)) EEXIST (Draws (λ new. Answered (create_fifo s name new.pipe) Reply.Unit))) (first_past s pid call (is_some (named s name)) EEXIST _ made)
 
   begin-first : (s : Core A K) (pid : ℕ) (call : Call A) → RefusesFirst s pid call (begin s pid call)
-  unfolding begin begin_pipe begin_mkfifo begin_open_name begin_read begin_write begin_splice begin_tee begin_dup begin_dup2 begin_dup_fd begin_close begin_lseek begin_get_fl begin_set_fl begin_get_pipe_sz begin_set_pipe_sz begin_unlink begin_fork
+  unfolding begin begin_pipe begin_mkfifo begin_open_name begin_read begin_write begin_splice begin_tee begin_poll begin_dup begin_dup2 begin_dup_fd begin_close begin_lseek begin_get_fl begin_set_fl begin_get_pipe_sz begin_set_pipe_sz begin_unlink begin_fork
   begin-first s pid (Call.Pipe nonblock) = search firsts depth 14
   begin-first s pid (Call.Mkfifo name) = mkfifo-first s pid name
   begin-first s pid (Call.OpenName name mode flags) = search (firsts, open_named-first) depth 14
@@ -331,6 +342,7 @@ module _ {A : Type 0} {K : Keys} where
   begin-first s pid (Call.Write fd bytes) = search firsts depth 14
   begin-first s pid (Call.Splice from from_offset to to_offset len flags) = search firsts depth 16
   begin-first s pid (Call.Tee from to len flags) = search firsts depth 16
+  begin-first s pid (Call.Poll entries wait) = search firsts depth 14
   begin-first s pid (Call.Dup fd) = search firsts depth 14
   begin-first s pid (Call.Dup2 fd target) = search firsts depth 14
   begin-first s pid (Call.DupFd fd least) = search firsts depth 14

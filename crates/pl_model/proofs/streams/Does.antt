@@ -10,6 +10,7 @@ use Rattle.pl_model.specs.declared.calls.Step.TheVariants.{Start, Begin, Resume,
 use Rattle.pl_model.specs.declared.cases.ReadCase.{ReadCase}
 use Rattle.pl_model.specs.declared.cases.WriteCase.{WriteCase}
 use Rattle.pl_model.specs.declared.cases.MoveCase.{MoveCase}
+use Rattle.pl_model.specs.declared.flags.PollMask.{PollMask}
 use Rattle.pl_model.specs.declared.replies.Reply.{Reply}
 use Rattle.pl_model.specs.declared.replies.Reply.TheVariants.{NoProcess, CallsSpent, Parked}
 use Rattle.pl_model.specs.Numbers.{last_call}
@@ -20,6 +21,7 @@ use Rattle.pl_model.specs.Live.{readers}
 use Rattle.pl_model.specs.Trial.{Trial, Done, Wait, Flow, still, flowed, lost, gained, pipe_at, Begun, Begins, Refused, Answered, Tried}
 use Rattle.pl_model.specs.Transfer.{room, read_case, read_row, read_pipe, read_file, write_case, write_row, write_pipe, write_file, write_node, read_node}
 use Rattle.pl_model.specs.Splice.{Side, move_case, move_row, source_of, target_of, try_move}
+use Rattle.pl_model.specs.Poll.{try_poll}
 use Rattle.pl_model.specs.Tables.{lowest, lowest_pid}
 use Rattle.pl_model.specs.Fifo.{meets}
 use Rattle.pl_model.specs.Step.{Stepped, try, try_open, opened_by, with_kept, kept_at, begin, begun, happen, first_tried, interrupted, parked, resumed, started, stepped, tried_again, waiting}
@@ -192,6 +194,10 @@ module _ {A : Type 0} where
   unfolding try_move
   move_fine s from to len is_tee call has = move_row_fine s from to is_tee (move_case (source_of s from from.description.node) (target_of s to to.description.node) len) call has
 
+  poll_fine : (s : Core A numbers) (entries : List (ℤ × PollMask)) (kept : List ℕ) (may_wait : Bool) (call : Call A) → HasTaken call 0 → TrialFine call (try_poll s entries kept may_wait)
+  unfolding try_poll
+  poll_fine s entries kept may_wait call has = search (fine_if)
+
   pub try_fine : (s : Core A numbers) (w : Waiting A numbers) (call : Call A) (may_wait : Bool) → HasTaken call w.taken → (may_wait ≡ false → w.taken ≡ 0) → TrialFine call (try s w call may_wait)
   unfolding try
   try_fine s w (Call.Read fd n) may_wait has none = at (kept_at s w.kept 0) where
@@ -205,6 +211,7 @@ module _ {A : Type 0} where
   try_fine s w (Call.OpenName name mode flags) may_wait has none = open_fine s w (Call.OpenName name mode flags) has
   try_fine s w (Call.Splice from from_offset to to_offset len flags) may_wait has none = search (fine_kept, move_fine)
   try_fine s w (Call.Tee from to len flags) may_wait has none = search (fine_kept, move_fine)
+  try_fine s w (Call.Poll entries wait) may_wait has none = poll_fine s entries w.kept may_wait (Call.Poll entries wait) has
   try_fine s w call may_wait has none = has
 
   pub has_none : (call : Call A) → HasTaken call 0

@@ -10,7 +10,7 @@ use Rattle.pl_model.specs.StandsFor.{IsBelowCounters}
 use Rattle.pl_model.specs.Stream.{held}
 use Rattle.pl_model.specs.Fates.{bytes_answered}
 use Rattle.pl_model.specs.InOrder.{HasTaken, AreInOrder}
-use Rattle.pl_model.specs.StreamLaw.{StreamLaw, Adds, may_wait}
+use Rattle.pl_model.specs.StreamLaw.{StreamLaw, Adds, MovesNothing, may_wait}
 use Rattle.pl_model.proofs.streams.StreamRuns.{stream-run}
 use Rattle.pl_model.proofs.streams.Pieces.{joined_chunks, joined_outs}
 use Rattle.pl_model.proofs.streams.Courses.{run_order}
@@ -18,6 +18,7 @@ use Rattle.pl_model.proofs.streams.WriteRuns.{write_run, read_run}
 use Rattle.pl_model.proofs.streams.MoveRuns.{move_run, splice_moves, tee_moves}
 use Rattle.pl_model.proofs.streams.MoveBegins.{FirstCarries, splice_begins, tee_begins, begun_move, step_adds}
 use Rattle.pl_model.proofs.streams.MoveMoments.{waiting_adds, begun_adds}
+use Rattle.pl_model.proofs.streams.PollRuns.{poll_run, begun_poll}
 use Rattle.pl_model.proofs.streams.BegunRuns.{run_below, in_whole, begun_write, begun_read}
 
 pub stream_law : {A : Type 0} (s : State A) (xs : List (Step A × Bool)) → IsBelowCounters s → AreInOrder s.core → StreamLaw s xs
@@ -51,4 +52,8 @@ stream_law s xs below order =
       tried_move = λ before rest x p q e tries. step_adds p q (after s before) (run_below s before below) x tries;
       waiting_move = λ p q c w here is on. waiting_adds p q s xs c w below order here is on;
       begun_move = λ before rest p q pid call e tries. begun_adds p q s xs before rest pid call below order e tries;
+      waiting_poll = λ p c w entries wait here is. poll_run p p entries wait 0 s xs c w below order here is;
+      begun_poll = λ before rest p pid entries wait e.
+          in_whole p p s xs before rest pid (Call.Poll entries wait) (λ ins outs end. MovesNothing ins outs) e order
+          (begun_poll p p entries wait (length before) (after s before) rest pid (run_below s before below) (run_order s before order));
     }

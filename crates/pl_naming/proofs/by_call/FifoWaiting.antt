@@ -1,6 +1,6 @@
 -- What an open of a FIFO that waits leaves at the kernel's keys.
 use Rattle.std.proofs.Common.{◌≡◌, ◌≢◌, ℕ, ◌+◌, ◌==◌, Bool, true, false, cond, List, [], ◌∷◌, ◌++◌, length, Option, Some, IfSome, IsSome, refl, sym, ◌∙◌, ap, subst, nat_eq, arith}
-use Rattle.std.specs.Prelude.{All, IsTrue, option_map, ◌&&◌}
+use Rattle.std.specs.Prelude.{IsTrue, option_map, ◌&&◌}
 use Rattle.std.specs.Option.{option_eq}
 use Rattle.std.specs.Cmp.Lexicographic.{pointwise}
 use Rattle.std.proofs.lemmas.Bool.{eq-eqb, ne_eqb}
@@ -39,14 +39,14 @@ use Rattle.pl_state.specs.Makes.{MakesAtKeys, MayWantAtKeys}
 use Rattle.pl_state.proofs.Known.{Caller}
 use Rattle.pl_state.proofs.holders.There.{settled_after, there-added, there-still, map-set_at}
 use Rattle.pl_state.proofs.holders.Belonging.{belong-same}
-use Rattle.pl_state.proofs.holders.Holding.{keeping_more}
+use Rattle.pl_state.proofs.holders.Holding.{keeping_more, held_once}
 use Rattle.pl_state.proofs.holders.OnNodes.{keeps-one, wait-beside}
 use Rattle.pl_state.proofs.by_call.Begun.{does_same, step-draws, step-tried}
 use Rattle.pl_state.proofs.by_call.Piping.{none_kept, past_end}
 use Rattle.pl_state.proofs.waiting.Calls.{get_more, more-each, more-parked}
 use Rattle.pl_state.proofs.waiting.Marking.{marked-is}
 use Rattle.pl_state.proofs.waiting.Met.{met_calls, met_sound, met_held}
-use Rattle.pl_state.proofs.waiting.ParkedCalls.{held_once, not_last}
+use Rattle.pl_state.proofs.waiting.ParkedCalls.{not_last}
 use Rattle.pl_naming.specs.Waits.{Awaits, Waits, open_on}
 use Rattle.pl_naming.proofs.by_call.FifoOpening.{still, unhung}
 use Rattle.pl_naming.proofs.by_call.Unused.{keys, are_unused, unused}

@@ -14,9 +14,9 @@ use Rattle.pl_model.specs.Map.{get}
 use Rattle.pl_model.specs.Keys.{Plain}
 use Rattle.pl_model.specs.State.{Core}
 use Rattle.pl_model.specs.Settle.{settle}
-use Rattle.pl_model.specs.Trial.{Trial, Done, Wait, still, flowed}
+use Rattle.pl_model.specs.Trial.{Trial, Done, Wait, still}
 use Rattle.pl_model.specs.Transfer.{count}
-use Rattle.pl_model.specs.Step.{core_step, ended, tried_again, without_call, parked_again}
+use Rattle.pl_model.specs.Step.{core_step, ended, tried_again, without_call}
 use Rattle.pl_model.specs.Numbered.{numbers}
 use Rattle.pl_model.proofs.settling.Members.{or_right}
 use Rattle.pl_parked.specs.declared.call.ParkedCall.{ParkedCall}
@@ -24,15 +24,13 @@ use Rattle.pl_desc.specs.Rows.{at}
 use Rattle.pl_desc.specs.Descs.{Opened}
 use Rattle.pl_state.specs.Contents.{Contents, waiting_of, core_of}
 use Rattle.pl_state.specs.Opens.{OpenOn}
-use Rattle.pl_state.specs.Sound.{IsSound, IsPipe, AreBoth, AreApart, Keeps, KeepsOne, MayGo, MayKeepFile, GoApart, OnNode, KeepsNodes}
+use Rattle.pl_state.specs.Sound.{IsSound, IsPipe, IsPoll, AreBoth, AreApart, Keeps, KeepsOne, MayGo, MayKeepFile, GoApart, OnNode, KeepsNodes}
 use Rattle.pl_state.specs.Makes.{MakesAtKeys, MayWantAtKeys}
 use Rattle.pl_state.proofs.Known.{Parts}
 use Rattle.pl_state.proofs.holders.OnNodes.{is-pipe}
-use Rattle.pl_state.proofs.waiting.Calls.{put_same}
 use Rattle.pl_state.proofs.waiting.Ending.{member_there}
-use Rattle.pl_state.proofs.by_call.Begun.{does_plain, does_same, wants_plain}
-use Rattle.pl_state.proofs.by_call.Moving.{flowed-still}
-use Rattle.pl_transfers.proofs.by_call.Resuming.{came, parked-is}
+use Rattle.pl_state.proofs.by_call.Begun.{does_plain, wants_plain}
+use Rattle.pl_state.proofs.by_call.Resumed.{came, waits_still}
 use Rattle.pl_splices.specs.declared.sides.Side.{Side}
 use Rattle.pl_splices.specs.Moves.{Ends, StillWaits, WouldMove, MoveWaits, Goes, IsMove, trial}
 use Rattle.pl_splices.proofs.Resembling.{settles-from}
@@ -52,13 +50,8 @@ module _ {A : Type 0} (k : Contents A) (sound : IsSound A k) (n : ℕ) (from to 
 
   -- it waits on
   pub retry-waits : (new : Contents A) → StillWaits k from to len is_tee new → MakesAtKeys k (Resume n) (Parked n) new
-  retry-waits new s = subst (λ z. MakesAtKeys k (Resume n) (Parked n) z) (sym s.same) (does_same k sound (Resume n) _ (Parked n) (comes (Wait c still 0) s.came) refl (again ∙ flowed-still k))
-    where
-      same : parked_again (flowed c still) n (waiting_of w.call) ≡ flowed c still
-      same = ap (λ ps. record (flowed c still) { parked = ps }) (put_same (flowed c still).parked n (waiting_of w.call) (ap (λ z. get nat_eq z.parked n) (flowed-still k) ∙ parked-is k sound n (Some w.call) w.here))
-
-      again : parked_again (flowed c still) n (record (waiting_of w.call) { taken = 0 }) ≡ flowed c still
-      again = (λ i. parked_again (flowed c still) n (record (waiting_of w.call) { taken = sym w.none_taken i })) ∙ same
+  retry-waits new s = subst (λ z. MakesAtKeys k (Resume n) (Parked n) z) (sym s.same)
+      (waits_still k sound n w.call w.here 0 w.none_taken (comes (Wait c still 0) s.came))
 
   pub retry-wants : WouldMove {A = A} k from to len is_tee → MayWantAtKeys {A = A} k (Resume n)
   retry-wants e = wants_plain k k (Resume n) _ (comes (Done e.state e.flow (count e.many)) e.came) refl
@@ -122,10 +115,11 @@ module _ {A : Type 0} (k : Contents A) (sound : IsSound A k) (n : ℕ) (w : Park
 -- any other call that waits keeps one description
 pub keeps_one : {A : Type 0} (x : Call A) (kept : List ℕ) → Keeps x kept
     → ((a : ℤ) (f : Option ℕ) (b : ℤ) (h : Option ℕ) (n : ℕ) (flags : SpliceFlags) → x ≡ call.Splice a f b h n flags → ⊥)
-    → ((a b : ℤ) (n : ℕ) (flags : SpliceFlags) → x ≡ call.Tee a b n flags → ⊥) → KeepsOne x
-keeps_one (call.Read fd n) kept k no_splice no_tee = tt
-keeps_one (call.Write fd bytes) kept k no_splice no_tee = tt
-keeps_one (call.OpenName name mode flags) kept k no_splice no_tee = tt
-keeps_one (call.Splice a f b h n flags) kept k no_splice no_tee = absurd (no_splice a f b h n flags refl)
-keeps_one (call.Tee a b n flags) kept k no_splice no_tee = absurd (no_tee a b n flags refl)
-keeps_one other kept k no_splice no_tee = absurd k
+    → ((a b : ℤ) (n : ℕ) (flags : SpliceFlags) → x ≡ call.Tee a b n flags → ⊥) → ¬ IsPoll x → KeepsOne x
+keeps_one (call.Read fd n) kept k no_splice no_tee no_poll = tt
+keeps_one (call.Write fd bytes) kept k no_splice no_tee no_poll = tt
+keeps_one (call.OpenName name mode flags) kept k no_splice no_tee no_poll = tt
+keeps_one (call.Splice a f b h n flags) kept k no_splice no_tee no_poll = absurd (no_splice a f b h n flags refl)
+keeps_one (call.Tee a b n flags) kept k no_splice no_tee no_poll = absurd (no_tee a b n flags refl)
+keeps_one (call.Poll entries wait) kept k no_splice no_tee no_poll = absurd (no_poll tt)
+keeps_one other kept k no_splice no_tee no_poll = absurd k

@@ -21,6 +21,7 @@ use Rattle.pl_nodes.specs.Nodes.{Memory, Shrinks}
 use Rattle.pl_state.specs.declared.access.OpenNode.{OpenNode}
 use Rattle.pl_state.specs.Contents.{Contents}
 use Rattle.pl_state.specs.Opens.{OpenOn, Opens}
+use Rattle.pl_state.specs.Sound.{IsPoll}
 use Rattle.pl_splices.specs.declared.sides.Side.{Side}
 use Rattle.pl_splices.specs.Moves.{IsMove, MoveWaits}
 use Rattle.pl_splices.specs.Shares.{Shares, SharesBetween, SharesByStep, Way, place_in, way_between, way_named, way_kept, way_waiting, way_of}
@@ -131,3 +132,15 @@ pub by_other : {A : Type 0} (k : Contents A) (number : ℕ) (w : ParkedCall A) �
 by_other {A} k number w here no_splice no_tee new =
     subst (λ o. IfSome o (λ (way : Way). Shares k way.from way.to way.place new.nodes.memory))
     (sym (ap (option_and_then (λ (w : ParkedCall A). way_waiting k w.call w.kept)) here ∙ no_way k w.call w.kept no_splice no_tee)) tt
+
+-- nor has a poll
+poll_way : {A : Type 0} (k : Contents A) (x : Call A) (kept : List ℕ) → IsPoll x → way_waiting k x kept ≡ None
+poll_way k (call.Poll entries wait) kept poll = refl
+poll_way k other kept poll = absurd poll
+
+pub by_poll : {A : Type 0} (k : Contents A) (number : ℕ) → IfSome (get nat_eq k.calls.calls number) (λ w. IsPoll w.call) → (new : Contents A) → SharesByStep k (Resume number) new
+by_poll {A} k number polls new = by (get nat_eq k.calls.calls number) polls
+  where
+    by : (o : Option (ParkedCall A)) → IfSome o (λ w. IsPoll w.call) → IfSome (option_and_then (λ (w : ParkedCall A). way_waiting k w.call w.kept) o) (λ (way : Way). Shares k way.from way.to way.place new.nodes.memory)
+    by None poll = tt
+    by (Some w) poll = subst (λ o. IfSome o (λ (way : Way). Shares k way.from way.to way.place new.nodes.memory)) (sym (poll_way k w.call w.kept poll)) tt

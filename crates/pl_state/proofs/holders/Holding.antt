@@ -95,13 +95,21 @@ times_member (key ∷ keys) d h = elim (eqb_tells d key) as (λ _. 1 ≤ times (
   | inr e ↦ (let all = times-cons key keys d in let rest = times_member keys d (sym (ap (λ b. b || is_member nat_eq keys d) e.0) ∙ h) in omega (arith, all, rest))
 ]
 
-times_most : (keys : List ℕ) (d : ℕ) → times keys d ≤ length keys
+pub times_most : (keys : List ℕ) (d : ℕ) → times keys d ≤ length keys
 times_most [] d = omega arith
 times_most (key ∷ keys) d = let all = times-cons key keys d in let rest = times_most keys d in omega (arith, all, rest, one (nat_eq key d))
   where
     one : (b : Bool) → cond b 1 0 ≤ 1
     one true = omega arith
     one false = omega arith
+
+-- one hold more is that of a list of one key
+pub held_once : (key : ℕ) (m n : ℕ → ℕ) → n ≡ change_count key one_more m → (q : ℕ) → n q ≡ m q + times (key ∷ []) q
+held_once key m n is q = (λ i. is i q) ∙ by (nat_eq key q) (m q) ∙ ap (λ z. m q + z) (sym (times_one key q))
+  where
+    by : (b : Bool) (n : ℕ) → cond b (n + 1) n ≡ n + cond b 1 0
+    by true n = omega arith
+    by false n = omega arith
 
 -- The calls that keep a key, through each change of them.
 module _ {A : Type 0} where

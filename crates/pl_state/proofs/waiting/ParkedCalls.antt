@@ -1,5 +1,5 @@
 -- A call is parked, at the kernel's keys.
-use Rattle.std.proofs.Common.{◌≡◌, ◌≢◌, ℕ, ◌+◌, Bool, true, false, cond, List, [], ◌∷◌, ◌++◌, Some, refl, sym, ◌∙◌, ap, subst, nat_eq, arith, IfSome}
+use Rattle.std.proofs.Common.{◌≡◌, ◌≢◌, ℕ, ◌+◌, true, false, List, [], ◌∷◌, ◌++◌, length, Some, refl, sym, ◌∙◌, ap, subst, nat_eq, arith, IfSome}
 use Rattle.std.specs.Prelude.{◌≤◌, ◌<◌, ◌*◌, ◌^◌, IsSome, IsTrue}
 use Rattle.std.specs.Set.{is_member}
 use Rattle.std.proofs.lemmas.Bool.{eqb-true}
@@ -18,7 +18,7 @@ use Rattle.pl_model.proofs.settling.Parking.{parked_live, park-settled}
 use Rattle.pl_parked.specs.Calls.{Calls}
 use Rattle.pl_parked.specs.declared.call.ParkedCall.{ParkedCall}
 use Rattle.pl_parked.proofs.Rising.{Rise-push}
-use Rattle.pl_desc.specs.Rows.{at, is_pid, count_at, change_count, one_more}
+use Rattle.pl_desc.specs.Rows.{at, is_pid, count_at}
 use Rattle.pl_desc.specs.Descs.{Opened, Descs, IsTidy}
 use Rattle.pl_state.specs.Contents.{Contents, with_pipes, contents, waiting_of, core_of}
 use Rattle.pl_state.specs.Opens.{OpenOn}
@@ -28,7 +28,7 @@ use Rattle.pl_state.proofs.Known.{Known}
 use Rattle.pl_state.proofs.waiting.Calls.{more-parked, get_more}
 use Rattle.pl_state.proofs.by_call.Begun.{there, lives, pipe_held}
 use Rattle.pl_state.proofs.holders.There.{settled_after}
-use Rattle.pl_state.proofs.holders.Holding.{keeping_more, keeping_few, times_one}
+use Rattle.pl_state.proofs.holders.Holding.{keeping_more, keeping_few}
 use Rattle.pl_state.proofs.by_call.Moving.{changed_is, changed_sound}
 use Rattle.pl_state.proofs.holders.OnNodes.{keeps-one}
 
@@ -136,6 +136,12 @@ few_holds descs k sound are key =
     let few : keeping k.calls.calls key + most_kept * 0 ≤ most_kept * k.calls.next = keeping_few 0 k.calls.next k.calls.calls key sound.rise sound.waiting in
     omega (arith, are.counted key, few, sound.numbered)
 
+-- with room for those of one call more
+pub few_to_hold : {A : Type 0} (descs : Descs) (k : Contents A) → IsSound A k → AreCounted A descs k.calls.calls → (kept : List ℕ) → length kept ≤ most_kept → (key : ℕ) → count_at descs.loose key + length kept ≤ 2 ^ 100
+few_to_hold descs k sound are kept short key =
+    let few : keeping k.calls.calls key + most_kept * 0 ≤ most_kept * k.calls.next = keeping_few 0 k.calls.next k.calls.calls key sound.rise sound.waiting in
+    omega (arith, are.counted key, few, sound.numbered, short)
+
 -- what a call keeps is held for it
 module _ {A : Type 0} (m : Known A) (w : ParkedCall A) (descs' : Descs) (rest : descs' ≡ record m.descs { loose = descs'.loose }) where
   open m use {descs, nodes, calls, limits, are}
@@ -148,11 +154,3 @@ module _ {A : Type 0} (m : Known A) (w : ParkedCall A) (descs' : Descs) (rest : 
 
   pub park_held : ((q : ℕ) → count_at descs'.loose q ≡ count_at descs.loose q + times w.kept q) → IsTidy descs' → AreCounted A descs' more.calls
   park_held loose tidy = record { tidy = tidy; counted = λ q. loose q ∙ ap (λ n. n + times w.kept q) (are.counted q) ∙ sym (keeping_more calls.calls calls.next w q) }
-
--- one hold more is that of a list of one key
-pub held_once : (key : ℕ) (m n : ℕ → ℕ) → n ≡ change_count key one_more m → (q : ℕ) → n q ≡ m q + times (key ∷ []) q
-held_once key m n is q = (λ i. is i q) ∙ by (nat_eq key q) (m q) ∙ ap (λ z. m q + z) (sym (times_one key q))
-  where
-    by : (b : Bool) (n : ℕ) → cond b (n + 1) n ≡ n + cond b 1 0
-    by true n = omega arith
-    by false n = omega arith

@@ -11,7 +11,7 @@ use Rattle.pl_model.specs.State.{Core}
 use Rattle.pl_model.specs.Settle.{settle}
 use Rattle.pl_model.specs.Trial.{Trial, Wait, still, flowed}
 use Rattle.pl_model.specs.Tables.{lowest, install}
-use Rattle.pl_model.specs.Step.{try, with_kept, kept_at, opened_by, parked_again, without_call}
+use Rattle.pl_model.specs.Step.{try, with_kept, kept_at, opened_by, without_call}
 use Rattle.pl_model.specs.Numbered.{numbers}
 use Rattle.pl_model.proofs.settling.Meeting.{resume_fifo-settled}
 use Rattle.pl_parked.specs.Calls.{Calls}
@@ -23,16 +23,15 @@ use Rattle.pl_state.specs.Parking.{OpenWaits}
 use Rattle.pl_state.specs.Sound.{IsSound, IsWaiting, AreThere, AreCounted, KeepsNodes, keeping, times}
 use Rattle.pl_state.specs.Makes.{MakesAtKeys}
 use Rattle.pl_state.proofs.Known.{Known, parts_of}
-use Rattle.pl_state.proofs.waiting.Calls.{put_same, get_without, without-parked, Rise-without}
+use Rattle.pl_state.proofs.waiting.Calls.{get_without, without-parked, Rise-without}
 use Rattle.pl_state.proofs.waiting.Ending.{kept_there}
 use Rattle.pl_state.proofs.waiting.InOrder.{rise_once}
 use Rattle.pl_state.proofs.holders.Belonging.{belong-same}
 use Rattle.pl_state.proofs.holders.Holding.{keeping_without, times_one}
 use Rattle.pl_state.proofs.holders.There.{settled_after}
-use Rattle.pl_state.proofs.by_call.Begun.{does_plain, does_same, there}
-use Rattle.pl_state.proofs.by_call.Moving.{flowed-still}
+use Rattle.pl_state.proofs.by_call.Begun.{does_plain, there}
+use Rattle.pl_state.proofs.by_call.Resumed.{parked-is, came, ends_still, waits_still}
 use Rattle.pl_state.proofs.by_call.Piping.{lowest_found}
-use Rattle.pl_transfers.proofs.by_call.Resuming.{came, ends_still, parked-is}
 
 module _ {A : Type 0} (m : Known A) (n pid d : ℕ) (met : Bool) (waits : OpenWaits (contents m.descs m.nodes m.calls m.limits) n pid d met) where
   open m use {descs, nodes, calls, limits, sound, are}
@@ -64,10 +63,7 @@ module _ {A : Type 0} (m : Known A) (n pid d : ℕ) (met : Bool) (waits : OpenWa
       ∙ ap (λ z. cond met (with_kept c (option_map (λ y. record { key = d; description = y }) (option_map description_of z)) (λ o. opened_by c pid o.key (lowest c pid 0))) (Wait c still w.taken)) open_one.1
 
   pub open-waits : met ≡ false → MakesAtKeys k (Resume n) (Parked n) k
-  open-waits unmet = does_same k sound (Resume n) _ (Parked n) (came k sound n w here _ (tries ∙ ap (λ b. tried b (lowest c pid 0)) unmet)) refl (same ∙ flowed-still k)
-    where
-      same : parked_again (flowed c still) n (waiting_of w) ≡ flowed c still
-      same = ap (λ ps. record (flowed c still) { parked = ps }) (put_same (flowed c still).parked n (waiting_of w) (ap (λ z. get nat_eq z.parked n) (flowed-still k) ∙ parked-is k sound n (Some w) here))
+  open-waits unmet = waits_still k sound n w here w.taken refl (came k sound n w here _ (tries ∙ ap (λ b. tried b (lowest c pid 0)) unmet))
 
   module _ (yes : met ≡ true) where
     placed : (place : Option ℕ) → lowest_of descs.tables pid 0 ≡ place → try c (waiting_of w) w.call true ≡ opened_by c pid d place
@@ -75,7 +71,7 @@ module _ {A : Type 0} (m : Known A) (n pid d : ℕ) (met : Bool) (waits : OpenWa
     placed place is = tries ∙ ap (λ b. tried b (lowest c pid 0)) yes ∙ ap (opened_by c pid d) is
 
     pub open-many : lowest_of descs.tables pid 0 ≡ None → (new : Contents A) → core_of new ≡ settle c (without_call c n) → MakesAtKeys k (Resume n) (Fault EMFILE) new
-    open-many none new is = ends_still k sound n w here (Fault EMFILE) new (placed None none) is
+    open-many none new is = ends_still k sound n w here (Fault EMFILE) new (came k sound n w here _ (placed None none)) is
 
     -- the descriptor comes to name the description, and the call is gone
     module _ (fd : ℕ) (least : lowest_of descs.tables pid 0 ≡ Some fd)

@@ -1,6 +1,6 @@
--- What a resume or an interrupt comes to at the kernel's keys.
-use Rattle.std.proofs.Common.{◌≡◌, ℕ, ◌<◌, true, false, List, [], ◌++◌, Option, Some, None, refl, sym, ◌∙◌, ap, nat_eq, nat_lt, length, take, drop, arith}
-use Rattle.std.specs.Prelude.{if◌then◌else◌, ◌≤◌, ℤ, option_map, slice_range}
+-- What a resume of a read or a write, and an interrupt, come to at the kernel's keys.
+use Rattle.std.proofs.Common.{◌≡◌, ℕ, ◌<◌, true, false, List, [], ◌++◌, Some, None, refl, sym, ◌∙◌, ap, nat_eq, nat_lt, length, take, drop, arith}
+use Rattle.std.specs.Prelude.{if◌then◌else◌, ◌≤◌, ℤ, slice_range}
 use Rattle.pl_model.specs.declared.calls.Call.TheVariants.{Read, Write}
 use Rattle.pl_model.specs.declared.calls.Step.TheVariants.{Resume, Interrupt}
 use Rattle.pl_model.specs.declared.cases.ReadCase.{ReadCase}
@@ -12,9 +12,9 @@ use Rattle.pl_model.specs.Map.{get, put, change_at}
 use Rattle.pl_model.specs.Keys.{Plain}
 use Rattle.pl_model.specs.State.{Core, Pipe, set_pipe}
 use Rattle.pl_model.specs.Settle.{settle}
-use Rattle.pl_model.specs.Trial.{Trial, Done, Wait, Flow, still, loses, gains, flowed}
+use Rattle.pl_model.specs.Trial.{Done, Wait, Flow, loses, gains, flowed}
 use Rattle.pl_model.specs.Transfer.{room, count, read_row, read_case, write_row, write_case}
-use Rattle.pl_model.specs.Step.{core_step, happen, ended, stepped, resumed, interrupted, tried_again, try, without_call, parked_again}
+use Rattle.pl_model.specs.Step.{core_step, happen, ended, stepped, interrupted, try, without_call, parked_again}
 use Rattle.pl_model.specs.Numbered.{numbers}
 use Rattle.pl_model.proofs.settling.FromSettled.{settle-before, had-writer-bytes}
 use Rattle.pl_parked.specs.declared.call.ParkedCall.{ParkedCall}
@@ -24,9 +24,9 @@ use Rattle.pl_state.specs.LastHold.{has_reader, has_writer}
 use Rattle.pl_state.specs.Sound.{IsSound, MayWait}
 use Rattle.pl_state.specs.Makes.{MakesAtKeys, MayWantAtKeys}
 use Rattle.pl_state.proofs.Known.{CallOnPipe}
-use Rattle.pl_state.proofs.waiting.Calls.{get-parked, put_same}
 use Rattle.pl_state.proofs.by_call.Begun.{does_plain, does_same, wants_plain}
-use Rattle.pl_state.proofs.by_call.Moving.{changed_is, flowed-out, flowed-in, flowed-still}
+use Rattle.pl_state.proofs.by_call.Resumed.{parked-is, came, ends_still, waits_still}
+use Rattle.pl_state.proofs.by_call.Moving.{changed_is, flowed-out, flowed-in}
 use Rattle.pl_transfers.proofs.by_call.Trying.{read-tries, write-tries}
 use Rattle.pl_transfers.proofs.by_call.Again.{again_moves}
 
@@ -40,32 +40,16 @@ module _ {A : Type 0} (k : Contents A) (sound : IsSound A k) (n : ℕ) where
   abbrev c : Core A numbers
   c = core_of k
 
-  pub parked-is : (o : Option (ParkedCall A)) → get nat_eq k.calls.calls n ≡ o → get nat_eq c.parked n ≡ option_map waiting_of o
-  unfolding core_of
-  parked-is o e = get-parked k.calls.calls n ∙ ap (option_map waiting_of) e
-
-  pub resume-none : get nat_eq k.calls.calls n ≡ None → MakesAtKeys {A = A} k (Resume n) NoCall k
-  unfolding core_step happen
-  resume-none none = does_same k sound (Resume n) (stepped c NoCall) NoCall (ap (λ o. Plain (ended c (resumed c n o))) (parked-is None none)) refl refl
-
   pub interrupt-none : get nat_eq k.calls.calls n ≡ None → MakesAtKeys {A = A} k (Interrupt n) NoCall k
   unfolding core_step happen
-  interrupt-none none = does_same k sound (Interrupt n) (stepped c NoCall) NoCall (ap (λ o. Plain (ended c (interrupted c n o))) (parked-is None none)) refl refl
+  interrupt-none none = does_same k sound (Interrupt n) (stepped c NoCall) NoCall (ap (λ o. Plain (ended c (interrupted c n o))) (parked-is k sound n None none)) refl refl
 
   module _ (w : ParkedCall A) (here : get nat_eq k.calls.calls n ≡ Some w) where
     pub interrupt-ends : (new : Contents A) → core_of new ≡ settle c (without_call c n) → MakesAtKeys k (Interrupt n) (if nat_lt 0 w.taken then Count w.taken false else Fault EINTR) new
     unfolding core_step happen
-    interrupt-ends new is = does_plain k new (Interrupt n) _ _ (ap (λ o. Plain (ended c (interrupted c n o))) (parked-is (Some w) here)) refl is
+    interrupt-ends new is = does_plain k new (Interrupt n) _ _ (ap (λ o. Plain (ended c (interrupted c n o))) (parked-is k sound n (Some w) here)) refl is
 
-    pub came : (t : Trial A numbers) → try c (waiting_of w) w.call true ≡ t → core_step c (Resume n) ≡ Plain (ended c (tried_again n (waiting_of w) t))
-    unfolding core_step happen
-    came t e = ap (λ o. Plain (ended c (resumed c n o))) (parked-is (Some w) here) ∙ ap (λ z. Plain (ended c (tried_again n (waiting_of w) z))) e
-
-    -- a try that moved no bytes ends the call
-    pub ends_still : (reply : Reply A) (new : Contents A) → try c (waiting_of w) w.call true ≡ Done c still reply → core_of new ≡ settle c (without_call c n) → MakesAtKeys k (Resume n) reply new
-    ends_still reply new e is = does_plain k new (Resume n) _ reply (came (Done c still reply) e) refl (is ∙ ap (λ z. settle c (without_call z n)) (sym (flowed-still k)))
-
-    -- so does one that moved some
+    -- a try that moved bytes ends the call
     module _ (p : ℕ) (x : Pipe) (is : at k.nodes.pipes p ≡ Some x) (bytes : List ℕ) where
       abbrev moved : Core A numbers
       moved = set_pipe c p (record x { bytes = bytes })
@@ -76,7 +60,7 @@ module _ {A : Type 0} (k : Contents A) (sound : IsSound A k) (n : ℕ) where
 
       ends_moved : (flow : Flow numbers) (reply : Reply A) (between new : Contents A) → try c (waiting_of w) w.call true ≡ Done c flow reply → flowed c flow ≡ moved
           → core_of between ≡ moved → core_of new ≡ settle (core_of between) (without_call (core_of between) n) → MakesAtKeys k (Resume n) reply new
-      ends_moved flow reply between new e f between_is new_is = does_plain k new (Resume n) _ reply (came (Done c flow reply) e) refl
+      ends_moved flow reply between new e f between_is new_is = does_plain k new (Resume n) _ reply (came k sound n w here (Done c flow reply) e) refl
           (new_is ∙ ap (λ z. settle z (without_call z n)) between_is ∙ before is ∙ ap (λ z. settle c (without_call z n)) (sym f))
         where
           before : at k.nodes.pipes p ≡ Some x → settle moved (without_call moved n) ≡ settle c (without_call moved n)
@@ -96,16 +80,10 @@ module _ {A : Type 0} (k : Contents A) (o : CallOnPipe k) where
     tries_read row r = ap (λ z. try state (waiting_of w) z true) asked ∙ read-tries k sound d p on y is (waiting_of w) kept fd m true ∙ ap (read_row state p y) r
 
     pub resume-read-end : (new : Contents A) → read ≡ ReadCase.EndOfFile → core_of new ≡ settle state (without_call state n) → MakesAtKeys k (Resume n) (Bytes []) new
-    resume-read-end new r new_is = ends_still k sound n w here (Bytes []) new (tries_read ReadCase.EndOfFile r) new_is
+    resume-read-end new r new_is = ends_still k sound n w here (Bytes []) new (came k sound n w here _ (tries_read ReadCase.EndOfFile r)) new_is
 
     pub resume-read-waits : read ≡ ReadCase.Waits → w.taken ≡ 0 → MakesAtKeys k (Resume n) (Parked n) k
-    resume-read-waits r none = does_same k sound (Resume n) _ (Parked n) (came k sound n w here _ (tries_read ReadCase.Waits r)) refl (again ∙ flowed-still k)
-      where
-        again : parked_again (flowed state still) n (record (waiting_of w) { taken = 0 }) ≡ flowed state still
-        again = (λ i. parked_again (flowed state still) n (record (waiting_of w) { taken = sym none i })) ∙ same
-          where
-            same : parked_again (flowed state still) n (waiting_of w) ≡ flowed state still
-            same = ap (λ ps. record (flowed state still) { parked = ps }) (put_same (flowed state still).parked n (waiting_of w) (ap (λ z. get nat_eq z.parked n) (flowed-still k) ∙ parked-is k sound n (Some w) here))
+    resume-read-waits r none = waits_still k sound n w here 0 none (came k sound n w here _ (tries_read ReadCase.Waits r))
 
     module _ (count_of : ℕ) (r : read ≡ ReadCase.Gives count_of) where
       pub resume-read-gives : (bytes : List ℕ) → bytes ≡ take count_of y.bytes → (pipes : Nodes) → at pipes.pipes ≡ change_at p (λ x. record x { bytes = drop count_of x.bytes }) (at k.nodes.pipes)
@@ -127,10 +105,10 @@ module _ {A : Type 0} (k : Contents A) (o : CallOnPipe k) where
     tries_write row r = ap (λ z. try state (waiting_of w) z true) asked ∙ write-tries k sound d p on y is (waiting_of w) kept fd bytes true ∙ ap (write_row state p bytes w.taken) r
 
     pub resume-write-broken : (new : Contents A) → Comes_to WriteCase.Broken → core_of new ≡ settle state (without_call state n) → MakesAtKeys k (Resume n) (Fault EPIPE) new
-    resume-write-broken new r new_is = ends_still k sound n w here (Fault EPIPE) new (tries_write WriteCase.Broken r) new_is
+    resume-write-broken new r new_is = ends_still k sound n w here (Fault EPIPE) new (came k sound n w here _ (tries_write WriteCase.Broken r)) new_is
 
     pub resume-write-cut : (new : Contents A) → Comes_to WriteCase.CutShort → core_of new ≡ settle state (without_call state n) → MakesAtKeys k (Resume n) (Count w.taken true) new
-    resume-write-cut new r new_is = ends_still k sound n w here (Count w.taken true) new (tries_write WriteCase.CutShort r) new_is
+    resume-write-cut new r new_is = ends_still k sound n w here (Count w.taken true) new (came k sound n w here _ (tries_write WriteCase.CutShort r)) new_is
 
     module _ (from to : ℕ) (part : List ℕ) (is_part : part ≡ slice_range bytes from to) (pipes : Nodes) (after : at pipes.pipes ≡ change_at p (λ x. record x { bytes = x.bytes ++ part }) (at k.nodes.pipes)) where
       pub resume-write-ends : Comes_to (WriteCase.Ends from to) → (new : Contents A) → core_of new ≡ settle (core_of (with_pipes k pipes)) (without_call (core_of (with_pipes k pipes)) n) → MakesAtKeys k (Resume n) (Count to false) new

@@ -3,6 +3,7 @@ use Rattle.pl_model.proofs.computed.FileExamples.{script_of_files, names_in_word
 use Rattle.pl_model.proofs.computed.CapacityExamples.{script_of_capacities, lines_of_capacities}
 use Rattle.pl_model.proofs.computed.FifoExamples.{lines_of_fifos}
 use Rattle.pl_model.proofs.computed.SpliceLineExamples.{lines_of_splices}
+use Rattle.pl_model.proofs.computed.PollExamples.{script_of_polls, lines_of_polls}
 use Rattle.pl_model.proofs.worked.scripts.Goals as goal
 
 pub returns-clause-bytes_before_end_of_file : goal.returns-clause-bytes_before_end_of_file
@@ -37,3 +38,9 @@ returns-clause-lines_of_fifos g c = lines_of_fifos _
 
 pub returns-clause-lines_of_splices : goal.returns-clause-lines_of_splices
 returns-clause-lines_of_splices g c = lines_of_splices _
+
+pub returns-clause-polls : goal.returns-clause-polls
+returns-clause-polls g c = script_of_polls _
+
+pub returns-clause-lines_of_polls : goal.returns-clause-lines_of_polls
+returns-clause-lines_of_polls g c = lines_of_polls _

@@ -6,9 +6,9 @@ use Rattle.pl_parked.specs.declared.call.ParkedCall.{ParkedCall}
 use Rattle.pl_desc.specs.Rows.{at}
 use Rattle.pl_state.specs.Contents.{Contents}
 use Rattle.pl_state.specs.KernelView.{view_of}
-use Rattle.pl_state.specs.Sound.{IsSound, IsWaiting, AreBoth, Keeps, KeepsOne, MayGo, MayKeepFile, MayWait}
+use Rattle.pl_state.specs.Sound.{IsSound, IsWaiting, IsPoll, AreBoth, Keeps, KeepsOne, MayGo, MayKeepFile, MayWait}
 use Rattle.pl_state.proofs.Known.{known, parts_of}
-use Rattle.pl_transfers.proofs.by_call.Resuming.{resume-none}
+use Rattle.pl_state.proofs.by_call.Resumed.{resume-none}
 use Rattle.pl_splices.proofs.by_call.Sharing.{by_step-same, by_way, way_resumed-is, by_other}
 use Rattle.pl_splices.specs.Moves.{Goes, IsMove, MoveWaits}
 use Rattle.pl_splices.proofs.by_call.Trying.{say_one}
@@ -140,8 +140,9 @@ pub resume_one-requires : goal.resume_one-requires
 resume_one-requires g c =
     let v = (goal.at.resume_one-requires g c).In-Some in
     let w = c.in-Some.call.now in
+    let no_poll : ¬ IsPoll w.call = subst (λ o. IfSome o (λ (y : ParkedCall g.row.A.Denot). ¬ IsPoll y.call)) (here_now g v) c.requires in
     say_one (get nat_eq c.args.kernel.now.calls.calls c.args.number) w (λ (w : ParkedCall g.row.A.Denot). KeepsOne w.call) (here_now g v)
-    (keeps_one w.call w.kept (waiting g v).keeps c.in_default-call.not-Splice c.in_default-call.not-Tee)
+    (keeps_one w.call w.kept (waiting g v).keeps c.in_default-call.not-Splice c.in_default-call.not-Tee no_poll)
 
 pub returns-in_default-clause-shares : goal.returns-in_default-clause-shares
 returns-in_default-clause-shares g c = by_step-same c.args.kernel.now (Resume c.args.number)

@@ -7,7 +7,8 @@ use Rattle.pl_state.specs.Contents.{Contents, contents, nodes_of}
 use Rattle.pl_state.specs.Sound.{IsSound, AreCounted, MayKeep, OnNode}
 use Rattle.pl_state.specs.Parking.{call_on, with_call}
 use Rattle.pl_state.proofs.by_call.Begun.{there}
-use Rattle.pl_state.proofs.waiting.ParkedCalls.{few_holds, park_sound, held_is, park_held, held_once}
+use Rattle.pl_state.proofs.holders.Holding.{held_once}
+use Rattle.pl_state.proofs.waiting.ParkedCalls.{few_holds, park_sound, held_is, park_held}
 use Rattle.pl_state.proofs.Known.{known}
 use Rattle.pl_transfers.proofs.waiting.park.Goals as goal
 

@@ -14,7 +14,8 @@ use Rattle.pl_state.specs.Sound.{IsSound, AreCounted, MayKeep}
 use Rattle.pl_state.specs.Parking.{with_call, call_on, written, Adds}
 use Rattle.pl_state.proofs.by_call.Begun.{pipe_there}
 use Rattle.pl_state.proofs.waiting.Calls.{get_next, lent_some, lent_is}
-use Rattle.pl_state.proofs.waiting.ParkedCalls.{few_holds, park_moves_sound, held_is, park_held, held_once}
+use Rattle.pl_state.proofs.holders.Holding.{held_once}
+use Rattle.pl_state.proofs.waiting.ParkedCalls.{few_holds, park_moves_sound, held_is, park_held}
 use Rattle.pl_state.proofs.Known.{Known, known}
 use Rattle.pl_transfers.proofs.waiting.park_write.Given.{Over}
 use Rattle.pl_transfers.proofs.waiting.park_write.Goals.{After-get, After-bytes_of-bytes, After-hold}

@@ -6,7 +6,7 @@ use Rattle.pl_state.specs.KernelView.{view_of}
 use Rattle.pl_state.specs.Sound.{IsWaiting, IsOnly, Keeps}
 use Rattle.pl_state.proofs.Known.{known}
 use Rattle.pl_transfers.proofs.by_call.OpensAgain.{open-waits}
-use Rattle.pl_transfers.proofs.by_call.Resuming.{resume-none}
+use Rattle.pl_state.proofs.by_call.Resumed.{resume-none}
 use Rattle.pl_transfers.proofs.waiting.resume_one.Goals as goal
 
 pub returns-then-not-has_met-clause-done : goal.returns-then-not-has_met-clause-done

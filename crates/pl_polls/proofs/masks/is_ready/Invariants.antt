@@ -1,0 +1,12 @@
+use Rattle.std.proofs.Common.{◌≡◌, ◌≤◌, drop}
+use Rattle.std.specs.List.{list_any}
+use Rattle.pl_model.specs.Poll.{is_ready}
+use Rattle.pl_polls.specs.Masks.{masks_from, masks_of}
+use Rattle.pl_polls.proofs.masks.is_ready.Given as goal
+
+-- the masks so far are empty
+abbrev pub invariant-loop-fd : goal.invariant-loop-fd
+invariant-loop-fd g l = record {
+  none : list_any is_ready (masks_from l.kernel l.descriptions l.before (drop l.fd-index l.entries)) ≡ list_any is_ready (masks_of l.kernel l.descriptions l.entries);
+  few : l.before ≤ l.fd-index;
+}

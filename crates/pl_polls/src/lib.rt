@@ -1,0 +1,9 @@
+//! The call that tells what several descriptors are ready for, and waits until one is ready: poll, and how it is tried again.
+#![tactic(auto)]
+
+mod begin;
+mod masks;
+mod waiting;
+
+pub use begin::poll;
+pub use waiting::resume_poll;
