@@ -1,9 +1,11 @@
 -- What the rows of a table of steps ask, and what they want.
-use Rattle.std.specs.Prelude.{ℕ, zero, suc, ◌+◌, ◌%◌, ◌^◌, true, false, List, [], ◌∷◌, ◌++◌, replicate, bit_or}
+use Rattle.std.specs.Prelude.{ℕ, zero, suc, ◌+◌, ◌%◌, ◌^◌, ℤ, true, false, List, [], ◌∷◌, ◌++◌, map, replicate, bit_or}
+use Rattle.std.specs.Borrow.{Bor}
 use Rattle.pl_model.specs.declared.calls.Call.{Call}
 use Rattle.pl_model.specs.declared.calls.Step.{Step}
 use Rattle.pl_model.specs.declared.calls.Step.TheVariants.{Start, Begin, Resume, Interrupt}
 use Rattle.pl_model.specs.declared.flags.OpenFlags.{OpenFlags}
+use Rattle.pl_model.specs.declared.flags.PollMask.{PollMask}
 use Rattle.pl_model.specs.declared.flags.SpliceFlags.{SpliceFlags}
 use Rattle.pl_model.specs.declared.replies.Reply.{Reply}
 use Rattle.pl_model.specs.declared.replies.Reply.TheVariants as reply
@@ -45,6 +47,16 @@ all_flags flags = record { 0 = all_bits (λ flag. flag.0) flags }
 abbrev pub all_splice_flags : List SpliceFlags → SpliceFlags
 all_splice_flags flags = record { 0 = all_bits (λ flag. flag.0) flags }
 
+abbrev pub all_masks : List PollMask → PollMask
+all_masks masks = record { 0 = all_bits (λ mask. mask.0) masks }
+
+-- a poll's entries, each of all that is asked of its descriptor
+abbrev pub poll_entries : List (ℤ × Bor (List PollMask)) → List (ℤ × PollMask)
+poll_entries asks = map (λ e. (e.0, all_masks e.1.now)) asks
+
+abbrev pub poll_masks : List (Bor (List PollMask)) → List PollMask
+poll_masks found = map (λ masks. all_masks masks.now) found
+
 module _ {A : Type 0} where
   -- the step of a row
   abbrev pub asked : Ask → Step A
@@ -59,6 +71,8 @@ module _ {A : Type 0} where
   asked (ask.Write pid fd bytes) = Begin pid (Call.Write fd (data_bytes bytes))
   asked (ask.Splice pid from to len flags) = Begin pid (Call.Splice from.0 from.1 to.0 to.1 len (all_splice_flags flags.now))
   asked (ask.Tee pid from to len flags) = Begin pid (Call.Tee from to len (all_splice_flags flags.now))
+  asked (ask.PollNow pid asks) = Begin pid (Call.Poll (poll_entries asks.now) false)
+  asked (ask.PollWait pid asks) = Begin pid (Call.Poll (poll_entries asks.now) true)
   asked (ask.Dup pid fd) = Begin pid (Call.Dup fd)
   asked (ask.Dup2 pid fd target) = Begin pid (Call.Dup2 fd target)
   asked (ask.DupFd pid fd least) = Begin pid (Call.DupFd fd least)
@@ -83,6 +97,7 @@ module _ {A : Type 0} where
   wanted (want.Offset offset) = reply.Offset offset
   wanted (want.Flags mode flags) = reply.Flags mode (all_flags flags.now)
   wanted (want.Size size) = reply.Size size
+  wanted (want.Masks ready found) = reply.Masks ready (poll_masks found.now)
   wanted want.Unit = reply.Unit
   wanted (want.Fault errno) = reply.Fault errno
   wanted (want.Parked call) = reply.Parked call

@@ -1,10 +1,11 @@
 //! Tables of what is asked of a kernel, and what it is to answer.
 ghost use Rattle.std.specs.Prelude.{◌≡◌, IfOk};
-ghost use Rattle.pl_testing.specs.Asked.{data_bytes, all_bits, asked, wanted};
+ghost use Rattle.pl_testing.specs.Asked.{data_bytes, all_bits, poll_entries, poll_masks, asked, wanted};
 
 use bitflags::Flags;
 use pl_model::{
-    Bytes8, Call, Errno, Mode, Name, OpenFlags, Outcome, Reply, SpliceFlags, Step, Whence,
+    Bytes8, Call, Errno, MaskList, Mode, Name, OpenFlags, Outcome, PollList, PollMask, Reply,
+    SpliceFlags, Step, Whence,
 };
 use std::alloc::{Allocator, Global};
 use std::test::Fail;
@@ -26,8 +27,9 @@ pub enum Data {
 
 /// A step whose bytes are still to be made. A call names its process, then its descriptor or the name of a file or FIFO, and a
 /// read the most bytes that it takes; `Splice` names each of its two descriptors with the offset that is given for it, and then, as
-/// `Tee` does behind the two, the most bytes that go over and the flags; `Dup2` names its target last, `DupFd` the least descriptor,
-/// `SetFl` the flags, and `SetPipeSz` the size. `Resume` and `Interrupt` name a parked call by its number.
+/// `Tee` does behind the two, the most bytes that go over and the flags; a poll names each of its descriptors with all that is asked
+/// of it; `Dup2` names its target last, `DupFd` the least descriptor, `SetFl` the flags, and `SetPipeSz` the size. `Resume` and
+/// `Interrupt` name a parked call by its number.
 #[derive(Clone, Copy, Debug)]
 pub enum Ask {
     Start,
@@ -41,6 +43,8 @@ pub enum Ask {
     Write(u32, i32, Data),
     Splice(u32, (i32, Option<u64>), (i32, Option<u64>), u32, &'static [SpliceFlags]),
     Tee(u32, i32, i32, u32, &'static [SpliceFlags]),
+    PollNow(u32, &'static [(i32, &'static [PollMask])]),
+    PollWait(u32, &'static [(i32, &'static [PollMask])]),
     Dup(u32, i32),
     Dup2(u32, i32, i32),
     DupFd(u32, i32, i32),
@@ -68,6 +72,8 @@ pub enum Want {
     Offset(u64),
     Flags(Mode, &'static [OpenFlags]),
     Size(u32),
+    /// How many masks aren't empty, and all masks.
+    Masks(u32, &'static [&'static [PollMask]]),
     Unit,
     Fault(Errno),
     Parked(u64),
@@ -125,6 +131,28 @@ fn all_of<F: Flags + Copy>(flags: &[F]) -> F
     all
 }
 
+/// The entries of a poll.
+fn entries_of<A: Allocator>(alloc: A, asks: &[(i32, &[PollMask])]) -> Result<PollList<A>, Fail>
+    ensures { IfOk result (λ entries. entries ≡ poll_entries asks.now) }
+{
+    let mut entries = Vec::new(alloc);
+    for (fd, masks) in asks {
+        entries.push((*fd, all_of(masks)))?;
+    }
+    Ok(PollList::from_vec(entries))
+}
+
+/// What a poll found.
+fn masks_of(alloc: Global, found: &[&[PollMask]]) -> Result<MaskList, Fail>
+    ensures { IfOk result (λ masks. masks ≡ poll_masks found.now) }
+{
+    let mut masks = Vec::new(alloc);
+    for mask in found {
+        masks.push(all_of(mask))?;
+    }
+    Ok(MaskList::from_vec(masks))
+}
+
 impl Ask {
     /// The step, with its bytes in memory of `alloc`. It fails where there is no memory, and at more than 16,777,216 bytes.
     pub fn step<A: Allocator>(self, alloc: A) -> Result<Step<A>, Fail>
@@ -176,6 +204,26 @@ impl Ask {
                     },
                 )
             }
+            Ask::PollNow(pid, asks) => {
+                let entries = entries_of(alloc, asks)?;
+                Step::Begin(
+                    pid,
+                    Call::Poll {
+                        entries,
+                        wait: false,
+                    },
+                )
+            }
+            Ask::PollWait(pid, asks) => {
+                let entries = entries_of(alloc, asks)?;
+                Step::Begin(
+                    pid,
+                    Call::Poll {
+                        entries,
+                        wait: true,
+                    },
+                )
+            }
             Ask::Dup(pid, fd) => Step::Begin(pid, Call::Dup { fd }),
             Ask::Dup2(pid, fd, target) => Step::Begin(pid, Call::Dup2 { fd, target }),
             Ask::DupFd(pid, fd, least) => Step::Begin(pid, Call::DupFd { fd, least }),
@@ -218,6 +266,10 @@ impl Want {
                 Reply::Flags { mode, flags }
             }
             Want::Size(size) => Reply::Size(size),
+            Want::Masks(ready, found) => {
+                let masks = masks_of(alloc, found)?;
+                Reply::Masks { ready, masks }
+            }
             Want::Unit => Reply::Unit,
             Want::Fault(errno) => Reply::Fault(errno),
             Want::Parked(call) => Reply::Parked(call),

@@ -5,7 +5,7 @@ ghost use Rattle.pl_model.specs.Numbers.{most_file_bytes};
 use crate::asked::{Ask, Data, Want};
 use pl_kernel::Kernel;
 use pl_model::numbers::MAX_PROCESSES;
-use pl_model::{Bytes8, Call, Limits, Outcome, Reply, Step};
+use pl_model::{Bytes8, Call, Limits, MaskList, Outcome, Reply, Step};
 use std::alloc::{Allocator, Global};
 use std::marker::Model;
 use std::test::Fail;
@@ -61,6 +61,13 @@ fn moved<A: Allocator>(alloc: Global, reply: Reply<A>) -> Result<Reply, Fail> {
         Reply::Offset(offset) => Reply::Offset(offset),
         Reply::Flags { mode, flags } => Reply::Flags { mode, flags },
         Reply::Size(size) => Reply::Size(size),
+        Reply::Masks { ready, masks } => {
+            let copy = Vec::from_slice(alloc, masks.as_slice())?;
+            Reply::Masks {
+                ready,
+                masks: MaskList::from_vec(copy),
+            }
+        }
         Reply::Unit => Reply::Unit,
         Reply::Fault(errno) => Reply::Fault(errno),
         Reply::Parked(call) => Reply::Parked(call),
