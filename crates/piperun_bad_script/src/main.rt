@@ -1,4 +1,4 @@
-//! `piperun` once more, run on a script with a bad line.
+//! `piperun` once more, run with words: on a file whose script has a bad line, with calls numbered from 7.
 #![tactic(auto)]
 
 use pl_run::run_program;

@@ -2,14 +2,16 @@
 ghost use Rattle.std.specs.Prelude.{◌≡◌, true, false, not, OnOk, OnErr};
 ghost use Rattle.pl_script.specs.Streams.{WritesFront};
 ghost use Rattle.pl_run.specs.Fault.{status_of, line_of, fault_of, WritesLine};
+ghost use Rattle.pl_run.specs.declared.fault.Fault.TheVariants.{NoMemory};
 
 use itoa::Buffer;
 use pl_script::{ScriptFault, Sink, write_whole};
+use std::alloc::AllocError;
 
 /// What can go wrong with a run.
 #[derive(Clone, Copy, Debug, PartialEq, Eq)]
 pub enum Fault {
-    /// The script can't be read.
+    /// The script can't be read, or its file not opened.
     CannotRead,
     /// The output can't be written.
     CannotWrite,
@@ -21,6 +23,14 @@ pub enum Fault {
     TooLong,
     /// There was no memory for the run.
     NoMemory,
+}
+
+impl From<AllocError> for Fault {
+    ghost from_gives = { λ _ made. made ≡ NoMemory };
+
+    fn from(_error: AllocError) -> Fault {
+        Fault::NoMemory
+    }
 }
 
 impl From<ScriptFault> for Fault {

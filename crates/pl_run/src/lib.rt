@@ -1,17 +1,20 @@
-//! What `piperun` is told and says: the words of its command line, the limits of a run, and the faults with their lines and
-//! statuses.
+//! What `piperun` is told and says: the words of its command line, its help text, the limits of a run, and the faults with their
+//! lines and statuses.
 #![tactic(auto)]
 
+mod choice;
 mod fault;
+mod help;
 mod program;
-mod words;
 
+pub use choice::{Choice, words};
 pub use fault::{Fault, status, write_fault};
+pub use help::HELP;
 use pl_model::Limits;
 pub use program::{end, run, run_program};
-pub use words::check_words;
 
-/// The limits of a run: calls are numbered from 1, and a file has at most 16,777,216 bytes.
+/// The limits of a run: calls are numbered from 1, unless the command line says otherwise, and a file has at most 16,777,216
+/// bytes.
 pub const LIMITS: Limits = Limits {
     first_call: 1,
     file_max: 16_777_216,

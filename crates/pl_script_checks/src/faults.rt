@@ -1,12 +1,10 @@
 //! The line and the status of each fault.
 use super::trickling::{Drip, Failure};
-use pl_model::Totals;
-use pl_run::{Fault, end, run, status, write_fault};
-use pl_script::{MAX_READS, Reads, ScriptFault, Writes};
+use pl_run::{Fault, status, write_fault};
+use pl_script::{ScriptFault, Writes};
 use std::alloc::Allocator;
-use std::io::{ErrorKind, Read, Write};
+use std::io::ErrorKind;
 use std::process::Abort;
-use std::test::Fail;
 
 /// Each fault, its line and its status.
 const FAULTS: &[(Fault, &str, u8)] = &[
@@ -117,80 +115,4 @@ fn a_line_that_cannot_be_written(rt: HostRuntime) {
     for (fault, line, _) in FAULTS {
         fail_writes(&rt, rt.alloc(), fault, line);
     }
-}
-
-/// Scripts, what the program prints of them, its line of a fault, and its status.
-const PROGRAMS: &[(&str, &str, &str, u8)] = &[
-    ("", "", "", 0),
-    ("start\n1 pipe\n", "pid 1\nfds 0 1\n", "", 0),
-    (
-        "start\n1 wrlte 1 61\nstart\n",
-        "pid 1\n",
-        "piperun: line 2: not a command\n",
-        3,
-    ),
-];
-
-/// Runs the program from the reader to the writer, of which a proof then need not see what they are.
-fn run_words<A: Allocator + Copy, R: Read + Drop, W: Write + Drop>(
-    alloc: A,
-    words: &[String<A>],
-    reader: R,
-    writer: W,
-) -> Result<Totals, Fault> {
-    let mut source = Reads::new(reader, MAX_READS);
-    let mut sink = Writes::new(writer);
-    run(alloc, words, &mut source, &mut sink)
-}
-
-/// Writes the line of a fault, and answers the status.
-fn status_of_end<A: Allocator + Copy>(ended: Result<Totals, Fault>, told: &mut Drip<A>) -> u8 {
-    let mut writer = Writes::new(told);
-    end(&mut writer, ended)
-}
-
-/// Whether the writer took this text.
-fn took<A: Allocator + Copy>(writer: &Drip<A>, text: &str) -> bool {
-    writer.taken() == text.as_bytes()
-}
-
-/// Whether the program prints this output, this line of a fault, and ends with this status.
-fn program_prints<A: Allocator + Copy>(
-    alloc: A,
-    words: &[String<A>],
-    script: &str,
-    output: &str,
-    line: &str,
-    status: u8,
-) -> bool {
-    let mut printed = Drip::new(alloc, usize::MAX);
-    let mut told = Drip::new(alloc, usize::MAX);
-    let ended = run_words(alloc, words, script.as_bytes(), &mut printed);
-    let ends_with = status_of_end(ended, &mut told);
-    let is_printed = took(&printed, output);
-    let is_told = took(&told, line);
-    is_printed && is_told && ends_with == status
-}
-
-#[test]
-fn the_program_without_words(rt: HostRuntime) {
-    for (script, output, line, number) in PROGRAMS {
-        let is_so = program_prints(rt.alloc(), &[], script, output, line, *number);
-        assert!(rt; is_so, "{script:?}");
-    }
-}
-
-fn one_word<A: Allocator + Copy>(alloc: A) -> Result<Vec<String<A>, A>, Fail> {
-    let mut words = Vec::new(alloc);
-    words.push(String::new(alloc))?;
-    Ok(words)
-}
-
-#[test]
-fn the_program_with_a_word(rt: HostRuntime) -> Result<(), Fail> {
-    let words = one_word(rt.alloc())?;
-    let line = "piperun: bad command line\n";
-    let is_so = program_prints(rt.alloc(), words.as_slice(), "start\n", "", line, 2);
-    assert!(rt; is_so);
-    Ok(())
 }

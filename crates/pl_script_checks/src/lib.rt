@@ -1,4 +1,5 @@
-//! What lines ask, what scripts print, and how a run ends where a read, a write or a request for memory fails.
+//! What lines ask, what scripts print, what the words of a command line ask for, and how a run ends where a read, a write or a
+//! request for memory fails.
 #![tactic(auto)]
 
 #[cfg(test)]
@@ -11,6 +12,8 @@ mod file_lines;
 mod lines;
 #[cfg(test)]
 mod memory;
+#[cfg(test)]
+mod programs;
 #[cfg(test)]
 mod replies;
 #[cfg(test)]
@@ -27,3 +30,5 @@ mod splice_lines;
 mod streams;
 #[cfg(test)]
 mod trickling;
+#[cfg(test)]
+mod words;

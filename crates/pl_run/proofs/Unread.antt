@@ -1,0 +1,13 @@
+-- A run for which there was no memory.
+use Rattle.std.proofs.Common.{inl, ℕ, List, [], Option, Some, None, Err, IfSome, refl}
+use Rattle.std.specs.Io.KnownBytes.{Appends}
+use Rattle.std.proofs.KnownBytes.{Appends-nil}
+use Rattle.pl_script.specs.declared.fault.ScriptFault.TheVariants as script
+use Rattle.pl_run.specs.declared.fault.Fault.TheVariants.{NoMemory}
+use Rattle.pl_run.specs.Program.{IsRunWithin}
+
+-- whatever the input gives, nothing was written
+pub not_run : (n : ℕ) (input output : Option (List ℕ))
+    → IfSome input (λ bytes. (written : List ℕ) × Appends output output written × IsRunWithin n bytes (Err NoMemory) written)
+not_run n None output = tt
+not_run n (Some bytes) output = ([], Appends-nil output, (Err script.NoMemory, refl, inl refl))

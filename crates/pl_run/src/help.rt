@@ -1,0 +1,58 @@
+//! The help text.
+
+/// The text of `--help`: the command, each line of a script, an example with what it prints, and the statuses.
+pub const HELP: &str = "\
+Usage: piperun [--first-call N] [FILE]
+
+Runs a script of pipe calls and prints a line for each reply. The script is
+FILE, or standard input where there is none.
+
+      --first-call N  the number of the first call that waits; else it is 1
+  -h, --help          this text
+
+Each line of a script is one call, a question or a comment:
+
+  start                              starts a process, of pid P
+  P fork                             a child of P, with P's descriptors
+  P exit                             ends P and closes its descriptors
+  P pipe [nonblock]                  the read end and the write end of a pipe
+  P mkfifo NAME                      a pipe with a name
+  P open NAME MODE [FLAGS]           MODE: r w rw
+                                     FLAGS: creat excl trunc append nonblock
+  P unlink NAME                      takes a name away
+  P read FD N                        at most N bytes
+  P write FD BYTES
+  P splice FD OFF FD OFF N [FLAGS]   moves at most N bytes from FD to FD
+  P tee FD FD N [FLAGS]              copies them, from pipe to pipe
+                                     FLAGS: move nonblock more gift
+  P dup FD                           another descriptor for what FD names
+  P dup2 FD FD                       the second FD for what the first names
+  P dupfd FD N                       the least free descriptor from N on
+  P close FD
+  P lseek FD OFFSET WHENCE           WHENCE: set cur end
+  P getfl FD                         the mode and the flags
+  P setfl FD FLAGS                   sets append and nonblock; - for neither
+  P getsz FD                         the capacity of a pipe
+  P setsz FD N                       sets it to N bytes, rounded up
+  resume C                           tries the parked call C again
+  interrupt C                        ends the parked call C
+  file NAME                          the bytes of the file NAME
+  # WORDS                            a comment
+
+BYTES is an even number of hexadecimal digits, N*hh for N times the byte hh, or
+- for none. NAME is printable, with %hh for any other byte. OFF is an offset in
+a file, or - for its own and for a pipe. FLAGS are joined by commas.
+
+A call that would wait is parked: its reply is `parked` and its number C. For
+example, this script prints what stands beside it:
+
+  start            pid 1
+  1 pipe           fds 0 1
+  1 read 0 5       parked 1
+  1 write 1 6869   count 2
+  resume 1         data 6869
+
+Status: 0; 1 where the script can't be read or the output can't be written; 2
+for a bad command line; 3 for a bad line, or a script of more than 16777216
+bytes; 4 where there is no memory.
+";

@@ -1,0 +1,93 @@
+//! What the words of the command line ask for.
+use self::Asked::{Fails, Helps, Runs, RunsFile};
+use pl_run::{Choice, Fault, words};
+use std::alloc::Global;
+use std::test::Fail;
+
+/// What words ask for.
+#[derive(Clone, Copy, Debug)]
+enum Asked {
+    /// A run of the input, with calls numbered from here.
+    Runs(u64),
+    /// The same of a file.
+    RunsFile(u64, &'static str),
+    Helps,
+    Fails(Fault),
+}
+
+const BAD: Asked = Fails(Fault::CommandLine);
+
+const WORDS: &[(&[&str], Asked)] = &[
+    (&[], Runs(1)),
+    (&["s"], RunsFile(1, "s")),
+    (&["--first-call", "7"], Runs(7)),
+    (&["--first-call", "7", "s"], RunsFile(7, "s")),
+    (&["s", "--first-call", "7"], RunsFile(7, "s")),
+    (&["--first-call=7", "s"], RunsFile(7, "s")),
+    (&["--help"], Helps),
+    (&["-h"], Helps),
+    (&["s", "--help"], Helps),
+    // the range of N
+    (&["--first-call", "0"], Runs(0)),
+    (&["--first-call", "18446744073709551615"], Runs(u64::MAX)),
+    (&["--first-call", "18446744073709551616"], BAD),
+    (&["--first-call", "-1"], BAD),
+    (&["--first-call=-1"], BAD),
+    // no number, none at all, two of them
+    (&["--first-call", "x"], BAD),
+    (&["--first-call", "7x"], BAD),
+    (&["--first-call", "0x7"], BAD),
+    (&["--first-call", ""], BAD),
+    (&["--first-call="], BAD),
+    (&["--first-call"], BAD),
+    (&["s", "--first-call"], BAD),
+    (&["--first-call", "7", "--first-call", "7"], BAD),
+    (&["--first-call=7", "--first-call=8"], BAD),
+    // what isn't the option
+    (&["--first-cal", "7"], BAD),
+    (&["--First-call", "7"], BAD),
+    (&["--first-calls", "7"], BAD),
+    (&["-7"], BAD),
+    (&["--version"], BAD),
+    // FILE
+    (&["a", "b"], BAD),
+    (&["-"], RunsFile(1, "-")),
+    (&[""], RunsFile(1, "")),
+    (&["help"], RunsFile(1, "help")),
+    (&["--"], Runs(1)),
+    (&["--", "s"], RunsFile(1, "s")),
+    (&["--", "--help"], RunsFile(1, "--help")),
+    (&["--first-call", "7", "--", "-x"], RunsFile(7, "-x")),
+    (&["--", "a", "b"], BAD),
+];
+
+/// The words as the command line gives them.
+pub(crate) fn strings(alloc: Global, given: &[&str]) -> Result<Vec<String>, Fail> {
+    let mut strings = Vec::new(alloc);
+    for word in given {
+        strings.push(String::from_str(alloc, word)?)?;
+    }
+    Ok(strings)
+}
+
+fn is_so(choice: &Result<Choice, Fault>, asked: Asked) -> bool {
+    match (choice, asked) {
+        (Ok(Choice::Run { first_call, file }), Runs(n)) => *first_call == n && file.is_none(),
+        (Ok(Choice::Run { first_call, file }), RunsFile(n, name)) => {
+            *first_call == n && file.as_deref() == Some(name)
+        }
+        (Ok(Choice::Help), Helps) => true,
+        (Err(fault), Fails(wanted)) => *fault == wanted,
+        _ => false,
+    }
+}
+
+#[test]
+fn what_words_ask_for(rt: HostRuntime) -> Result<(), Fail> {
+    for (given, asked) in WORDS {
+        let strings = strings(rt.alloc(), given)?;
+        let choice = words(rt.alloc(), strings.as_slice());
+        assert!(rt; is_so(&choice, *asked), "{given:?} asks for {choice:?}");
+    }
+    Ok(())
+}
