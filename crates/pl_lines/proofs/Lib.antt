@@ -2,3 +2,4 @@ pub mod HexText
 pub mod Pushing
 pub mod LineLemmas
 pub mod CallLemmas
+pub mod Masks

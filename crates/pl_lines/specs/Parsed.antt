@@ -8,14 +8,15 @@ use Rattle.pl_model.specs.declared.script.Line.{Line}
 use Rattle.pl_model.specs.declared.script.Line.TheVariants.{Do, File}
 use Rattle.pl_model.specs.Lines.{side_of, dup_of, dup2_of, dup_fd_of, close_of, lseek_of, get_fl_of, set_fl_of, get_pipe_sz_of, set_pipe_sz_of, unlink_of, fork_of, exit_of}
 use Rattle.pl_model.specs.Words.{◌>>=◌}
-use Rattle.pl_words.specs.Parsed.{BytesTake}
+use Rattle.pl_words.specs.Parsed.{BytesTake, EntriesTake}
 
--- of calls, those with bytes or a name alone
+-- of calls, those with bytes, a name or entries alone
 abbrev pub CallTakes : {A : Type 0} → Call A → Type 0
 CallTakes (call.Write fd bytes) = BytesTake bytes
 CallTakes (call.Mkfifo name) = BytesTake name
 CallTakes (call.OpenName name mode flags) = BytesTake name
 CallTakes (call.Unlink name) = BytesTake name
+CallTakes (call.Poll entries wait) = EntriesTake entries
 CallTakes _ = ⊥
 
 -- of lines, one that begins such a call, or asks for the file of a name

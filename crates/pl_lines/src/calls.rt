@@ -1,13 +1,13 @@
 //! The calls in lines.
-ghost use Rattle.pl_model.specs.Words.{words, mode_of, whence_of};
-ghost use Rattle.pl_model.specs.Lines.{pipe_of, mkfifo_of, open_name_of, read_of, write_of, len_and_flags, splice_of, tee_of, dup_of, dup2_of, dup_fd_of, close_of, lseek_of, get_fl_of, set_fl_of, get_pipe_sz_of, set_pipe_sz_of, unlink_of, fork_of, exit_of, call_of};
+ghost use Rattle.pl_model.specs.Words.{words, mode_of, whence_of, wait_of};
+ghost use Rattle.pl_model.specs.Lines.{pipe_of, mkfifo_of, open_name_of, read_of, write_of, len_and_flags, splice_of, tee_of, poll_of, dup_of, dup2_of, dup_fd_of, close_of, lseek_of, get_fl_of, set_fl_of, get_pipe_sz_of, set_pipe_sz_of, unlink_of, fork_of, exit_of, call_of};
 ghost use Rattle.pl_words.specs.Parsed.{Gives, GivesAs, GivesTaking};
 ghost use Rattle.pl_lines.specs.Parsed.{CallTakes, first_side, later_call_of};
 
 use pl_model::{Call, Mode, SpliceFlags, Whence};
 use pl_words::{
     LineFault, end, fd_and_word, next_word, only_i32, only_word, open_flags_if_any, parse_bytes,
-    parse_flags_or_none, parse_i32, parse_i64, parse_name, parse_offset, parse_u32,
+    parse_entries, parse_flags_or_none, parse_i32, parse_i64, parse_name, parse_offset, parse_u32,
     splice_flags_if_any, word,
 };
 use std::alloc::Allocator;
@@ -143,6 +143,32 @@ fn tee_call<A: Allocator + Copy>(rest: &[u8]) -> Result<Call<A>, LineFault>
         to,
         len,
         flags,
+    })
+}
+
+/// Whether a poll waits.
+#[tactic(auto, unfolding(pl_model::specs::Words::wait_of))]
+fn parse_wait(word: &[u8]) -> Result<bool, LineFault>
+    ensures { Gives result (wait_of word.now) }
+{
+    if word == b"now".as_slice() {
+        Ok(false)
+    } else if word == b"wait".as_slice() {
+        Ok(true)
+    } else {
+        Err(LineFault::Bad)
+    }
+}
+
+#[tactic(auto, unfolding(pl_model::specs::Lines::poll_of))]
+fn poll_call<A: Allocator + Copy>(alloc: A, rest: &[u8]) -> Result<Call<A>, LineFault>
+    ensures { GivesTaking CallTakes result (poll_of (words rest.now)) }
+{
+    let (when, rest) = word(rest)?;
+    let wait = parse_wait(when)?;
+    Ok(Call::Poll {
+        entries: parse_entries(alloc, rest)?,
+        wait,
     })
 }
 
@@ -342,6 +368,8 @@ pub(crate) fn parse_call<A: Allocator + Copy>(
         splice_call(rest)
     } else if name == b"tee".as_slice() {
         tee_call(rest)
+    } else if name == b"poll".as_slice() {
+        poll_call(alloc, rest)
     } else {
         parse_later_call(alloc, name, rest)
     }

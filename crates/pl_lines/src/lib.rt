@@ -6,7 +6,7 @@
 //!
 //! The lines are `start`, `resume C`, `interrupt C`, `file NAME`, `P pipe`, `P pipe nonblock`, `P mkfifo NAME`, `P open NAME MODE`,
 //! `P open NAME MODE FLAGS`, `P read FD N`, `P write FD BYTES`, `P splice FD OFF FD OFF LEN`, `P splice FD OFF FD OFF LEN FLAGS`,
-//! `P tee FD FD LEN`, `P tee FD FD LEN FLAGS`, `P lseek FD OFFSET WHENCE`, `P unlink NAME`, `P dup FD`, `P dup2 FD FD`,
+//! `P tee FD FD LEN`, `P tee FD FD LEN FLAGS`, `P poll now ENTRY ..`, `P poll wait ENTRY ..`, `P lseek FD OFFSET WHENCE`, `P unlink NAME`, `P dup FD`, `P dup2 FD FD`,
 //! `P dupfd FD N`, `P close FD`, `P getfl FD`, `P setfl FD FLAGS`, `P getsz FD`, `P setsz FD N`, `P fork` and `P exit`, and those that ask nothing: blank ones and comments, which begin with `#`.
 #![tactic(auto)]
 

@@ -85,7 +85,7 @@ fn is_comment(word: &[u8]) -> bool
 /// # Errors
 ///
 /// `Bad` exactly where the format has no such line, whatever the memory. `NoMemory` only at a line that writes a byte or
-/// more, or has a name that isn't empty, where there was no memory for these bytes.
+/// more, has a name that isn't empty, or polls with entries, where there was no memory for these.
 #[tactic(auto, unfolding(pl_model::specs::Lines::line, pl_model::specs::Lines::line_of_words))]
 pub fn parse_line<A: Allocator + Copy>(alloc: A, bytes: &[u8]) -> Result<Option<Line<A>>, LineFault>
     ensures { GivesTaking LineAskedTakes result (line bytes.now) }

@@ -1,13 +1,14 @@
 //! The text of replies and of files.
 ghost use Rattle.std.specs.Prelude.{◌≡◌, [], ◌∷◌, ◌++◌, OnOk, OnErr, IfOk, codes, string_bytes, take, option_copied};
+ghost use Rattle.std.specs.List.{flat_map};
 ghost use Rattle.std.specs.Fmt.{decimal, signed_decimal};
 ghost use Rattle.std.specs.String.Boundary.{IsSplitPoint};
-ghost use Rattle.pl_model.specs.Shown.{bytes_text, file_text, errno_text, mode_text, flags_text, reply_text, outcome_text};
+ghost use Rattle.pl_model.specs.Shown.{bytes_text, file_text, errno_text, mode_text, flags_text, mask_text, reply_text, outcome_text};
 ghost use Rattle.pl_lines.specs.Pushed.{Pushes};
 
 use bitflags::Flags;
 use itoa::{Buffer, Integer};
-use pl_model::{Errno, Mode, OpenFlags, Outcome, Reply};
+use pl_model::{Errno, Mode, OpenFlags, Outcome, PollMask, Reply};
 use std::alloc::{AllocError, Allocator};
 
 /// Adds one text behind another.
@@ -129,6 +130,58 @@ fn push_flags<A: Allocator + Copy>(
     push_two(text, " ", flags_text(flags))
 }
 
+/// What a mask may have, in the order in which it is shown.
+const MASK_NAMES: &[(PollMask, &str)] = &[
+    (PollMask::IN, "in"),
+    (PollMask::OUT, "out"),
+    (PollMask::ERR, "err"),
+    (PollMask::HUP, "hup"),
+    (PollMask::NVAL, "nval"),
+];
+
+/// Adds the names of what the mask has, joined by commas, or `-` for none.
+fn push_mask<A: Allocator + Copy>(text: &mut String<A>, mask: PollMask) -> Result<(), AllocError>
+    ensures { Pushes result (string_bytes text.old) (string_bytes text.new) (mask_text mask) }
+{
+    let mut separator = "";
+    for (flag, name) in MASK_NAMES {
+        if mask.contains(*flag) {
+            push_two(text, separator, name)?;
+            separator = ",";
+        }
+    }
+    if separator.is_empty() {
+        text.push_str("-")?;
+    }
+    Ok(())
+}
+
+/// Adds each of the masks, behind a blank.
+fn push_each_mask<A: Allocator + Copy>(
+    text: &mut String<A>,
+    masks: &[PollMask],
+) -> Result<(), AllocError>
+    ensures { Pushes result (string_bytes text.old) (string_bytes text.new) (flat_map (λ mask. codes " " ++ mask_text mask) masks.now) }
+{
+    for mask in masks {
+        text.push_str(" ")?;
+        push_mask(text, *mask)?;
+    }
+    Ok(())
+}
+
+fn push_masks<A: Allocator + Copy>(
+    text: &mut String<A>,
+    ready: u32,
+    masks: &[PollMask],
+) -> Result<(), AllocError>
+    ensures { Pushes result (string_bytes text.old) (string_bytes text.new)
+        (codes "masks " ++ (decimal ready ++ flat_map (λ mask. codes " " ++ mask_text mask) masks.now)) }
+{
+    push_number(text, "masks ", ready)?;
+    push_each_mask(text, masks)
+}
+
 fn push_reply<A: Allocator + Copy>(
     alloc: A,
     text: &mut String<A>,
@@ -146,6 +199,7 @@ fn push_reply<A: Allocator + Copy>(
         Reply::Offset(offset) => push_number(text, "offset ", *offset),
         Reply::Flags { mode, flags } => push_flags(text, *mode, *flags),
         Reply::Size(size) => push_number(text, "size ", *size),
+        Reply::Masks { ready, masks } => push_masks(text, *ready, masks.as_slice()),
         Reply::Unit => text.push_str("ok"),
         Reply::Fault(errno) => text.push_str(errno_text(*errno)),
         Reply::Parked(call) => push_number(text, "parked ", *call),

@@ -4,4 +4,6 @@ pub mod NumberLemmas
 pub mod HexBytes
 pub mod Stars
 pub mod FlagLemmas
+pub mod Behind
 pub mod NameLemmas
+pub mod EntryLemmas

@@ -6,6 +6,7 @@ use Rattle.pl_model.specs.Words.{◌>>=◌, is_plain, hex_byte, name_bytes}
 use Rattle.pl_words.specs.declared.fault.LineFault.{LineFault}
 use Rattle.pl_words.specs.declared.fault.LineFault.TheVariants.{Bad, NoMemory}
 use Rattle.pl_words.specs.Parsed.{Gives, GivesTaking, BytesTake, first_of_name}
+use Rattle.pl_words.proofs.Behind.{behind, one_more}
 
 -- a byte, and those behind it
 abbrev then_rest : Option (ℕ × List ℕ) → Option (List ℕ)
@@ -37,18 +38,10 @@ unfolding name_bytes
 name_bytes-nil [] e = refl
 name_bytes-nil (c ∷ word) e = absurd (omega arith)
 
--- the bytes that came before, and those that are said
-abbrev pub behind : List ℕ → Option (List ℕ) → Option (List ℕ)
-behind before said = said >>= λ bytes. Some (before ++ bytes)
-
 -- What the word says, where these bytes came of its front and this is left.
 module _ (word before left : List ℕ) (so_far : name_bytes word ≡ behind before (name_bytes left)) where
-  one_more : (b : ℕ) (said : Option (List ℕ)) → behind before (said >>= λ bytes. Some (b ∷ bytes)) ≡ behind (before ++ b ∷ []) said
-  one_more b None = refl
-  one_more b (Some bytes) = ap (λ bs. Some bs) (sym (append_assoc before (b ∷ []) bytes))
-
   pub name_more : (b : ℕ) (rest : List ℕ) → 0 < length left → first_of_name left ≡ Some (b, rest) → name_bytes word ≡ behind (before ++ b ∷ []) (name_bytes rest)
-  name_more b rest lt first = so_far ∙ ap (behind before) (by_first left lt ∙ ap then_rest first) ∙ one_more b (name_bytes rest)
+  name_more b rest lt first = so_far ∙ ap (behind before) (by_first left lt ∙ ap then_rest first) ∙ one_more before b (name_bytes rest)
 
   pub name_done : length left ≡ 0 → name_bytes word ≡ Some before
   name_done empty = so_far ∙ ap (behind before) (name_bytes-nil left empty) ∙ ap (λ bs. Some bs) (append-nil before)

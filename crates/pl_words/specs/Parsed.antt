@@ -1,5 +1,6 @@
 -- What a parser answered, against what the words say.
 use Rattle.std.specs.Prelude.{◌≡◌, ◌<◌, ◌^◌, ℕ, ℤ, List, [], ◌∷◌, length, Option, Some, None, Result, Ok, Err, IsSomeAnd, if◌then◌else◌, nat_le, ◌==◌}
+use Rattle.pl_model.specs.declared.flags.PollMask.{PollMask}
 use Rattle.pl_model.specs.Numbers.{most_bytes}
 use Rattle.pl_model.specs.Words.{◌>>=◌, number, signed, is_plain, hex_byte}
 use Rattle.pl_words.specs.declared.fault.LineFault.{LineFault}
@@ -26,6 +27,10 @@ GivesTaking Takes (Err NoMemory) said = IsSomeAnd said Takes
 -- Bytes take memory where there are some.
 abbrev pub BytesTake : List ℕ → Type 0
 BytesTake bytes = 0 < length bytes
+
+-- So do the entries of a poll.
+abbrev pub EntriesTake : List (ℤ × PollMask) → Type 0
+EntriesTake entries = 0 < length entries
 
 -- no more bytes than one write takes
 abbrev pub one_write : Option (List ℕ) → Option (List ℕ)

@@ -11,7 +11,7 @@ pub enum LineFault {
     /// The format has no such line, or a number of the line is out of its range.
     #[error("not a line of a script")]
     Bad,
-    /// There was no memory for the bytes that the line writes.
+    /// There was no memory for the bytes that the line writes, for its name or for its entries.
     #[error("no memory")]
     NoMemory,
 }

@@ -1,6 +1,6 @@
-//! The flags in words.
+//! The flags in words, and the masks of polls.
 ghost use Rattle.std.specs.List.{slice_split};
-ghost use Rattle.pl_model.specs.Words.{is_comma, open_flag, splice_flag, with_flags, flags_of, flags_if_any, open_flags_if_any, splice_flags_if_any, flags_or_none, words};
+ghost use Rattle.pl_model.specs.Words.{is_comma, open_flag, splice_flag, with_flags, flags_of, flags_if_any, open_flags_if_any, splice_flags_if_any, flags_or_none, poll_flag, poll_mask_of, words};
 ghost use Rattle.pl_words.specs.Parsed.{Gives};
 ghost use Rattle.pl_words.specs.Named.{flag_of};
 
@@ -8,13 +8,14 @@ use crate::fault::LineFault;
 use crate::search::place_of;
 use crate::words::{end, next_word};
 use bitflags::Flags;
-use pl_model::{OpenFlags, SpliceFlags};
+use pl_model::{OpenFlags, PollMask, SpliceFlags};
 
 /// Whose names a list of flags has.
 #[derive(Clone, Copy)]
 pub(crate) enum Named {
     Open,
     Splice,
+    Poll,
 }
 
 #[tactic(auto, unfolding(pl_model::specs::Words::open_flag))]
@@ -53,6 +54,25 @@ fn splice_flag(name: &[u8]) -> Result<u8, LineFault>
     }
 }
 
+#[tactic(auto, unfolding(pl_model::specs::Words::poll_flag))]
+fn poll_flag(name: &[u8]) -> Result<u8, LineFault>
+    ensures { Gives result (poll_flag name.now) }
+{
+    if name == b"in".as_slice() {
+        Ok(PollMask::IN.bits())
+    } else if name == b"out".as_slice() {
+        Ok(PollMask::OUT.bits())
+    } else if name == b"err".as_slice() {
+        Ok(PollMask::ERR.bits())
+    } else if name == b"hup".as_slice() {
+        Ok(PollMask::HUP.bits())
+    } else if name == b"nval".as_slice() {
+        Ok(PollMask::NVAL.bits())
+    } else {
+        Err(LineFault::Bad)
+    }
+}
+
 /// The bit of the flag of this name.
 fn parse_flag(named: Named, name: &[u8]) -> Result<u8, LineFault>
     ensures { Gives result (flag_of named name.now) }
@@ -60,6 +80,7 @@ fn parse_flag(named: Named, name: &[u8]) -> Result<u8, LineFault>
     match named {
         Named::Open => open_flag(name),
         Named::Splice => splice_flag(name),
+        Named::Poll => poll_flag(name),
     }
 }
 
@@ -130,4 +151,20 @@ pub fn parse_flags_or_none(word: &[u8]) -> Result<OpenFlags, LineFault>
     }
     let bits = parse_flags(Named::Open, word)?;
     Ok(OpenFlags::from_bits_retain(bits))
+}
+
+/// A mask of a poll, of names that are joined by commas, or none of `-`.
+///
+/// # Errors
+///
+/// `Bad` exactly where the word is not `-`, and one of its names is none of what a mask has.
+#[tactic(auto, unfolding(pl_model::specs::Words::poll_mask_of))]
+pub(crate) fn parse_poll_mask(word: &[u8]) -> Result<PollMask, LineFault>
+    ensures { Gives result (poll_mask_of word.now) }
+{
+    if word == b"-".as_slice() {
+        return Ok(PollMask::empty());
+    }
+    let bits = parse_flags(Named::Poll, word)?;
+    Ok(PollMask::from_bits_retain(bits))
 }

@@ -1,6 +1,6 @@
 use Rattle.std.proofs.Common.{◌≡◌, length}
 use Rattle.pl_model.specs.Words.{name_bytes}
-use Rattle.pl_words.proofs.NameLemmas.{behind}
+use Rattle.pl_words.proofs.Behind.{behind}
 use Rattle.pl_words.proofs.names.name_bytes.Given as goal
 
 abbrev pub invariant-loop-rest : goal.invariant-loop-rest
