@@ -1,63 +1,81 @@
--- The names of a mask, put behind a text one after another.
-use Rattle.std.proofs.Common.{◌≡◌, ℕ, Bool, true, false, cond, List, [], ◌∷◌, ◌++◌, Result, Ok, Err, refl, sym, ap, ◌∙◌, append_assoc, map}
+-- What is put behind a text in turns, and the names of a mask, one in each.
+use Rattle.std.proofs.Common.{◌≡◌, ℕ, ◌+◌, ◌<◌, Bool, true, false, List, [], ◌∷◌, ◌++◌, length, drop, get_or, drop-cons, add-one, Result, Ok, Err, refl, sym, ap, ◌∙◌, append_assoc, map}
 use Rattle.std.specs.Prelude.{codes}
 use Rattle.std.specs.List.{filter}
 use Rattle.std.proofs.lemmas.List.{append-nil}
 use Rattle.pl_model.specs.declared.flags.PollMask.{PollMask}
 use Rattle.pl_model.specs.Flags.{has}
-use Rattle.pl_model.specs.Shown.{mask_names, names_text, mask_text}
-use Rattle.pl_lines.specs.Pushed.{Pushes}
+use Rattle.pl_model.specs.Shown.{names_text}
+use Rattle.pl_lines.specs.Pushed.{Pushes, next_name}
 
--- each name behind the separator before it, of which the first is given; `-` where nothing stood before and nothing comes
-abbrev pub joined : List ℕ → List (List ℕ) → List ℕ
-joined separator (name ∷ names) = separator ++ (name ++ joined (codes ",") names)
-joined [] [] = codes "-"
-joined (c ∷ cs) [] = []
-
-names_text-joined : (names : List (List ℕ)) → names_text names ≡ joined [] names
-unfolding names_text
-names_text-joined [] = refl
-names_text-joined (name ∷ []) = sym (append-nil name)
-names_text-joined (name ∷ next ∷ names) = ap (λ t. name ++ (codes "," ++ t)) (names_text-joined (next ∷ names))
-
--- the names of what the mask has of these
-abbrev pub names_in : ℕ → List (ℕ × List ℕ) → List (List ℕ)
-names_in bits table = map (λ n. n.1) (filter (λ n. has bits n.0) table)
-
--- the names of the rest are still to come behind what was put there
-pub record IsPut (mask : PollMask) (before now separator : List ℕ) (rest : List (ℕ × List ℕ)) : Type 0 where
+-- of all that is to be put, some was, and the rest is still to come
+pub record IsSoFar (all before now rest : List ℕ) : Type 0 where
   pub put : List ℕ
   pub added : now ≡ before ++ put
-  pub whole : mask_text mask ≡ put ++ joined separator (names_in mask.0 rest)
+  pub left : all ≡ put ++ rest
 
-pub nothing_put : (mask : PollMask) (text : List ℕ) → IsPut mask text text [] mask_names
-unfolding mask_text
-nothing_put mask text = record { put = []; added = sym (append-nil text); whole = names_text-joined (names_in mask.0 mask_names) }
+pub none_yet : (all before : List ℕ) → IsSoFar all before before all
+none_yet all before = record { put = []; added = sym (append-nil before); left = refl }
 
-module _ (mask : PollMask) (before now separator : List ℕ) (bit : ℕ) (name : List ℕ) (rest : List (ℕ × List ℕ)) (so_far : IsPut mask before now separator ((bit, name) ∷ rest)) where
-  -- the mask has this: its name stands behind the separator
-  pub name_put : (after : List ℕ) → has mask.0 bit ≡ true → after ≡ now ++ (separator ++ name) → IsPut mask before after (codes ",") rest
-  name_put after there pushed =
-      let whole = rw there at so_far.whole in
-      let more = joined (codes ",") (names_in mask.0 rest) in
+module _ {all before now rest : List ℕ} (so_far : IsSoFar all before now rest) where
+  -- a piece more went in
+  pub one_more : {X E : Type 0} {tried : Result X E} {after piece : List ℕ} (left : List ℕ) (x : X) → tried ≡ Ok x → Pushes tried now after piece → rest ≡ piece ++ left
+      → IsSoFar all before after left
+  one_more {piece = piece} left x is pushed both =
+      let whole = rw is at pushed.whole in
       record {
-        put = so_far.put ++ (separator ++ name);
-        added = pushed ∙ ap (λ t. t ++ (separator ++ name)) so_far.added ∙ append_assoc before so_far.put (separator ++ name);
-        whole = whole ∙ ap (λ t. so_far.put ++ t) (sym (append_assoc separator name more)) ∙ sym (append_assoc so_far.put (separator ++ name) more);
+        put = so_far.put ++ pushed.put;
+        added = pushed.added ∙ ap (λ t. t ++ pushed.put) so_far.added ∙ append_assoc before so_far.put pushed.put;
+        left = so_far.left ∙ ap (λ t. so_far.put ++ t) (both ∙ ap (λ t. t ++ left) (sym whole)) ∙ sym (append_assoc so_far.put pushed.put left);
       }
 
-  -- it hasn't
-  pub name_left_out : has mask.0 bit ≡ false → IsPut mask before now separator rest
-  name_left_out absent =
-      let whole = rw absent at so_far.whole in
-      record { put = so_far.put; added = so_far.added; whole = whole }
+  -- a piece didn't
+  pub stopped : {X Y E : Type 0} {tried : Result X E} {result : Result Y E} {after piece : List ℕ} (e : E) → result ≡ Err e → Pushes tried now after piece → Pushes result before after all
+  stopped e is pushed = record {
+    put = so_far.put ++ pushed.put;
+    added = pushed.added ∙ ap (λ t. t ++ pushed.put) so_far.added ∙ append_assoc before so_far.put pushed.put;
+    whole = rw is tt;
+  }
 
-module _ (mask : PollMask) (before now separator : List ℕ) (so_far : IsPut mask before now separator []) where
-  -- a name stands there, and nothing is to come
-  pub all_put : {c : ℕ} {cs : List ℕ} → separator ≡ c ∷ cs → (now ≡ before ++ so_far.put) × (so_far.put ≡ mask_text mask)
-  all_put is = (so_far.added, sym (rw is at so_far.whole ∙ append-nil so_far.put))
+-- ---- the names of a mask
 
-  -- none does: `-` stands for them
-  pub dash_put : (after : List ℕ) → separator ≡ [] → after ≡ now ++ codes "-" → (after ≡ before ++ (so_far.put ++ codes "-")) × (so_far.put ++ codes "-" ≡ mask_text mask)
-  dash_put after is pushed =
-      (pushed ∙ ap (λ t. t ++ codes "-") so_far.added ∙ append_assoc before so_far.put (codes "-"), sym (rw is at so_far.whole))
+-- the names that are still to come, behind others or none; `-` where there are none at all
+abbrev pub names_left : Bool → List (List ℕ) → List ℕ
+names_left others (name ∷ names) = next_name others name ++ names_left true names
+names_left true [] = []
+names_left false [] = codes "-"
+
+all_names : (name : List ℕ) (names : List (List ℕ)) → names_text (name ∷ names) ≡ name ++ names_left true names
+unfolding names_text
+all_names name [] = sym (append-nil name)
+all_names name (next ∷ names) = ap (λ t. name ++ (codes "," ++ t)) (all_names next names) ∙ ap (λ t. name ++ t) (sym (append_assoc (codes ",") next (names_left true names)))
+
+names_of : (names : List (List ℕ)) → names_text names ≡ names_left false names
+unfolding names_text
+names_of [] = refl
+names_of (name ∷ names) = all_names name names
+
+-- Of a table of names those that the mask has.
+module _ {X : Type 0} (flag : X → ℕ) (name : X → List ℕ) (mask : PollMask) where
+  abbrev pub names_in : List X → List (List ℕ)
+  names_in table = map name (filter (λ n. has mask.0 (flag n)) table)
+
+  -- what the mask has before a place of the table was put
+  abbrev pub ArePut : List X → List ℕ → List ℕ → Bool → ℕ → Type 0
+  ArePut table before now others place = IsSoFar (names_text (names_in table)) before now (names_left others (names_in (drop place table)))
+
+  pub no_name_yet : (table : List X) (text : List ℕ) → ArePut table text text false 0
+  no_name_yet table text = record { put = []; added = sym (append-nil text); left = names_of (names_in table) }
+
+  module _ (table : List X) (default : X) {before now : List ℕ} (others : Bool) {place : ℕ} (so_far : ArePut table before now others place) (within : place < length table) where
+    here : drop place table ≡ get_or table place default ∷ drop (place + 1) table
+    here = rw add-one (drop-cons table place default within)
+
+    -- the mask has what stands there, and its name is put
+    pub name_put : {Y E : Type 0} {tried : Result Y E} {after : List ℕ} (y : Y) → has mask.0 (flag (get_or table place default)) ≡ true → tried ≡ Ok y
+        → Pushes tried now after (next_name others (name (get_or table place default))) → ArePut table before after true (place + 1)
+    name_put y there is pushed = one_more so_far _ y is pushed (rw (here, there) refl)
+
+    -- it hasn't
+    pub name_left_out : has mask.0 (flag (get_or table place default)) ≡ false → ArePut table before now others (place + 1)
+    name_left_out absent = rw (here, absent) at so_far

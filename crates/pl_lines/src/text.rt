@@ -1,10 +1,11 @@
 //! The text of replies and of files.
-ghost use Rattle.std.specs.Prelude.{◌≡◌, [], ◌∷◌, ◌++◌, OnOk, OnErr, IfOk, codes, string_bytes, take, option_copied};
-ghost use Rattle.std.specs.List.{flat_map};
+ghost use Rattle.std.specs.Prelude.{◌≡◌, [], ◌∷◌, ◌++◌, OnOk, OnErr, IfOk, codes, string_bytes, take, map, option_copied};
+ghost use Rattle.std.specs.List.{filter, flat_map};
 ghost use Rattle.std.specs.Fmt.{decimal, signed_decimal};
 ghost use Rattle.std.specs.String.Boundary.{IsSplitPoint};
-ghost use Rattle.pl_model.specs.Shown.{bytes_text, file_text, errno_text, mode_text, flags_text, mask_text, reply_text, outcome_text};
-ghost use Rattle.pl_lines.specs.Pushed.{Pushes};
+ghost use Rattle.pl_model.specs.Flags.{has};
+ghost use Rattle.pl_model.specs.Shown.{bytes_text, file_text, errno_text, mode_text, flags_text, names_text, mask_text, reply_text, outcome_text};
+ghost use Rattle.pl_lines.specs.Pushed.{Pushes, next_name};
 
 use bitflags::Flags;
 use itoa::{Buffer, Integer};
@@ -139,21 +140,44 @@ const MASK_NAMES: &[(PollMask, &str)] = &[
     (PollMask::NVAL, "nval"),
 ];
 
-/// Adds the names of what the mask has, joined by commas, or `-` for none.
+/// Adds a name, behind a comma where another stands before it.
+fn push_name<A: Allocator + Copy>(
+    text: &mut String<A>,
+    others: bool,
+    name: &str,
+) -> Result<(), AllocError>
+    ensures { Pushes result (string_bytes text.old) (string_bytes text.new) (next_name others name.now) }
+{
+    if others {
+        push_two(text, ",", name)
+    } else {
+        text.push_str(name)
+    }
+}
+
+/// Adds the names of what the mask has of these, joined by commas, or `-` for none.
+fn push_names<A: Allocator + Copy>(
+    text: &mut String<A>,
+    mask: PollMask,
+    names: &[(PollMask, &str)],
+) -> Result<(), AllocError>
+    ensures { Pushes result (string_bytes text.old) (string_bytes text.new) (names_text (map (λ n. n.1.now) (filter (λ n. has mask.0 n.0.0) names.now))) }
+{
+    let mut others = false;
+    for (flag, name) in names {
+        if mask.contains(*flag) {
+            push_name(text, others, name)?;
+            others = true;
+        }
+    }
+    if others { Ok(()) } else { text.push_str("-") }
+}
+
+#[tactic(auto, unfolding(pl_model::specs::Shown::mask_text))]
 fn push_mask<A: Allocator + Copy>(text: &mut String<A>, mask: PollMask) -> Result<(), AllocError>
     ensures { Pushes result (string_bytes text.old) (string_bytes text.new) (mask_text mask) }
 {
-    let mut separator = "";
-    for (flag, name) in MASK_NAMES {
-        if mask.contains(*flag) {
-            push_two(text, separator, name)?;
-            separator = ",";
-        }
-    }
-    if separator.is_empty() {
-        text.push_str("-")?;
-    }
-    Ok(())
+    push_names(text, mask, MASK_NAMES)
 }
 
 /// Adds each of the masks, behind a blank.

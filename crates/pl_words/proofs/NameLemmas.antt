@@ -1,5 +1,5 @@
 -- The bytes of a name, taken from the front of a word.
-use Rattle.std.proofs.Common.{◌≡◌, ℕ, ◌<◌, Bool, true, false, cond, List, [], ◌∷◌, ◌++◌, length, Option, Some, None, refl, sym, ap, ◌∙◌, append_assoc, arith}
+use Rattle.std.proofs.Common.{◌≡◌, ℕ, ◌<◌, Bool, true, false, cond, List, [], ◌∷◌, ◌++◌, length, Option, Some, None, refl, ap, ◌∙◌, arith}
 use Rattle.std.specs.Prelude.{is_some, IsSomeAnd, Err, ◌==◌}
 use Rattle.std.proofs.lemmas.List.{append-nil, length-append}
 use Rattle.pl_model.specs.Words.{◌>>=◌, is_plain, hex_byte, name_bytes}

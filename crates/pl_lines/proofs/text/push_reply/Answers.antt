@@ -72,3 +72,7 @@ returns-in-Bytes g c = rw c.in-Bytes.is (rw c.as_slice.ensures.value at c.push_b
 pub returns-in-Offset : goal.returns-in-Offset
 unfolding reply_text
 returns-in-Offset g c = rw c.in-Offset.is c.push_number-in-Offset.ensures
+
+pub returns-in-Masks : goal.returns-in-Masks
+unfolding reply_text
+returns-in-Masks g c = rw c.in-Masks.is (rw c.as_slice-in-Masks.ensures at c.push_masks.ensures)

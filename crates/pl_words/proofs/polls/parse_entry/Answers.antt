@@ -1,4 +1,4 @@
-use Rattle.std.proofs.Common.{◌≡◌, Some, None, sym, rules, w32, SFits}
+use Rattle.std.proofs.Common.{◌≡◌, Some, None, rules, w32, SFits}
 use Rattle.std.specs.Prelude.{position}
 use Rattle.std.proofs.lemmas.Int.{to_z-of_z}
 use Rattle.std.proofs.lemmas.Result.{err_from_is_err_and}
