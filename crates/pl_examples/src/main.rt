@@ -9,8 +9,10 @@ use std::process::ExitCode;
 use std::{fs, io};
 
 /// A script is `NAME.script`, and what it prints `NAME.out`: its output, and the line of its fault.
-const NAMES: [&str; 15] = [
+const NAMES: [&str; 19] = [
+    "session",
     "bytes_before_end_of_file",
+    "parent_and_child",
     "full_pipe",
     "parking",
     "shared",
@@ -18,7 +20,9 @@ const NAMES: [&str; 15] = [
     "capacity",
     "fifo",
     "rendezvous",
+    "splice",
     "tee",
+    "poll",
     "end_of_file",
     "names_and_flags",
     "full_table",
