@@ -25,6 +25,9 @@ Each line of a script is one call, a question or a comment:
   P splice FD OFF FD OFF N [FLAGS]   moves at most N bytes from FD to FD
   P tee FD FD N [FLAGS]              copies them, from pipe to pipe
                                      FLAGS: move nonblock more gift
+  P poll now FD:MASK ..              what each FD is ready for, of what is asked
+  P poll wait FD:MASK ..             waits until one is
+                                     MASK: in out err hup nval, or - for none
   P dup FD                           another descriptor for what FD names
   P dup2 FD FD                       the second FD for what the first names
   P dupfd FD N                       the least free descriptor from N on
@@ -41,7 +44,7 @@ Each line of a script is one call, a question or a comment:
 
 BYTES is an even number of hexadecimal digits, N*hh for N times the byte hh, or
 - for none. NAME is printable, with %hh for any other byte. OFF is an offset in
-a file, or - for its own and for a pipe. FLAGS are joined by commas.
+a file, or - for its own and for a pipe. FLAGS and MASK are joined by commas.
 
 A call that would wait is parked: its reply is `parked` and its number C. For
 example, this script prints what stands beside it:
