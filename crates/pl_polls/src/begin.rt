@@ -66,7 +66,8 @@ fn park_poll<A: Allocator + Copy>(
 
 /// Tells what each entry's descriptor is ready for, of what is asked of it (POSIX.1-2017, poll): nothing of a negative one, and `NVAL`
 /// of one that isn't open; unasked `HUP` of a pipe that is hung, where the description reads, and `ERR` of one without readers, where
-/// it writes. A file is ready for all that is asked. A pipe is ready to be written to once it has room for 4,096 bytes.
+/// it writes. A file is ready for what is asked of `IN` and `OUT`. A pipe is ready to be written to once it has room for 4,096
+/// bytes.
 ///
 /// The reply is how many masks aren't empty, and all masks; or with `wait`, and where all are empty, a number under which the call
 /// waits; or, in this order: `EINVAL` of more than 256 entries; `CallsSpent` where it would wait and no number is left. The only error
