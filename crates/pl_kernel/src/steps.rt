@@ -16,6 +16,8 @@ use pl_state::{KernelState, NoMemory};
 use pl_transfers::{get_pipe_sz, interrupt, lseek, pipe, read, set_pipe_sz, write};
 use std::alloc::Allocator;
 
+// In place in its caller: where the call is written there, as in `Call::Read { .. }`, the match falls away.
+#[inline(always)]
 fn begin<A: Allocator + Copy>(
     kernel: &mut KernelState<A>,
     pid: u32,
@@ -76,6 +78,7 @@ fn is_poll<A: Allocator + Copy>(kernel: &KernelState<A>, number: u64) -> bool
 }
 
 // Tries the parked call of a number again.
+#[inline(never)]
 fn try_again<A: Allocator + Copy>(
     kernel: &mut KernelState<A>,
     number: u64,
@@ -91,6 +94,7 @@ fn try_again<A: Allocator + Copy>(
     resume(kernel, number)
 }
 
+#[inline(always)]
 pub(crate) fn act<A: Allocator + Copy>(
     kernel: &mut KernelState<A>,
     step: Step<A>,
