@@ -11,6 +11,7 @@ use pl_state::{KernelState, NoMemory};
 use std::alloc::Allocator;
 
 // Reads from the offset of a description on, which advances.
+#[inline(never)]
 pub(crate) fn read_file<A: Allocator + Copy>(
     kernel: &mut KernelState<A>,
     key: usize,
@@ -31,6 +32,7 @@ pub(crate) fn read_file<A: Allocator + Copy>(
 
 // Writes bytes, not none, at the offset of a description, or at the end of the file under `APPEND`, and leaves the offset behind
 // what was written.
+#[inline(never)]
 pub(crate) fn write_file<A: Allocator + Copy>(
     kernel: &mut KernelState<A>,
     key: usize,

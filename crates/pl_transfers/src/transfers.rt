@@ -71,6 +71,7 @@ pub fn pipe<A: Allocator + Copy>(
 }
 
 /// What a descriptor of a process names, where its mode allows the access (POSIX.1-2017, read and write, EBADF).
+#[inline(always)]
 pub fn open_for<A: Allocator + Copy>(
     kernel: &KernelState<A>,
     pid: u32,
@@ -92,6 +93,7 @@ pub fn open_for<A: Allocator + Copy>(
 }
 
 // What a read of n bytes, not 0, of a pipe comes to.
+#[inline(always)]
 pub(crate) fn case_of_read<A: Allocator + Copy>(
     kernel: &KernelState<A>,
     pipe: usize,
@@ -106,6 +108,7 @@ pub(crate) fn case_of_read<A: Allocator + Copy>(
 }
 
 // What a write of bytes, not none, of which some were taken before, to a pipe comes to.
+#[inline(always)]
 pub(crate) fn case_of_write<A: Allocator + Copy>(
     kernel: &KernelState<A>,
     pipe: usize,
@@ -128,6 +131,7 @@ pub(crate) fn case_of_write<A: Allocator + Copy>(
 /// The reply is the bytes, none at the end of file, or a number under which the call waits, or `EBADF` where the descriptor isn't open for
 /// reading, `EAGAIN` where the call would wait and may not, `CallsSpent` where no number is left; these and the only error, want of
 /// memory, leave all as it was.
+#[inline(always)]
 pub fn read<A: Allocator + Copy>(
     kernel: &mut KernelState<A>,
     pid: u32,
@@ -162,6 +166,7 @@ pub fn read<A: Allocator + Copy>(
 }
 
 // A read of n bytes, not 0, of the end of a pipe that a descriptor names.
+#[inline(always)]
 fn read_pipe<A: Allocator + Copy>(
     kernel: &mut KernelState<A>,
     pid: u32,
@@ -197,6 +202,7 @@ fn read_pipe<A: Allocator + Copy>(
 /// The reply is how many went in, or a number under which the call waits for the rest, or `EBADF` where the descriptor isn't open for
 /// writing, `EPIPE` of a pipe without readers, `EFBIG` of a file with no room left, `EAGAIN` where the call would wait and may not,
 /// `CallsSpent` where no number is left; these and the only error, want of memory, leave all as it was.
+#[inline(always)]
 pub fn write<A: Allocator + Copy>(
     kernel: &mut KernelState<A>,
     pid: u32,
@@ -243,6 +249,7 @@ pub fn write<A: Allocator + Copy>(
 }
 
 // A write of bytes, not none, to the end of a pipe that a descriptor names.
+#[inline(always)]
 fn write_pipe<A: Allocator + Copy>(
     kernel: &mut KernelState<A>,
     pid: u32,

@@ -31,6 +31,7 @@ fn bytes_of<A: Allocator>(call: &Call<A>) -> &[u8]
 
 /// Why a call that would wait doesn't, if it doesn't: `EAGAIN` where it may not, `CallsSpent` where no number is left. This is tested
 /// before any memory is asked for.
+#[inline(never)]
 pub fn refusal_to_wait<A: Allocator + Copy>(
     kernel: &KernelState<A>,
     nonblock: bool,
@@ -47,6 +48,7 @@ pub fn refusal_to_wait<A: Allocator + Copy>(
 }
 
 // Parks a call that keeps the description of a key.
+#[inline(never)]
 pub(crate) fn park<A: Allocator + Copy>(
     kernel: &mut KernelState<A>,
     pid: u32,
@@ -70,6 +72,7 @@ pub(crate) fn park<A: Allocator + Copy>(
 }
 
 // Parks a write, and then adds the bytes of its first turn. Where these find no memory the call is taken back.
+#[inline(never)]
 pub(crate) fn park_write<A: Allocator + Copy>(
     kernel: &mut KernelState<A>,
     pid: u32,
