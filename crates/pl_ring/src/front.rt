@@ -1,7 +1,7 @@
 //! Slots at the front.
 ghost use Rattle.std.specs.Prelude.{◌≡◌, ◌+◌, ◌-◌, ◌≤◌, ◌++◌, length, take, drop, vec_len, vec_capacity, IfOk};
 ghost use Rattle.pl_segments.specs.Segments.{segment_at};
-ghost use Rattle.pl_segments.specs.Slices.{AllLie, all_read};
+ghost use Rattle.pl_segments.specs.Slices.{Lies, AllLie, reads, all_read};
 ghost use Rattle.pl_segments.specs.Turns.{Holds, Turns};
 ghost use Rattle.pl_segments.specs.Slots.{total, AllSolid, drop_bytes, front_of};
 
@@ -11,7 +11,45 @@ use pl_segments::{NoMemory, Slice, Store};
 use std::alloc::Allocator;
 
 /// The bytes of the first slots, copied.
+#[inline(always)]
 pub(crate) fn copy_front<A: Allocator + Copy>(
+    alloc: A,
+    store: &Store<A>,
+    slots: &HeapCircularBuffer<Slice, A>,
+    count: usize,
+) -> Result<Vec<u8, A>, NoMemory>
+    requires { AllLie (segment_at store.now) slots.now.items }
+    ensures { IfOk result (λ bytes. bytes.items ≡ take count (all_read (segment_at store.now) slots.now.items)) }
+{
+    match slots.front() {
+        Some(first) if count <= first.len as usize => copy_slot(alloc, store, *first, count),
+        _ => copy_slots(alloc, store, slots, count),
+    }
+}
+
+/// The first bytes of one slot, copied.
+#[inline(always)]
+fn copy_slot<A: Allocator + Copy>(
+    alloc: A,
+    store: &Store<A>,
+    slot: Slice,
+    count: usize,
+) -> Result<Vec<u8, A>, NoMemory>
+    requires lies { Lies (segment_at store.now) slot }
+    requires count { count ≤ slot.len }
+    ensures { IfOk result (λ bytes. bytes.items ≡ take count (reads (segment_at store.now) slot)) }
+{
+    let part = Slice {
+        segment: slot.segment,
+        from: slot.from,
+        len: count as u32,
+    };
+    Ok(Vec::from_slice(alloc, store.bytes(part))?)
+}
+
+/// The bytes of the first slots, copied, as many as there are.
+#[inline(never)]
+fn copy_slots<A: Allocator + Copy>(
     alloc: A,
     store: &Store<A>,
     slots: &HeapCircularBuffer<Slice, A>,
@@ -98,6 +136,7 @@ fn add_slices<A: Allocator>(slots: &[Slice], count: usize, list: &mut Vec<Slice,
 }
 
 /// Lets the first bytes go. It takes no memory.
+#[inline(always)]
 pub(crate) fn drop_front<A: Allocator + Copy>(
     store: &mut Store<A>,
     slots: &mut HeapCircularBuffer<Slice, A>,

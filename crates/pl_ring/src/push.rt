@@ -16,6 +16,7 @@ use pl_segments::{NoMemory, SEGMENT_SIZE, Slice, Store};
 use std::alloc::Allocator;
 
 /// How many bytes the last slot can be grown by; 0 where there is none.
+#[inline(always)]
 fn tail_room<A: Allocator + Copy>(store: &Store<A>, slots: &HeapCircularBuffer<Slice, A>) -> usize
     requires { AllLie (segment_at store.now) slots.now.items }
     ensures value { result ≡ tail_room (segment_at store.now) slots.now.items }
@@ -52,6 +53,7 @@ fn grow_tail<A: Allocator + Copy>(
 }
 
 /// Pushes bytes in new segments, all filled but the last, for which there is room, and for one more. It takes no memory.
+#[inline(always)]
 fn push_new<A: Allocator + Copy>(
     store: &mut Store<A>,
     slots: &mut HeapCircularBuffer<Slice, A>,
@@ -82,6 +84,7 @@ fn push_new<A: Allocator + Copy>(
 
 /// Pushes bytes that fit: first into the last slot's segment, as many as it takes, and then into new segments, at most two more
 /// than the bytes fill. An error leaves all as it was.
+#[inline(always)]
 pub(crate) fn push_bytes<A: Allocator + Copy>(
     store: &mut Store<A>,
     slots: &mut HeapCircularBuffer<Slice, A>,

@@ -95,6 +95,7 @@ impl<A: Allocator + Copy> Ring<A> {
     }
 
     /// Adds bytes at the end, which fit, in at most two segments more than they fill. An error leaves all as it was.
+    #[inline(always)]
     pub fn push_bytes(&mut self, store: &mut Store<A>, bytes: &[u8]) -> Result<(), NoMemory>
         requires held { Holds (segment_at store.old) self.old.slots }
         requires fits { total self.old.slots + length bytes.now ≤ self.old.capacity }
@@ -146,6 +147,7 @@ impl<A: Allocator + Copy> Ring<A> {
     }
 
     /// Takes the first bytes. An error leaves all as it was.
+    #[inline(always)]
     pub fn pop_bytes(&mut self, store: &mut Store<A>, count: usize) -> Result<Vec<u8, A>, NoMemory>
         requires held { Holds (segment_at store.old) self.old.slots }
         requires count { count ≤ total self.old.slots }
@@ -163,6 +165,7 @@ impl<A: Allocator + Copy> Ring<A> {
     }
 
     /// Lets the first bytes go. It takes no memory.
+    #[inline(always)]
     pub fn drop_front(&mut self, store: &mut Store<A>, count: usize)
         requires held { Holds (segment_at store.old) self.old.slots }
         requires count { count ≤ total self.old.slots }

@@ -1,31 +1,31 @@
-use Rattle.std.proofs.Common.{◌≡◌, ◌∙◌, ◌++◌, ◌-◌, ap, sym, subst, take, length, arith}
-use Rattle.std.specs.Prelude.{vec_len}
-use Rattle.pl_segments.specs.Segments.{segment_at}
-use Rattle.pl_segments.specs.Slices.{AllLie, all_read}
-use Rattle.pl_segments.proofs.Turning.{lie-left, lie-right, read-append}
-use Rattle.pl_segments.proofs.Fronting.{take-both}
+use Rattle.std.proofs.Common.{◌≡◌, ◌∙◌, ◌≤◌, ◌∷◌, ℕ, List, [], Some, IfOk, ap, sym, subst, take, length, arith}
+use Rattle.std.specs.Prelude.{slice_get}
+use Rattle.std.proofs.lemmas.List.{take-append-le}
+use Rattle.std.proofs.lemmas.Option.{get_or_from_slice_get}
+use Rattle.pl_segments.specs.declared.slice.Slice.{Slice}
+use Rattle.pl_segments.specs.Segments.{Map, segment_at}
+use Rattle.pl_segments.specs.Slices.{Lies, AllLie, reads, all_read}
+use Rattle.pl_segments.proofs.Changing.{length-reads}
 use Rattle.pl_ring.proofs.front.copy_front.Goals as goal
 
-pub add_bytes-requires-clause-lie : goal.add_bytes-requires-clause-lie
-add_bytes-requires-clause-lie g c =
-    lie-left (segment_at c.args.store.now) c.as_slices.result.0.now c.as_slices.result.1.now (subst (AllLie (segment_at c.args.store.now)) (sym c.as_slices.ensures) c.requires)
+-- the first slot, and what the first bytes are where they stand in it
+first-lies : (m : Map) (xs : List Slice) (x : Slice) → slice_get xs 0 ≡ Some x → AllLie m xs → Lies m x
+first-lies m [] x e lie = absurd (cc)
+first-lies m (y ∷ r) x e lie = subst (Lies m) (get_or_from_slice_get (y ∷ r) 0 x x e) lie.0
 
-pub add_bytes-requires-2-clause-lie : goal.add_bytes-requires-2-clause-lie
-add_bytes-requires-2-clause-lie g c =
-    lie-right (segment_at c.args.store.now) c.as_slices.result.0.now c.as_slices.result.1.now (subst (AllLie (segment_at c.args.store.now)) (sym c.as_slices.ensures) c.requires)
+first-read : (m : Map) (xs : List Slice) (x : Slice) (n : ℕ) → slice_get xs 0 ≡ Some x → AllLie m xs → n ≤ x.len → take n (reads m x) ≡ take n (all_read m xs)
+first-read m [] x n e lie l = absurd (cc)
+first-read m (y ∷ r) x n e lie l =
+    let same : y ≡ x = get_or_from_slice_get (y ∷ r) 0 x x e in
+    let fits : n ≤ y.len = subst (λ z. n ≤ z.len) (sym same) l in
+    let long : length (reads m y) ≡ y.len = length-reads m y lie.0 in
+    ap (λ z. take n (reads m z)) (sym same) ∙ sym (take-append-le n (reads m y) (all_read m r) (omega (arith, long, fits)))
 
-pub returns : goal.returns
-returns g c =
+pub copy_slot-requires-clause-lies : goal.copy_slot-requires-clause-lies
+copy_slot-requires-clause-lies g c =
+    first-lies (segment_at c.args.store.now) c.args.slots.now.items c.in-Some.first.now (sym c.in-Some.ensures) c.requires
+
+pub returns-in-Some : goal.returns-in-Some
+returns-in-Some g c =
     let m = segment_at c.args.store.now in
-    let n = c.args.count in
-    let front = c.as_slices.result.0.now in
-    let back = c.as_slices.result.1.now in
-    let none = c.in_ok-bytes.ensures.items in
-    let start : n - vec_len c.in_ok-bytes.bytes ≡ n = (let z = c.in_ok-bytes.ensures.len in omega (arith, z)) in
-    let first : c.add_bytes.new.bytes.items ≡ take n (all_read m front) = c.add_bytes.ensures.items ∙ (λ i. none i ++ take (start i) (all_read m front)) in
-    let len : vec_len c.add_bytes.new.bytes ≡ length (take n (all_read m front)) = c.add_bytes.new.bytes.ok.0 ∙ ap length first in
-    c.add_bytes-2.ensures.items
-    ∙ (λ i. first i ++ take (n - len i) (all_read m back))
-    ∙ take-both n (all_read m front) (all_read m back)
-    ∙ ap (take n) (sym (read-append m front back))
-    ∙ ap (λ zs. take n (all_read m zs)) c.as_slices.ensures
+    subst (λ zs. IfOk c.copy_slot.result (λ bytes. bytes.items ≡ zs)) (first-read m c.args.slots.now.items c.in-Some.first.now c.args.count (sym c.in-Some.ensures) c.requires c.if-count-first.true) c.copy_slot.ensures
