@@ -11,13 +11,17 @@ use pl_testing::asked::Ask::{
     self, Close, Exit, GetFl, GetPipeSz, Interrupt, Lseek, Mkfifo, Open, Pipe, Read, SetFl,
     SetPipeSz, Start, Unlink, Write,
 };
-use pl_testing::asked::Data::{Many, Text};
+use pl_testing::asked::Data::{self, Many, Text};
 use pl_testing::asked::Want::{
     Bytes, Count, Fault, Fd, Fds, Flags, Offset, Parked, Pid, Size, Unit,
 };
+use pl_testing::examples::A_FIFO_WITH_NO_END_FORGETS;
 use pl_testing::sessions::{NEW_KERNEL, Session};
 use std::alloc::Allocator;
 use std::test::Fail;
+
+/// The name of the worked example's FIFO.
+const Q: Data = Text("q");
 
 const EXCL: &[OpenFlags] = &[OpenFlags::EXCL];
 
@@ -35,52 +39,41 @@ pub(crate) const SESSIONS: &[Session] = &[
     // The last close empties a FIFO and gives it its first capacity, and leaves its name; any other close leaves both.
     Session {
         name: "a_fifo_with_no_end_forgets",
-        rows: &[
-            (Start, Pid(1)),
-            (Mkfifo(1, F), Unit),
-            (Mkfifo(1, F), Fault(EEXIST)),
-            (Open(1, F, Mode::Both, PLAIN), Fd(0)),
-            (Write(1, 0, Text("abc")), Count(3)),
-            (SetPipeSz(1, 0, 1), Size(4_096)),
-            (Close(1, 0), Unit),
-            (Open(1, F, Mode::Read, NONBLOCK), Fd(0)),
-            (Read(1, 0, 10), NOTHING),
-            (GetPipeSz(1, 0), Size(65_536)),
-        ],
+        rows: &A_FIFO_WITH_NO_END_FORGETS,
         more: &[
-            (Mkfifo(1, F), Fault(EEXIST)),
-            (Open(1, F, Mode::Write, NONBLOCK), Fd(1)),
+            (Mkfifo(1, Q), Fault(EEXIST)),
+            (Open(1, Q, Mode::Write, NONBLOCK), Fd(1)),
             (SetPipeSz(1, 1, 131_072), Size(131_072)),
             (Write(1, 1, Many(b'c', 100_000)), Count(100_000)),
             // A reader alone keeps the bytes, and so does a writer alone.
             (Close(1, 1), Unit),
             (Read(1, 0, 10_000), Bytes(Many(b'c', 10_000))),
             (GetPipeSz(1, 0), Size(131_072)),
-            (Open(1, F, Mode::Write, NONBLOCK), Fd(1)),
+            (Open(1, Q, Mode::Write, NONBLOCK), Fd(1)),
             (Close(1, 0), Unit),
             (GetPipeSz(1, 1), Size(131_072)),
-            (Open(1, F, Mode::Read, PLAIN), Fd(0)),
+            (Open(1, Q, Mode::Read, PLAIN), Fd(0)),
             (Read(1, 0, 10_000), Bytes(Many(b'c', 10_000))),
             (Write(1, 1, Many(b'd', 100_000)), Count(51_072)),
             (Close(1, 0), Unit),
             (Close(1, 1), Unit),
-            (Open(1, F, Mode::Both, NONBLOCK), Fd(0)),
+            (Open(1, Q, Mode::Both, NONBLOCK), Fd(0)),
             (Read(1, 0, 9), Fault(EAGAIN)),
             (GetPipeSz(1, 0), Size(65_536)),
             (Write(1, 0, Many(b'e', 70_000)), Count(65_536)),
             // An exit closes all.
             (Exit(1), Unit),
             (Start, Pid(1)),
-            (Mkfifo(1, F), Fault(EEXIST)),
-            (Open(1, F, Mode::Write, NONBLOCK), NO_READER),
-            (Open(1, F, Mode::Read, PLAIN), Parked(1)),
+            (Mkfifo(1, Q), Fault(EEXIST)),
+            (Open(1, Q, Mode::Write, NONBLOCK), NO_READER),
+            (Open(1, Q, Mode::Read, PLAIN), Parked(1)),
             (Interrupt(1), INTERRUPTED),
-            (Open(1, F, Mode::Both, NONBLOCK), Fd(0)),
+            (Open(1, Q, Mode::Both, NONBLOCK), Fd(0)),
             (Read(1, 0, 9), Fault(EAGAIN)),
             (GetPipeSz(1, 0), Size(65_536)),
             (Close(1, 0), Unit),
         ],
-        names: &[F],
+        names: &[Q],
         ..NEW_KERNEL
     },
     // A description keeps `APPEND` and `NONBLOCK`, and no other flag changes what the FIFO holds.

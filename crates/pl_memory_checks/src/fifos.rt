@@ -10,6 +10,7 @@ use pl_testing::asked::Data::{self, Many, Text};
 use pl_testing::asked::Want::{
     self, Bytes, Count, CountSigpipe, Fault, Fd, Parked, Pid, Size, Unit,
 };
+use pl_testing::examples::{A_FIFO_WITH_NO_END_FORGETS, AN_OPEN_THAT_WAS_MET_STAYS_MET};
 use pl_testing::sessions::{NEW_KERNEL, Session};
 use std::test::Fail;
 
@@ -87,19 +88,8 @@ const SESSIONS: &[Session] = &[
     },
     Session {
         name: "a_fifo_with_no_end_forgets",
-        rows: &[
-            (Start, Pid(1)),
-            (Mkfifo(1, F), Unit),
-            (Mkfifo(1, F), Fault(EEXIST)),
-            (Open(1, F, Mode::Both, PLAIN), Fd(0)),
-            (Write(1, 0, Text("abc")), Count(3)),
-            (SetPipeSz(1, 0, 1), Size(4_096)),
-            (Close(1, 0), Unit),
-            (Open(1, F, Mode::Read, NONBLOCK), Fd(0)),
-            (Read(1, 0, 10), NOTHING),
-            (GetPipeSz(1, 0), Size(65_536)),
-        ],
-        names: &[F],
+        rows: &A_FIFO_WITH_NO_END_FORGETS,
+        names: &[Text("q")],
         ..NEW_KERNEL
     },
     // A FIFO that is opened again after the last close is empty and has its first capacity, also where the open finds no memory at
@@ -200,19 +190,8 @@ const SESSIONS: &[Session] = &[
     },
     Session {
         name: "an_open_that_was_met_stays_met",
-        rows: &[
-            (Start, Pid(1)),
-            (Start, Pid(2)),
-            (Mkfifo(1, F), Unit),
-            (Open(2, F, Mode::Write, NONBLOCK), Fault(ENXIO)),
-            (Open(1, F, Mode::Read, PLAIN), Parked(1)),
-            (Resume(1), Parked(1)),
-            (Open(2, F, Mode::Write, PLAIN), Fd(0)),
-            (Close(2, 0), Unit),
-            (Resume(1), Fd(0)),
-            (Read(1, 0, 10), NOTHING),
-        ],
-        names: &[F],
+        rows: &AN_OPEN_THAT_WAS_MET_STAYS_MET,
+        names: &[Text("q")],
         ..NEW_KERNEL
     },
     // An open that finds no memory takes no number, is no end and meets nobody: all ends that come and go are those of other opens.

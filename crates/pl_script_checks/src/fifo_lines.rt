@@ -75,6 +75,7 @@ resume 1 => parked 1
 2 open q w => fd 0
 2 close 0 => ok
 resume 1 => fd 0
+1 poll now 0:in => masks 1 hup
 1 read 0 10 => data -
 ";
 
@@ -87,6 +88,7 @@ start => pid 1
 1 setsz 0 1 => size 4096
 1 close 0 => ok
 1 open q r nonblock => fd 0
+1 poll now 0:in => masks 0 -
 1 read 0 10 => data -
 1 getsz 0 => size 65536
 ";

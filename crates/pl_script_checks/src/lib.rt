@@ -13,6 +13,8 @@ mod lines;
 #[cfg(test)]
 mod memory;
 #[cfg(test)]
+mod poll_lines;
+#[cfg(test)]
 mod programs;
 #[cfg(test)]
 mod replies;

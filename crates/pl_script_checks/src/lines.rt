@@ -1,5 +1,5 @@
 //! What lines ask.
-use crate::{fifo_lines, file_lines, shared_lines, size_lines, splice_lines};
+use crate::{fifo_lines, file_lines, poll_lines, shared_lines, size_lines, splice_lines};
 use pl_model::Name;
 use pl_script::{Line, LineFault, parse_line};
 use pl_testing::asked::Ask::{
@@ -255,6 +255,8 @@ fn good_lines(rt: HostRuntime) -> Result<(), Fail> {
     each_asks(&rt, rt.alloc(), shared_lines::FLAGS)?;
     each_asks(&rt, rt.alloc(), fifo_lines::GOOD)?;
     each_asks(&rt, rt.alloc(), file_lines::GOOD)?;
+    each_asks(&rt, rt.alloc(), poll_lines::GOOD)?;
+    each_asks(&rt, rt.alloc(), poll_lines::MASKS)?;
     each_asks(&rt, rt.alloc(), size_lines::GOOD)?;
     each_asks(&rt, rt.alloc(), splice_lines::GOOD)?;
     each_asks(&rt, rt.alloc(), splice_lines::FLAGS)
@@ -282,6 +284,7 @@ fn bad_lines(rt: HostRuntime) {
     each_is_bad(&rt, rt.alloc(), shared_lines::BAD);
     each_is_bad(&rt, rt.alloc(), fifo_lines::BAD);
     each_is_bad(&rt, rt.alloc(), file_lines::BAD);
+    each_is_bad(&rt, rt.alloc(), poll_lines::BAD);
     each_is_bad(&rt, rt.alloc(), size_lines::BAD);
     each_is_bad(&rt, rt.alloc(), splice_lines::BAD);
 }

@@ -1,10 +1,13 @@
 //! The text of each reply.
-use pl_model::{Errno, Mode, OpenFlags, Outcome};
+use pl_model::{Errno, Mode, OpenFlags, Outcome, PollMask};
 use pl_script::{show, show_file};
 use pl_testing::asked::Data::{Text, TwoRuns};
 use pl_testing::asked::Want::{
-    self, Bytes, CallsSpent, Count, CountSigpipe, Fault, Fd, Fds, Flags, NoCall, NoProcess, Offset,
-    Parked, Pid, Size, Unit,
+    self, Bytes, CallsSpent, Count, CountSigpipe, Fault, Fd, Fds, Flags, Masks, NoCall, NoProcess,
+    Offset, Parked, Pid, Size, Unit,
+};
+use pl_testing::masks::{
+    ALL, EMPTY, ERR, ERR_HUP_NVAL, HUP, IN, IN_HUP, IN_OUT, NVAL, OUT, OUT_ERR,
 };
 use std::alloc::Global;
 use std::process::Abort;
@@ -54,6 +57,23 @@ const REPLIES: &[(Want, &str)] = &[
         "flags rw append,nonblock",
     ),
     (Flags(Mode::Write, &[]), "flags w -"),
+    // masks, with how many aren't empty, and the names of each in order
+    (Masks(0, &[]), "masks 0"),
+    (Masks(0, &[EMPTY]), "masks 0 -"),
+    (Masks(256, &[IN]), "masks 256 in"),
+    (
+        Masks(5, &[NVAL, HUP, ERR, OUT, IN]),
+        "masks 5 nval hup err out in",
+    ),
+    (
+        Masks(3, &[IN_OUT, EMPTY, OUT_ERR, EMPTY, IN_HUP]),
+        "masks 3 in,out - out,err - in,hup",
+    ),
+    (Masks(1, &[ERR_HUP_NVAL]), "masks 1 err,hup,nval"),
+    (
+        Masks(2, &[ALL, &[PollMask::NVAL, PollMask::OUT, PollMask::HUP]]),
+        "masks 2 in,out,err,hup,nval out,hup,nval",
+    ),
     // errors, by name
     (Fault(Errno::EAGAIN), "EAGAIN"),
     (Fault(Errno::EBADF), "EBADF"),

@@ -1,6 +1,6 @@
 //! Sessions: scripts of calls that wait and of descriptors that share, line by line with what each prints.
 use super::trickling::{Coming, Script, prints};
-use crate::{fifo_lines, splice_lines};
+use crate::{fifo_lines, poll_lines, splice_lines};
 use pl_model::Totals;
 use pl_testing::asked::NEVER_GIVEN;
 use std::alloc::{Allocator, Global};
@@ -40,6 +40,7 @@ start => pid 1
 resume 1 => count 65536 sigpipe
 1 write 1 62 => EPIPE sigpipe
 1 write 1 - => count 0
+1 poll now 1:out => masks 1 err
 ";
 
 const INTERRUPTED_LARGE_WRITES: &str = "\
@@ -91,6 +92,7 @@ start => pid 1
 1 pipe => fds 0 1
 1 read 0 1 => calls spent
 1 write 1 70000*61 => calls spent
+1 poll now 0:in => masks 0 -
 1 write 1 62 => count 1
 1 read 0 70000 => data 62
 resume 18446744073709551615 => no call
@@ -430,6 +432,9 @@ fn each_session_is_printed(rt: HostRuntime) -> Result<(), Fail> {
         is_session_printed(&rt, rt.alloc(), *row)?;
     }
     for row in fifo_lines::sessions() {
+        is_session_printed(&rt, rt.alloc(), *row)?;
+    }
+    for row in poll_lines::sessions() {
         is_session_printed(&rt, rt.alloc(), *row)?;
     }
     for row in splice_lines::sessions() {

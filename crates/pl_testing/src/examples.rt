@@ -1,13 +1,15 @@
 //! The worked examples that several crates of tests make: tables of steps with the replies that are wanted.
 use crate::asked::Ask::{
-    self, Close, Dup, Dup2, Exit, Fork, GetFl, Interrupt, Lseek, Mkfifo, Open, Pipe, PipeNonblock,
-    Read, Resume, SetFl, SetPipeSz, Splice, Start, Tee, Unlink, Write,
+    self, Close, Dup, Dup2, Exit, Fork, GetFl, GetPipeSz, Interrupt, Lseek, Mkfifo, Open, Pipe,
+    PipeNonblock, PollNow, PollWait, Read, Resume, SetFl, SetPipeSz, Splice, Start, Tee, Unlink,
+    Write,
 };
 use crate::asked::Data::{Many, Text, TwoRuns};
 use crate::asked::Want::{
-    self, Bytes, Count, CountSigpipe, Fault, Fd, Fds, Flags, NoCall, NoProcess, Offset, Parked,
-    Pid, Size, Unit,
+    self, Bytes, CallsSpent, Count, CountSigpipe, Fault, Fd, Fds, Flags, Masks, NoCall, NoProcess,
+    Offset, Parked, Pid, Size, Unit,
 };
+use crate::masks::{EMPTY, ERR, HUP, IN, IN_OUT, NVAL, OUT};
 use pl_model::Whence::{Cur, End, Set};
 use pl_model::{Errno, Mode, OpenFlags, SpliceFlags};
 
@@ -60,7 +62,7 @@ pub const AN_INTERRUPTED_LARGE_WRITE: [(Ask, Want); 5] = [
 ];
 
 /// A write that took bytes answers their count where nobody can read the rest.
-pub const THE_LAST_READER_LEAVES: [(Ask, Want); 7] = [
+pub const THE_LAST_READER_LEAVES: [(Ask, Want); 8] = [
     (Start, Pid(1)),
     (Pipe(1), Fds(0, 1)),
     (Write(1, 1, Many(b'a', 70_000)), Parked(1)),
@@ -68,6 +70,7 @@ pub const THE_LAST_READER_LEAVES: [(Ask, Want); 7] = [
     (Resume(1), CountSigpipe(65_536)),
     (Write(1, 1, Text("b")), Fault(Errno::EPIPE)),
     (Write(1, 1, Text("")), Count(0)),
+    (PollNow(1, &[(1, OUT)]), Masks(1, &[ERR])),
 ];
 
 /// A read end that only a waiting read keeps is a reader, until the read is answered.
@@ -153,6 +156,64 @@ pub const AN_EXIT_DROPS_PARKED_CALLS: [(Ask, Want); 7] = [
     (Start, Pid(1)),
 ];
 
+/// A FIFO whose last end closed is empty, has its first capacity, and isn't hung. The name is left.
+pub const A_FIFO_WITH_NO_END_FORGETS: [(Ask, Want); 11] = [
+    (Start, Pid(1)),
+    (Mkfifo(1, Text("q")), Unit),
+    (Mkfifo(1, Text("q")), Fault(Errno::EEXIST)),
+    (Open(1, Text("q"), Mode::Both, &[]), Fd(0)),
+    (Write(1, 0, Text("abc")), Count(3)),
+    (SetPipeSz(1, 0, 1), Size(4_096)),
+    (Close(1, 0), Unit),
+    (Open(1, Text("q"), Mode::Read, NONBLOCK), Fd(0)),
+    (PollNow(1, &[(0, IN)]), Masks(0, &[EMPTY])),
+    (Read(1, 0, 10), Bytes(Text(""))),
+    (GetPipeSz(1, 0), Size(65_536)),
+];
+
+/// An open that was met stays met, though the other end is closed again, and its FIFO is hung. The name is left.
+pub const AN_OPEN_THAT_WAS_MET_STAYS_MET: [(Ask, Want); 11] = [
+    (Start, Pid(1)),
+    (Start, Pid(2)),
+    (Mkfifo(1, Text("q")), Unit),
+    (
+        Open(2, Text("q"), Mode::Write, NONBLOCK),
+        Fault(Errno::ENXIO),
+    ),
+    (Open(1, Text("q"), Mode::Read, &[]), Parked(1)),
+    (Resume(1), Parked(1)),
+    (Open(2, Text("q"), Mode::Write, &[]), Fd(0)),
+    (Close(2, 0), Unit),
+    (Resume(1), Fd(0)),
+    (PollNow(1, &[(0, IN)]), Masks(1, &[HUP])),
+    (Read(1, 0, 10), Bytes(Text(""))),
+];
+
+/// Where no number is left, a call that would wait is refused, and one that doesn't wait is answered. The first call has the number
+/// that no call gets.
+pub const CALL_NUMBERS_SPENT: [(Ask, Want); 5] = [
+    (Start, Pid(1)),
+    (Pipe(1), Fds(0, 1)),
+    (Read(1, 0, 1), CallsSpent),
+    (Write(1, 1, Many(b'a', 70_000)), CallsSpent),
+    (PollNow(1, &[(0, IN)]), Masks(0, &[EMPTY])),
+];
+
+/// A poll waits until one of its masks isn't empty, and tells of each entry.
+pub const POLL: [(Ask, Want); 8] = [
+    (Start, Pid(1)),
+    (Pipe(1), Fds(0, 1)),
+    (PollWait(1, &[(0, IN), (1, EMPTY), (-1, IN)]), Parked(1)),
+    (Write(1, 1, Text("a")), Count(1)),
+    (Resume(1), Masks(1, &[IN, EMPTY, EMPTY])),
+    (
+        PollNow(1, &[(9, IN), (-1, IN), (1, IN_OUT)]),
+        Masks(2, &[NVAL, EMPTY, OUT]),
+    ),
+    (SetPipeSz(1, 1, 4_096), Size(4_096)),
+    (PollNow(1, &[(1, OUT)]), Masks(0, &[EMPTY])),
+];
+
 /// Two processes share the offset of a file, and its status flags. A write at the end, one behind it, and reads without the name.
 pub const A_FILE_OF_TWO_PROCESSES: [(Ask, Want); 20] = [
     (Start, Pid(1)),
@@ -202,6 +263,8 @@ pub const THE_END_OF_A_FILE: [(Ask, Want); 11] = [
 ];
 
 const NEW: &[OpenFlags] = &[OpenFlags::CREAT, OpenFlags::EXCL];
+
+const NONBLOCK: &[OpenFlags] = &[OpenFlags::NONBLOCK];
 
 const TRUNC: &[OpenFlags] = &[OpenFlags::TRUNC];
 

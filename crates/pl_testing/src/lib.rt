@@ -5,6 +5,7 @@
 pub mod asked;
 pub mod bench;
 pub mod examples;
+pub mod masks;
 pub mod refusing;
 pub mod sessions;
 pub mod wanting;

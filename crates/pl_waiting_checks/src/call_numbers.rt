@@ -4,6 +4,7 @@ use pl_testing::asked::Ask::{Close, Interrupt, Pipe, PipeNonblock, Read, Resume,
 use pl_testing::asked::Data::{Many, Text};
 use pl_testing::asked::NEVER_GIVEN;
 use pl_testing::asked::Want::{Bytes, CallsSpent, Count, Fault, Fds, NoCall, Parked, Pid, Unit};
+use pl_testing::examples::CALL_NUMBERS_SPENT;
 use pl_testing::sessions::{NEW_KERNEL, Session};
 
 const SECOND_LAST: u64 = 18_446_744_073_709_551_613;
@@ -91,11 +92,8 @@ pub(crate) const SESSIONS: &[Session] = &[
     Session {
         name: "without_numbers_nothing_waits",
         first_call: NEVER_GIVEN,
-        rows: &[
-            (Start, Pid(1)),
-            (Pipe(1), Fds(0, 1)),
-            (Read(1, 0, 1), CallsSpent),
-            (Write(1, 1, Many(b'x', 70_000)), CallsSpent),
+        rows: &CALL_NUMBERS_SPENT,
+        more: &[
             (Read(1, 0, 1), CallsSpent),
             (Write(1, 1, Many(b'a', 60_000)), Count(60_000)),
             // room for 5,536 bytes

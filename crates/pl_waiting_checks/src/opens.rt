@@ -8,11 +8,15 @@ use pl_testing::asked::Data::{self, Text};
 use pl_testing::asked::Want::{
     self, Bytes, Count, Fault, Fd, Fds, Flags, NoCall, Parked, Pid, Unit,
 };
+use pl_testing::examples::AN_OPEN_THAT_WAS_MET_STAYS_MET;
 use pl_testing::sessions::{NEW_KERNEL, Session};
 
 pub(crate) const F: Data = Text("f");
 
 pub(crate) const G: Data = Text("g");
+
+/// The name of the worked example's FIFO.
+const Q: Data = Text("q");
 
 pub(crate) const PLAIN: &[OpenFlags] = &[];
 
@@ -38,29 +42,20 @@ pub(crate) const SESSIONS: &[Session] = &[
     // An open that was met stays met, though the other end is closed again. One that comes after that isn't met.
     Session {
         name: "an_open_that_was_met_stays_met",
-        rows: &[
-            (Start, Pid(1)),
-            (Start, Pid(2)),
-            (Mkfifo(1, F), Unit),
-            (Open(2, F, Mode::Write, NONBLOCK), NO_READER),
-            (Open(1, F, Mode::Read, PLAIN), Parked(1)),
-            (Resume(1), Parked(1)),
-            (Open(2, F, Mode::Write, PLAIN), Fd(0)),
-            (Close(2, 0), Unit),
-            (Resume(1), Fd(0)),
+        rows: &AN_OPEN_THAT_WAS_MET_STAYS_MET,
+        more: &[
             (Resume(1), NoCall),
-            (Read(1, 0, 9), NOTHING),
             (Close(1, 0), Unit),
-            (Open(1, F, Mode::Write, PLAIN), Parked(2)),
-            (Open(2, F, Mode::Read, PLAIN), Fd(0)),
+            (Open(1, Q, Mode::Write, PLAIN), Parked(2)),
+            (Open(2, Q, Mode::Read, PLAIN), Fd(0)),
             (Close(2, 0), Unit),
-            (Open(2, F, Mode::Write, PLAIN), Parked(3)),
+            (Open(2, Q, Mode::Write, PLAIN), Parked(3)),
             (Resume(3), Parked(3)),
             (Resume(2), Fd(0)),
             (Write(1, 0, Text("a")), Fault(EPIPE)),
             (Resume(3), Parked(3)),
         ],
-        names: &[F],
+        names: &[Q],
         ..NEW_KERNEL
     },
     // Readers meet no reader, whether it waits or not, and one writer meets them all.
