@@ -1,4 +1,6 @@
 //! Steps that take no memory answer as ever where none can be had.
+mod polls;
+
 use crate::scarce::Scarce;
 use pl_model::Whence::{Cur, End, Set};
 use pl_model::{Errno, Limits, Mode, OpenFlags, SpliceFlags};
@@ -389,6 +391,9 @@ fn some_take_no_memory(alloc: Global, session: &Session) -> Result<(), Fail> {
 #[test]
 fn each_session_takes_no_memory(rt: HostRuntime) -> Result<(), Fail> {
     for session in SESSIONS {
+        some_take_no_memory(rt.alloc(), session)?;
+    }
+    for session in polls::SESSIONS {
         some_take_no_memory(rt.alloc(), session)?;
     }
     Ok(())

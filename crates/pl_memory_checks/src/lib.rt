@@ -16,6 +16,8 @@ mod memory;
 #[cfg(test)]
 mod passed_over;
 #[cfg(test)]
+mod polls;
+#[cfg(test)]
 mod scarce;
 #[cfg(test)]
 mod splices;

@@ -1,6 +1,9 @@
 //! Want of memory: a step that meets it changes nothing, and can be made again.
+ghost use Rattle.std.specs.Prelude.{◌≤◌};
+ghost use Rattle.pl_model.specs.Numbers.{most_file_bytes};
+
 use crate::scarce::Scarce;
-use pl_model::Reply;
+use pl_model::{Limits, Reply};
 use pl_run::LIMITS;
 use pl_testing::asked::{Ask, Want};
 use pl_testing::bench::Bench;
@@ -46,6 +49,16 @@ fn make_each<B: Allocator>(
     Ok(())
 }
 
+/// The limits of the example's kernel.
+fn limits_of(example: &Session) -> Limits
+    ensures { result.file_max ≤ most_file_bytes }
+{
+    Limits {
+        first_call: example.first_call,
+        ..LIMITS
+    }
+}
+
 /// Makes the steps of the example, where the `n`th request for memory is refused. At its end nothing is left.
 fn make_steps<B: Allocator>(
     alloc: Global,
@@ -53,7 +66,7 @@ fn make_steps<B: Allocator>(
     example: &Session,
     n: u64,
 ) -> Result<(), Fail> {
-    let mut bench = Scarce::new(example.name, alloc, heap, n, LIMITS)?;
+    let mut bench = Scarce::new(example.name, alloc, heap, n, limits_of(example))?;
     bench.prepare(example.processes, example.full_tables)?;
     make_each(&mut bench, heap, example.rows)?;
     bench.ends_empty(example.names)
@@ -135,7 +148,7 @@ fn replies_of_run<B: Allocator>(
     example: &Session,
     n: u64,
 ) -> Result<Vec<Option<Reply>>, Fail> {
-    let mut bench = Scarce::new(example.name, alloc, heap, n, LIMITS)?;
+    let mut bench = Scarce::new(example.name, alloc, heap, n, limits_of(example))?;
     bench.prepare(example.processes, example.full_tables)?;
     bench.run(example.rows)
 }
@@ -143,6 +156,12 @@ fn replies_of_run<B: Allocator>(
 /// The place of the first that isn't there.
 fn first_none<T>(items: &[Option<T>]) -> Option<usize> {
     items.iter().position(|item| item.is_none())
+}
+
+/// Whether one of the steps may ask again for memory that it is refused, and then find it: a poll that waits does, as it lists what
+/// it keeps.
+fn may_ask_again(rows: &[(Ask, Want)]) -> bool {
+    rows.iter().any(|(ask, _)| matches!(ask, Ask::PollWait(..)))
 }
 
 /// The step that wants for memory, where the `n`th request is refused. One does just where a request is refused, but for the
@@ -154,7 +173,9 @@ fn passed_over<B: Allocator>(
     n: u64,
 ) -> Result<Option<usize>, Fail> {
     let passed = first_none(replies);
-    if replies.len() != example.rows.len() || passed.is_some() != (heap.refused() && n > 1) {
+    let may_want = heap.refused() && n > 1;
+    let is_found = may_want && may_ask_again(example.rows);
+    if replies.len() != example.rows.len() || (passed.is_some() != may_want && !is_found) {
         return Err(Fail::new(format_args!(
             "of the run of {} step {passed:?} wants for memory; request {n} is refused",
             example.name
@@ -174,7 +195,7 @@ fn make_run<B: Allocator>(
     let replies = replies_of_run(alloc, heap, example, n)?;
     let passed = passed_over(heap, example, &replies, n)?;
     let place = passed.unwrap_or(replies.len());
-    let mut other = Bench::new(example.name, alloc, alloc, LIMITS)?;
+    let mut other = Bench::new(example.name, alloc, alloc, limits_of(example))?;
     other.prepare(example.processes, example.full_tables)?;
     other.tell_refused(n);
     goes_on_without(alloc, &mut other, &replies, example.rows, place)

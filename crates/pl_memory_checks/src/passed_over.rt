@@ -1,6 +1,7 @@
 //! Steps that find no memory: each is passed over, and the run goes on as if it had not been asked.
 mod capacities;
 mod fifos;
+mod polls;
 mod splices;
 mod tables;
 
@@ -11,6 +12,7 @@ use pl_run::LIMITS;
 use pl_testing::asked::{Ask, Want};
 use pl_testing::refusing::Refusing;
 use pl_testing::wanting::{MOST_REQUESTS, all_were_refused};
+use polls::polls;
 use splices::splices;
 use std::alloc::Global;
 use std::test::Fail;
@@ -115,6 +117,9 @@ fn each_step_is_passed_over(rt: HostRuntime) -> Result<(), Fail> {
         each_is_passed_over(rt.alloc(), steps)?;
     }
     for steps in fifos() {
+        each_is_passed_over(rt.alloc(), steps)?;
+    }
+    for steps in polls() {
         each_is_passed_over(rt.alloc(), steps)?;
     }
     for steps in splices() {

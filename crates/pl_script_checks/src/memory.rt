@@ -10,7 +10,7 @@ use std::process::Abort;
 use std::test::Fail;
 
 /// A script of seven lines, how many of them ask for a step, what it prints, what it prints where one line finds no memory, which
-/// then changes nothing, and what it has printed where a line finds none for its bytes or its name.
+/// then changes nothing, and what it has printed where a line finds none for its bytes, its name or its entries.
 #[derive(Clone, Copy)]
 struct Run {
     script: &'static str,
@@ -93,6 +93,26 @@ const AN_OPEN_WAITS: Run = Run {
     ],
 };
 
+/// A line that polls takes memory for its entries, too.
+const A_POLL_WAITS: Run = Run {
+    script: "start\n1 pipe\n1 poll wait 0:in 1:-\n1 write 1 61\nresume 1\n1 poll now 1:out 9:-\ninterrupt 1\n",
+    steps: 7,
+    output: "pid 1\nfds 0 1\nparked 1\ncount 1\nmasks 1 in -\nmasks 2 out nval\nno call\n",
+    outputs_with_nomem: &[
+        "nomem\nno process\nno process\nno process\nno call\nno process\nno call\n",
+        "pid 1\nnomem\nmasks 2 nval nval\nEBADF\nno call\nmasks 2 nval nval\nno call\n",
+        "pid 1\nfds 0 1\nnomem\ncount 1\nno call\nmasks 2 out nval\nno call\n",
+        "pid 1\nfds 0 1\nparked 1\nnomem\nparked 1\nmasks 2 out nval\nEINTR\n",
+        "pid 1\nfds 0 1\nparked 1\ncount 1\nnomem\nmasks 2 out nval\nEINTR\n",
+        "pid 1\nfds 0 1\nparked 1\ncount 1\nmasks 1 in -\nnomem\nno call\n",
+    ],
+    outputs_before_writes: &[
+        "pid 1\nfds 0 1\n",
+        "pid 1\nfds 0 1\nparked 1\n",
+        "pid 1\nfds 0 1\nparked 1\ncount 1\nmasks 1 in -\n",
+    ],
+};
+
 /// Which request of a run is refused, and what the run printed.
 #[derive(Clone, Copy, Debug)]
 struct At<'a> {
@@ -140,7 +160,7 @@ struct Seen {
     /// A run made fewer requests than the number of the one to refuse.
     has_ended: bool,
     has_printed_nomem: bool,
-    /// How many of the outputs before a line that writes, or has a name, were printed by runs that found no memory to go on.
+    /// How many of the outputs before a line that writes, polls or has a name were printed by runs that found no memory to go on.
     before_writes: usize,
 }
 
@@ -244,7 +264,7 @@ impl<A: Allocator + Copy> Subject<A> {
     }
 }
 
-/// A step found no memory in some run, and each output before a line that writes, or has a name, was printed by some run
+/// A step found no memory in some run, and each output before a line that writes, polls or has a name was printed by some run
 /// that found none to go on.
 fn are_seen(rt: &impl Abort, run: Run, seen: Seen) {
     assert!(rt; seen.has_printed_nomem, "no run printed nomem");
@@ -255,7 +275,7 @@ fn are_seen(rt: &impl Abort, run: Run, seen: Seen) {
     );
 }
 
-/// Each request is refused. Where a line finds no memory for its bytes or its name, the lines before it are printed.
+/// Each request is refused. Where a line finds no memory for its bytes, its name or its entries, the lines before it are printed.
 fn each_is_refused<A: Allocator + Copy>(rt: &impl Abort, alloc: A, run: Run) -> Result<(), Fail> {
     let subject = Subject::new(alloc, run);
     let seen = subject.refuse_each(rt)?;
@@ -273,6 +293,7 @@ const RUNS: &[Run] = &[
     A_WRITE_WAITS,
     A_FILE_IS_TOLD_OF,
     AN_OPEN_WAITS,
+    A_POLL_WAITS,
 ];
 
 #[test]

@@ -7,12 +7,13 @@ use pl_testing::asked::Ask::{
 };
 use pl_testing::asked::Data::{self, Many, Text};
 use pl_testing::asked::Want::{
-    self, Bytes, Count, Fault, Fd, Fds, NoCall, NoProcess, Offset, Parked, Pid, Unit,
+    self, Bytes, Count, Fault, Fd, Fds, Masks, NoCall, NoProcess, Offset, Parked, Pid, Unit,
 };
 use pl_testing::examples::{
     A_PARKED_CALL_KEEPS_ITS_END, A_SMALL_WRITE_AT_ITS_BOUNDARY, A_WAITING_WRITER_IS_A_WRITER,
     AN_INTERRUPTED_LARGE_WRITE, THE_LAST_READER_LEAVES,
 };
+use pl_testing::masks::{NVAL, OUT_ERR};
 
 const NOT_OPEN: Want = Fault(EBADF);
 
@@ -137,7 +138,7 @@ const EXAMPLES: &[Steps] = &[
     Steps {
         name: "the_last_reader_leaves",
         rows: &THE_LAST_READER_LEAVES,
-        places: &[0, 1, 2],
+        places: &[0, 1, 2, 7],
         behind: &[
             (0, NoProcess),
             (0, NoProcess),
@@ -145,15 +146,19 @@ const EXAMPLES: &[Steps] = &[
             (0, NoCall),
             (0, NoProcess),
             (0, NoProcess),
+            (0, NoProcess),
             (1, NOT_OPEN),
             (1, NOT_OPEN),
             (1, NoCall),
             (1, NOT_OPEN),
             (1, NOT_OPEN),
+            (1, Masks(1, &[NVAL])),
             (2, Unit),
             (2, NoCall),
             (2, BROKEN),
             (2, Count(0)),
+            // There is room.
+            (2, Masks(1, &[OUT_ERR])),
         ],
     },
     // A call that finds no memory as it is tried again stays parked, and keeps its end.
