@@ -1,13 +1,14 @@
 //! The worked examples of polls.
-use crate::rows::{Entries, INTERRUPTED};
 use pl_model::Errno::EINVAL;
-use pl_model::PollMask;
+use pl_model::{Call, PollList, PollMask, Reply, Step};
 use pl_run::LIMITS;
-use pl_testing::asked::Ask::{Interrupt, PollNow, PollWait, Resume, Start};
-use pl_testing::asked::Want::{Fault, Masks, NoProcess, Parked, Pid};
+use pl_testing::asked::Ask::{self, PollNow, PollWait, Start};
+use pl_testing::asked::Want::{self, Fault, Masks, Parked, Pid};
+use pl_testing::bench::Bench;
 use pl_testing::examples::POLL;
-use pl_testing::masks::{EMPTY, IN, NVAL, OUT};
+use pl_testing::masks::{EMPTY, IN, OUT};
 use pl_testing::sessions::{NEW_KERNEL, Session, each_answers};
+use std::alloc::Global;
 use std::test::Fail;
 
 const OF_A_PIPE: &[Session] = &[Session {
@@ -21,40 +22,67 @@ const OF_A_PIPE: &[Session] = &[Session {
     ..NEW_KERNEL
 }];
 
-/// As many entries as a poll may have, of a descriptor that isn't open.
-const MOST: Entries = &[(9, IN); 256];
-
-const ALL_OF_THEM: &[&[PollMask]] = &[NVAL; 256];
-
-/// As many, of which nothing is found.
-const MOST_WITHOUT: Entries = &[(-1, IN); 256];
-
-const TOO_MANY: Entries = &[(-1, IN); 257];
-
-/// 256 entries are looked at, and 257 are refused, also by a poll that may wait.
-const LIMIT_OF_ENTRIES: &[Session] = &[Session {
-    name: "limits",
-    rows: &[
-        (PollNow(1, TOO_MANY), NoProcess),
-        (Start, Pid(1)),
-        (PollNow(1, MOST), Masks(256, ALL_OF_THEM)),
-        (PollWait(1, MOST_WITHOUT), Parked(1)),
-        (Resume(1), Parked(1)),
-        (PollNow(1, TOO_MANY), Fault(EINVAL)),
-        (PollWait(1, TOO_MANY), Fault(EINVAL)),
-        // None of those that were refused took a number.
-        (PollWait(1, &[]), Parked(2)),
-        (Interrupt(1), INTERRUPTED),
-    ],
-    ..NEW_KERNEL
-}];
-
 #[test]
 fn poll(rt: HostRuntime) -> Result<(), Fail> {
     each_answers(rt.alloc(), LIMITS, OF_A_PIPE)
 }
 
+/// A poll that has so many entries of one descriptor.
+fn poll_of(alloc: Global, fd: i32, count: usize, wait: bool) -> Result<Step, Fail> {
+    let entries = PollList::from_vec(Vec::from_elem(alloc, (fd, PollMask::IN), count)?);
+    Ok(Step::Begin(1, Call::Poll { entries, wait }))
+}
+
+/// How many of the masks that are answered aren't empty, and how many there are; `None` where no masks are.
+fn found(bench: &mut Bench, step: Step) -> Result<Option<(u32, usize)>, Fail> {
+    Ok(match bench.reply(step)? {
+        Some(Reply::Masks { ready, masks }) => Some((ready, masks.as_slice().len())),
+        _ => None,
+    })
+}
+
+/// Descriptors, the number of entries, whether the poll may wait, and its reply.
+const COUNTED: &[(i32, usize, bool, Want)] = &[
+    (-1, 257, false, Fault(EINVAL)),
+    (-1, 257, true, Fault(EINVAL)),
+    (9, 257, false, Fault(EINVAL)),
+    (9, 70_000, true, Fault(EINVAL)),
+    // None of those that were refused took a number.
+    (-1, 256, true, Parked(1)),
+];
+
+fn is_answered(
+    bench: &mut Bench,
+    alloc: Global,
+    row: (i32, usize, bool, Want),
+) -> Result<(), Fail> {
+    let (fd, count, wait, want) = row;
+    let step = poll_of(alloc, fd, count, wait)?;
+    let ask = if wait {
+        PollWait(1, &[])
+    } else {
+        PollNow(1, &[])
+    };
+    if bench.makes(ask, step, want)? {
+        return Ok(());
+    }
+    Err(bench.fault(ask, "finds no memory"))
+}
+
+const A_PROCESS: &[(Ask, Want)] = &[(Start, Pid(1))];
+
+/// 256 entries are looked at, and 257 are refused, also by a poll that may wait.
 #[test]
 fn limits(rt: HostRuntime) -> Result<(), Fail> {
-    each_answers(rt.alloc(), LIMITS, LIMIT_OF_ENTRIES)
+    let alloc = rt.alloc();
+    let mut bench = Bench::new("limits", alloc, alloc, LIMITS)?;
+    bench.all_answer(A_PROCESS)?;
+    for row in COUNTED {
+        is_answered(&mut bench, alloc, *row)?;
+    }
+    let not_open = found(&mut bench, poll_of(alloc, 9, 256, false)?)?;
+    assert_eq!(rt; not_open, Some((256, 256)));
+    let negative = found(&mut bench, poll_of(alloc, -1, 256, false)?)?;
+    assert_eq!(rt; negative, Some((0, 256)));
+    Ok(())
 }

@@ -1,6 +1,7 @@
 //! Polls that take no memory.
 use pl_model::Errno::{EINTR, EINVAL, EPIPE};
-use pl_model::PollMask;
+use pl_model::{Call, PollList, PollMask, Step};
+use pl_run::LIMITS;
 use pl_testing::asked::Ask::{
     Close, Exit, Interrupt, Pipe, PollNow, PollWait, Resume, Start, Write,
 };
@@ -9,11 +10,12 @@ use pl_testing::asked::NEVER_GIVEN;
 use pl_testing::asked::Want::{
     CallsSpent, Count, Fault, Fds, Masks, NoCall, NoProcess, Parked, Pid, Unit,
 };
+use pl_testing::bench::Bench;
 use pl_testing::masks::{EMPTY, IN, OUT};
+use pl_testing::refusing::Refusing;
 use pl_testing::sessions::{NEW_KERNEL, Session};
-
-/// One entry more than a poll may have.
-const TOO_MANY: &[(i32, &[PollMask])] = &[(0, IN); 257];
+use std::alloc::{Allocator, Global};
+use std::test::Fail;
 
 /// Steps of which some are to take no memory.
 pub(super) const SESSIONS: &[Session] = &[
@@ -26,8 +28,6 @@ pub(super) const SESSIONS: &[Session] = &[
             (Start, Pid(1)),
             (PollWait(2, &[]), NoProcess),
             (Pipe(1), Fds(0, 1)),
-            (PollNow(1, TOO_MANY), Fault(EINVAL)),
-            (PollWait(1, TOO_MANY), Fault(EINVAL)),
             (PollWait(1, &[(0, IN), (1, EMPTY)]), Parked(1)),
             (PollWait(1, &[(0, IN), (0, EMPTY), (-1, OUT)]), Parked(2)),
             (PollWait(1, &[]), Parked(3)),
@@ -61,3 +61,23 @@ pub(super) const SESSIONS: &[Session] = &[
         ..NEW_KERNEL
     },
 ];
+
+/// A poll with one entry more than there may be is refused where no memory can be had.
+fn refuse_entries<B: Allocator>(alloc: Global, heap: &Refusing<B>, wait: bool) -> Result<(), Fail> {
+    let mut bench = Bench::new("too many entries", alloc, heap, LIMITS)?;
+    bench.answers(Start, Pid(1))?;
+    let entries = PollList::from_vec(Vec::from_elem(heap, (0, PollMask::IN), 257)?);
+    heap.refuse(1);
+    let step = Step::Begin(1, Call::Poll { entries, wait });
+    if bench.makes(PollNow(1, &[]), step, Fault(EINVAL))? && heap.requests() == 0 {
+        return Ok(());
+    }
+    Err(bench.fault(PollNow(1, &[]), "asks for memory"))
+}
+
+#[test]
+fn too_many_entries_take_no_memory(rt: HostRuntime) -> Result<(), Fail> {
+    let heap = Refusing::new(rt.alloc());
+    refuse_entries(rt.alloc(), &heap, false)?;
+    refuse_entries(rt.alloc(), &heap, true)
+}
