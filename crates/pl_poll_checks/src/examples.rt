@@ -35,8 +35,9 @@ fn poll_of(alloc: Global, fd: i32, count: usize, wait: bool) -> Result<Step, Fai
 
 /// How many of the masks that are answered aren't empty, and how many there are; `None` where no masks are.
 fn found(bench: &mut Bench, step: Step) -> Result<Option<(u32, usize)>, Fail> {
-    Ok(match bench.reply(step)? {
-        Some(Reply::Masks { ready, masks }) => Some((ready, masks.as_slice().len())),
+    let reply = bench.reply(step)?;
+    Ok(match &reply {
+        Some(Reply::Masks { ready, masks }) => Some((*ready, masks.as_slice().len())),
         _ => None,
     })
 }

@@ -1,5 +1,5 @@
 //! The mask of a pipe's end, or of a file, for all that may be asked of it.
-use crate::rows::{Entries, F, NEW, NONBLOCK, PLAIN};
+use crate::rows::{F, NEW, NONBLOCK, PLAIN};
 use pl_model::{Mode, PollMask};
 use pl_run::LIMITS;
 use pl_testing::asked::Ask::{
@@ -13,6 +13,9 @@ use pl_testing::masks::{
 };
 use std::alloc::Global;
 use std::test::Fail;
+
+/// The entries of a poll: each of its descriptors, with what is asked of it.
+type Entries = &'static [(i32, &'static [PollMask])];
 
 const IN_BESIDE_UNASKED: &[PollMask] = &[
     PollMask::IN,

@@ -1,6 +1,6 @@
 //! What the rows of several tables name.
 use pl_model::Errno::EINTR;
-use pl_model::{OpenFlags, PollMask};
+use pl_model::OpenFlags;
 use pl_testing::asked::Data::{self, Text};
 use pl_testing::asked::Want::{self, Bytes, Fault};
 
@@ -17,6 +17,3 @@ pub(crate) const NONBLOCK: &[OpenFlags] = &[OpenFlags::NONBLOCK];
 pub(crate) const NOTHING: Want = Bytes(Text(""));
 
 pub(crate) const INTERRUPTED: Want = Fault(EINTR);
-
-/// The entries of a poll: each of its descriptors, with what is asked of it.
-pub(crate) type Entries = &'static [(i32, &'static [PollMask])];
