@@ -64,6 +64,7 @@ pub(super) const SESSIONS: &[Session] = &[
 
 /// A poll with one entry more than there may be is refused where no memory can be had.
 fn refuse_entries<B: Allocator>(alloc: Global, heap: &Refusing<B>, wait: bool) -> Result<(), Fail> {
+    heap.refuse(0);
     let mut bench = Bench::new("too many entries", alloc, heap, LIMITS)?;
     bench.answers(Start, Pid(1))?;
     let entries = PollList::from_vec(Vec::from_elem(heap, (0, PollMask::IN), 257)?);
