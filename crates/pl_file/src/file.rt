@@ -73,6 +73,21 @@ impl<A: Allocator + Copy> File<A> {
         read_all(self.alloc, store, list.as_slice(), capacity)
     }
 
+    /// Copies the bytes from a place on into a list, which is no longer than what is there (POSIX.1-2017, read). It takes no memory.
+    pub fn read_into(&self, store: &Store<A>, place: usize, into: &mut [u8])
+        requires lie { AllLie (segment_at store.now) self.now }
+        requires fits { length into.old ≤ total self.now - place }
+        ensures { into.new ≡ take (length into.old) (drop place (all_read (segment_at store.now) self.now)) }
+    {
+        let cut = rest_cut(&self.row, place);
+        let mut filled = fill_part(store, cut.part, into);
+        let mut slot = cut.place;
+        while filled < into.len() && slot < self.row.len() {
+            filled = store.fill(self.row.get(slot), into, filled);
+            slot += 1;
+        }
+    }
+
     /// The slices of at most `count` bytes from a place on, none past the end.
     pub fn slices_at(&self, place: usize, count: usize) -> Result<SliceList<A>, NoMemory>
         ensures { IfOk result (λ list. list ≡ front_of count (drop_bytes place self.now)) }
@@ -214,6 +229,20 @@ fn list_part<A: Allocator>(
         }
     }
     Ok(count - len)
+}
+
+/// Copies the bytes of a slice, where it has some, to the first places of a list, as many as there are places for, and answers how
+/// many.
+fn fill_part<A: Allocator + Copy>(store: &Store<A>, slice: Slice, into: &mut [u8]) -> usize
+    requires { AllLie (segment_at store.now) (solid_of (slice ∷ [])) }
+    ensures bytes { take result into.new ≡ take (length into.old) (all_read (segment_at store.now) (solid_of (slice ∷ []))) }
+    ensures most { result ≤ length into.new }
+    ensures len { length into.new ≡ length into.old }
+{
+    if slice.len == 0 {
+        return 0;
+    }
+    store.fill(slice, into, 0)
 }
 
 /// The bytes of slices, one after another, in a list with memory for `capacity`.

@@ -8,6 +8,7 @@ mod kernel;
 mod stats;
 mod steps;
 
-pub use kernel::Kernel;
+pub use kernel::{Kernel, Resumed};
 pub use pl_state::NoMemory;
+pub use pl_transfers::ReadReply;
 pub use stats::Stats;

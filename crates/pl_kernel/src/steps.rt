@@ -1,11 +1,13 @@
 //! One step of the kernel, by the calls.
-ghost use Rattle.std.specs.Prelude.{◌≡◌, true, false, nat_eq, IfOk, OnErr, IsOk, IfSome};
+ghost use Rattle.std.specs.Prelude.{◌≡◌, ◌≤◌, ◌<◌, ◌^◌, true, false, nat_eq, length, drop, IfOk, OnErr, IsOk, IfSome};
+ghost use Rattle.pl_model.specs.Numbers.{most_bytes};
 ghost use Rattle.pl_model.specs.Memory.{is_frugal, is_frugal_call};
 ghost use Rattle.pl_model.specs.Map.{get};
 ghost use Rattle.pl_state.specs.Contents.{IsProcess};
 ghost use Rattle.pl_state.specs.Sound.{IsPoll};
 ghost use Rattle.pl_state.specs.Makes.{MakesAtKeys, MayWantAtKeys};
 ghost use Rattle.pl_splices.specs.Shares.{SharesByStep};
+ghost use Rattle.pl_transfers.specs.ReadInto.{told, read_count, ParksAtKeys};
 
 use pl_descriptors::{close, dup, dup_fd, dup2, exit, fork, get_fl, set_fl, start};
 use pl_model::{Call, Reply, Step};
@@ -13,7 +15,9 @@ use pl_naming::{mkfifo, open_name, unlink};
 use pl_polls::{poll, resume_poll};
 use pl_splices::{resume, splice, tee};
 use pl_state::{KernelState, NoMemory};
-use pl_transfers::{get_pipe_sz, interrupt, lseek, pipe, read, set_pipe_sz, write};
+use pl_transfers::{
+    ReadReply, get_pipe_sz, interrupt, lseek, pipe, read, read_into, set_pipe_sz, write, write_from,
+};
 use std::alloc::Allocator;
 
 // In place in its caller: where the call is written there, as in `Call::Read { .. }`, the match falls away.
@@ -66,6 +70,45 @@ fn begin<A: Allocator + Copy>(
     }
 }
 
+// Begins a write of the caller's bytes.
+pub(crate) fn begin_write_from<A: Allocator + Copy>(
+    kernel: &mut KernelState<A>,
+    pid: u32,
+    fd: i32,
+    bytes: &[u8],
+) -> Result<Reply<A>, NoMemory>
+    requires { length bytes.now ≤ most_bytes }
+    ensures done { IfOk result (λ reply. MakesAtKeys kernel.old (Step.Begin pid (Call.Write fd bytes.now)) reply kernel.new) }
+    ensures undone { OnErr result (kernel.new ≡ kernel.old) }
+    ensures wanted { OnErr result (MayWantAtKeys {A = A} kernel.old (Step.Begin pid (Call.Write fd bytes.now))) }
+{
+    if !kernel.descs.has(pid) {
+        return Ok(Reply::NoProcess);
+    }
+    write_from(kernel, pid, fd, bytes)
+}
+
+// Begins a read into the caller's bytes.
+pub(crate) fn begin_read_into<A: Allocator + Copy>(
+    kernel: &mut KernelState<A>,
+    pid: u32,
+    fd: i32,
+    into: &mut [u8],
+) -> Result<ReadReply, NoMemory>
+    requires { length into.old < 2 ^ 32 }
+    ensures done { IfOk result (λ reply. MakesAtKeys {A = A} kernel.old (Step.Begin pid (Call.Read fd (length into.old))) (told reply into.new) kernel.new) }
+    ensures within { IfOk result (λ reply. read_count reply ≤ length into.new) }
+    ensures rest { IfOk result (λ reply. drop (read_count reply) into.new ≡ drop (read_count reply) into.old) }
+    ensures undone { OnErr result (kernel.new ≡ kernel.old) }
+    ensures unread { OnErr result (into.new ≡ into.old) }
+    ensures wanted { OnErr result (ParksAtKeys {A = A} kernel.old (Step.Begin pid (Call.Read fd (length into.old)))) }
+{
+    if !kernel.descs.has(pid) {
+        return Ok(ReadReply::NoProcess);
+    }
+    read_into(kernel, pid, fd, into)
+}
+
 // Whether the call of a number is a poll.
 fn is_poll<A: Allocator + Copy>(kernel: &KernelState<A>, number: u64) -> bool
     ensures polls { result ≡ true → IfSome (get nat_eq kernel.now.calls.calls number) (λ w. IsPoll w.call) }
@@ -79,7 +122,7 @@ fn is_poll<A: Allocator + Copy>(kernel: &KernelState<A>, number: u64) -> bool
 
 // Tries the parked call of a number again.
 #[inline(never)]
-fn try_again<A: Allocator + Copy>(
+pub(crate) fn try_again<A: Allocator + Copy>(
     kernel: &mut KernelState<A>,
     number: u64,
 ) -> Result<Reply<A>, NoMemory>

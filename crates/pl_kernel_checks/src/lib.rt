@@ -2,6 +2,8 @@
 #![tactic(auto)]
 
 #[cfg(test)]
+mod buffers;
+#[cfg(test)]
 mod capacities;
 #[cfg(test)]
 mod examples;

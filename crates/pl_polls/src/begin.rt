@@ -28,10 +28,13 @@ fn keys_of<A: Allocator + Copy>(
 ) -> Result<Vec<usize, A>, AllocError>
     ensures { IfOk result (λ keys. keys.items ≡ keys_named descs.now.tables pid entries.now) }
 {
-    entries
-        .iter()
-        .filter_map(|(fd, _)| descs.find(pid, *fd))
-        .collect(alloc)
+    let mut keys = Vec::with_capacity(alloc, entries.len())?;
+    for (fd, _) in entries {
+        if let Some(key) = descs.find(pid, *fd) {
+            keys.push_reserved(key);
+        }
+    }
+    Ok(keys)
 }
 
 // Parks a poll, all of whose descriptors are negative or open.

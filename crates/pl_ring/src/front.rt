@@ -93,6 +93,45 @@ fn add_bytes<A: Allocator + Copy>(
     }
 }
 
+/// Copies the first bytes into a list of so many.
+#[inline(always)]
+pub(crate) fn copy_into<A: Allocator + Copy>(
+    store: &Store<A>,
+    slots: &HeapCircularBuffer<Slice, A>,
+    into: &mut [u8],
+)
+    requires lie { AllLie (segment_at store.now) slots.now.items }
+    requires count { length into.old ≤ total slots.now.items }
+    ensures { into.new ≡ take (length into.old) (all_read (segment_at store.now) slots.now.items) }
+{
+    let (front, back) = slots.as_slices();
+    let filled = fill(store, front, into, 0);
+    fill(store, back, into, filled);
+}
+
+/// Copies the bytes of slots to the places of a list from `from` on, until it is full, and answers how many places are filled
+/// then.
+fn fill<A: Allocator + Copy>(
+    store: &Store<A>,
+    slots: &[Slice],
+    into: &mut [u8],
+    from: usize,
+) -> usize
+    requires lie { AllLie (segment_at store.now) slots.now }
+    requires from { from ≤ length into.old }
+    ensures bytes { take result into.new ≡ take from into.old ++ take (length into.old - from) (all_read (segment_at store.now) slots.now) }
+    ensures most { result ≤ length into.new }
+    ensures len { length into.new ≡ length into.old }
+{
+    let mut filled = from;
+    let mut place = 0;
+    while place < slots.len() && filled < into.len() {
+        filled = store.fill(slots[place], into, filled);
+        place += 1;
+    }
+    filled
+}
+
 /// The slices of the first bytes.
 pub(crate) fn front_slices<A: Allocator + Copy>(
     alloc: A,

@@ -10,7 +10,7 @@ ghost use Rattle.pl_ring.specs.Parts.{strange};
 ghost use Rattle.pl_ring.specs.Ring.{IsCapacity, IsBeside};
 
 use crate::fault::CapacityFault;
-use crate::front::{copy_front, drop_front, front_slices};
+use crate::front::{copy_front, copy_into, drop_front, front_slices};
 use crate::push::{push_bytes, push_slices};
 use circular_buffer::HeapCircularBuffer;
 use pl_model::numbers::FIRST_CAPACITY;
@@ -162,6 +162,21 @@ impl<A: Allocator + Copy> Ring<A> {
         let bytes = copy_front(self.alloc, store, &self.slots, count)?;
         self.drop_front(store, count);
         Ok(bytes)
+    }
+
+    /// Takes the first bytes, into a list of so many. It takes no memory.
+    #[inline(always)]
+    pub fn pop_into(&mut self, store: &mut Store<A>, into: &mut [u8])
+        requires held { Holds (segment_at store.old) self.old.slots }
+        requires count { length into.old ≤ total self.old.slots }
+        ensures bytes { into.new ≡ take (length into.old) (all_read (segment_at store.old) self.old.slots) }
+        ensures turns { Turns (segment_at store.old) self.old.slots (segment_at store.new) self.new.slots }
+        ensures read { all_read (segment_at store.new) self.new.slots ≡ drop (length into.old) (all_read (segment_at store.old) self.old.slots) }
+        ensures capacity { self.new.capacity ≡ self.old.capacity }
+    {
+        let len = into.len();
+        copy_into(store, &self.slots, into);
+        self.drop_front(store, len);
     }
 
     /// Lets the first bytes go. It takes no memory.

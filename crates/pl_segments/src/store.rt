@@ -1,5 +1,5 @@
 //! The store of segments.
-ghost use Rattle.std.specs.Prelude.{◌≡◌, ◌++◌, nat_eq, if◌then◌else◌, ℕ, ◌+◌, ◌-◌, ◌<◌, ◌≤◌, ◌^◌, [], ◌∷◌, length, max, IsOk, IfOk, OnErr, OnOk, Some, None};
+ghost use Rattle.std.specs.Prelude.{◌≡◌, ◌++◌, nat_eq, if◌then◌else◌, ℕ, ◌+◌, ◌-◌, ◌<◌, ◌≤◌, ◌^◌, [], ◌∷◌, length, take, max, IsOk, IfOk, OnErr, OnOk, Some, None};
 ghost use Rattle.pl_segments.specs.Segments.{segment_size, most_spare, segment_at, set_at, filled, holders, AreGood, live_count, more_held, less_held, longer};
 ghost use Rattle.pl_segments.specs.Slices.{Lies, reads, longer_by, appended, room_after};
 ghost use Rattle.pl_segments.specs.Turns.{Holds, Turns};
@@ -190,6 +190,22 @@ impl<A: Allocator + Copy> Store<A> {
         ensures { into.new ≡ reads (segment_at self.now) slice }
     {
         into.copy_from_slice(self.bytes(slice));
+    }
+
+    /// Copies the bytes of a slice to the places of a list from `filled` on, as many as there are places for, and answers how many
+    /// places are filled then.
+    #[inline(always)]
+    pub fn fill(&self, slice: Slice, into: &mut [u8], filled: usize) -> usize
+        requires lies { Lies (segment_at self.now) slice }
+        requires filled { filled ≤ length into.old }
+        ensures bytes { take result into.new ≡ take filled into.old ++ take (length into.old - filled) (reads (segment_at self.now) slice) }
+        ensures most { result ≤ length into.new }
+        ensures len { length into.new ≡ length into.old }
+    {
+        let bytes = self.bytes(slice);
+        let count = bytes.len().min(into.len() - filled);
+        into[filled..filled + count].copy_from_slice(&bytes[..count]);
+        filled + count
     }
 
     /// The bytes of a slice.

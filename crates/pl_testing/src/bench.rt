@@ -3,6 +3,7 @@ ghost use Rattle.std.specs.Prelude.{◌≤◌};
 ghost use Rattle.pl_model.specs.Numbers.{most_file_bytes};
 
 use crate::asked::{Ask, Data, Want};
+use crate::buffers::reply_on_buffers;
 use pl_kernel::Kernel;
 use pl_model::numbers::MAX_PROCESSES;
 use pl_model::{Bytes8, Call, Limits, MaskList, Outcome, Reply, Step};
@@ -20,6 +21,8 @@ pub struct Bench<A: Allocator = Global> {
     alloc: Global,
     heap: A,
     kernel: Box<Kernel<A>>,
+    /// Whether steps are made on buffers of the test's where they can be.
+    on_buffers: bool,
     /// How many steps were made; a failure names the last.
     made: u64,
     /// The request for memory that is refused; 0 for none.
@@ -48,7 +51,7 @@ fn outcomes_of<A: Allocator + Copy>(
 }
 
 /// The reply, with its bytes in memory of `alloc`. It fails where that has none.
-fn moved<A: Allocator>(alloc: Global, reply: Reply<A>) -> Result<Reply, Fail> {
+pub(crate) fn moved<A: Allocator>(alloc: Global, reply: Reply<A>) -> Result<Reply, Fail> {
     Ok(match reply {
         Reply::Pid(pid) => Reply::Pid(pid),
         Reply::Fd(fd) => Reply::Fd(fd),
@@ -87,9 +90,15 @@ impl<A: Allocator + Copy> Bench<A> {
             alloc,
             heap,
             kernel: Box::new(alloc, Kernel::new(heap, limits))?,
+            on_buffers: false,
             made: 0,
             refused: 0,
         })
+    }
+
+    /// Writes come from buffers of the test's from now on, and reads go into such.
+    pub fn use_buffers(&mut self) {
+        self.on_buffers = true;
     }
 
     /// A failure says from now on that this request for memory is refused.
@@ -116,6 +125,9 @@ impl<A: Allocator + Copy> Bench<A> {
     /// Makes the step, and answers its reply; `None` where it finds no memory.
     pub fn reply(&mut self, step: Step<A>) -> Result<Option<Reply>, Fail> {
         self.made = self.made.wrapping_add(1);
+        if self.on_buffers {
+            return reply_on_buffers(self.alloc, &mut self.kernel, step);
+        }
         match reply_to(&mut self.kernel, step) {
             Some(reply) => Ok(Some(moved(self.alloc, reply)?)),
             None => Ok(None),

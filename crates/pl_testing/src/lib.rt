@@ -4,6 +4,7 @@
 
 pub mod asked;
 pub mod bench;
+mod buffers;
 pub mod examples;
 pub mod masks;
 pub mod refusing;

@@ -38,14 +38,16 @@ pub const NEW_KERNEL: Session = Session {
     names: &[],
 };
 
-/// Makes each session on a kernel of its own, within the limits but for its first call. It fails at the first row that isn't
+/// Makes each session on a kernel of its own, within the limits but for its first call, and once more on one whose writes come from
+/// buffers, and whose reads go into such. It fails at the first row that isn't
 /// answered as it says, which it names with its session, at a session whose bytes outlive its processes and names or that has no
 /// rows, and where there is no memory for the bytes of a row.
 pub fn each_answers(alloc: Global, limits: Limits, sessions: &[Session]) -> Result<(), Fail>
     requires { limits.file_max ≤ most_file_bytes }
 {
     for session in sessions {
-        session_answers(alloc, limits, session)?;
+        session_answers(alloc, limits, session, false)?;
+        session_answers(alloc, limits, session, true)?;
     }
     Ok(())
 }
@@ -58,7 +60,12 @@ fn make(bench: &mut Bench, session: &Session) -> Result<(), Fail> {
     bench.ends_empty(session.names)
 }
 
-fn session_answers(alloc: Global, limits: Limits, session: &Session) -> Result<(), Fail>
+fn session_answers(
+    alloc: Global,
+    limits: Limits,
+    session: &Session,
+    on_buffers: bool,
+) -> Result<(), Fail>
     requires { limits.file_max ≤ most_file_bytes }
 {
     if session.rows.is_empty() {
@@ -69,5 +76,8 @@ fn session_answers(alloc: Global, limits: Limits, session: &Session) -> Result<(
         ..limits
     };
     let mut bench = Bench::new(session.name, alloc, alloc, limits)?;
+    if on_buffers {
+        bench.use_buffers();
+    }
     make(&mut bench, session)
 }

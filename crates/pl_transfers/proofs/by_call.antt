@@ -6,6 +6,8 @@ pub mod Redescribing
 pub mod Filing
 -- What a read comes to at the kernel's keys.
 pub mod Reading
+-- What a read gives is no more than was asked, and no more than is held.
+pub mod Giving
 -- What a write comes to at the kernel's keys.
 pub mod Writing
 -- What a resume or an interrupt comes to at the kernel's keys.

@@ -1,2 +1,4 @@
 pub mod Files
 pub mod Capacities
+pub mod Waits
+pub mod ReadInto

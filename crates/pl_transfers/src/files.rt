@@ -1,5 +1,5 @@
 //! Reads and writes of regular files, at the offset that all descriptors of a description share.
-ghost use Rattle.std.specs.Prelude.{◌≡◌, ◌↔◌, ◌≤◌, length, IfOk, OnErr, Err};
+ghost use Rattle.std.specs.Prelude.{◌≡◌, ◌↔◌, ◌≤◌, length, take, drop, IfOk, OnErr, Err};
 ghost use Rattle.pl_model.specs.declared.node.Node.TheVariants as node;
 ghost use Rattle.pl_state.specs.Opens.{OpenOn};
 ghost use Rattle.pl_transfers.specs.Files.{ReadsFile, WritesFile, IsFull};
@@ -28,6 +28,27 @@ pub(crate) fn read_file<A: Allocator + Copy>(
     let bytes = kernel.nodes.read_file(file, place, n as usize)?;
     kernel.descs.set_offset(key, (place + bytes.len()) as u64);
     Ok(Bytes8::from_vec(bytes).unwrap())
+}
+
+// Reads from the offset of a description on into the caller's bytes; the offset advances.
+#[inline(never)]
+pub(crate) fn read_file_into<A: Allocator + Copy>(
+    kernel: &mut KernelState<A>,
+    key: usize,
+    file: usize,
+    into: &mut [u8],
+) -> usize
+    requires { OpenOn kernel.old key (Node.File file) }
+    ensures done { ReadsFile kernel.old key file (length into.old) (take result into.new) kernel.new }
+    ensures within { result ≤ length into.new }
+    ensures rest { drop result into.new ≡ drop result into.old }
+{
+    let place = kernel.descs.offset(key) as usize;
+    // A proof learns here that no file has more bytes than a read may answer.
+    let _len = kernel.nodes.file_len(file);
+    let read = kernel.nodes.read_file_into(file, place, into);
+    kernel.descs.set_offset(key, (place + read) as u64);
+    read
 }
 
 // Writes bytes, not none, at the offset of a description, or at the end of the file under `APPEND`, and leaves the offset behind

@@ -5,10 +5,14 @@ mod capacities;
 mod files;
 mod offsets;
 mod parking;
+mod reading;
 mod transfers;
 mod waiting;
 
 pub use capacities::{get_pipe_sz, set_pipe_sz, slots};
 pub use offsets::lseek;
-pub use transfers::{open_for, pipe, read, write};
-pub use waiting::{interrupt, refusal_to_wait, resume_one};
+pub use reading::{ReadReply, read, read_into};
+pub use transfers::{open_for, pipe, write, write_from};
+pub use waiting::{
+    WaitingRead, interrupt, refusal_to_wait, resume_one, resume_read_into, waiting_read,
+};

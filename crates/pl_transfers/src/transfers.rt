@@ -1,7 +1,8 @@
-//! Reads and writes, and how pipes are made.
+//! Writes, what a descriptor names, and how pipes are made.
 ghost use Rattle.std.specs.Prelude.{◌≡◌, ◌≢◌, ◌≤◌, [], length, IfOk, OnErr, IsSome, IfSome, IfNone, None, Some};
 ghost use Rattle.pl_model.specs.Flags.{nonblock_if};
-ghost use Rattle.pl_model.specs.Modes.{reads, writes};
+ghost use Rattle.pl_model.specs.Modes.{writes};
+ghost use Rattle.pl_model.specs.Numbers.{most_bytes};
 ghost use Rattle.pl_model.specs.Transfer.{read_case, write_case, room};
 ghost use Rattle.pl_model.specs.Begin.{open_for};
 ghost use Rattle.pl_desc.specs.Rows.{at};
@@ -10,9 +11,10 @@ ghost use Rattle.pl_state.specs.Contents.{IsProcess, core_of, allows};
 ghost use Rattle.pl_state.specs.Opens.{Opens, of_end};
 ghost use Rattle.pl_state.specs.LastHold.{has_reader, has_writer};
 ghost use Rattle.pl_state.specs.Makes.{MakesAtKeys, MayWantAtKeys};
+ghost use Rattle.pl_transfers.specs.Waits.{WriteTried, WaitsToWrite};
 
-use crate::files::{read_file, write_file};
-use crate::waiting::{park, park_write, refusal_to_wait};
+use crate::files::write_file;
+use crate::waiting::{park_write, refusal_to_wait};
 use bitflags::Flags;
 use pl_model::numbers::MAX_DESCRIPTIONS;
 use pl_model::{Bytes8, Call, Errno, Mode, Node, OpenFlags, ReadCase, Reply, Step, WriteCase};
@@ -126,75 +128,13 @@ pub(crate) fn case_of_write<A: Allocator + Copy>(
     pl_decisions::case_of_write(length, taken, room, has_reader, may_wait)
 }
 
-/// Reads at most `n` bytes of what a descriptor names (POSIX.1-2017, read).
-///
-/// The reply is the bytes, none at the end of file, or a number under which the call waits, or `EBADF` where the descriptor isn't open for
-/// reading, `EAGAIN` where the call would wait and may not, `CallsSpent` where no number is left; these and the only error, want of
-/// memory, leave all as it was.
-#[inline(always)]
-pub fn read<A: Allocator + Copy>(
-    kernel: &mut KernelState<A>,
-    pid: u32,
-    fd: i32,
-    n: u32,
-) -> Result<Reply<A>, NoMemory>
-    requires { IsProcess kernel.old pid }
-    ensures done { IfOk result (λ reply. MakesAtKeys kernel.old (Step.Begin pid (Call.Read fd n)) reply kernel.new) }
-    ensures undone { OnErr result (kernel.new ≡ kernel.old) }
-    ensures wanted { OnErr result (MayWantAtKeys {A = A} kernel.old (Step.Begin pid (Call.Read fd n))) }
-{
-    let Some(open) = open_for(kernel, pid, fd, Access::Reading) else {
-        return Ok(Reply::Fault(Errno::EBADF));
-    };
-    if n == 0 {
-        return Ok(no_bytes(kernel.alloc));
-    }
-    match open.node {
-        Node::Pipe(pipe) => read_pipe(
-            kernel,
-            pid,
-            fd,
-            n,
-            OpenEnd {
-                key: open.key,
-                pipe,
-                nonblock: open.nonblock,
-            },
-        ),
-        Node::File(file) => Ok(Reply::Bytes(read_file(kernel, open.key, file, n)?)),
-    }
-}
-
-// A read of n bytes, not 0, of the end of a pipe that a descriptor names.
-#[inline(always)]
-fn read_pipe<A: Allocator + Copy>(
-    kernel: &mut KernelState<A>,
-    pid: u32,
-    fd: i32,
-    n: u32,
-    end: OpenEnd,
-) -> Result<Reply<A>, NoMemory>
-    requires process { IsProcess kernel.old pid }
-    requires opens { Opens kernel.old reads pid fd (of_end end) }
-    requires some { n ≢ 0 }
-    ensures done { IfOk result (λ reply. MakesAtKeys kernel.old (Step.Begin pid (Call.Read fd n)) reply kernel.new) }
-    ensures undone { OnErr result (kernel.new ≡ kernel.old) }
-    ensures wanted { OnErr result (MayWantAtKeys {A = A} kernel.old (Step.Begin pid (Call.Read fd n))) }
-{
-    match case_of_read(kernel, end.pipe, n) {
-        ReadCase::Gives(count) => {
-            let bytes = kernel.nodes.read_pipe(end.pipe, count)?;
-            Ok(Reply::Bytes(Bytes8::from_vec(bytes).unwrap()))
-        }
-        ReadCase::EndOfFile => Ok(no_bytes(kernel.alloc)),
-        ReadCase::Waits => {
-            if let Some(refusal) = refusal_to_wait(kernel, end.nonblock) {
-                return Ok(refusal);
-            }
-            let number = park(kernel, pid, Call::Read { fd, n }, end.key, 0)?;
-            Ok(Reply::Parked(number))
-        }
-    }
+/// What a write comes to at its first try.
+#[derive(Drop)]
+pub(crate) enum WriteTry<A: Allocator> {
+    /// It is answered.
+    Answered(Reply<A>),
+    /// It waits on the end of a pipe, into which so many bytes go first.
+    Waits { end: OpenEnd, to: usize },
 }
 
 /// Writes bytes to what a descriptor names (POSIX.1-2017, write; pipe(7), PIPE_BUF).
@@ -214,19 +154,63 @@ pub fn write<A: Allocator + Copy>(
     ensures undone { OnErr result (kernel.new ≡ kernel.old) }
     ensures wanted { OnErr result (MayWantAtKeys {A = A} kernel.old (Step.Begin pid (Call.Write fd bytes))) }
 {
+    match try_write(kernel, pid, fd, bytes.as_slice())? {
+        WriteTry::Answered(reply) => Ok(reply),
+        WriteTry::Waits { end, to } => wait_to_write(kernel, pid, fd, bytes, end, to),
+    }
+}
+
+/// Writes the caller's bytes, as `write` does those of a call. One that waits keeps a copy of them, which is asked for behind all
+/// refusals.
+#[inline(always)]
+pub fn write_from<A: Allocator + Copy>(
+    kernel: &mut KernelState<A>,
+    pid: u32,
+    fd: i32,
+    bytes: &[u8],
+) -> Result<Reply<A>, NoMemory>
+    requires process { IsProcess kernel.old pid }
+    requires few { length bytes.now ≤ most_bytes }
+    ensures done { IfOk result (λ reply. MakesAtKeys kernel.old (Step.Begin pid (Call.Write fd bytes.now)) reply kernel.new) }
+    ensures undone { OnErr result (kernel.new ≡ kernel.old) }
+    ensures wanted { OnErr result (MayWantAtKeys {A = A} kernel.old (Step.Begin pid (Call.Write fd bytes.now))) }
+{
+    match try_write(kernel, pid, fd, bytes)? {
+        WriteTry::Answered(reply) => Ok(reply),
+        WriteTry::Waits { end, to } => {
+            let copy = Vec::from_slice(kernel.alloc, bytes)?;
+            wait_to_write(kernel, pid, fd, Bytes8::from_vec(copy).unwrap(), end, to)
+        }
+    }
+}
+
+// What a write of bytes to what a descriptor names comes to.
+#[inline(always)]
+fn try_write<A: Allocator + Copy>(
+    kernel: &mut KernelState<A>,
+    pid: u32,
+    fd: i32,
+    bytes: &[u8],
+) -> Result<WriteTry<A>, NoMemory>
+    requires process { IsProcess kernel.old pid }
+    requires few { length bytes.now ≤ most_bytes }
+    ensures done { IfOk result (λ tried. WriteTried kernel.old pid fd bytes.now tried kernel.new) }
+    ensures undone { OnErr result (kernel.new ≡ kernel.old) }
+    ensures wanted { OnErr result (MayWantAtKeys {A = A} kernel.old (Step.Begin pid (Call.Write fd bytes.now))) }
+{
     // A proof learns here what holds of the kernel.
     let _ = &kernel.descs;
     let Some(open) = open_for(kernel, pid, fd, Access::Writing) else {
-        return Ok(Reply::Fault(Errno::EBADF));
+        return Ok(WriteTry::Answered(Reply::Fault(Errno::EBADF)));
     };
-    if bytes.as_slice().is_empty() {
-        return Ok(Reply::Count {
+    if bytes.is_empty() {
+        return Ok(WriteTry::Answered(Reply::Count {
             n: 0,
             sigpipe: false,
-        });
+        }));
     }
     match open.node {
-        Node::Pipe(pipe) => write_pipe(
+        Node::Pipe(pipe) => try_write_pipe(
             kernel,
             pid,
             fd,
@@ -237,55 +221,74 @@ pub fn write<A: Allocator + Copy>(
                 nonblock: open.nonblock,
             },
         ),
-        Node::File(file) => match write_file(kernel, open.key, file, bytes.as_slice()) {
-            Ok(count) => Ok(Reply::Count {
+        Node::File(file) => match write_file(kernel, open.key, file, bytes) {
+            Ok(count) => Ok(WriteTry::Answered(Reply::Count {
                 n: count as u32,
                 sigpipe: false,
-            }),
-            Err(WriteFault::TooBig) => Ok(Reply::Fault(Errno::EFBIG)),
+            })),
+            Err(WriteFault::TooBig) => Ok(WriteTry::Answered(Reply::Fault(Errno::EFBIG))),
             Err(WriteFault::NoMemory) => Err(NoMemory),
         },
     }
 }
 
-// A write of bytes, not none, to the end of a pipe that a descriptor names.
+// What a write of bytes, not none, to the end of a pipe that a descriptor names comes to.
 #[inline(always)]
-fn write_pipe<A: Allocator + Copy>(
+fn try_write_pipe<A: Allocator + Copy>(
+    kernel: &mut KernelState<A>,
+    pid: u32,
+    fd: i32,
+    bytes: &[u8],
+    end: OpenEnd,
+) -> Result<WriteTry<A>, NoMemory>
+    requires process { IsProcess kernel.old pid }
+    requires few { length bytes.now ≤ most_bytes }
+    requires opens { Opens kernel.old writes pid fd (of_end end) }
+    requires some { length bytes.now ≢ 0 }
+    ensures done { IfOk result (λ tried. WriteTried kernel.old pid fd bytes.now tried kernel.new) }
+    ensures undone { OnErr result (kernel.new ≡ kernel.old) }
+    ensures wanted { OnErr result (MayWantAtKeys {A = A} kernel.old (Step.Begin pid (Call.Write fd bytes.now))) }
+{
+    match case_of_write(kernel, end.pipe, bytes.len(), 0, !end.nonblock) {
+        WriteCase::Broken => Ok(WriteTry::Answered(Reply::Fault(Errno::EPIPE))),
+        WriteCase::CutShort => Ok(WriteTry::Answered(Reply::Count {
+            n: 0,
+            sigpipe: true,
+        })),
+        WriteCase::Ends { from, to } => {
+            kernel.nodes.write_pipe(end.pipe, &bytes[from..to])?;
+            Ok(WriteTry::Answered(Reply::Count {
+                n: to as u32,
+                sigpipe: false,
+            }))
+        }
+        WriteCase::Waits { to, .. } => {
+            if let Some(refusal) = refusal_to_wait(kernel, end.nonblock) {
+                return Ok(WriteTry::Answered(refusal));
+            }
+            Ok(WriteTry::Waits { end, to })
+        }
+    }
+}
+
+// Parks a write, of which so many bytes go in first.
+#[inline(never)]
+fn wait_to_write<A: Allocator + Copy>(
     kernel: &mut KernelState<A>,
     pid: u32,
     fd: i32,
     bytes: Bytes8<A>,
     end: OpenEnd,
+    to: usize,
 ) -> Result<Reply<A>, NoMemory>
     requires process { IsProcess kernel.old pid }
-    requires opens { Opens kernel.old writes pid fd (of_end end) }
-    requires some { length bytes ≢ 0 }
+    requires waits { WaitsToWrite kernel.old pid fd bytes end to }
     ensures done { IfOk result (λ reply. MakesAtKeys kernel.old (Step.Begin pid (Call.Write fd bytes)) reply kernel.new) }
     ensures undone { OnErr result (kernel.new ≡ kernel.old) }
     ensures wanted { OnErr result (MayWantAtKeys {A = A} kernel.old (Step.Begin pid (Call.Write fd bytes))) }
 {
-    let length = bytes.as_slice().len();
-    match case_of_write(kernel, end.pipe, length, 0, !end.nonblock) {
-        WriteCase::Broken => Ok(Reply::Fault(Errno::EPIPE)),
-        WriteCase::CutShort => Ok(Reply::Count {
-            n: 0,
-            sigpipe: true,
-        }),
-        WriteCase::Ends { from, to } => {
-            kernel
-                .nodes
-                .write_pipe(end.pipe, &bytes.as_slice()[from..to])?;
-            Ok(Reply::Count {
-                n: to as u32,
-                sigpipe: false,
-            })
-        }
-        WriteCase::Waits { to, .. } => {
-            if let Some(refusal) = refusal_to_wait(kernel, end.nonblock) {
-                return Ok(refusal);
-            }
-            let number = park_write(kernel, pid, Call::Write { fd, bytes }, end, to)?;
-            Ok(Reply::Parked(number))
-        }
-    }
+    // A proof learns here what holds of the kernel.
+    let _ = &kernel.descs;
+    let number = park_write(kernel, pid, Call::Write { fd, bytes }, end, to)?;
+    Ok(Reply::Parked(number))
 }

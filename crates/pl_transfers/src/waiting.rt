@@ -1,5 +1,5 @@
 //! Calls that wait: how they are parked, tried again, interrupted, and end.
-ghost use Rattle.std.specs.Prelude.{◌≡◌, ◌≤◌, true, nat_eq, length, take, IfOk, OnOk, OnErr, IsSome, IfSome};
+ghost use Rattle.std.specs.Prelude.{◌≡◌, ◌≤◌, ℕ, true, nat_eq, length, take, drop, IfOk, OnOk, OnErr, IsSome, IfSome, IfNone};
 ghost use Rattle.pl_model.specs.Numbers.{last_call, most_bytes};
 ghost use Rattle.pl_model.specs.Map.{get};
 ghost use Rattle.pl_model.specs.Settle.{settle};
@@ -11,8 +11,10 @@ ghost use Rattle.pl_state.specs.Opens.{OpenOn};
 ghost use Rattle.pl_state.specs.Sound.{IsPipe, KeepsOne, MayKeep, MayWait, OnNode};
 ghost use Rattle.pl_state.specs.Parking.{written, refusal, call_on, with_call, Adds, OpenWaits, ReadWaits, WriteWaits};
 ghost use Rattle.pl_state.specs.Makes.{MakesAtKeys, MayWantAtKeys};
+ghost use Rattle.pl_transfers.specs.ReadInto.{read_count, told};
 
 use crate::parking::park_call;
+use crate::reading::ReadReply;
 use crate::transfers::{case_of_read, case_of_write, no_bytes};
 use pl_model::{Bytes8, Call, Errno, Node, ReadCase, Reply, Step, WriteCase};
 use pl_state::{KernelState, NoMemory, OpenEnd, end_call, release_all};
@@ -149,6 +151,62 @@ fn resume_read<A: Allocator + Copy>(
             Ok(no_bytes(kernel.alloc))
         }
         ReadCase::Waits => Ok(Reply::Parked(number)),
+    }
+}
+
+/// A read that waits.
+#[derive(Clone, Copy)]
+pub struct WaitingRead {
+    /// The key of the description.
+    pub key: usize,
+    /// How many bytes it asks for.
+    pub n: u32,
+}
+
+/// The parked call of a number, where it is a read.
+pub fn waiting_read<A: Allocator + Copy>(
+    kernel: &KernelState<A>,
+    number: u64,
+) -> Option<WaitingRead>
+    ensures some { IfSome result (λ read. ReadWaits kernel.now number read.key read.n) }
+    ensures none { IfNone result ((key n : ℕ) → ¬ ReadWaits {A = A} kernel.now number key n) }
+{
+    let call = kernel.parked.get(number)?;
+    let Call::Read { n, .. } = &call.call else {
+        return None;
+    };
+    Some(WaitingRead {
+        key: call.kept.as_slice()[0],
+        n: *n,
+    })
+}
+
+/// Tries a parked read again, into the caller's bytes, which are as many as it asks for, or more. It takes no memory.
+pub fn resume_read_into<A: Allocator + Copy>(
+    kernel: &mut KernelState<A>,
+    number: u64,
+    key: usize,
+    n: u32,
+    into: &mut [u8],
+) -> ReadReply
+    requires waits { ReadWaits kernel.old number key n }
+    requires room { n ≤ length into.old }
+    ensures done { MakesAtKeys {A = A} kernel.old (Step.Resume number) (told result into.new) kernel.new }
+    ensures within { read_count result ≤ length into.new }
+    ensures rest { drop (read_count result) into.new ≡ drop (read_count result) into.old }
+{
+    let pipe = pipe_of(kernel, key);
+    match case_of_read(kernel, pipe, n) {
+        ReadCase::Gives(count) => {
+            kernel.nodes.read_pipe_into(pipe, &mut into[..count]);
+            end_call(kernel, number);
+            ReadReply::Read(count)
+        }
+        ReadCase::EndOfFile => {
+            end_call(kernel, number);
+            ReadReply::Read(0)
+        }
+        ReadCase::Waits => ReadReply::Parked(number),
     }
 }
 

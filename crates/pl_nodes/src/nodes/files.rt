@@ -48,6 +48,24 @@ impl<A: Allocator + Copy> Nodes<A> {
         node.file.read_at(&self.store, place, count)
     }
 
+    /// Copies the bytes of a file from a place on into a list, as many as there are and it has places for, and answers how many; the
+    /// places behind them stay as they were (POSIX.1-2017, read). It takes no memory.
+    pub fn read_file_into(&self, key: usize, place: usize, into: &mut [u8]) -> usize
+        requires { IsSome (at self.now.files key) }
+        ensures bytes { IfSome (at self.now.files key) (λ bytes. take result into.new ≡ take (length into.old) (drop place bytes)) }
+        ensures most { result ≤ length into.new }
+        ensures len { length into.new ≡ length into.old }
+        ensures rest { drop result into.new ≡ drop result into.old }
+        ensures few { result ≤ most_file_bytes }
+    {
+        let Content::File(node) = &self.contents[key] else {
+            unreachable!()
+        };
+        let count = node.file.len().saturating_sub(place).min(into.len());
+        node.file.read_into(&self.store, place, &mut into[..count]);
+        count
+    }
+
     /// Writes as many bytes at a place as stand below the greatest length of a file, and answers how many; what lies between the end
     /// of the file and the place reads as zeros (POSIX.1-2017, write and lseek). It is `TooBig` where there are bytes and none of
     /// them fits. An error leaves all as it was.

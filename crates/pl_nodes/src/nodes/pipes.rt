@@ -135,6 +135,23 @@ impl<A: Allocator + Copy> Nodes<A> {
         Ok(bytes)
     }
 
+    /// Takes the first bytes out of a pipe, which holds so many, into a list. It takes no memory.
+    pub fn read_pipe_into(&mut self, key: usize, into: &mut [u8])
+        requires here { IsSome (at self.old.pipes key) }
+        requires held { IfSome (at self.old.pipes key) (λ x. length into.old ≤ length x.bytes) }
+        ensures bytes { IfSome (at self.old.pipes key) (λ x. into.new ≡ take (length into.old) x.bytes) }
+        ensures ok { at self.new.pipes ≡ change_at key (λ x. record x { bytes = drop (length into.old) x.bytes }) (at self.old.pipes) }
+        ensures files { SameFiles self.old self.new }
+    {
+        let Some(node) = self.contents[key].as_pipe_mut() else {
+            unreachable!()
+        };
+        node.ring.pop_into(&mut self.store, into);
+        // A proof learns here that a pipe has few slots.
+        let _capacity = node.ring.capacity();
+        let _slots = node.ring.slots();
+    }
+
     /// Adds bytes at the end of a pipe that has room for them. An error leaves all as it was.
     pub fn write_pipe(&mut self, key: usize, bytes: &[u8]) -> Result<(), NoMemory>
         requires here { IsSome (at self.old.pipes key) }

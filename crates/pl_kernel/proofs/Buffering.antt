@@ -1,0 +1,21 @@
+-- What a step on the caller's bytes tells of the flat machine.
+use Rattle.std.proofs.Common.{◌≡◌, ℕ, true, sym, ◌∙◌, length}
+use Rattle.std.specs.Prelude.{Result, Ok, Err, OnErr}
+use Rattle.pl_model.specs.declared.calls.Step.{Step}
+use Rattle.pl_model.proofs.renaming.Simulates.{unused_keys, same_reply}
+use Rattle.pl_state.specs.Contents.{Contents, core_of}
+use Rattle.pl_transfers.specs.ReadInto.{is_parked, ParksAtKeys}
+use Rattle.pl_kernel.specs.Buffers.{Parks}
+
+pub parks : {A : Type 0} (k : Contents A) (x : Step A) → ParksAtKeys k x → Parks k x
+parks k x may = λ s stands.
+    let keys = unused_keys (core_of k) s stands in
+    (λ i. is_parked (sym (same_reply (core_of k) s x keys.0 stands keys.1) i)) ∙ may keys.0
+
+pub if_err : {T E : Type 0} {P Q : Type 0} (result : Result T E) → (P → Q) → OnErr result P → OnErr result Q
+if_err (Ok value) f h = tt
+if_err (Err error) f h = f h
+
+pub on_err : {T E : Type 0} {P : Type 0} (result : Result T E) → P → OnErr result P
+on_err (Ok value) h = tt
+on_err (Err error) h = h

@@ -1,0 +1,34 @@
+use Rattle.std.proofs.Common.{subst, length, rules, w32, SFits}
+use Rattle.std.proofs.lemmas.Int.{to_z-of_z}
+use Rattle.pl_model.specs.declared.calls.Call.{Call}
+use Rattle.pl_model.specs.declared.calls.Step.{Step}
+use Rattle.pl_model.specs.declared.calls.Step.TheVariants.{Begin}
+use Rattle.pl_state.specs.Sound.{IsSound}
+use Rattle.pl_nodes.proofs.Keyed.{if_ok}
+use Rattle.pl_transfers.specs.ReadInto.{told}
+use Rattle.pl_kernel.proofs.Stepping.{makes, leaves}
+use Rattle.pl_kernel.proofs.Buffering.{if_err, parks}
+use Rattle.pl_kernel.proofs.kernel.Kernel.read_into.Goals as goal
+
+pub returns-clause-made : goal.returns-clause-made
+returns-clause-made g c =
+    let fits : SFits w32 c.args.fd = search rules in
+    let x : Step g.row.A.Denot = Begin c.args.pid (Call.Read c.args.fd (length c.args.into.now)) in
+    let read = c.begin_read_into.new.into in
+    rw (← c.self.view_is) (if_ok c.begin_read_into.result (λ reply does. makes c.self.inside.state c.begin_read_into.new.kernel x (told reply read) does) (rw (to_z-of_z w32 c.args.fd fits) at c.begin_read_into.ensures.done))
+
+pub returns-clause-refused : goal.returns-clause-refused
+returns-clause-refused g c =
+    let fits : SFits w32 c.args.fd = search rules in
+    let x : Step g.row.A.Denot = Begin c.args.pid (Call.Read c.args.fd (length c.args.into.now)) in
+    let read = c.begin_read_into.new.into in
+    let old = c.self.inside.state in
+    let new = c.begin_read_into.new.kernel in
+    let sound = subst (IsSound g.row.A.Denot) c.state.view_is c.state.invariant.0 in
+    rw (← c.self.view_is) (if_ok c.begin_read_into.result (λ reply does. leaves old new sound x (told reply read) (makes old new x (told reply read) does)) (rw (to_z-of_z w32 c.args.fd fits) at c.begin_read_into.ensures.done))
+
+pub returns-clause-wanted : goal.returns-clause-wanted
+returns-clause-wanted g c =
+    let fits : SFits w32 c.args.fd = search rules in
+    let x : Step g.row.A.Denot = Begin c.args.pid (Call.Read c.args.fd (length c.args.into.now)) in
+    rw (← c.self.view_is) (if_err c.begin_read_into.result (λ may. parks c.self.inside.state x may) (rw (to_z-of_z w32 c.args.fd fits) at c.begin_read_into.ensures.wanted))

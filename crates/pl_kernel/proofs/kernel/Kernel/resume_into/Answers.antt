@@ -1,0 +1,52 @@
+use Rattle.std.proofs.Common.{refl, subst}
+use Rattle.pl_model.specs.declared.calls.Step.{Step}
+use Rattle.pl_model.specs.declared.calls.Step.TheVariants.{Resume}
+use Rattle.pl_state.specs.Sound.{IsSound}
+use Rattle.pl_transfers.specs.ReadInto.{told}
+use Rattle.pl_kernel.proofs.Stepping.{makes, leaves, wants}
+use Rattle.pl_kernel.proofs.Buffering.{on_err}
+use Rattle.pl_kernel.proofs.kernel.Kernel.resume_into.Goals as goal
+
+-- the call is no read: it is tried again as by a step
+
+pub returns-in_err-try_again-clause-short : goal.returns-in_err-try_again-clause-short
+returns-in_err-try_again-clause-short g c = rw (← c.self.view_is) (λ key n waits short. absurd (c.in_default.ensures.none key n waits))
+
+pub returns-in_err-try_again-clause-wanted : goal.returns-in_err-try_again-clause-wanted
+returns-in_err-try_again-clause-wanted g c =
+    rw (← c.self.view_is) (on_err c.from_residual.result (wants c.self.inside.state (Resume c.args.number) c.in_err-try_again.ensures.wanted refl))
+
+pub returns-in_err-try_again-clause-frugal : goal.returns-in_err-try_again-clause-frugal
+returns-in_err-try_again-clause-frugal g c = rw (← c.self.view_is) (λ key n waits. absurd (c.in_default.ensures.none key n waits))
+
+pub returns-in_default-clause-made : goal.returns-in_default-clause-made
+returns-in_default-clause-made g c =
+    rw (← c.self.view_is) (makes c.self.inside.state c.try_again.new.kernel (Resume c.args.number) c.in_ok-try_again.field-0 c.in_ok-try_again.ensures.done)
+
+pub returns-in_default-clause-refused : goal.returns-in_default-clause-refused
+returns-in_default-clause-refused g c =
+    let old = c.self.inside.state in
+    let new = c.try_again.new.kernel in
+    let x : Step g.row.A.Denot = Resume c.args.number in
+    let reply = c.in_ok-try_again.field-0 in
+    let sound = subst (IsSound g.row.A.Denot) c.state.view_is c.state.invariant.0 in
+    rw (← c.self.view_is) (leaves old new sound x reply (makes old new x reply c.in_ok-try_again.ensures.done))
+
+pub returns-in_default-clause-short : goal.returns-in_default-clause-short
+returns-in_default-clause-short g c = rw (← c.self.view_is) (λ key n waits short. absurd (c.in_default.ensures.none key n waits))
+
+-- it is a read that fits
+
+pub returns-clause-made : goal.returns-clause-made
+returns-clause-made g c =
+    let x : Step g.row.A.Denot = Resume c.args.number in
+    rw (← c.self.view_is) (makes c.self.inside.state c.resume_read_into.new.kernel x (told c.resume_read_into.result c.resume_read_into.new.into) c.resume_read_into.ensures.done)
+
+pub returns-clause-refused : goal.returns-clause-refused
+returns-clause-refused g c =
+    let old = c.self.inside.state in
+    let new = c.resume_read_into.new.kernel in
+    let x : Step g.row.A.Denot = Resume c.args.number in
+    let reply = told c.resume_read_into.result c.resume_read_into.new.into in
+    let sound = subst (IsSound g.row.A.Denot) c.state.view_is c.state.invariant.0 in
+    rw (← c.self.view_is) (leaves old new sound x reply (makes old new x reply c.resume_read_into.ensures.done))

@@ -1,0 +1,33 @@
+-- Steps on the caller's own bytes.
+use Rattle.std.specs.Prelude.{◌≡◌, ◌<◌, ⊤, ℕ, List, true}
+use Rattle.pl_model.specs.declared.calls.Step.{Step}
+use Rattle.pl_model.specs.declared.calls.Step.TheVariants.{Resume}
+use Rattle.pl_model.specs.Numbered.{State, step}
+use Rattle.pl_state.specs.Contents.{Contents}
+use Rattle.pl_state.specs.Makes.{Stands, Makes, LeavesByReply}
+use Rattle.pl_transfers.specs.ReadInto.{told, read_count, is_parked}
+use Rattle.pl_kernel.specs.declared.kernel.buffers.Resumed.{Resumed}
+use Rattle.pl_kernel.specs.declared.kernel.buffers.Resumed.TheVariants.{Read, Short, Other}
+
+module _ {A : Type 0} where
+  -- the machine parks the call
+  abbrev pub Parks : Contents A → Step A → Type 0
+  Parks k x = (s : State A) → Stands k s → is_parked (step s x).reply ≡ true
+
+  -- how many bytes the resumption of a call gave
+  abbrev pub resumed_count : Resumed A → ℕ
+  resumed_count (Read reply) = read_count reply
+  resumed_count (Short n) = 0
+  resumed_count (Other reply) = 0
+
+  -- The resumption of a call came to this, with so much room for bytes: it is the step, or a read that asks for more.
+  abbrev pub Resumes : Contents A → ℕ → (room : ℕ) → Resumed A → List ℕ → Contents A → Type 0
+  Resumes old number room (Read reply) bytes new = Makes old (Resume number) (told reply bytes) new
+  Resumes old number room (Short n) bytes new = (new ≡ old) × (room < n)
+  Resumes old number room (Other reply) bytes new = Makes old (Resume number) reply new
+
+  -- and left what the reply says
+  abbrev pub ResumesByReply : Contents A → ℕ → Resumed A → List ℕ → Contents A → Type 0
+  ResumesByReply old number (Read reply) bytes new = LeavesByReply old (Resume number) (told reply bytes) new
+  ResumesByReply old number (Short n) bytes new = ⊤
+  ResumesByReply old number (Other reply) bytes new = LeavesByReply old (Resume number) reply new

@@ -1,0 +1,98 @@
+//! Steps on the caller's own bytes.
+ghost use Rattle.std.specs.Prelude.{◌≡◌, ◌≤◌, ◌<◌, ◌^◌, ℕ, length, drop, IfOk, OnErr, IsOk, Ok};
+ghost use Rattle.pl_model.specs.Numbers.{most_bytes};
+ghost use Rattle.pl_state.specs.Makes.{Makes, LeavesByReply, WantsMemory};
+ghost use Rattle.pl_state.specs.Parking.{ReadWaits};
+ghost use Rattle.pl_transfers.specs.ReadInto.{told, read_count};
+ghost use Rattle.pl_kernel.specs.Buffers.{Parks, resumed_count, Resumes, ResumesByReply};
+
+use super::Kernel;
+use crate::steps::{begin_read_into, begin_write_from, try_again};
+use pl_model::{Call, Reply, Step};
+use pl_state::NoMemory;
+use pl_transfers::{ReadReply, resume_read_into, waiting_read};
+use std::alloc::{Allocator, Global};
+
+/// What the resumption of a call answers, where a read gives its bytes into the caller's.
+#[derive(Drop, Debug)]
+pub enum Resumed<A: Allocator = Global> {
+    /// The parked call is a read, and this is its answer.
+    Read(ReadReply),
+    /// It is a read of so many bytes, and the caller's are fewer. Nothing changed.
+    Short(u32),
+    /// It is another call, and this is its reply; or there is no call of the number.
+    Other(Reply<A>),
+}
+
+impl<A: Allocator + Copy> Kernel<A> {
+    /// Makes the step at which the process of a pid begins a Write of the caller's bytes, at most 16,777,216 of them. What
+    /// `step` promises of that step holds. Where the call is parked, it keeps a copy of them all.
+    ///
+    /// # Errors
+    ///
+    /// `NoMemory`, as of `step`.
+    pub fn write_from(&mut self, pid: u32, fd: i32, bytes: &[u8]) -> Result<Reply<A>, NoMemory>
+        requires { length bytes.now ≤ most_bytes }
+        ensures made { IfOk result (λ reply. Makes self.old (Step.Begin pid (Call.Write fd bytes.now)) reply self.new) }
+        ensures refused { IfOk result (λ reply. LeavesByReply self.old (Step.Begin pid (Call.Write fd bytes.now)) reply self.new) }
+        ensures unmade { OnErr result (self.new ≡ self.old) }
+        ensures wanted { OnErr result (WantsMemory {A = A} self.old (Step.Begin pid (Call.Write fd bytes.now))) }
+    {
+        // A proof learns here that nothing was left to settle, so that a refused step leaves the very state.
+        let state = &self.state;
+        let _ = &state.descs;
+        begin_write_from(&mut self.state, pid, fd, bytes)
+    }
+
+    /// Makes the step at which the process of a pid begins a Read of as many bytes as the caller's are, into the first of these; the
+    /// others stay as they are. What `step` promises of that step holds.
+    ///
+    /// # Errors
+    ///
+    /// `NoMemory` only where the call would be parked. It leaves the kernel and the caller's bytes as they were.
+    pub fn read_into(&mut self, pid: u32, fd: i32, into: &mut [u8]) -> Result<ReadReply, NoMemory>
+        requires { length into.old < 2 ^ 32 }
+        ensures made { IfOk result (λ reply. Makes {A = A} self.old (Step.Begin pid (Call.Read fd (length into.old))) (told reply into.new) self.new) }
+        ensures refused { IfOk result (λ reply. LeavesByReply {A = A} self.old (Step.Begin pid (Call.Read fd (length into.old))) (told reply into.new) self.new) }
+        ensures within { IfOk result (λ reply. read_count reply ≤ length into.new) }
+        ensures rest { IfOk result (λ reply. drop (read_count reply) into.new ≡ drop (read_count reply) into.old) }
+        ensures unmade { OnErr result (self.new ≡ self.old) }
+        ensures unread { OnErr result (into.new ≡ into.old) }
+        ensures wanted { OnErr result (Parks {A = A} self.old (Step.Begin pid (Call.Read fd (length into.old)))) }
+    {
+        // A proof learns here that nothing was left to settle, so that a refused step leaves the very state.
+        let state = &self.state;
+        let _ = &state.descs;
+        begin_read_into(&mut self.state, pid, fd, into)
+    }
+
+    /// Makes the step that tries the parked call of a number again, where a read gives its bytes into the first of the caller's; the
+    /// others stay as they are. What `step` promises of that step holds. A read that asks for more bytes than the caller's are isn't
+    /// tried, and nothing changes.
+    ///
+    /// # Errors
+    ///
+    /// `NoMemory`, as of `step`, but never where the call is a read.
+    pub fn resume_into(&mut self, number: u64, into: &mut [u8]) -> Result<Resumed<A>, NoMemory>
+        ensures made { IfOk result (λ resumed. Resumes {A = A} self.old number (length into.old) resumed into.new self.new) }
+        ensures refused { IfOk result (λ resumed. ResumesByReply {A = A} self.old number resumed into.new self.new) }
+        ensures short { (key n : ℕ) → ReadWaits {A = A} self.old number key n → length into.old < n → result ≡ Ok (Resumed.Short n) }
+        ensures within { IfOk result (λ resumed. resumed_count resumed ≤ length into.new) }
+        ensures rest { IfOk result (λ resumed. drop (resumed_count resumed) into.new ≡ drop (resumed_count resumed) into.old) }
+        ensures unmade { OnErr result (self.new ≡ self.old) }
+        ensures unread { OnErr result (into.new ≡ into.old) }
+        ensures wanted { OnErr result (WantsMemory {A = A} self.old (Step.Resume number)) }
+        ensures frugal { (key n : ℕ) → ReadWaits {A = A} self.old number key n → IsOk result }
+    {
+        // A proof learns here that nothing was left to settle, so that a refused step leaves the very state.
+        let state = &self.state;
+        let _ = &state.descs;
+        let Some(read) = waiting_read(state, number) else {
+            return Ok(Resumed::Other(try_again(&mut self.state, number)?));
+        };
+        if into.len() < read.n as usize {
+            return Ok(Resumed::Short(read.n));
+        }
+        Ok(Resumed::Read(resume_read_into(&mut self.state, number, read.key, read.n, into)))
+    }
+}
