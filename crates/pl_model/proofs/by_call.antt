@@ -6,6 +6,8 @@ pub mod Ways
 pub mod Keeps
 -- A step that is refused leaves a settled state as it was.
 pub mod Refusals
+-- A call that is tried again waits under its number.
+pub mod Waiting
 -- What a poll comes to, as it begins and as it is tried again.
 pub mod Polls
 -- What the replies of a run say of the state that it leaves.

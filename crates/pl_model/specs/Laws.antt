@@ -5,7 +5,7 @@ use Rattle.pl_model.specs.declared.calls.Step.{Step}
 use Rattle.pl_model.specs.declared.calls.Step.TheVariants.{Resume, Interrupt}
 use Rattle.pl_model.specs.declared.replies.Errno.{Errno}
 use Rattle.pl_model.specs.declared.replies.Reply.{Reply}
-use Rattle.pl_model.specs.declared.replies.Reply.TheVariants.{Fault}
+use Rattle.pl_model.specs.declared.replies.Reply.TheVariants.{Fault, Parked}
 use Rattle.pl_model.specs.declared.replies.Outcome.{Outcome}
 use Rattle.pl_model.specs.State.{Core}
 use Rattle.pl_model.specs.Live.{is_live, writers}
@@ -95,6 +95,10 @@ pub record EndsTheCallAlone (A : Type 0) : Type 0 where
       ((step s (Resume c)).state ≡ with_call_ended s c) × ((step s (Resume c)).flow ≡ still)
   pub interrupted : (s : State A) (c : ℕ) (errno : Errno) → (step s (Interrupt c)).reply ≡ Fault errno →
       ((step s (Interrupt c)).state ≡ with_call_ended s c) × ((step s (Interrupt c)).flow ≡ still)
+
+-- A call that is resumed and still waits does so under its number, whatever the state.
+abbrev pub WaitsUnderItsNumber : Type 0 → Type 0
+WaitsUnderItsNumber A = (s : State A) (c d : ℕ) → (step s (Resume c)).reply ≡ Parked d → d ≡ c
 
 -- So where a run's outcomes are those of the machine, they say which of its steps left the state as it was, and which
 -- only ended a call.

@@ -13,6 +13,11 @@ module _ {A : Type 0} where
   after s ((x, true) ∷ xs) = after s xs
   after s ((x, false) ∷ xs) = after (step s x).state xs
 
+  -- the state after steps of which none wanted memory
+  abbrev pub state_after : State A → List (Step A) → State A
+  state_after s [] = s
+  state_after s (x ∷ xs) = state_after (step s x).state xs
+
   -- what becomes of each step
   abbrev pub outcomes : State A → List (Step A × Bool) → List (Outcome A)
   outcomes s [] = []

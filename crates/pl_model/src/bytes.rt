@@ -1,9 +1,9 @@
 //! The bytes of one read or write.
-ghost use Rattle.std.specs.Prelude.{◌≡◌, ◌≤◌, ◌↔◌, List, ℕ, length, nat_eq, IfSome, IsSome};
+ghost use Rattle.std.specs.Prelude.{◌≡◌, ◌≤◌, ◌↔◌, List, ℕ, length, nat_eq, IfOk, IfSome, IsSome};
 ghost use Rattle.pl_model.specs.Numbers.{most_bytes};
 
 use crate::numbers::MAX_BYTES;
-use std::alloc::{Allocator, Global};
+use std::alloc::{AllocError, Allocator, Global};
 use std::marker::Model;
 
 /// The bytes of one read or write: at most 16,777,216 of them, as a write takes no more. Contracts see it as their list.
@@ -39,6 +39,14 @@ impl<A: Allocator> Bytes8<A> {
         ensures few { length result.now ≤ most_bytes }
     {
         self.bytes.as_slice()
+    }
+
+    /// The same bytes, in memory of their own.
+    pub fn copy(&self, alloc: A) -> Result<Self, AllocError>
+        ensures { IfOk result (λ bytes. bytes ≡ self.now) }
+    {
+        let bytes = Vec::from_slice(alloc, &self.bytes)?;
+        Ok(Bytes8 { bytes })
     }
 }
 

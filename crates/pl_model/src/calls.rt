@@ -1,9 +1,12 @@
 //! What a step asks for.
+ghost use Rattle.std.specs.Prelude.{◌≡◌, IfOk};
+ghost use Rattle.pl_model.specs.Carried.{IsSpliceOrTee};
+
 use crate::bytes::Bytes8;
 use crate::flags::{OpenFlags, SpliceFlags};
 use crate::name::Name;
 use crate::polls::PollList;
-use std::alloc::{Allocator, Global};
+use std::alloc::{AllocError, Allocator, Global};
 
 /// What an open file description may be used for (POSIX.1-2017, open).
 #[derive(Clone, Copy, Debug, PartialEq, Eq)]
@@ -154,4 +157,97 @@ pub enum Step<A: Allocator = Global> {
     Resume(u64),
     /// Ends the parked call of this number, as a signal does (POSIX.1-2017, Interrupted functions: `EINTR`).
     Interrupt(u64),
+}
+
+impl<A: Allocator> Call<A> {
+    /// The same call, in memory of its own.
+    pub fn copy(&self, alloc: A) -> Result<Call<A>, AllocError>
+        ensures { IfOk result (λ call. call ≡ self.now) }
+    {
+        Ok(match self {
+            Call::Mkfifo { name } => Call::Mkfifo {
+                name: name.copy(alloc)?,
+            },
+            Call::OpenName { name, mode, flags } => Call::OpenName {
+                name: name.copy(alloc)?,
+                mode: *mode,
+                flags: *flags,
+            },
+            Call::Write { fd, bytes } => Call::Write {
+                fd: *fd,
+                bytes: bytes.copy(alloc)?,
+            },
+            Call::Poll { entries, wait } => Call::Poll {
+                entries: entries.copy(alloc)?,
+                wait: *wait,
+            },
+            Call::Unlink { name } => Call::Unlink {
+                name: name.copy(alloc)?,
+            },
+            &Call::Pipe { nonblock } => Call::Pipe { nonblock },
+            &Call::Read { fd, n } => Call::Read { fd, n },
+            &Call::Dup { fd } => Call::Dup { fd },
+            &Call::Dup2 { fd, target } => Call::Dup2 { fd, target },
+            &Call::DupFd { fd, least } => Call::DupFd { fd, least },
+            &Call::Close { fd } => Call::Close { fd },
+            &Call::Lseek { fd, offset, whence } => Call::Lseek { fd, offset, whence },
+            &Call::GetFl { fd } => Call::GetFl { fd },
+            &Call::SetFl { fd, flags } => Call::SetFl { fd, flags },
+            &Call::GetPipeSz { fd } => Call::GetPipeSz { fd },
+            &Call::SetPipeSz { fd, size } => Call::SetPipeSz { fd, size },
+            Call::Fork => Call::Fork,
+            Call::Exit => Call::Exit,
+            Call::Splice { .. } | Call::Tee { .. } => self.copy_move(),
+        })
+    }
+
+    // The same splice or tee, which owns no memory.
+    fn copy_move(&self) -> Call<A>
+        requires { IsSpliceOrTee self.now }
+        ensures { result ≡ self.now }
+    {
+        match self {
+            &Call::Splice {
+                from,
+                from_offset,
+                to,
+                to_offset,
+                len,
+                flags,
+            } => Call::Splice {
+                from,
+                from_offset,
+                to,
+                to_offset,
+                len,
+                flags,
+            },
+            &Call::Tee {
+                from,
+                to,
+                len,
+                flags,
+            } => Call::Tee {
+                from,
+                to,
+                len,
+                flags,
+            },
+            _ => unreachable!(),
+        }
+    }
+}
+
+impl<A: Allocator> Step<A> {
+    /// The same step, in memory of its own.
+    pub fn copy(&self, alloc: A) -> Result<Step<A>, AllocError>
+        ensures { IfOk result (λ step. step ≡ self.now) }
+    {
+        Ok(match self {
+            Step::Start => Step::Start,
+            Step::Begin(pid, call) => Step::Begin(*pid, call.copy(alloc)?),
+            Step::Resume(call) => Step::Resume(*call),
+            Step::Interrupt(call) => Step::Interrupt(*call),
+        })
+    }
 }

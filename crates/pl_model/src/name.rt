@@ -1,7 +1,7 @@
 //! Names of files.
-ghost use Rattle.std.specs.Prelude.{◌≡◌, List, ℕ, nat_eq};
+ghost use Rattle.std.specs.Prelude.{◌≡◌, List, ℕ, nat_eq, IfOk};
 
-use std::alloc::{Allocator, Global};
+use std::alloc::{AllocError, Allocator, Global};
 use std::marker::Model;
 
 /// The name of a file, as it was given: any bytes, which each call that takes a name checks. Contracts see it as their list.
@@ -29,6 +29,14 @@ impl<A: Allocator> Name<A> {
         ensures { result.now ≡ self.now }
     {
         self.bytes.as_slice()
+    }
+
+    /// The same name, in memory of its own.
+    pub fn copy(&self, alloc: A) -> Result<Self, AllocError>
+        ensures { IfOk result (λ name. name ≡ self.now) }
+    {
+        let bytes = Vec::from_slice(alloc, &self.bytes)?;
+        Ok(Name::from_vec(bytes))
     }
 }
 

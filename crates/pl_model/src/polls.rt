@@ -1,12 +1,12 @@
 //! What a poll asks, and what it finds.
-ghost use Rattle.std.specs.Prelude.{◌≡◌, List, ℤ, nat_eq};
+ghost use Rattle.std.specs.Prelude.{◌≡◌, List, ℤ, nat_eq, IfOk};
 ghost use Rattle.std.specs.Cmp.{partial_equiv_from_equiv, on_equiv, and_equiv, nat_eq_equiv, int_eq_equiv};
 ghost use Rattle.std.specs.Cmp.Lexicographic.{pointwise, lists_equiv};
 ghost use Rattle.std.specs.Ordering.{int_eq, on, eq_of_both};
 ghost use Rattle.pl_model.specs.declared.flags.PollMask.{PollMask as Mask};
 
 use crate::flags::PollMask;
-use std::alloc::{Allocator, Global};
+use std::alloc::{AllocError, Allocator, Global};
 use std::marker::Model;
 
 /// The entries of a poll in order, each a descriptor and what is asked of it (POSIX.1-2017, poll). Contracts see them as their
@@ -35,6 +35,14 @@ impl<A: Allocator> PollList<A> {
         ensures { result.now ≡ self.now }
     {
         self.entries.as_slice()
+    }
+
+    /// The same entries, in memory of their own.
+    pub fn copy(&self, alloc: A) -> Result<Self, AllocError>
+        ensures { IfOk result (λ entries. entries ≡ self.now) }
+    {
+        let entries = Vec::from_slice(alloc, &self.entries)?;
+        Ok(PollList::from_vec(entries))
     }
 }
 
@@ -73,6 +81,14 @@ impl<A: Allocator> MaskList<A> {
         ensures { result.now ≡ self.now }
     {
         self.masks.as_slice()
+    }
+
+    /// The same masks, in memory of their own.
+    pub fn copy(&self, alloc: A) -> Result<Self, AllocError>
+        ensures { IfOk result (λ masks. masks ≡ self.now) }
+    {
+        let masks = Vec::from_slice(alloc, &self.masks)?;
+        Ok(MaskList::from_vec(masks))
     }
 }
 

@@ -1,9 +1,11 @@
 //! What a step answers.
+ghost use Rattle.std.specs.Prelude.{◌≡◌, IfOk};
+
 use crate::bytes::Bytes8;
 use crate::calls::Mode;
 use crate::flags::OpenFlags;
 use crate::polls::MaskList;
-use std::alloc::{Allocator, Global};
+use std::alloc::{AllocError, Allocator, Global};
 
 /// The errors of calls, by their names in the standard (POSIX.1-2017, errno.h). They have no numbers here.
 #[derive(Clone, Copy, Debug, PartialEq, Eq)]
@@ -59,6 +61,34 @@ pub enum Reply<A: Allocator = Global> {
     NoCall,
     /// The call would have waited, and no number is left for it.
     CallsSpent,
+}
+
+impl<A: Allocator> Reply<A> {
+    /// The same reply, in memory of its own.
+    pub fn copy(&self, alloc: A) -> Result<Reply<A>, AllocError>
+        ensures { IfOk result (λ reply. reply ≡ self.now) }
+    {
+        Ok(match self {
+            Reply::Bytes(bytes) => Reply::Bytes(bytes.copy(alloc)?),
+            Reply::Masks { ready, masks } => Reply::Masks {
+                ready: *ready,
+                masks: masks.copy(alloc)?,
+            },
+            &Reply::Pid(pid) => Reply::Pid(pid),
+            &Reply::Fd(fd) => Reply::Fd(fd),
+            &Reply::Fds(read_end, write_end) => Reply::Fds(read_end, write_end),
+            &Reply::Count { n, sigpipe } => Reply::Count { n, sigpipe },
+            &Reply::Offset(offset) => Reply::Offset(offset),
+            &Reply::Flags { mode, flags } => Reply::Flags { mode, flags },
+            &Reply::Size(size) => Reply::Size(size),
+            Reply::Unit => Reply::Unit,
+            &Reply::Fault(errno) => Reply::Fault(errno),
+            &Reply::Parked(call) => Reply::Parked(call),
+            Reply::NoProcess => Reply::NoProcess,
+            Reply::NoCall => Reply::NoCall,
+            Reply::CallsSpent => Reply::CallsSpent,
+        })
+    }
 }
 
 /// What became of a step in a run.

@@ -54,15 +54,16 @@ module _ {A : Type 0} where
   begin-refused pid call CallsSpent = refl
 
 module _ {A : Type 0} {K : Keys} where
-  -- what a try may answer: a fault with no change, and nothing that is said of calls that aren't tried
-  abbrev Fair : Core A K → Core A K → Flow K → Reply A → Type 0
+  -- what a try may answer: a fault with no change, and nothing that is said of calls that aren't tried, or by what waits
+  abbrev pub Fair : Core A K → Core A K → Flow K → Reply A → Type 0
   Fair s u flow (Fault errno) = (u ≡ s) × (flow ≡ still)
+  Fair s u flow (Parked c) = ⊥
   Fair s u flow NoProcess = ⊥
   Fair s u flow NoCall = ⊥
   Fair s u flow CallsSpent = ⊥
   Fair s u flow reply = Unit {0}
 
-  abbrev IsFair : Core A K → Trial A K → Type 0
+  abbrev pub IsFair : Core A K → Trial A K → Type 0
   IsFair s (Done u flow reply) = Fair s u flow reply
   IsFair s (Wait u flow taken) = Unit {0}
 
@@ -125,7 +126,7 @@ module _ {A : Type 0} {K : Keys} where
   try_open-fair : (s : Core A K) (w : Waiting A K) → IsFair s (try_open s w)
   try_open-fair s w = fair_if s w.met _ _ (fair_kept s _ _ (λ o. opened_by-fair s w.pid o.key (lowest s w.pid 0))) tt
 
-  try-fair : (s : Core A K) (w : Waiting A K) (call : Call A) (may_wait : Bool) → IsFair s (try s w call may_wait)
+  pub try-fair : (s : Core A K) (w : Waiting A K) (call : Call A) (may_wait : Bool) → IsFair s (try s w call may_wait)
   unfolding try
   try-fair s w (Call.Read fd n) may_wait = fair_kept s _ _ (λ o. read_node-fair s o.key o.description o.description.node n)
   try-fair s w (Call.Write fd bytes) may_wait = fair_kept s _ _ (λ o. write_node-fair s o.key o.description o.description.node bytes w.taken may_wait)
