@@ -20,6 +20,21 @@ module _ {A : Type 0} where
   resumed_count (Short n) = 0
   resumed_count (Other reply) = 0
 
+  -- the call was a read, and was tried
+  abbrev pub IsRead : Resumed A → Type 0
+  IsRead (Read reply) = ⊤
+  IsRead other = ⊥
+
+  -- the call was a read
+  abbrev pub IsOfRead : Resumed A → Type 0
+  IsOfRead (Other reply) = ⊥
+  IsOfRead of_read = ⊤
+
+  -- it was another one, or there was none of the number
+  abbrev pub IsOfOther : Resumed A → Type 0
+  IsOfOther (Other reply) = ⊤
+  IsOfOther of_read = ⊥
+
   -- The resumption of a call came to this, with so much room for bytes: it is the step, or a read that asks for more.
   abbrev pub Resumes : Contents A → ℕ → (room : ℕ) → Resumed A → List ℕ → Contents A → Type 0
   Resumes old number room (Read reply) bytes new = Makes old (Resume number) (told reply bytes) new

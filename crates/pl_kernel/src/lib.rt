@@ -5,6 +5,7 @@
 #![tactic(auto)]
 
 mod kernel;
+mod sizes;
 mod stats;
 mod steps;
 

@@ -14,6 +14,8 @@ mod fifos;
 #[cfg(test)]
 mod first_use;
 #[cfg(test)]
+mod pairs;
+#[cfg(test)]
 mod refusals;
 #[cfg(test)]
 mod sessions;

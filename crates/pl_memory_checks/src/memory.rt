@@ -158,12 +158,6 @@ fn first_none<T>(items: &[Option<T>]) -> Option<usize> {
     items.iter().position(|item| item.is_none())
 }
 
-/// Whether one of the steps may ask again for memory that it is refused, and then find it: a poll that waits does, as it lists what
-/// it keeps.
-fn may_ask_again(rows: &[(Ask, Want)]) -> bool {
-    rows.iter().any(|(ask, _)| matches!(ask, Ask::PollWait(..)))
-}
-
 /// The step that wants for memory, where the `n`th request is refused. One does just where a request is refused, but for the
 /// first, which is the run's own.
 fn passed_over<B: Allocator>(
@@ -174,8 +168,7 @@ fn passed_over<B: Allocator>(
 ) -> Result<Option<usize>, Fail> {
     let passed = first_none(replies);
     let may_want = heap.refused() && n > 1;
-    let is_found = may_want && may_ask_again(example.rows);
-    if replies.len() != example.rows.len() || (passed.is_some() != may_want && !is_found) {
+    if replies.len() != example.rows.len() || passed.is_some() != may_want {
         return Err(Fail::new(format_args!(
             "of the run of {} step {passed:?} wants for memory; request {n} is refused",
             example.name

@@ -10,3 +10,5 @@ pub mod Naming
 pub mod Begins
 -- What a poll that is tried again comes to.
 pub mod Retrying
+-- How many masks a parked call answers.
+pub mod Counting

@@ -2,8 +2,10 @@
 #![tactic(auto)]
 
 mod begin;
+mod counts;
 mod masks;
 mod waiting;
 
 pub use begin::poll;
+pub use counts::{masks_to_begin, masks_to_resume};
 pub use waiting::resume_poll;

@@ -24,3 +24,5 @@ pub mod Slots
 pub mod Refusing
 -- A parked call is tried again and waits on, at the kernel's keys.
 pub mod Again
+-- How many bytes a read gives, at the kernel's keys.
+pub mod Measuring

@@ -2,3 +2,4 @@ pub mod Files
 pub mod Capacities
 pub mod Waits
 pub mod ReadInto
+pub mod Readable

@@ -5,12 +5,14 @@ mod capacities;
 mod files;
 mod offsets;
 mod parking;
+mod readable;
 mod reading;
 mod transfers;
 mod waiting;
 
 pub use capacities::{get_pipe_sz, set_pipe_sz, slots};
 pub use offsets::lseek;
+pub use readable::{bytes_to_read, bytes_to_resume};
 pub use reading::{ReadReply, read, read_into};
 pub use transfers::{open_for, pipe, write, write_from};
 pub use waiting::{

@@ -4,7 +4,7 @@ ghost use Rattle.pl_model.specs.Numbers.{most_bytes};
 ghost use Rattle.pl_state.specs.Makes.{Makes, LeavesByReply, WantsMemory};
 ghost use Rattle.pl_state.specs.Parking.{ReadWaits};
 ghost use Rattle.pl_transfers.specs.ReadInto.{told, read_count};
-ghost use Rattle.pl_kernel.specs.Buffers.{Parks, resumed_count, Resumes, ResumesByReply};
+ghost use Rattle.pl_kernel.specs.Buffers.{Parks, resumed_count, IsRead, IsOfRead, IsOfOther, Resumes, ResumesByReply};
 
 use super::Kernel;
 use crate::steps::{begin_read_into, begin_write_from, try_again};
@@ -77,6 +77,9 @@ impl<A: Allocator + Copy> Kernel<A> {
         ensures made { IfOk result (λ resumed. Resumes {A = A} self.old number (length into.old) resumed into.new self.new) }
         ensures refused { IfOk result (λ resumed. ResumesByReply {A = A} self.old number resumed into.new self.new) }
         ensures short { (key n : ℕ) → ReadWaits {A = A} self.old number key n → length into.old < n → result ≡ Ok (Resumed.Short n) }
+        ensures fits { (key n : ℕ) → ReadWaits {A = A} self.old number key n → n ≤ length into.old → IfOk result IsRead }
+        ensures reads { (key n : ℕ) → ReadWaits {A = A} self.old number key n → IfOk result IsOfRead }
+        ensures others { ((key n : ℕ) → ¬ ReadWaits {A = A} self.old number key n) → IfOk result IsOfOther }
         ensures within { IfOk result (λ resumed. resumed_count resumed ≤ length into.new) }
         ensures rest { IfOk result (λ resumed. drop (resumed_count resumed) into.new ≡ drop (resumed_count resumed) into.old) }
         ensures unmade { OnErr result (self.new ≡ self.old) }

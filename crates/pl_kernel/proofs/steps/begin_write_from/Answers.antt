@@ -1,5 +1,4 @@
-use Rattle.std.proofs.Common.{sym, ◌∙◌, w32}
-use Rattle.std.proofs.lemmas.Int.{to_z-of_z}
+use Rattle.std.proofs.Common.{sym, ◌∙◌}
 use Rattle.pl_model.specs.declared.calls.Call.{Call}
 use Rattle.pl_state.specs.KernelView.{view_of}
 use Rattle.pl_kernel.proofs.Stepping.{no_process}

@@ -32,6 +32,12 @@ returns-in_default-clause-refused g c =
     let sound = subst (IsSound g.row.A.Denot) c.state.view_is c.state.invariant.0 in
     rw (← c.self.view_is) (leaves old new sound x reply (makes old new x reply c.in_ok-try_again.ensures.done))
 
+pub returns-in_default-clause-fits : goal.returns-in_default-clause-fits
+returns-in_default-clause-fits g c = rw (← c.self.view_is) (λ key n waits few. absurd (c.in_default.ensures.none key n waits))
+
+pub returns-in_default-clause-reads : goal.returns-in_default-clause-reads
+returns-in_default-clause-reads g c = rw (← c.self.view_is) (λ key n waits. c.in_default.ensures.none key n waits)
+
 pub returns-in_default-clause-short : goal.returns-in_default-clause-short
 returns-in_default-clause-short g c = rw (← c.self.view_is) (λ key n waits short. absurd (c.in_default.ensures.none key n waits))
 

@@ -1,0 +1,5 @@
+pub mod Answers
+pub mod Errors
+pub mod Flags
+pub mod Places
+pub mod Polls

@@ -1,0 +1,56 @@
+//! How many bytes a read gives, told before it is made. Nothing here takes memory.
+ghost use Rattle.std.specs.Prelude.{◌≡◌, min, nat_eq, IsSome, IfSome};
+ghost use Rattle.pl_model.specs.Begin.{open_for};
+ghost use Rattle.pl_model.specs.Map.{get};
+ghost use Rattle.pl_model.specs.Modes.{reads};
+ghost use Rattle.pl_desc.specs.Rows.{at};
+ghost use Rattle.pl_state.specs.Contents.{core_of, description_of, node_of, waiting_of};
+ghost use Rattle.pl_transfers.specs.Readable.{readable as machine_readable, readable_on, bytes_again};
+
+use crate::transfers::open_for;
+use crate::waiting::waiting_read;
+use pl_model::Node;
+use pl_state::{Access, KernelState};
+use std::alloc::Allocator;
+
+// How many bytes are there to be read on a description (POSIX.1-2017, read).
+fn readable<A: Allocator + Copy>(kernel: &KernelState<A>, key: usize) -> usize
+    requires { IsSome (at kernel.now.opened key) }
+    ensures { IfSome (at kernel.now.opened key) (λ o. result ≡ readable_on (core_of {A = A} kernel.now) (description_of o) (node_of o.node)) }
+{
+    match kernel.descs.node(key) {
+        Node::Pipe(pipe) => kernel.nodes.held(pipe),
+        Node::File(file) => {
+            let place = kernel.descs.offset(key) as usize;
+            kernel.nodes.file_len(file).saturating_sub(place)
+        }
+    }
+}
+
+/// How many bytes a read of at most `n` gives that a process begins on its descriptor: none where it is refused, or waits.
+pub fn bytes_to_read<A: Allocator + Copy>(
+    kernel: &KernelState<A>,
+    pid: u32,
+    fd: i32,
+    n: u32,
+) -> usize
+    ensures { result ≡ min n (machine_readable (core_of {A = A} kernel.now) (open_for reads (core_of {A = A} kernel.now) pid fd)) }
+{
+    match open_for(kernel, pid, fd, Access::Reading) {
+        Some(open) => (n as usize).min(readable(kernel, open.key)),
+        None => 0,
+    }
+}
+
+/// How many bytes the parked call of a number gives where it is tried again now: none where it waits on, or is no read, or isn't
+/// there.
+pub fn bytes_to_resume<A: Allocator + Copy>(kernel: &KernelState<A>, number: u64) -> usize
+    ensures { result ≡ bytes_again (core_of {A = A} kernel.now) (get nat_eq (core_of {A = A} kernel.now).parked number) }
+{
+    // A proof learns here what holds of the kernel.
+    let _ = &kernel.descs;
+    match waiting_read(kernel, number) {
+        Some(read) => (read.n as usize).min(readable(kernel, read.key)),
+        None => 0,
+    }
+}
