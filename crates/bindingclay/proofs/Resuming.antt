@@ -1,0 +1,140 @@
+-- What a parked call comes to that is tried again, by what the kernel answered.
+use Rattle.std.proofs.Common.{◌≡◌, ◌≤◌, ◌<◌, ℕ, List, drop, length, refl, sym, ap, ◌∙◌, arith}
+use Rattle.std.specs.Prelude.{Result, Ok, Err, IfOk, OnErr, IsOk}
+use Rattle.std.specs.Global.{Global}
+use Rattle.pl_model.specs.declared.calls.Step.TheVariants.{Resume}
+use Rattle.pl_state.specs.Contents.{Contents}
+use Rattle.pl_state.specs.Makes.{WantsMemory}
+use Rattle.pl_state.specs.Parking.{ReadWaits}
+use Rattle.pl_transfers.specs.ReadInto.{told}
+use Rattle.pl_transfers.specs.declared.reading.ReadReply.{ReadReply}
+use Rattle.pl_transfers.specs.declared.reading.ReadReply.TheVariants as Reading
+use Rattle.pl_kernel.specs.declared.kernel.buffers.Resumed.{Resumed as KernelResumed}
+use Rattle.pl_kernel.specs.declared.kernel.buffers.Resumed.TheVariants.{Read, Short, Other}
+use Rattle.pl_kernel.specs.Buffers.{Resumes as ResumedByKernel}
+use Rattle.pl_kernel.specs.Buffers.{resumed_count, IsRead, IsOfRead, IsOfOther}
+use Rattle.pl_numbers.specs.declared.polls.PollEntry.{PollEntry}
+use Rattle.pl_numbers.specs.Answers.{said, plain, no_memory, short}
+use Rattle.pl_numbers.specs.Polls.{entries_after}
+use Rattle.bindingclay.specs.Made.{Resumes, Wants, Gathers, Notes, read_answer, bytes_after, resumed_answer, resumed_entries}
+use Rattle.bindingclay.proofs.Telling.{has_memory, has_room, again_of, resumed, too_short, found_none, read_says, read_leaves}
+
+read_at_most : (r : ReadReply) → (read_answer r).kind ≤ 5
+read_at_most (Reading.Read n) = omega arith
+read_at_most (Reading.Fault e) = omega arith
+read_at_most (Reading.Parked n) = omega arith
+read_at_most Reading.NoProcess = omega arith
+read_at_most Reading.CallsSpent = omega arith
+
+read_has_memory : (r : ReadReply) → (read_answer r).kind ≡ no_memory → ⊥
+read_has_memory r e = (let few = read_at_most r in omega arith)
+
+read_has_room : (r : ReadReply) → (read_answer r).kind ≡ short → ⊥
+read_has_room r e = (let few = read_at_most r in omega arith)
+
+-- no read answers masks
+read_marks_none : (before : List PollEntry) (r : ReadReply) (bytes : List ℕ) → before ≡ entries_after {A = Global} before (told r bytes)
+read_marks_none before (Reading.Read n) bytes = refl
+read_marks_none before (Reading.Fault e) bytes = refl
+read_marks_none before (Reading.Parked n) bytes = refl
+read_marks_none before Reading.NoProcess bytes = refl
+read_marks_none before Reading.CallsSpent bytes = refl
+
+-- what is said of a read that waits
+abbrev OfReads : Contents Global → ℕ → (ℕ → Type 0) → Type 0
+OfReads old number P = (key n : ℕ) → ReadWaits {A = Global} old number key n → P n
+
+module _ {E : Type 0} (old new : Contents Global) (number : ℕ) (before after : List ℕ) where
+  pub resumes_of : (z : Result (KernelResumed Global) E) → IfOk z (λ r. ResumedByKernel old number (length before) r after new) → IfOk z (λ r. resumed_count r ≤ length after) →
+      OnErr z (new ≡ old) → Resumes old number (length before) (resumed_answer z) new
+  resumes_of (Ok (Read r)) made few same = resumed old new number (length before) (read_answer r) (told r after) made (read_says r after few)
+  resumes_of (Ok (Short n)) made few same = too_short old new number (length before) (plain n short) n refl made.0 made.1
+  resumes_of (Ok (Other reply)) made few same = resumed old new number (length before) (said reply) reply made refl
+  resumes_of (Err error) made few same = found_none old new number (length before) (plain 0 no_memory) refl same
+
+  pub wants_of : (z : Result (KernelResumed Global) E) → OnErr z (WantsMemory old (Resume number)) → Wants old (Resume number) (resumed_answer z)
+  wants_of (Ok (Read r)) wanted = λ e. absurd (read_has_memory r e)
+  wants_of (Ok (Short n)) wanted = λ e. absurd (omega arith)
+  wants_of (Ok (Other reply)) wanted = λ e. absurd (has_memory (said reply) reply refl e)
+  wants_of (Err error) wanted = λ e. wanted
+
+  pub gathers_of : (z : Result (KernelResumed Global) E) → IfOk z (λ r. ResumedByKernel old number (length before) r after new) →
+      OfReads old number (λ n. length before < n → z ≡ Ok (Short n)) → OfReads old number (λ n. n ≤ length before → IfOk z IsRead) → OfReads old number (λ n. IfOk z IsOfRead) →
+      (((key n : ℕ) → ¬ ReadWaits {A = Global} old number key n) → IfOk z IsOfOther) → IfOk z (λ r. resumed_count r ≤ length after) →
+      IfOk z (λ r. drop (resumed_count r) after ≡ drop (resumed_count r) before) → OnErr z (after ≡ before) → OfReads old number (λ n. IsOk z) → Gathers old number before (resumed_answer z) after
+  gathers_of (Ok (Read r)) made wide fits reads others few rest unread frugal =
+      record {
+        bytes = λ key n waits. again_of old new number (length before) (read_answer r) (told r after) made (λ reply. after ≡ bytes_after before reply) (read_leaves r before after few rest);
+        narrow = λ key n waits less. absurd (let e = wide key n waits less in cc);
+        fits = λ key n waits few. read_has_room r;
+        frugal = λ key n waits. read_has_memory r;
+        others = λ none. absurd (others none);
+        unread = λ e. absurd (read_has_memory r e);
+        kept = λ e. absurd (read_has_room r e);
+      }
+  gathers_of (Ok (Short m)) made wide fits reads others few rest unread frugal =
+      record {
+        bytes = λ key n waits some room. absurd (room refl);
+        narrow = λ key n waits less. ap (λ k. plain k short) (let e = wide key n waits less in cc);
+        fits = λ key n waits few e. fits key n waits few;
+        frugal = λ key n waits e. (omega arith);
+        others = λ none. absurd (others none);
+        unread = λ e. rest;
+        kept = λ e. rest;
+      }
+  gathers_of (Ok (Other reply)) made wide fits reads others few rest unread frugal =
+      record {
+        bytes = λ key n waits. absurd (reads key n waits);
+        narrow = λ key n waits less. absurd (reads key n waits);
+        fits = λ key n waits few e. reads key n waits;
+        frugal = λ key n waits e. reads key n waits;
+        others = λ none. (rest, has_room (said reply) reply refl);
+        unread = λ e. rest;
+        kept = λ e. rest;
+      }
+  gathers_of (Err error) made wide fits reads others few rest unread frugal =
+      record {
+        bytes = λ key n waits some. absurd (some refl);
+        narrow = λ key n waits less. absurd (let e = wide key n waits less in cc);
+        fits = λ key n waits few e. (omega arith);
+        frugal = λ key n waits e. (let found = frugal key n waits in cc);
+        others = λ none. (unread, λ e. (omega arith));
+        unread = λ e. unread;
+        kept = λ e. unread;
+      }
+
+  pub notes_of : (z : Result (KernelResumed Global) E) (entries : List PollEntry) → IfOk z (λ r. ResumedByKernel old number (length before) r after new) →
+      OfReads old number (λ n. length before < n → z ≡ Ok (Short n)) → (((key n : ℕ) → ¬ ReadWaits {A = Global} old number key n) → IfOk z IsOfOther) → length before ≡ 0 →
+      Notes old number entries (resumed_answer z) (resumed_entries entries z)
+  notes_of (Ok (Read r)) entries made wide others none =
+      record {
+        entries = again_of old new number (length before) (read_answer r) (told r after) made (λ reply. entries ≡ entries_after entries reply) (read_marks_none entries r after);
+        reads = λ key n waits some. absurd (let e = wide key n waits (omega arith) in cc);
+        others = λ none. absurd (others none);
+        unmarked = λ e. refl;
+        kept = λ e. refl;
+      }
+  notes_of (Ok (Short m)) entries made wide others none =
+      record {
+        entries = λ some room. absurd (room refl);
+        reads = λ key n waits some. ap (λ k. plain k short) (let e = wide key n waits (omega arith) in cc);
+        others = λ none. absurd (others none);
+        unmarked = λ e. refl;
+        kept = λ e. refl;
+      }
+  notes_of (Ok (Other reply)) entries made wide others none =
+      record {
+        entries = again_of old new number (length before) (said reply) reply made (λ r. entries_after entries reply ≡ entries_after entries r) refl;
+        reads = λ key n waits some. absurd (let e = wide key n waits (omega arith) in cc);
+        others = λ none. has_room (said reply) reply refl;
+        unmarked = λ e. absurd (has_memory (said reply) reply refl e);
+        kept = λ e. absurd (has_room (said reply) reply refl e);
+      }
+  notes_of (Err error) entries made wide others none =
+      record {
+        entries = λ some. absurd (some refl);
+        reads = λ key n waits some. absurd (let e = wide key n waits (omega arith) in cc);
+        others = λ none e. (omega arith);
+        unmarked = λ e. refl;
+        kept = λ e. refl;
+      }

@@ -1,0 +1,110 @@
+-- What a call from C comes to.
+use Rattle.std.specs.Prelude.{◌≡◌, ℕ, Bool, true, false, List, length, drop, ◌++◌, ◌<◌, ◌≤◌, nat_lt, if◌then◌else◌, Option}
+use Rattle.std.specs.declared.option.Option.TheVariants.{None, Some}
+use Rattle.std.specs.Prelude.{Result, Ok, Err}
+use Rattle.std.specs.Global.{Global}
+use Rattle.pl_model.specs.declared.calls.Step.{Step}
+use Rattle.pl_model.specs.declared.calls.Step.TheVariants.{Resume}
+use Rattle.pl_model.specs.declared.replies.Errno.TheVariants.{ENOENT}
+use Rattle.pl_model.specs.declared.replies.Reply.{Reply}
+use Rattle.pl_model.specs.declared.replies.Reply.TheVariants.{Bytes}
+use Rattle.pl_model.specs.Numbered.{State, step}
+use Rattle.pl_state.specs.Contents.{Contents}
+use Rattle.pl_state.specs.Makes.{Stands, WantsMemory}
+use Rattle.pl_state.specs.Parking.{ReadWaits}
+use Rattle.pl_kernel.specs.declared.kernel.buffers.Resumed.{Resumed as KernelResumed}
+use Rattle.pl_kernel.specs.declared.kernel.buffers.Resumed.TheVariants as kernel
+use Rattle.pl_numbers.specs.declared.answer.Answer.{Answer}
+use Rattle.pl_numbers.specs.declared.polls.PollEntry.{PollEntry}
+use Rattle.pl_transfers.specs.declared.reading.ReadReply.{ReadReply}
+use Rattle.pl_transfers.specs.declared.reading.ReadReply.TheVariants as read
+use Rattle.pl_numbers.specs.Answers.{said, plain, faulty, no_memory, short}
+use Rattle.pl_numbers.specs.Polls.{entries_after}
+
+-- Where memory was found, this holds of the machine's reply, for each state for which the kernel stood.
+abbrev pub Replied : Contents Global → Step Global → Answer → (Reply Global → Type 0) → Type 0
+Replied old x a P = ((a.kind ≡ no_memory) → ⊥) → (s : State Global) → Stands old s → P (step s x).reply
+
+-- the answer says the machine's reply
+abbrev pub Says : Contents Global → Step Global → Answer → Type 0
+Says old x a = Replied old x a (λ reply. a ≡ said reply)
+
+-- The answer says the machine's reply, and the kernel stands for the next state; where no memory was found, it is as it was.
+pub record Makes (old : Contents Global) (x : Step Global) (a : Answer) (new : Contents Global) : Type 0 where
+  pub says : Says old x a
+  pub made : ((a.kind ≡ no_memory) → ⊥) → (s : State Global) → Stands old s → Stands new (step s x).state
+  pub unmade : a.kind ≡ no_memory → new ≡ old
+
+-- no memory is wanted but where the machine's step may want it
+abbrev pub Wants : Contents Global → Step Global → Answer → Type 0
+Wants old x a = a.kind ≡ no_memory → WantsMemory old x
+
+-- POSIX.1-2017, read: the caller's bytes begin with what was read, and stay behind it
+abbrev pub bytes_after : List ℕ → Reply Global → List ℕ
+bytes_after old (Bytes bytes) = bytes ++ drop (length bytes) old
+bytes_after old other = old
+
+-- A parked call is tried again, unless no memory was found, or it is a read and the caller's room too small for it: then this holds of
+-- the machine's reply.
+abbrev pub Resumed : Contents Global → ℕ → Answer → (Reply Global → Type 0) → Type 0
+Resumed old number a P = ((a.kind ≡ no_memory) → ⊥) → ((a.kind ≡ short) → ⊥) → (s : State Global) → Stands old s → P (step s (Resume number)).reply
+
+-- What trying a parked call again comes to, with so much room for bytes.
+pub record Resumes (old : Contents Global) (number room : ℕ) (a : Answer) (new : Contents Global) : Type 0 where
+  pub says : Resumed old number a (λ reply. a ≡ said reply)
+  pub made : ((a.kind ≡ no_memory) → ⊥) → ((a.kind ≡ short) → ⊥) → (s : State Global) → Stands old s → Stands new (step s (Resume number)).state
+  pub wider : a.kind ≡ short → (room < a.value) × (new ≡ old)
+  pub unmade : a.kind ≡ no_memory → new ≡ old
+
+-- What it leaves in that room. A read that fits gives its bytes, and wants no memory; one that doesn't fit tells how many bytes it asks
+-- for; nothing else changes any, and nothing else is too wide.
+pub record Gathers (old : Contents Global) (number : ℕ) (before : List ℕ) (a : Answer) (after : List ℕ) : Type 0 where
+  pub bytes : (key n : ℕ) → ReadWaits {A = Global} old number key n → Resumed old number a (λ reply. after ≡ bytes_after before reply)
+  pub narrow : (key n : ℕ) → ReadWaits {A = Global} old number key n → length before < n → a ≡ plain n short
+  pub fits : (key n : ℕ) → ReadWaits {A = Global} old number key n → n ≤ length before → a.kind ≡ short → ⊥
+  pub frugal : (key n : ℕ) → ReadWaits {A = Global} old number key n → a.kind ≡ no_memory → ⊥
+  pub others : ((key n : ℕ) → ¬ ReadWaits {A = Global} old number key n) → (after ≡ before) × (a.kind ≡ short → ⊥)
+  pub unread : a.kind ≡ no_memory → after ≡ before
+  pub kept : a.kind ≡ short → after ≡ before
+
+-- What it leaves in the entries of a poll. A read is told to have too little room.
+pub record Notes (old : Contents Global) (number : ℕ) (before : List PollEntry) (a : Answer) (after : List PollEntry) : Type 0 where
+  pub entries : Resumed old number a (λ reply. after ≡ entries_after before reply)
+  pub reads : (key n : ℕ) → ReadWaits {A = Global} old number key n → 0 < n → a ≡ plain n short
+  pub others : ((key n : ℕ) → ¬ ReadWaits {A = Global} old number key n) → a.kind ≡ short → ⊥
+  pub unmarked : a.kind ≡ no_memory → after ≡ before
+  pub kept : a.kind ≡ short → after ≡ before
+
+-- splice(2): the offset that is given, if any
+abbrev pub offset_of : Bool → ℕ → Option ℕ
+offset_of given offset = if given then Some offset else None
+
+-- the answer to a read into the caller's bytes
+abbrev pub read_answer : ReadReply → Answer
+read_answer (read.Read n) = plain n 0
+read_answer (read.Fault e) = faulty e
+read_answer (read.Parked n) = plain n 2
+read_answer read.NoProcess = plain 0 3
+read_answer read.CallsSpent = plain 0 5
+
+-- the answer of a call that was tried again
+abbrev pub resumed_answer : {E : Type 0} → Result (KernelResumed Global) E → Answer
+resumed_answer (Ok (kernel.Read reply)) = read_answer reply
+resumed_answer (Ok (kernel.Short n)) = plain n short
+resumed_answer (Ok (kernel.Other reply)) = said reply
+resumed_answer (Err error) = plain 0 no_memory
+
+-- and the entries of a poll behind it
+abbrev pub resumed_entries : {E : Type 0} → List PollEntry → Result (KernelResumed Global) E → List PollEntry
+resumed_entries old (Ok (kernel.Other reply)) = entries_after old reply
+resumed_entries old other = old
+
+-- Bytes were copied to the front of the caller's; or there is too little room for them, and the answer says how many they are.
+abbrev pub Copies : (is_short : Bool) → List ℕ → Answer → (old new : List ℕ) → Type 0
+Copies true bytes a old new = (a ≡ plain (length bytes) short) × (new ≡ old)
+Copies false bytes a old new = (a ≡ plain (length bytes) 0) × (new ≡ bytes ++ drop (length bytes) old)
+
+-- so of the bytes of a file, if it is one
+abbrev pub Gives : Option (List ℕ) → Answer → (old new : List ℕ) → Type 0
+Gives None a old new = (a ≡ faulty ENOENT) × (new ≡ old)
+Gives (Some bytes) a old new = Copies (nat_lt (length old) (length bytes)) bytes a old new

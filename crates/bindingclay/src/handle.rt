@@ -1,0 +1,58 @@
+//! A boxed kernel as a struct of one pointer that C holds, whose type names no other type.
+ghost use Rattle.std.specs.Prelude.{◌≡◌};
+ghost use Rattle.bindingclay.specs.declared.layer.Layer.{Layer};
+ghost use Rattle.bindingclay.specs.Made.{Says, Wants};
+ghost use Rattle.bindingclay.specs.Owned.{layer_coded, layer_owns};
+
+mod parts;
+
+use crate::layer::Layer;
+use parts::Parts;
+use pl_model::Step;
+use pl_numbers::Answer;
+use std::alloc::Global;
+use std::marker::Model;
+
+#[repr(C)]
+pub struct Handle {
+    ptr: *mut u8,
+    alloc: Global,
+    ghost layer: { Layer } by { layer_coded },
+}
+
+impl Model for Handle {
+    ghost also_owns = { λ s. layer_owns s.alloc s.ptr s.layer };
+}
+
+impl Handle {
+    /// What lies behind the handle. Whoever takes it out gives it back by `Box::into_raw`, as C keeps the handle.
+    pub fn into_box(self) -> Box<Layer>
+        ensures { result.value ≡ self.layer }
+    {
+        self.into_parts().into_box()
+    }
+
+    fn into_parts(self) -> Parts<Layer, Global>
+        ensures { result.value ≡ self.layer }
+    {
+        let Handle { ptr, alloc } = self;
+        Parts {
+            ptr: ptr as *mut Layer,
+            alloc,
+        }
+    }
+
+    /// Makes one step of the kernel.
+    #[inline(always)]
+    pub fn step(self, step: Step<Global>) -> Answer
+        ensures says { Says self.layer.kernel step result }
+        ensures wants { Wants self.layer.kernel step result }
+    {
+        let mut layer = self.into_box();
+        let answer = layer.step(step);
+        let _kept = Box::into_raw(layer);
+        answer
+    }
+}
+
+unsafe impl Send for Handle {}

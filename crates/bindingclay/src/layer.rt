@@ -1,0 +1,87 @@
+//! What lies behind a handle: a kernel in the memory of `malloc`.
+mod names;
+mod transfers;
+mod waiting;
+
+ghost use Rattle.std.specs.Prelude.{◌≡◌, ◌≤◌, ⊤, MatchOption};
+ghost use Rattle.std.specs.Global.{Global as Heap};
+ghost use Rattle.pl_model.specs.Numbers.{most_file_bytes};
+ghost use Rattle.pl_model.specs.Numbered.{opening};
+ghost use Rattle.pl_state.specs.Makes.{Stands};
+ghost use Rattle.pl_model.specs.declared.replies.Errno.TheVariants.{EINVAL};
+ghost use Rattle.pl_numbers.specs.Answers.{plain, faulty, ends_after};
+ghost use Rattle.pl_numbers.specs.Places.{whence_of_number};
+ghost use Rattle.bindingclay.specs.Made.{Makes, Wants, Replied};
+
+use pl_kernel::{Kernel, NoMemory};
+use pl_model::{Call, Errno, Limits, Step};
+use pl_numbers::{Answer, Ends, answer_of, kind, tell_ends, whence_of_number};
+use std::alloc::Global;
+
+/// A kernel, and the memory that lists for its calls are made in.
+#[derive(Drop)]
+pub struct Layer {
+    kernel: Kernel<Global>,
+    alloc: Global,
+}
+
+/// The answer where no memory was found: nothing changed.
+pub(crate) fn no_memory() -> Answer
+    ensures { result ≡ plain 0 6 }
+{
+    Answer::of_kind(kind::NO_MEMORY, 0)
+}
+
+impl Layer {
+    /// A kernel with no process. `limits.file_max` is at most 16,777,216.
+    pub fn new(alloc: Global, limits: Limits) -> Layer
+        requires { limits.file_max ≤ most_file_bytes }
+        ensures { Stands result.kernel (opening {A = Heap} limits) }
+    {
+        Layer {
+            kernel: Kernel::new(alloc, limits),
+            alloc,
+        }
+    }
+
+    /// Makes one step, and answers what it replied.
+    #[inline(always)]
+    pub fn step(&mut self, step: Step<Global>) -> Answer
+        ensures makes { Makes self.old.kernel step result self.new.kernel }
+        ensures wants { Wants self.old.kernel step result }
+    {
+        match self.kernel.step(step) {
+            Ok(reply) => answer_of(&reply),
+            Err(NoMemory) => no_memory(),
+        }
+    }
+
+    /// Makes a pipe, and tells its ends.
+    pub fn pipe(&mut self, pid: u32, nonblock: bool, ends: &mut Ends) -> Answer
+        ensures makes { Makes self.old.kernel (Step.Begin pid (Call.Pipe nonblock)) result self.new.kernel }
+        ensures wants { Wants self.old.kernel (Step.Begin pid (Call.Pipe nonblock)) result }
+        ensures ends { Replied self.old.kernel (Step.Begin pid (Call.Pipe nonblock)) result (λ reply. ends.new ≡ ends_after ends.old reply) }
+        ensures untold { result.kind ≡ 6 → ends.new ≡ ends.old }
+    {
+        match self.kernel.step(Step::Begin(pid, Call::Pipe { nonblock })) {
+            Ok(reply) => {
+                tell_ends(&reply, ends);
+                answer_of(&reply)
+            }
+            Err(NoMemory) => no_memory(),
+        }
+    }
+
+    /// Sets the offset of a file, or where the number says no place does nothing (POSIX.1-2017, lseek, `EINVAL`).
+    pub fn lseek(&mut self, pid: u32, fd: i32, offset: i64, whence: i32) -> Answer
+        ensures makes { MatchOption (whence_of_number whence)
+            ((result ≡ faulty EINVAL) × (self.new.kernel ≡ self.old.kernel))
+            (λ whence. Makes self.old.kernel (Step.Begin pid (Call.Lseek fd offset whence)) result self.new.kernel) }
+        ensures wants { MatchOption (whence_of_number whence) ⊤ (λ whence. Wants self.old.kernel (Step.Begin pid (Call.Lseek fd offset whence)) result) }
+    {
+        let Some(whence) = whence_of_number(whence) else {
+            return Answer::fault(Errno::EINVAL);
+        };
+        self.step(Step::Begin(pid, Call::Lseek { fd, offset, whence }))
+    }
+}

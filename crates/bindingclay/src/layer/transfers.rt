@@ -1,0 +1,168 @@
+//! Bytes from and into the caller's memory.
+ghost use Rattle.std.specs.Prelude.{◌≡◌, ◌≤◌, ◌<◌, ◌^◌, ⊤, length, take, min, MatchOption};
+ghost use Rattle.pl_model.specs.Numbers.{most_bytes};
+ghost use Rattle.pl_model.specs.declared.replies.Errno.TheVariants.{EINVAL};
+ghost use Rattle.pl_kernel.specs.Buffers.{Parks};
+ghost use Rattle.pl_numbers.specs.Answers.{faulty};
+ghost use Rattle.pl_numbers.specs.Flags.{splice_flags_of_bits};
+ghost use Rattle.pl_numbers.specs.Polls.{asked, entries_after};
+ghost use Rattle.bindingclay.specs.Made.{Makes, Wants, Replied, bytes_after, read_answer, offset_of};
+
+use super::{Layer, no_memory};
+use pl_kernel::{NoMemory, ReadReply};
+use pl_model::{Call, Errno, Step};
+use pl_numbers::{
+    Answer, PollEntry, answer_of, asked_of, kind, mark_entries, splice_flags_of_bits,
+};
+
+/// The most bytes that one read or write moves: a longer one is cut to them.
+const MOST_BYTES: usize = 16_777_216;
+
+/// More entries than a poll may have (POSIX.1-2017, poll, `EINVAL`): those behind them aren't looked at.
+const TOO_MANY_ENTRIES: usize = 257;
+
+// The offset that a splice is given, if any.
+fn offset_of(given: bool, offset: u64) -> Option<u64>
+    ensures { result ≡ offset_of given offset }
+{
+    if given { Some(offset) } else { None }
+}
+
+/// The answer of a read into the caller's bytes.
+pub(crate) fn answer_of_read(reply: &ReadReply) -> Answer
+    ensures { result ≡ read_answer reply.now }
+{
+    match reply {
+        ReadReply::Read(count) => Answer::done(*count as u64),
+        ReadReply::Fault(errno) => Answer::fault(*errno),
+        ReadReply::Parked(number) => Answer::of_kind(kind::PARKED, *number),
+        ReadReply::NoProcess => Answer::of_kind(kind::NO_PROCESS, 0),
+        ReadReply::CallsSpent => Answer::of_kind(kind::CALLS_SPENT, 0),
+    }
+}
+
+impl Layer {
+    // Reads as many bytes as the caller's are.
+    fn read_all(&mut self, pid: u32, fd: i32, into: &mut [u8]) -> Answer
+        requires { length into.old < 2 ^ 32 }
+        ensures makes { Makes self.old.kernel (Step.Begin pid (Call.Read fd (length into.old))) result self.new.kernel }
+        ensures bytes { Replied self.old.kernel (Step.Begin pid (Call.Read fd (length into.old))) result (λ reply. into.new ≡ bytes_after into.old reply) }
+        ensures unread { result.kind ≡ 6 → into.new ≡ into.old }
+        ensures wants { result.kind ≡ 6 → Parks self.old.kernel (Step.Begin pid (Call.Read fd (length into.old))) }
+    {
+        match self.kernel.read_into(pid, fd, into) {
+            Ok(reply) => answer_of_read(&reply),
+            Err(NoMemory) => no_memory(),
+        }
+    }
+
+    /// Reads into the caller's bytes, at most 16,777,216.
+    pub fn read(&mut self, pid: u32, fd: i32, into: &mut [u8]) -> Answer
+        ensures makes { Makes self.old.kernel (Step.Begin pid (Call.Read fd (min most_bytes (length into.old)))) result self.new.kernel }
+        ensures bytes { Replied self.old.kernel (Step.Begin pid (Call.Read fd (min most_bytes (length into.old)))) result (λ reply. into.new ≡ bytes_after into.old reply) }
+        ensures unread { result.kind ≡ 6 → into.new ≡ into.old }
+        ensures wants { result.kind ≡ 6 → Parks self.old.kernel (Step.Begin pid (Call.Read fd (min most_bytes (length into.old)))) }
+    {
+        let count = MOST_BYTES.min(into.len());
+        self.read_all(pid, fd, &mut into[..count])
+    }
+
+    // Writes the caller's bytes.
+    fn write_all(&mut self, pid: u32, fd: i32, bytes: &[u8]) -> Answer
+        requires { length bytes.now ≤ most_bytes }
+        ensures makes { Makes self.old.kernel (Step.Begin pid (Call.Write fd bytes.now)) result self.new.kernel }
+        ensures wants { Wants self.old.kernel (Step.Begin pid (Call.Write fd bytes.now)) result }
+    {
+        match self.kernel.write_from(pid, fd, bytes) {
+            Ok(reply) => answer_of(&reply),
+            Err(NoMemory) => no_memory(),
+        }
+    }
+
+    /// Writes the first of the caller's bytes, at most 16,777,216.
+    pub fn write(&mut self, pid: u32, fd: i32, bytes: &[u8]) -> Answer
+        ensures makes { Makes self.old.kernel (Step.Begin pid (Call.Write fd (take most_bytes bytes.now))) result self.new.kernel }
+        ensures wants { Wants self.old.kernel (Step.Begin pid (Call.Write fd (take most_bytes bytes.now))) result }
+    {
+        let count = MOST_BYTES.min(bytes.len());
+        self.write_all(pid, fd, &bytes[..count])
+    }
+
+    /// Moves bytes, or with another bit than those of the flags does nothing (splice(2), `EINVAL`).
+    pub fn splice(
+        &mut self,
+        pid: u32,
+        from: i32,
+        has_from_offset: bool,
+        from_offset: u64,
+        to: i32,
+        has_to_offset: bool,
+        to_offset: u64,
+        len: u32,
+        flags: u32,
+    ) -> Answer
+        ensures makes { MatchOption (splice_flags_of_bits flags)
+            ((result ≡ faulty EINVAL) × (self.new.kernel ≡ self.old.kernel))
+            (λ flags. Makes self.old.kernel (Step.Begin pid (Call.Splice from (offset_of has_from_offset from_offset) to (offset_of has_to_offset to_offset) len flags)) result self.new.kernel) }
+        ensures wants { MatchOption (splice_flags_of_bits flags) ⊤ (λ flags. Wants self.old.kernel (Step.Begin pid (Call.Splice from (offset_of has_from_offset from_offset) to (offset_of has_to_offset to_offset) len flags)) result) }
+    {
+        let Some(flags) = splice_flags_of_bits(flags) else {
+            return Answer::fault(Errno::EINVAL);
+        };
+        self.step(Step::Begin(
+            pid,
+            Call::Splice {
+                from,
+                from_offset: offset_of(has_from_offset, from_offset),
+                to,
+                to_offset: offset_of(has_to_offset, to_offset),
+                len,
+                flags,
+            },
+        ))
+    }
+
+    /// Copies bytes, or with another bit than those of the flags does nothing (tee(2), `EINVAL`).
+    pub fn tee(&mut self, pid: u32, from: i32, to: i32, len: u32, flags: u32) -> Answer
+        ensures makes { MatchOption (splice_flags_of_bits flags)
+            ((result ≡ faulty EINVAL) × (self.new.kernel ≡ self.old.kernel))
+            (λ flags. Makes self.old.kernel (Step.Begin pid (Call.Tee from to len flags)) result self.new.kernel) }
+        ensures wants { MatchOption (splice_flags_of_bits flags) ⊤ (λ flags. Wants self.old.kernel (Step.Begin pid (Call.Tee from to len flags)) result) }
+    {
+        let Some(flags) = splice_flags_of_bits(flags) else {
+            return Answer::fault(Errno::EINVAL);
+        };
+        self.step(Step::Begin(
+            pid,
+            Call::Tee {
+                from,
+                to,
+                len,
+                flags,
+            },
+        ))
+    }
+
+    /// Polls the entries, and notes in each what was found.
+    pub fn poll(&mut self, pid: u32, entries: &mut [PollEntry], wait: bool) -> Answer
+        ensures makes { Makes self.old.kernel (Step.Begin pid (Call.Poll (asked (take 257 entries.old)) wait)) result self.new.kernel }
+        ensures entries { Replied self.old.kernel (Step.Begin pid (Call.Poll (asked (take 257 entries.old)) wait)) result (λ reply. entries.new ≡ entries_after entries.old reply) }
+        ensures unmarked { result.kind ≡ 6 → entries.new ≡ entries.old }
+    {
+        let count = TOO_MANY_ENTRIES.min(entries.len());
+        let Ok(list) = asked_of(self.alloc, &entries[..count]) else {
+            return no_memory();
+        };
+        let call = Call::Poll {
+            entries: list,
+            wait,
+        };
+        match self.kernel.step(Step::Begin(pid, call)) {
+            Ok(reply) => {
+                mark_entries(&reply, entries);
+                answer_of(&reply)
+            }
+            Err(NoMemory) => no_memory(),
+        }
+    }
+}

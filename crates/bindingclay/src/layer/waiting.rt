@@ -1,0 +1,56 @@
+//! Parked calls, tried again.
+ghost use Rattle.std.specs.Prelude.{◌≡◌, length};
+ghost use Rattle.bindingclay.specs.Made.{Gathers, Notes, Resumes, Wants, resumed_answer, resumed_entries};
+
+use super::transfers::answer_of_read;
+use super::{Layer, no_memory};
+use pl_kernel::{NoMemory, Resumed};
+use pl_model::Step;
+use pl_numbers::{Answer, PollEntry, answer_of, kind, mark_entries};
+use std::alloc::Global;
+
+// The answer of a call that was tried again.
+fn answer_of_resumed(resumed: &Result<Resumed<Global>, NoMemory>) -> Answer
+    ensures { result ≡ resumed_answer resumed.now }
+{
+    match resumed {
+        Ok(Resumed::Read(reply)) => answer_of_read(reply),
+        Ok(Resumed::Short(wanted)) => Answer::of_kind(kind::SHORT, *wanted as u64),
+        Ok(Resumed::Other(reply)) => answer_of(reply),
+        Err(NoMemory) => no_memory(),
+    }
+}
+
+// Notes in each entry what a poll that was tried again found of it.
+fn mark_resumed(resumed: &Result<Resumed<Global>, NoMemory>, entries: &mut [PollEntry])
+    ensures { entries.new ≡ resumed_entries entries.old resumed.now }
+{
+    if let Ok(Resumed::Other(reply)) = resumed {
+        mark_entries(reply, entries);
+    }
+}
+
+impl Layer {
+    /// Tries the parked call of a number again; a read gives its bytes into the caller's. Where it asks for more bytes than these, the
+    /// answer says how many, and nothing changed.
+    pub fn resume(&mut self, number: u64, into: &mut [u8]) -> Answer
+        ensures made { Resumes self.old.kernel number (length into.old) result self.new.kernel }
+        ensures wants { Wants self.old.kernel (Step.Resume number) result }
+        ensures bytes { Gathers self.old.kernel number into.old result into.new }
+    {
+        let resumed = self.kernel.resume_into(number, into);
+        answer_of_resumed(&resumed)
+    }
+
+    /// Tries the parked call of a number again; a poll notes in each entry what was found. Where the call is a read, the answer says
+    /// how many bytes it asks for, and nothing changed.
+    pub fn resume_poll(&mut self, number: u64, entries: &mut [PollEntry]) -> Answer
+        ensures made { Resumes self.old.kernel number 0 result self.new.kernel }
+        ensures wants { Wants self.old.kernel (Step.Resume number) result }
+        ensures entries { Notes self.old.kernel number entries.old result entries.new }
+    {
+        let resumed = self.kernel.resume_into(number, &mut []);
+        mark_resumed(&resumed, entries);
+        answer_of_resumed(&resumed)
+    }
+}

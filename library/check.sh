@@ -1,0 +1,150 @@
+#!/bin/sh
+# Builds the library for C, and runs the programs of tests/ over it: as they are, and under valgrind where there is one. The last line is
+# 'N passed, M failed', and the status is 1 where one failed.
+#
+# Environment, each with what is taken without it:
+#   ARCHIVE   an archive that is built already    it is built by rt lib in crates/bindingclay
+#   RT, CC, CXX, RUSTC, VALGRIND                  rt, cc, c++, rustc, valgrind; what isn't there, but for RT and CC, is passed over
+#   MEMORY, AR                                    as of install.sh
+set -u
+
+here=$(cd "$(dirname "$0")" && pwd)
+rt=${RT:-rt}
+cc=${CC:-cc}
+cxx=${CXX:-c++}
+rustc=${RUSTC:-rustc}
+valgrind=${VALGRIND:-valgrind}
+passed=0
+failed=0
+work=$(mktemp -d)
+trap 'rm -rf "$work"' EXIT
+
+# check NAME COMMAND..: runs the command, and counts it. Where it fails, its status is printed (124: it ran out of time) and what it printed.
+check() {
+    label=$1
+    shift
+    status=0
+    "$@" > "$work/log" 2>&1 || status=$?
+    if [ "$status" -eq 0 ]; then
+        passed=$((passed + 1))
+    else
+        failed=$((failed + 1))
+        echo "FAILED: $label: status $status"
+        sed 's/^/    /' "$work/log"
+        return 1
+    fi
+}
+
+end() {
+    echo "$passed passed, $failed failed"
+    if [ "$failed" -eq 0 ]; then exit 0; else exit 1; fi
+}
+
+is_there() {
+    command -v "$1" > /dev/null 2>&1
+}
+
+# run NAME ARGUMENT..: runs a program that was built, and again under valgrind, where no block may be left of the kinds of $leaks.
+leaks=all
+run() {
+    built=$1
+    shift
+    check "$built" timeout 120 "$work/$built" "$@"
+    if is_there "$valgrind"; then
+        check "$built under valgrind" timeout 900 "$valgrind" -q --error-exitcode=99 --leak-check=full "--show-leak-kinds=$leaks" \
+            "--errors-for-leak-kinds=$leaks" "--suppressions=$here/tests/valgrind.supp" "$work/$built" "$@"
+    else
+        echo "passed over: $built under valgrind"
+    fi
+}
+
+# without_races NAME: runs a program with threads, and looks for races between them.
+without_races() {
+    if is_there "$valgrind"; then
+        check "$1 under helgrind" timeout 900 "$valgrind" -q --tool=helgrind --error-exitcode=99 "$work/$1"
+    else
+        echo "passed over: $1 under helgrind"
+    fi
+}
+
+# build NAME FLAG..: builds tests/NAME.c with what is installed.
+build() {
+    built=$1
+    shift
+    check "building $built" "$cc" -Wall -Wextra -Werror -std=c11 -O1 -g "-I$work/prefix/include" -o "$work/$built" \
+        "$here/tests/$built.c" "-L$work/prefix/lib" -lbindingclay "$@"
+}
+
+# The functions below are given to check.
+# shellcheck disable=SC2317
+build_archive() {
+    (cd "$here/../crates/bindingclay" && "$rt" lib)
+}
+
+# Whether the archive defines the functions that the header declares, and else only the three that take memory.
+# shellcheck disable=SC2317
+defines_what_is_declared() {
+    {
+        sed -n 's/^[a-z0-9_]* \(bindingclay_[a-z0-9_]*\)(.*/\1/p' "$here/include/bindingclay.h"
+        printf 'rattle_alloc\nrattle_dealloc\nrattle_realloc\n'
+    } | sort -u > "$work/declared"
+    nm -g --defined-only "$work/prefix/lib/libbindingclay.a" | awk 'NF == 3 { print $3 }' | sort -u > "$work/defined"
+    diff "$work/declared" "$work/defined"
+}
+
+# shellcheck disable=SC2317
+build_by_pkg_config() {
+    flags=$(PKG_CONFIG_PATH=$work/prefix/lib/pkgconfig pkg-config --cflags --libs bindingclay) || return 1
+    # shellcheck disable=SC2086
+    "$cc" -Wall -Wextra -Werror -std=c11 -o "$work/example" "$here/example.c" $flags
+}
+
+# shellcheck disable=SC2317
+example_prints_what_it_should() {
+    "$work/example" > "$work/printed" && printf 'the child read hello\nand then 0 bytes\n' | diff - "$work/printed"
+}
+
+if [ -z "${ARCHIVE:-}" ]; then
+    echo "building the archive: on a fresh checkout that proves all that it stands on, in about half an hour"
+    check "building the archive" build_archive || end
+    ARCHIVE=$here/../crates/bindingclay/out/libbindingclay.a
+fi
+export ARCHIVE
+check "installing" "$here/install.sh" "$work/prefix" || end
+check "the names of the archive" defines_what_is_declared
+
+counted=-Wl,--wrap=malloc,--wrap=realloc,--wrap=free
+for name in processes pipes descriptors files fifos splices polls waiting; do
+    build "$name" && run "$name"
+done
+build memory "$counted" && run memory
+for name in one_lock two_kernels; do
+    build "$name" "$counted" -pthread && run "$name" && without_races "$name"
+done
+build scripts && run scripts "$here"/../examples/*.script
+
+check "building bench" "$cc" -Wall -Wextra -Werror -std=c11 -O2 "-I$work/prefix/include" -o "$work/bench" "$here/bench.c" \
+    "-L$work/prefix/lib" -lbindingclay
+
+if is_there "$cxx"; then
+    check "building header.cpp" "$cxx" -Wall -Wextra -Werror -std=c++11 "-I$work/prefix/include" -o "$work/header" \
+        "$here/tests/header.cpp" "-L$work/prefix/lib" -lbindingclay && run header
+else
+    echo "passed over: header.cpp"
+fi
+
+if is_there "$rustc"; then
+    # what Rust keeps of its own until the end of a program is still reachable
+    leaks=definite,indirect,possible
+    check "building client.rs" "$rustc" --edition 2021 -D warnings -O -o "$work/client" "$here/tests/client.rs" \
+        -L "$work/prefix/lib" -l static=bindingclay && run client
+else
+    echo "passed over: client.rs"
+fi
+
+if is_there pkg-config; then
+    check "building example with pkg-config" build_by_pkg_config && check "example" example_prints_what_it_should
+else
+    echo "passed over: example with pkg-config"
+fi
+end

@@ -1,0 +1,48 @@
+#!/bin/sh
+# Installs the library for C below a folder: install.sh PREFIX
+#
+#   PREFIX/include/bindingclay.h
+#   PREFIX/lib/libbindingclay.a            with the three functions by which it takes memory from malloc
+#   PREFIX/lib/pkgconfig/bindingclay.pc
+#
+# Environment, each with what is taken without it:
+#   ARCHIVE  the library as rt lib built it    crates/bindingclay/out/libbindingclay.a
+#   MEMORY   the toolchain's archive of rattle_alloc, rattle_realloc and rattle_dealloc    c/liblibc_c.a beside what rt doc names
+#   RT, AR   rt, ar
+set -eu
+
+if [ $# -ne 1 ]; then
+    echo "usage: install.sh PREFIX" >&2
+    exit 2
+fi
+here=$(cd "$(dirname "$0")" && pwd)
+archive=${ARCHIVE:-$here/../crates/bindingclay/out/libbindingclay.a}
+memory=${MEMORY:-$(dirname "$("${RT:-rt}" doc)")/c/liblibc_c.a}
+ar=${AR:-ar}
+mkdir -p "$1/include" "$1/lib/pkgconfig"
+prefix=$(cd "$1" && pwd)
+
+# Both in one archive, so that who links it needs nothing of the toolchain.
+work=$(mktemp -d)
+trap 'rm -rf "$work"' EXIT
+cp "$archive" "$work/libbindingclay.a"
+mkdir "$work/memory"
+(cd "$work/memory" && "$ar" x "$memory" && "$ar" rs ../libbindingclay.a ./* 2>/dev/null)
+install -m 644 "$work/libbindingclay.a" "$prefix/lib/libbindingclay.a"
+install -m 644 "$here/include/bindingclay.h" "$prefix/include/bindingclay.h"
+
+number() {
+    sed -n "s/^#define BINDINGCLAY_VERSION_$1 \([0-9]*\)\$/\1/p" "$here/include/bindingclay.h"
+}
+cat > "$work/bindingclay.pc" <<END
+prefix=$prefix
+libdir=\${prefix}/lib
+includedir=\${prefix}/include
+
+Name: bindingclay
+Description: POSIX pipes, FIFOs and regular files in the memory of one process
+Version: $(number MAJOR).$(number MINOR).$(number PATCH)
+Libs: -L\${libdir} -lbindingclay
+Cflags: -I\${includedir}
+END
+install -m 644 "$work/bindingclay.pc" "$prefix/lib/pkgconfig/bindingclay.pc"

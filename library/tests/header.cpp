@@ -1,0 +1,29 @@
+// The header in C++: it compiles, what crosses is laid out as in C, and calls link.
+#include "bindingclay.h"
+
+#include <cstddef>
+#include <cstdio>
+#include <poll.h>
+#include <type_traits>
+
+static_assert(sizeof(bindingclay_answer) == 16 && std::is_trivially_copyable<bindingclay_answer>::value, "an answer");
+static_assert(offsetof(bindingclay_answer, error) == 8 && offsetof(bindingclay_answer, kind) == 12
+        && offsetof(bindingclay_answer, sigpipe) == 13, "its fields");
+static_assert(sizeof(bindingclay) == sizeof(void *), "a kernel");
+static_assert(sizeof(bindingclay_pollfd) == sizeof(pollfd) && offsetof(bindingclay_pollfd, events) == offsetof(pollfd, events)
+        && offsetof(bindingclay_pollfd, revents) == offsetof(pollfd, revents), "an entry of a poll");
+
+int main()
+{
+    bindingclay clay{};
+    bindingclay_ends ends{};
+    if (!bindingclay_open(1, BINDINGCLAY_MOST_FILE_BYTES, &clay.kernel))
+        return 1;
+    bool as_wanted = bindingclay_start(clay).value == 1
+        && bindingclay_pipe(clay, 1, false, &ends).kind == BINDINGCLAY_DONE
+        && bindingclay_splice(clay, 1, ends.write_end, nullptr, ends.read_end, nullptr, 1, 0).error == 9;
+    bindingclay_free(clay);
+    if (!as_wanted)
+        std::puts("header.cpp: a call answers otherwise");
+    return as_wanted ? 0 : 1;
+}

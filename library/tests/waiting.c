@@ -1,0 +1,166 @@
+/* Calls that wait: their numbers, resume and interrupt, and the room of a read that is resumed (read; write; open; poll, EINTR). */
+#include "check.h"
+
+#include <fcntl.h>
+
+static void no_calls(void)
+{
+    bindingclay clay = kernel_with_process();
+    static const uint64_t NUMBERS[] = { 0, 1, 2, UINT64_MAX - 1, UINT64_MAX };
+    for (size_t i = 0; i < sizeof NUMBERS / sizeof *NUMBERS; i++) {
+        bindingclay_pollfd entry = { .revents = 77 };
+        OTHER(again(clay, NUMBERS[i]), BINDINGCLAY_NO_CALL);
+        OTHER(bindingclay_interrupt(clay, NUMBERS[i]), BINDINGCLAY_NO_CALL);
+        OTHER(bindingclay_resume_poll(clay, NUMBERS[i], &entry, 1), BINDINGCLAY_NO_CALL);
+        HOLDS(entry.revents == 77);
+    }
+    bindingclay_free(clay);
+}
+
+static void numbers(void)
+{
+    bindingclay clay = new_kernel(UINT64_MAX - 3, 0);
+    DONE(bindingclay_start(clay), 1);
+    NEW_PIPE(clay, 1, false);
+    PARKED(take(clay, 1, 0, 1), UINT64_MAX - 3);
+    PARKED(take(clay, 1, 0, 1), UINT64_MAX - 2);
+    FAULT(bindingclay_interrupt(clay, UINT64_MAX - 3), EINTR);
+    PARKED(take(clay, 1, 0, 1), UINT64_MAX - 1);
+    /* that was the last number, whichever calls ended */
+    FAULT(bindingclay_interrupt(clay, UINT64_MAX - 1), EINTR);
+    OTHER(take(clay, 1, 0, 1), BINDINGCLAY_CALLS_SPENT);
+    bindingclay_pollfd entry = { .fd = 0, .events = 1, .revents = 77 };
+    OTHER(bindingclay_poll(clay, 1, &entry, 1, true), BINDINGCLAY_CALLS_SPENT);
+    HOLDS(entry.revents == 77);
+    DONE(mkfifo_text(clay, 1, "q"), 0);
+    OTHER(open_text(clay, 1, "q", O_RDONLY), BINDINGCLAY_CALLS_SPENT);
+    NEW_PIPE(clay, 1, false);
+    OTHER(bindingclay_splice(clay, 1, 0, NULL, 3, NULL, 5, 0), BINDINGCLAY_CALLS_SPENT);
+    OTHER(bindingclay_tee(clay, 1, 0, 3, 5, 0), BINDINGCLAY_CALLS_SPENT);
+    /* no byte of a write is taken that can't wait */
+    OTHER(put_many(clay, 1, 1, 70000), BINDINGCLAY_CALLS_SPENT);
+    DONE(put(clay, 1, 1, "a"), 1);
+    RESUMES(clay, UINT64_MAX - 2, 1, "a");
+    OTHER(take(clay, 1, 0, 1), BINDINGCLAY_CALLS_SPENT);
+    bindingclay_free(clay);
+    clay = new_kernel(UINT64_MAX, 0);
+    DONE(bindingclay_start(clay), 1);
+    NEW_PIPE(clay, 1, false);
+    OTHER(take(clay, 1, 0, 1), BINDINGCLAY_CALLS_SPENT);
+    bindingclay_free(clay);
+    clay = new_kernel(0, 0);
+    DONE(bindingclay_start(clay), 1);
+    NEW_PIPE(clay, 1, false);
+    PARKED(take(clay, 1, 0, 1), 0);
+    DONE(put(clay, 1, 1, "a"), 1);
+    RESUMES(clay, 0, 1, "a");
+    bindingclay_free(clay);
+}
+
+static void room_of_a_read(void)
+{
+    bindingclay clay = kernel_with_process();
+    NEW_PIPE(clay, 1, false);
+    PARKED(take(clay, 1, 0, 5), 1);
+    uint8_t into[5];
+    memset(into, UNTOUCHED, sizeof into);
+    /* too little room: it isn't tried, whether there is something to read or not */
+    SHORT(bindingclay_resume(clay, 1, into, 4), 5);
+    DONE(put(clay, 1, 1, "hello"), 5);
+    SHORT(bindingclay_resume(clay, 1, into, 4), 5);
+    SHORT(bindingclay_resume(clay, 1, into, 0), 5);
+    for (size_t i = 0; i < sizeof into; i++)
+        HOLDS(into[i] == UNTOUCHED);
+    /* nothing changed: it gives its bytes where there is room */
+    RESUMES(clay, 1, 5, "hello");
+    OTHER(again(clay, 1), BINDINGCLAY_NO_CALL);
+    /* more room than it asked for stays as it is, and so do bytes that it didn't ask for */
+    PARKED(take(clay, 1, 0, 2), 2);
+    DONE(put(clay, 1, 1, "hello"), 5);
+    RESUMES(clay, 2, 9, "he");
+    READS(clay, 1, 0, 9, "llo");
+    /* a read that waits on writes nothing */
+    PARKED(take(clay, 1, 0, 2), 3);
+    PARKED(bindingclay_resume(clay, 3, into, sizeof into), 3);
+    HOLDS(into[0] == UNTOUCHED);
+    FAULT(bindingclay_interrupt(clay, 3), EINTR);
+    bindingclay_free(clay);
+}
+
+static void kept_ends(void)
+{
+    bindingclay clay = kernel_with_process();
+    NEW_PIPE(clay, 1, false);
+    /* a read that waits is a reader, though its descriptor is closed */
+    PARKED(take(clay, 1, 0, 9), 1);
+    DONE(bindingclay_close(clay, 1, 0), 0);
+    DONE(put(clay, 1, 1, "a"), 1);
+    RESUMES(clay, 1, 9, "a");
+    FAULT(put(clay, 1, 1, "a"), EPIPE);
+    /* a write that waits is a writer */
+    bindingclay_ends ends = NEW_PIPE(clay, 1, false);
+    PARKED(put_many(clay, 1, ends.write_end, 65537), 2);
+    DONE(bindingclay_close(clay, 1, ends.write_end), 0);
+    DONE(take(clay, 1, ends.read_end, 70000), 65536);
+    PARKED(take(clay, 1, ends.read_end, 9), 3);
+    DONE(again(clay, 2), 65537);
+    RESUMES(clay, 3, 9, "a");
+    READS(clay, 1, ends.read_end, 9, "");
+    /* it waits as it began, whatever the flags are by then */
+    ends = NEW_PIPE(clay, 1, false);
+    PARKED(take(clay, 1, ends.read_end, 9), 4);
+    DONE(bindingclay_set_fl(clay, 1, ends.read_end, O_NONBLOCK), 0);
+    PARKED(bindingclay_resume(clay, 4, (uint8_t[9]){ 0 }, 9), 4);
+    FAULT(take(clay, 1, ends.read_end, 9), EAGAIN);
+    bindingclay_free(clay);
+}
+
+static void interrupted(void)
+{
+    bindingclay clay = kernel_with_process();
+    NEW_PIPE(clay, 1, false);
+    PARKED(take(clay, 1, 0, 9), 1);
+    FAULT(bindingclay_interrupt(clay, 1), EINTR);
+    OTHER(bindingclay_interrupt(clay, 1), BINDINGCLAY_NO_CALL);
+    /* a write that took bytes answers their count */
+    PARKED(put_many(clay, 1, 1, 70000), 2);
+    DONE(take(clay, 1, 0, 4), 4);
+    PARKED(again(clay, 2), 2);
+    DONE(bindingclay_interrupt(clay, 2), 65540);
+    /* of a small one none was taken */
+    PARKED(put(clay, 1, 1, "b"), 3);
+    FAULT(bindingclay_interrupt(clay, 3), EINTR);
+    DONE(take(clay, 1, 0, 70000), 65536);
+    bindingclay_free(clay);
+}
+
+/* A pointer to no bytes may be null. */
+static void null_pointers(void)
+{
+    bindingclay clay = kernel_with_process();
+    NEW_PIPE(clay, 1, false);
+    DONE(bindingclay_read(clay, 1, 0, NULL, 0), 0);
+    DONE(bindingclay_write(clay, 1, 1, NULL, 0), 0);
+    DONE(bindingclay_poll(clay, 1, NULL, 0, false), 0);
+    PARKED(bindingclay_poll(clay, 1, NULL, 0, true), 1);
+    PARKED(bindingclay_resume_poll(clay, 1, NULL, 0), 1);
+    PARKED(bindingclay_resume(clay, 1, NULL, 0), 1);
+    FAULT(bindingclay_mkfifo(clay, 1, NULL, 0), ENOENT);
+    FAULT(bindingclay_open_name(clay, 1, NULL, 0, O_RDWR | O_CREAT), ENOENT);
+    FAULT(bindingclay_unlink(clay, 1, NULL, 0), ENOENT);
+    FAULT(bindingclay_file_bytes(clay, NULL, 0, NULL, 0), ENOENT);
+    DONE(open_text(clay, 1, "f", O_RDWR | O_CREAT), 2);
+    DONE(bindingclay_file_bytes(clay, bytes_of("f"), 1, NULL, 0), 0);
+    bindingclay_free(clay);
+}
+
+int main(void)
+{
+    null_pointers();
+    no_calls();
+    numbers();
+    room_of_a_read();
+    kept_ends();
+    interrupted();
+    return end();
+}
