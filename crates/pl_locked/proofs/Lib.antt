@@ -1,0 +1,16 @@
+-- A call that is tried again keeps its number.
+pub mod Machine
+-- How many steps each caller made.
+pub mod Tallying
+-- Callers and their numbers.
+pub mod Numbers
+-- The numbers of a journal's entries, counted entry by entry.
+pub mod Counting
+-- A journal, replayed entry by entry.
+pub mod Replaying
+-- What a caller made, in order among the entries of a history.
+pub mod Subs
+-- Where the callers made as many entries as the journal has, each made just those that the journal has of it.
+pub mod Totals
+-- What a caller is told of the steps that it made.
+pub mod Waiting

@@ -1,0 +1,105 @@
+-- What a caller is told of the steps that it made.
+use Rattle.std.proofs.Common.{◌≡◌, ℕ, ◌+◌, ◌≤◌, List, [], ◌∷◌, ◌++◌, length, None, refl, sym, ap, ◌∙◌, subst, ⊎_elim, append_assoc, length-append, arith}
+use Rattle.std.proofs.lemmas.List.Elements.{All-push}
+use mathlib.Core.List.{IsPrefix}
+use Rattle.pl_model.specs.declared.calls.Call.{Call}
+use Rattle.pl_model.specs.declared.calls.Limits.{Limits}
+use Rattle.pl_model.specs.declared.calls.Step.{Step}
+use Rattle.pl_model.specs.declared.calls.Step.TheVariants.{Begin, Resume}
+use Rattle.pl_model.specs.declared.replies.Reply.{Reply}
+use Rattle.pl_model.specs.declared.replies.Reply.TheVariants.{Parked}
+use Rattle.pl_model.specs.declared.history.Entry.{Entry}
+use Rattle.pl_model.specs.History.{entry, of, IsLegal}
+use Rattle.pl_history.proofs.Prefixes.{prefix_trans}
+use Rattle.pl_locked.specs.Views.{CallerView, Gains, Glanced, IsLastOf, Knows, Sees, Waits, WaitsIn, WaitsOn}
+
+module _ {A : Type 0} where
+  -- a step that was put behind a history
+  pub gains : (limits : Limits) (most : ℕ) (old new : CallerView A) (h : List (Entry A)) (n : ℕ) (x : Step A) (r : Reply A)
+      → IsPrefix old.seen h → n ≡ length (of old.number h) → new.seen ≡ h ++ entry old.number n x r ∷ [] → new.made ≡ old.made ++ entry old.number n x r ∷ []
+      → new.number ≡ old.number → Knows limits most new → Gains limits most old new x r
+  gains limits most old new h n x r earlier number seen made same knows = record {
+    before = h;
+    earlier = earlier;
+    seen = seen ∙ ap (λ (m : ℕ). h ++ entry old.number m x r ∷ []) number;
+    made = made ∙ ap (λ (m : ℕ). old.made ++ entry old.number m x r ∷ []) number;
+    number = same;
+    knows = knows;
+  }
+
+  -- it ends a legal history
+  pub last-of : (limits : Limits) (most : ℕ) (old new : CallerView A) (x : Step A) (r : Reply A) (g : Gains limits most old new x r) → IsLastOf limits most (entry old.number (length (of old.number g.before)) x r)
+  last-of limits most old new x r g =
+      let e : Entry A = entry old.number (length (of old.number g.before)) x r in
+      let longer : length new.seen ≡ length g.before + 1 = ap length g.seen ∙ length-append g.before (e ∷ []) in
+      let room : length new.seen ≤ most = g.knows.room in
+      record { before = g.before; legal = subst (IsLegal limits) g.seen g.knows.legal; room = omega arith }
+
+  -- and goes on from what was seen before
+  pub goes-on : (limits : Limits) (most : ℕ) (old new : CallerView A) (x : Step A) (r : Reply A) → Gains limits most old new x r → IsPrefix old.seen new.seen
+  goes-on limits most old new x r g = prefix_trans old.seen g.before new.seen g.earlier (entry old.number (length (of old.number g.before)) x r ∷ [], sym g.seen)
+
+  -- a call was begun, and waits
+  abbrev pub begun : (limits : Limits) (most pid : ℕ) (call : Call A) (c : ℕ) (old new : CallerView A) → Gains limits most old new (Begin pid call) (Parked c) → Waits limits most pid call c old new
+  begun limits most pid call c old new g = record {
+    number = g.number;
+    earlier = goes-on limits most old new (Begin pid call) (Parked c) g;
+    first = length (of old.number g.before);
+    began = last-of limits most old new (Begin pid call) (Parked c) g;
+    turns = [];
+    waiting = λ k d lt. absurd (omega arith);
+    made = g.made;
+  }
+
+  -- it was tried once more, in vain
+  abbrev pub waits_more : (limits : Limits) (most pid : ℕ) (call : Call A) (c : ℕ) (old mid new : CallerView A) → Waits limits most pid call c old mid → Gains limits most mid new (Resume c) (Parked c) → Waits limits most pid call c old new
+  waits_more limits most pid call c old mid new w g =
+      let e : Entry A = entry mid.number (length (of mid.number g.before)) (Resume c) (Parked c) in
+      let first : Entry A = entry old.number w.first (Begin pid call) (Parked c) in record {
+        number = g.number ∙ w.number;
+        earlier = prefix_trans old.seen mid.seen new.seen w.earlier (goes-on limits most mid new (Resume c) (Parked c) g);
+        first = w.first;
+        began = w.began;
+        turns = w.turns ++ e ∷ [];
+        waiting = All-push (WaitsOn limits most old.number c) w.turns e w.waiting (w.number, refl, refl, last-of limits most mid new (Resume c) (Parked c) g);
+        made = g.made ∙ (ap (λ (h : List (Entry A)). h ++ e ∷ []) w.made ∙ append_assoc old.made (first ∷ w.turns) (e ∷ []));
+      }
+
+  -- the caller saw more
+  abbrev pub waits_sees : (limits : Limits) (most pid : ℕ) (call : Call A) (c : ℕ) (old mid new : CallerView A) → Waits limits most pid call c old mid → Sees mid new → Waits limits most pid call c old new
+  waits_sees limits most pid call c old mid new w s = record {
+    number = s.number ∙ w.number;
+    earlier = prefix_trans old.seen mid.seen new.seen w.earlier s.earlier;
+    first = w.first;
+    began = w.began;
+    turns = w.turns;
+    waiting = w.waiting;
+    made = s.made ∙ w.made;
+  }
+
+  -- a caller that saw more, and more again
+  pub sees_again : (old mid new : CallerView A) → Sees old mid → Sees mid new → Sees old new
+  sees_again old mid new s t = record { number = t.number ∙ s.number; made = t.made ∙ s.made; earlier = prefix_trans old.seen mid.seen new.seen s.earlier t.earlier }
+
+  -- a step of a caller that saw more before
+  pub gains_after : (limits : Limits) (most : ℕ) (old mid new : CallerView A) (x : Step A) (r : Reply A) → Sees old mid → Gains limits most mid new x r → Gains limits most old new x r
+  gains_after limits most old mid new x r s g =
+      let e : ℕ → Entry A = λ k. entry k (length (of k g.before)) x r in record {
+        before = g.before;
+        earlier = prefix_trans old.seen mid.seen g.before s.earlier g.earlier;
+        seen = g.seen ∙ ap (λ (k : ℕ). g.before ++ e k ∷ []) s.number;
+        made = g.made ∙ (λ i. s.made i ++ e (s.number i) ∷ []);
+        number = g.number ∙ s.number;
+        knows = g.knows;
+      }
+
+  -- one turn more
+  pub turn_more : (n : ℕ) (limits : Limits) (most pid : ℕ) (call : Call A) (c : ℕ) (old mid new : CallerView A) → WaitsIn n limits most pid call c old mid → Glanced limits most mid new c None → WaitsIn (n + 1) limits most pid call c old new
+  turn_more n limits most pid call c old mid new w g = ⊎_elim
+      (λ (s : Sees mid new). let few : length w.0.turns ≤ n = w.1 in (waits_sees limits most pid call c old mid new w.0 s, omega arith))
+      (λ (m : Gains limits most mid new (Resume c) (Parked c)).
+      let few : length w.0.turns ≤ n = w.1 in
+      let e : Entry A = entry mid.number (length (of mid.number m.before)) (Resume c) (Parked c) in
+      let long : length (w.0.turns ++ e ∷ []) ≡ length w.0.turns + 1 = length-append w.0.turns (e ∷ []) in
+      (waits_more limits most pid call c old mid new w.0 m, omega arith))
+      g

@@ -1,0 +1,5 @@
+use Rattle.pl_locked.proofs.Tallying.{tallies_none}
+use Rattle.pl_locked.proofs.desk.Desk.new.Goals as goal
+
+pub invariant_of-result : goal.invariant_of-result
+invariant_of-result g c = rw (c.requires.recorded, c.requires.counts) (tallies_none g.N.Layer.callers g.N.Layer.max_steps, c.requires.shares, c.requires.most.0, c.requires.most.1)

@@ -1,0 +1,6 @@
+-- Lists of entries that only contracts see.
+pub mod Logs
+-- What contracts see of a layer and its callers, and what becomes of a call.
+pub mod Views
+-- What the journal under the lock keeps.
+pub mod Journals

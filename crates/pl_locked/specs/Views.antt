@@ -1,0 +1,151 @@
+-- What contracts see of a layer and its callers, and what becomes of a call.
+use Rattle.std.specs.Prelude.{◌≡◌, ◌==◌, ℕ, zero, suc, ◌<◌, ◌≤◌, List, [], ◌∷◌, ◌++◌, length, true, Option, Some, None, ◌⊎◌}
+use Rattle.std.specs.List.{sum_by, list_any, All}
+use mathlib.Core.List.{IsPrefix}
+use Rattle.atomic_table.specs.Seated.{TableId}
+use Rattle.pl_model.specs.declared.calls.Call.{Call}
+use Rattle.pl_model.specs.declared.calls.Limits.{Limits}
+use Rattle.pl_model.specs.declared.calls.Step.{Step}
+use Rattle.pl_model.specs.declared.calls.Step.TheVariants.{Begin, Resume}
+use Rattle.pl_model.specs.declared.replies.Reply.{Reply}
+use Rattle.pl_model.specs.declared.replies.Reply.TheVariants.{Parked}
+use Rattle.pl_model.specs.declared.history.Entry.{Entry}
+use Rattle.pl_model.specs.History.{entry, of, IsLegal}
+
+-- What a layer is made on: the name of its ledger, into how many parts that is cut, and its history word.
+pub record GroundId : Type 0 where
+  pub name : ℕ
+  pub parts : ℕ
+  pub table : TableId
+
+-- A caller: its number, the history that it has seen, and the entries that it made.
+pub record CallerView (A : Type 0) : Type 0 where
+  pub number : ℕ
+  pub seen : List (Entry A)
+  pub made : List (Entry A)
+
+-- What lies under the lock: the journal, and how often something changed.
+pub record Held (A : Type 0) : Type 0 where
+  pub journal : List (Entry A)
+  pub changes : ℕ
+
+module _ {A : Type 0} where
+  -- a caller that has seen and made nothing
+  abbrev pub newcomer : ℕ → CallerView A
+  newcomer k = record { number = k; seen = []; made = [] }
+
+  -- the callers below n, none of which has seen or made anything
+  abbrev pub newcomers : ℕ → List (CallerView A)
+  newcomers zero = []
+  newcomers (suc n) = newcomers n ++ newcomer n ∷ []
+
+  -- caller k is among them
+  abbrev pub HasCaller : List (CallerView A) → ℕ → Type 0
+  HasCaller callers k = list_any (λ c. c.number == k) callers ≡ true
+
+  -- k is the least number below n that none of these callers has
+  abbrev pub IsLeastMissing : ℕ → List (CallerView A) → ℕ → Type 0
+  IsLeastMissing n callers k = (k < n) × ¬ HasCaller callers k × ((j : ℕ) → j < k → HasCaller callers j)
+
+  -- how many entries these callers made
+  abbrev pub total_made : List (CallerView A) → ℕ
+  total_made callers = sum_by (λ c. length c.made) callers
+
+  -- the entries xs stand among ys, in this order
+  abbrev pub IsSub : List (Entry A) → List (Entry A) → Type 0
+  IsSub [] ys = Unit {0}
+  IsSub (x ∷ xs) [] = ⊥
+  IsSub (x ∷ xs) (y ∷ ys) = ((x ≡ y) × IsSub xs ys) ⊎ IsSub (x ∷ xs) ys
+
+  -- The journal begins with what the caller has seen, and its entries of the caller are just those that the caller made.
+  abbrev pub IsDone : List (Entry A) → CallerView A → Type 0
+  IsDone journal c = IsPrefix c.seen journal × (of c.number journal ≡ c.made)
+
+  -- The caller made nothing. It may have seen more.
+  pub record Sees (old new : CallerView A) : Type 0 where
+    pub number : new.number ≡ old.number
+    pub made : new.made ≡ old.made
+    pub earlier : IsPrefix old.seen new.seen
+
+  -- The caller has seen a legal history of at most so many entries, in which what it made stands in order among its own.
+  pub record Knows (limits : Limits) (most : ℕ) (c : CallerView A) : Type 0 where
+    pub legal : IsLegal limits c.seen
+    pub room : length c.seen ≤ most
+    pub own : IsSub c.made (of c.number c.seen)
+
+  -- The caller made nothing, and has seen all that had happened.
+  abbrev pub Shown : Limits → ℕ → CallerView A → CallerView A → Type 0
+  Shown limits most old new = Sees old new × Knows limits most new
+
+  -- The caller has seen a history that is full.
+  abbrev pub Full : ℕ → CallerView A → Type 0
+  Full most c = length c.seen ≡ most
+
+  -- The entry is the last of a legal journal of at most so many: so its reply is the machine's there, and its number right.
+  pub record IsLastOf (limits : Limits) (most : ℕ) (e : Entry A) : Type 0 where
+    pub before : List (Entry A)
+    pub legal : IsLegal limits (before ++ e ∷ [])
+    pub room : length before < most
+
+  -- The caller made one entry more, of this step with this reply. It is the last of the history that the caller has now seen, which
+  -- goes on from what it had.
+  pub record Gains (limits : Limits) (most : ℕ) (old new : CallerView A) (x : Step A) (r : Reply A) : Type 0 where
+    pub before : List (Entry A)
+    pub earlier : IsPrefix old.seen before
+    pub seen : new.seen ≡ before ++ entry old.number (length (of old.number before)) x r ∷ []
+    pub made : new.made ≡ old.made ++ entry old.number (length (of old.number before)) x r ∷ []
+    pub number : new.number ≡ old.number
+    pub knows : Knows limits most new
+
+  -- the reply answers a call
+  abbrev pub IsAnswer : Reply A → Type 0
+  IsAnswer (Parked c) = ⊥
+  IsAnswer _ = Unit {0}
+
+  -- Caller k tried call c again, which waits on.
+  abbrev pub WaitsOn : Limits → ℕ → ℕ → ℕ → Entry A → Type 0
+  WaitsOn limits most k c e = (e.caller ≡ k) × (e.step ≡ Resume c) × (e.reply ≡ Parked c) × IsLastOf limits most e
+
+  -- The caller began the call of process pid, which was parked as c. It tried it again, maybe often, and it waits on.
+  pub record Waits (limits : Limits) (most pid : ℕ) (call : Call A) (c : ℕ) (old new : CallerView A) : Type 0 where
+    pub number : new.number ≡ old.number
+    pub earlier : IsPrefix old.seen new.seen
+    pub first : ℕ
+    pub began : IsLastOf limits most (entry old.number first (Begin pid call) (Parked c))
+    pub turns : List (Entry A)
+    pub waiting : All (WaitsOn limits most old.number c) turns
+    pub made : new.made ≡ old.made ++ entry old.number first (Begin pid call) (Parked c) ∷ turns
+
+  -- The call was answered at once; or it was parked, tried again, and answered.
+  abbrev pub Called : Limits → ℕ → CallerView A → CallerView A → ℕ → Call A → Reply A → Type 0
+  Called limits most old new pid call r =
+      IsAnswer r
+      × (Gains limits most old new (Begin pid call) r
+      ⊎ ((c : ℕ) × (between : CallerView A) × Waits limits most pid call c old between × Gains limits most between new (Resume c) r))
+
+  -- the call waits, and was tried again at most n times
+  abbrev pub WaitsIn : ℕ → Limits → ℕ → ℕ → Call A → ℕ → CallerView A → CallerView A → Type 0
+  WaitsIn n limits most pid call c old new = (w : Waits limits most pid call c old new) × (length w.turns ≤ n)
+
+  -- The call was answered at once; or it was parked, and answered within n turns; or it still waits after so many.
+  abbrev pub CalledIn : ℕ → Limits → ℕ → CallerView A → CallerView A → ℕ → Call A → Reply A → Type 0
+  CalledIn n limits most old new pid call r =
+      (IsAnswer r × Gains limits most old new (Begin pid call) r)
+      ⊎ (((c : ℕ) × (between : CallerView A) × (w : Waits limits most pid call c old between) × (length w.turns < n) × IsAnswer r × Gains limits most between new (Resume c) r)
+      ⊎ ((c : ℕ) × WaitsIn n limits most pid call c old new × (r ≡ Parked c)))
+
+  -- A call that was not answered: nothing is parked and nothing was made, or it stays parked as c. Either way the caller has seen all
+  -- that had happened.
+  abbrev pub Failed : Limits → ℕ → CallerView A → CallerView A → ℕ → Call A → Option ℕ → Type 0
+  Failed limits most old new pid call None = Shown limits most old new
+  Failed limits most old new pid call (Some c) = Waits limits most pid call c old new × Knows limits most new
+
+  -- One more turn of call c: it waits on, or it was answered.
+  abbrev pub Turned : Limits → ℕ → CallerView A → CallerView A → ℕ → Option (Reply A) → Type 0
+  Turned limits most old new c None = Gains limits most old new (Resume c) (Parked c)
+  Turned limits most old new c (Some r) = IsAnswer r × Gains limits most old new (Resume c) r
+
+  -- A glance, and one more turn of call c if the history was longer.
+  abbrev pub Glanced : Limits → ℕ → CallerView A → CallerView A → ℕ → Option (Reply A) → Type 0
+  Glanced limits most old new c None = Sees old new ⊎ Gains limits most old new (Resume c) (Parked c)
+  Glanced limits most old new c (Some r) = IsAnswer r × Gains limits most old new (Resume c) r

@@ -1,0 +1,176 @@
+//! What lies under the lock.
+ghost use Rattle.std.specs.Prelude.{◌≡◌, ℕ, ◌<◌, ◌≤◌, [], ◌∷◌, ◌++◌, ◌+◌, length, IfOk, OnErr, IsErrOf, ◌↔◌, replicate};
+ghost use Rattle.std.specs.List.{All};
+ghost use Rattle.pl_model.specs.History.{entry, of, IsLegal, state_of_history};
+ghost use Rattle.pl_state.specs.Makes.{Stands};
+ghost use Rattle.pl_locked.specs.Views.{Full, Gains, HasCaller, IsAnswer, IsDone, Shown, total_made};
+ghost use Rattle.pl_locked.specs.Journals.{Owes, KeepsItsNumber};
+
+use crate::caller::{Caller, gather};
+use crate::fault::StepFault;
+use crate::journal::Journal;
+use crate::recorded::Recorded;
+use pl_history::{Layer, Word};
+use pl_kernel::Kernel;
+use pl_model::{Reply, Step};
+use std::alloc::{Allocator, Global};
+use std::marker::Model;
+use std::sync::ledger::{Book, Share};
+
+/// What lies under the lock of a layer. Contracts see the journal, and how often something changed.
+#[derive(Drop)]
+pub(crate) struct Desk<N: Layer, A: Allocator = Global> {
+    recorded: Recorded<N, A>,
+    /// How many steps each caller made, by its number.
+    counts: Vec<u64, A>,
+    book: Book<N>,
+    /// The parts of the ledger that no caller has.
+    rest: Share<N>,
+    /// How many steps the journal takes.
+    most: u32,
+    /// How many steps changed something: a parked call is tried again only after one more.
+    changes: u64,
+}
+
+impl<N: Layer, A: Allocator> Model for Desk<N, A> {
+    ghost use Rattle.std.specs.Prelude.{◌≡◌, length};
+    ghost use Rattle.pl_locked.specs.Views.{Held};
+    ghost use Rattle.pl_locked.specs.Journals.{Tallies, Owes};
+
+    ghost Value = { Held A };
+
+    ghost view = { λ d. record { journal = d.recorded; changes = d.changes } };
+
+    ghost invariant = { λ d. Tallies N.callers N.max_steps d.recorded d.counts.items d.changes × Owes N.callers (length d.recorded) d.book.total d.rest.parts d.rest.amount × (d.most ≡ N.max_steps) × (N.parts ≡ 64) };
+}
+
+impl<N: Layer, A: Allocator + Copy> Desk<N, A> {
+    /// The desk of a new layer: no step was made.
+    pub(crate) fn new(
+        recorded: Recorded<N, A>,
+        counts: Vec<u64, A>,
+        book: Book<N>,
+        rest: Share<N>,
+        most: u32,
+    ) -> Desk<N, A>
+        requires recorded { recorded ≡ [] }
+        requires counts { counts.items ≡ replicate N.callers 0 }
+        requires shares { Owes N.callers 0 book.total rest.parts rest.amount }
+        requires most { (most ≡ N.max_steps) × (N.parts ≡ 64) }
+        ensures { result.journal ≡ [] }
+    {
+        Desk {
+            recorded,
+            counts,
+            book,
+            rest,
+            most,
+            changes: 0,
+        }
+    }
+
+    /// How many steps were made.
+    pub(crate) fn len(&self) -> usize
+        ensures { result ≡ length self.now.journal }
+    {
+        self.recorded.len()
+    }
+
+    /// How many steps changed something.
+    pub(crate) fn changes(&self) -> u64
+        ensures { result ≡ self.now.changes }
+    {
+        self.changes
+    }
+
+    /// Lets a caller see the whole journal.
+    fn show(&mut self, word: &Word<N, A>, me: &mut Caller<N, A>)
+        ensures same { self.new ≡ self.old }
+        ensures seen { me.new ≡ record me.old { seen = self.old.journal } }
+        ensures shown { Shown N.limits N.max_steps me.old me.new }
+    {
+        self.recorded.show(word, &mut me.eye);
+    }
+
+    /// Makes one step of a caller, who has then seen the whole journal. The journal is tried for room first, and all memory is taken
+    /// before anything changes.
+    pub(crate) fn step(
+        &mut self,
+        word: &Word<N, A>,
+        me: &mut Caller<N, A>,
+        step: Step<A>,
+    ) -> Result<Reply<A>, StepFault>
+        ensures journal { IfOk result (λ reply. self.new.journal ≡ self.old.journal ++ entry me.old.number (length (of me.old.number self.old.journal)) step reply ∷ []) }
+        ensures made { IfOk result (λ reply. Gains N.limits N.max_steps me.old me.new step reply) }
+        ensures full { IsErrOf result StepFault.JournalFull ↔ (length self.old.journal ≡ N.max_steps) }
+        ensures seen { IsErrOf result StepFault.JournalFull → Full N.max_steps me.new }
+        ensures unmade { OnErr result ((self.new ≡ self.old) × Shown N.limits N.max_steps me.old me.new) }
+        ensures number { IfOk result (KeepsItsNumber step) }
+        ensures woken { IfOk result (λ reply. IsAnswer reply → self.new.changes ≡ self.old.changes + 1) }
+    {
+        self.show(word, me);
+        if self.recorded.len() >= self.most as usize {
+            return Err(StepFault::JournalFull);
+        }
+        let place = me.number as usize;
+        let number = self.counts[place];
+        let taken = self.taken_by(&step);
+        let reply = self
+            .recorded
+            .step(word, &mut me.made, &mut me.eye, me.number, number, step)?;
+        self.book.add(&mut me.share, 1);
+        self.counts[place] = number + 1;
+        self.changes += change(&self.recorded, taken, &reply);
+        Ok(reply)
+    }
+
+    /// How many bytes the call has taken that the step tries again, if it does and the call is parked.
+    fn taken_by(&self, step: &Step<A>) -> Option<u32> {
+        match step {
+            Step::Resume(call) => self.recorded.taken(*call),
+            _ => None,
+        }
+    }
+
+    /// The journal and the kernel, where all callers are here. It takes no memory.
+    pub(crate) fn finish(
+        self,
+        word: &Word<N, A>,
+        callers: Vec<Caller<N, A>, A>,
+    ) -> (Journal<A>, Kernel<A>)
+        requires { (k : ℕ) → k < N.callers → HasCaller callers.items k }
+        ensures journal { result.0 ≡ self.journal }
+        ensures legal { IsLegal N.limits result.0 }
+        ensures count { length result.0 ≡ total_made callers.items }
+        ensures each { All (IsDone result.0) callers.items }
+        ensures kernel { Stands result.1 (state_of_history {A = A} N.limits result.0) }
+    {
+        let Desk {
+            mut recorded,
+            counts: _,
+            mut book,
+            rest,
+            most: _,
+            changes: _,
+        } = self;
+        let mut all = rest;
+        gather(callers, &mut all, word, &mut recorded);
+        book.audit(&mut all);
+        recorded.into_parts()
+    }
+}
+
+// How many changes a step is that was answered so: one, unless it left a call parked that was parked before, with as many bytes taken.
+fn change<N: Layer, A: Allocator + Copy>(
+    recorded: &Recorded<N, A>,
+    taken: Option<u32>,
+    reply: &Reply<A>,
+) -> u64
+    ensures few { result ≤ 1 }
+    ensures answered { IsAnswer reply.now → result ≡ 1 }
+{
+    match reply {
+        Reply::Parked(call) if recorded.taken(*call) == taken => 0,
+        _ => 1,
+    }
+}

@@ -1,0 +1,90 @@
+//! The journal of a layer.
+ghost use Rattle.std.specs.Prelude.{◌≡◌, ◌≤◌, ◌↔◌, length, slice_get, option_copied, IfOk, IsTrue};
+ghost use Rattle.pl_model.specs.Numbers.{most_file_bytes};
+ghost use Rattle.pl_model.specs.History.{IsLegal};
+ghost use Rattle.pl_locked.specs.Journals.{Replays};
+
+use crate::numbering::are_numbered;
+use crate::same::is_same;
+use pl_kernel::{Kernel, NoMemory};
+use pl_model::{Entry, Limits};
+use std::alloc::{Allocator, Global};
+use std::marker::Model;
+
+/// All steps of a layer, in the order in which they were made, each with its caller and its reply. Contracts see it as the list of
+/// its entries.
+#[derive(Drop, Debug)]
+pub struct Journal<A: Allocator = Global> {
+    entries: Vec<Entry<A>, A>,
+}
+
+impl<A: Allocator> Model for Journal<A> {
+    ghost use Rattle.std.specs.Prelude.{List};
+    ghost use Rattle.pl_model.specs.declared.history.Entry.{Entry};
+
+    ghost Value = { List (Entry A) };
+
+    ghost view = { λ j. j.entries.items };
+}
+
+impl<A: Allocator> Journal<A> {
+    /// The journal of these entries, whose memory it keeps. They may be any: whether they are what happened `replay` tells. It takes
+    /// no memory.
+    pub fn from_vec(entries: Vec<Entry<A>, A>) -> Journal<A>
+        ensures { result ≡ entries.items }
+    {
+        Journal { entries }
+    }
+
+    /// How many steps were made.
+    pub fn len(&self) -> usize
+        ensures { result ≡ length self.now }
+    {
+        self.entries.len()
+    }
+
+    /// The step of this place, counted from 0.
+    pub fn get(&self, place: usize) -> Option<&Entry<A>>
+        ensures { option_copied result ≡ slice_get self.now place }
+    {
+        self.entries.get(place)
+    }
+}
+
+impl<A: Allocator + Copy> Journal<A> {
+    /// Whether this is what happened on some kernel within these limits: a new one, on which the same steps are made in the same order,
+    /// answers just what stands here, and each entry has as its number how many of the same caller stand before it.
+    ///
+    /// # Errors
+    ///
+    /// `NoMemory` where there is none for that kernel, for a copy of a step, or to count in.
+    pub fn replay(&self, alloc: A, limits: Limits) -> Result<bool, NoMemory>
+        requires { limits.file_max ≤ most_file_bytes }
+        ensures { IfOk result (λ same. IsTrue same ↔ IsLegal {A = A} limits self.now) }
+    {
+        let entries = self.entries.as_slice();
+        let numbered = are_numbered(alloc, entries)?;
+        let replayed = replays(alloc, limits, entries)?;
+        Ok(numbered && replayed)
+    }
+}
+
+// Whether the entries have the replies of a new kernel.
+fn replays<A: Allocator + Copy>(
+    alloc: A,
+    limits: Limits,
+    entries: &[Entry<A>],
+) -> Result<bool, NoMemory>
+    requires { limits.file_max ≤ most_file_bytes }
+    ensures { IfOk result (λ same. IsTrue same ↔ Replays {A = A} limits entries.now) }
+{
+    let mut kernel = Kernel::new(alloc, limits);
+    for entry in entries {
+        let step = entry.step.copy(alloc)?;
+        let reply = kernel.step(step)?;
+        if !is_same(&reply, &entry.reply) {
+            return Ok(false);
+        }
+    }
+    Ok(true)
+}

@@ -1,0 +1,225 @@
+//! The layer: one lock, and the steps of its callers.
+ghost use Rattle.std.specs.Prelude.{◌≡◌, ℕ, ◌<◌, ◌≤◌, length, IfOk, IfErr, OnOk, OnErr, IsErrOf, ◌↔◌, ◌⊎◌};
+ghost use Rattle.std.specs.List.{All};
+ghost use Rattle.pl_model.specs.Numbers.{most_file_bytes};
+ghost use Rattle.pl_model.specs.History.{IsLegal, state_of_history};
+ghost use Rattle.pl_state.specs.Makes.{Stands};
+ghost use Rattle.pl_locked.specs.Views.{Full, Gains, IsDone, Sees, Shown, newcomers, HasCaller, IsLeastMissing, total_made};
+ghost use Rattle.pl_locked.specs.Journals.{KeepsItsNumber};
+
+mod calls;
+
+use crate::caller::{Caller, deal, missing};
+use crate::desk::Desk;
+use crate::fault::{OpenFault, StepFault};
+use crate::ground::Ground;
+use crate::journal::Journal;
+use crate::recorded::Recorded;
+use pl_history::{Layer, Word};
+use pl_kernel::{Kernel, NoMemory};
+use pl_model::{Limits, Reply, Step};
+use std::alloc::{Allocator, Global};
+use std::sync::{Condvar, Mutex, Wait};
+
+/// A caller of the layer was not handed in: all that was is handed back.
+#[derive(Drop)]
+pub struct CallerMissing<N: Layer, A: Allocator = Global> {
+    /// The least number that none of the callers has.
+    pub number: u32,
+    pub locked: Locked<N, A>,
+    pub callers: Vec<Caller<N, A>, A>,
+}
+
+/// A kernel under one lock, with a journal of its steps. Threads share it by reference, each with a `Caller` of its own.
+#[derive(Drop)]
+pub struct Locked<N: Layer, A: Allocator = Global> {
+    count: u32,
+    desk: Mutex<Desk<N, A>>,
+    changed: Condvar,
+    word: Word<N, A>,
+    ghost known: { count ≡ N.callers },
+}
+
+/// What a caller's last step left: how often something had changed then, and how many steps there were.
+#[derive(Clone, Copy)]
+struct Mark {
+    changes: u64,
+    len: u64,
+}
+
+impl<N: Layer, A: Allocator + Copy> Locked<N, A> {
+    /// A layer over a new kernel within the limits, with so many callers, whose journal takes `max_steps` steps.
+    ///
+    /// # Errors
+    ///
+    /// `BadCallers` exactly where there are none, or more than 64; else `NoMemory`.
+    pub fn open(
+        alloc: A,
+        ground: Ground<A>,
+        limits: Limits,
+        callers: u32,
+        max_steps: u32,
+    ) -> Result<(Locked<N, A>, Vec<Caller<N, A>, A>), OpenFault>
+        requires ground { (ground.name ≡ N.name) × (ground.parts ≡ N.parts) × (ground.table ≡ N.table) }
+        requires limits { limits ≡ N.limits }
+        requires file_max { limits.file_max ≤ most_file_bytes }
+        requires callers { callers ≡ N.callers }
+        requires steps { max_steps ≡ N.max_steps }
+        ensures callers { IfOk result (λ opened. opened.1.items ≡ newcomers {A = A} callers) }
+        ensures bad { IsErrOf result OpenFault.BadCallers ↔ ((callers ≡ 0) ⊎ (64 < callers)) }
+    {
+        if callers == 0 || callers > 64 {
+            return Err(OpenFault::BadCallers);
+        }
+        let opened = Locked::furnished(alloc, ground, limits, callers, max_steps)?;
+        Ok(opened)
+    }
+
+    // The layer of a number of callers that is right.
+    fn furnished(
+        alloc: A,
+        ground: Ground<A>,
+        limits: Limits,
+        callers: u32,
+        max_steps: u32,
+    ) -> Result<(Locked<N, A>, Vec<Caller<N, A>, A>), NoMemory>
+        requires ground { (ground.name ≡ N.name) × (ground.parts ≡ N.parts) × (ground.table ≡ N.table) }
+        requires limits { limits ≡ N.limits }
+        requires file_max { limits.file_max ≤ most_file_bytes }
+        requires callers { callers ≡ N.callers }
+        requires few { callers ≤ 64 }
+        requires steps { max_steps ≡ N.max_steps }
+        ensures { IfOk result (λ opened. opened.1.items ≡ newcomers {A = A} callers) }
+    {
+        let Ground {
+            blank,
+            history,
+            seat,
+        } = ground;
+        let (word, mut recorder) = Word::<N, A>::named(history, seat);
+        let (book, mut rest) = blank.open::<N>();
+        let counts = Vec::from_elem(alloc, 0, callers as usize)?;
+        let tokens = deal(alloc, callers, &mut rest, &word, &mut recorder)?;
+        let recorded = Recorded::new(alloc, limits, recorder);
+        let desk = Desk::new(recorded, counts, book, rest, max_steps);
+        Ok((Locked::over(callers, desk, word), tokens))
+    }
+
+    fn over(count: u32, desk: Desk<N, A>, word: Word<N, A>) -> Locked<N, A>
+        requires { count ≡ N.callers }
+    {
+        Locked {
+            count,
+            desk: Mutex::new(desk),
+            changed: Condvar::new(),
+            word,
+        }
+    }
+
+    /// Ends the layer, and gives its journal and its kernel. The callers are handed in, in any order. It takes no memory.
+    ///
+    /// # Errors
+    ///
+    /// `CallerMissing` where one of them isn't there: it hands all back.
+    pub fn close(
+        self,
+        callers: Vec<Caller<N, A>, A>,
+    ) -> Result<(Journal<A>, Kernel<A>), CallerMissing<N, A>>
+        ensures legal { IfOk result (λ closed. IsLegal N.limits closed.0) }
+        ensures count { IfOk result (λ closed. length closed.0 ≡ total_made callers.items) }
+        ensures each { IfOk result (λ closed. All (IsDone closed.0) callers.items) }
+        ensures kernel { IfOk result (λ closed. Stands closed.1 (state_of_history {A = A} N.limits closed.0)) }
+        ensures here { OnOk result ((k : ℕ) → k < N.callers → HasCaller callers.items k) }
+        ensures missing { IfErr result (λ fault. IsLeastMissing N.callers callers.items fault.number × (fault.callers.items ≡ callers.items)) }
+    {
+        match missing(callers.as_slice(), self.count) {
+            Some(number) => Err(CallerMissing {
+                number,
+                locked: self,
+                callers,
+            }),
+            None => {
+                let Locked {
+                    count: _,
+                    desk,
+                    changed: _,
+                    word,
+                } = self;
+                Ok(desk.into_inner().finish(&word, callers))
+            }
+        }
+    }
+
+    /// How many steps there are now; the caller has then seen them. It is one atomic load: it waits for nobody, and takes no memory.
+    pub fn glance(&self, me: &mut Caller<N, A>) -> u64
+        ensures length { result ≡ length me.new.seen }
+        ensures seen { Sees me.old me.new }
+    {
+        self.word.look(&mut me.eye)
+    }
+
+    // One step on the desk, which is locked. It wakes all that wait where something changed.
+    fn make(
+        &self,
+        desk: &mut Desk<N, A>,
+        me: &mut Caller<N, A>,
+        step: Step<A>,
+    ) -> Result<(Reply<A>, Mark), StepFault>
+        ensures made { IfOk result (λ r. Gains N.limits N.max_steps me.old me.new step r.0) }
+        ensures number { IfOk result (λ r. KeepsItsNumber step r.0) }
+        ensures full { IsErrOf result StepFault.JournalFull → Full N.max_steps me.new }
+        ensures unmade { OnErr result (Shown N.limits N.max_steps me.old me.new) }
+    {
+        let before = desk.changes();
+        match desk.step(&self.word, me, step) {
+            Ok(reply) => {
+                let mark = Mark {
+                    changes: desk.changes(),
+                    len: desk.len() as u64,
+                };
+                if mark.changes != before {
+                    self.changed.notify_all();
+                }
+                Ok((reply, mark))
+            }
+            Err(fault) => Err(fault),
+        }
+    }
+
+    // One step under the lock.
+    fn step<R: Wait>(
+        &self,
+        rt: &R,
+        me: &mut Caller<N, A>,
+        step: Step<A>,
+    ) -> Result<(Reply<A>, Mark), StepFault>
+        ensures made { IfOk result (λ r. Gains N.limits N.max_steps me.old me.new step r.0) }
+        ensures number { IfOk result (λ r. KeepsItsNumber step r.0) }
+        ensures full { IsErrOf result StepFault.JournalFull → Full N.max_steps me.new }
+        ensures unmade { OnErr result (Shown N.limits N.max_steps me.old me.new) }
+    {
+        let mut desk = self.desk.lock(rt);
+        self.make(&mut *desk, me, step)
+    }
+
+    /// Makes one step under the lock. The caller has then seen all that had happened, and what it made last.
+    ///
+    /// # Errors
+    ///
+    /// `JournalFull` where the journal has as many steps as it takes; else `NoMemory`. Neither changes the journal or the kernel.
+    pub fn attempt<R: Wait>(
+        &self,
+        rt: &R,
+        me: &mut Caller<N, A>,
+        step: Step<A>,
+    ) -> Result<Reply<A>, StepFault>
+        ensures made { IfOk result (λ reply. Gains N.limits N.max_steps me.old me.new step reply) }
+        ensures full { IsErrOf result StepFault.JournalFull → Full N.max_steps me.new }
+        ensures unmade { OnErr result (Shown N.limits N.max_steps me.old me.new) }
+    {
+        match self.step(rt, me, step) {
+            Ok((reply, _)) => Ok(reply),
+            Err(fault) => Err(fault),
+        }
+    }
+}

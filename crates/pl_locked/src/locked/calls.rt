@@ -1,0 +1,155 @@
+//! Whole calls: begun, and tried again until they are answered.
+ghost use Rattle.std.specs.Prelude.{◌≡◌, IfOk, IfErr, OnErr, IsErrOf};
+ghost use Rattle.pl_locked.specs.Views.{Called, CalledIn, Failed, Full, Glanced, Shown, Turned};
+
+use super::{Locked, Mark};
+use crate::caller::Caller;
+use crate::fault::{CallFault, StepFault};
+use pl_history::Layer;
+use pl_model::{Call, Reply, Step};
+use std::alloc::Allocator;
+use std::sync::Wait;
+
+impl<N: Layer, A: Allocator + Copy> Locked<N, A> {
+    /// Begins a call of a process. Where it is parked it waits, without the lock, until a step of some caller has changed something,
+    /// and tries the call again, until it is answered. Where another caller interrupts the call or ends its process, the answer is
+    /// `NoCall`.
+    ///
+    /// # Errors
+    ///
+    /// As of `attempt`, at any of its steps: the call may stay parked, under the number that is told.
+    pub fn call<R: Wait>(
+        &self,
+        rt: &R,
+        me: &mut Caller<N, A>,
+        pid: u32,
+        call: Call<A>,
+    ) -> Result<Reply<A>, CallFault>
+        ensures made { IfOk result (λ reply. Called N.limits N.max_steps me.old me.new pid call reply) }
+        ensures full { IfErr result (λ fault. fault.cause ≡ StepFault.JournalFull → Full N.max_steps me.new) }
+        ensures fault { IfErr result (λ fault. Failed N.limits N.max_steps me.old me.new pid call fault.parked) }
+    {
+        let (reply, mut mark) = match self.step(rt, me, Step::Begin(pid, call)) {
+            Ok(begun) => begun,
+            Err(cause) => {
+                return Err(CallFault {
+                    cause,
+                    parked: None,
+                });
+            }
+        };
+        let Reply::Parked(number) = reply else {
+            return Ok(reply);
+        };
+        'turns: for _ in rt.forever() {
+            match self.turn(rt, me, number, &mut mark) {
+                Ok(None) => {}
+                Ok(Some(reply)) => return Ok(reply),
+                Err(cause) => {
+                    return Err(CallFault {
+                        cause,
+                        parked: Some(number),
+                    });
+                }
+            }
+        }
+        unreachable!()
+    }
+
+    // Waits until something has changed since the mark, and tries the call again.
+    fn turn<R: Wait>(
+        &self,
+        rt: &R,
+        me: &mut Caller<N, A>,
+        number: u64,
+        mark: &mut Mark,
+    ) -> Result<Option<Reply<A>>, StepFault>
+        ensures made { IfOk result (λ answer. Turned N.limits N.max_steps me.old me.new number answer) }
+        ensures full { IsErrOf result StepFault.JournalFull → Full N.max_steps me.new }
+        ensures unmade { OnErr result (Shown N.limits N.max_steps me.old me.new) }
+    {
+        let last = mark.changes;
+        let mut desk = self
+            .changed
+            .wait_while(rt, self.desk.lock(rt), |desk| desk.changes() == last);
+        match self.make(&mut *desk, me, Step::Resume(number)) {
+            Ok((Reply::Parked(_), now)) => {
+                *mark = now;
+                Ok(None)
+            }
+            Ok((reply, _)) => Ok(Some(reply)),
+            Err(fault) => Err(fault),
+        }
+    }
+
+    /// Begins a call of a process, and then takes at most so many turns: a turn is a glance, and where there are more steps than after
+    /// the caller's last one it tries the call again. It waits for the lock alone. The answer is `Parked` where no turn is left: the
+    /// call waits on.
+    ///
+    /// # Errors
+    ///
+    /// As of `call`.
+    pub fn call_turns<R: Wait>(
+        &self,
+        rt: &R,
+        me: &mut Caller<N, A>,
+        pid: u32,
+        call: Call<A>,
+        turns: u32,
+    ) -> Result<Reply<A>, CallFault>
+        ensures made { IfOk result (λ reply. CalledIn turns N.limits N.max_steps me.old me.new pid call reply) }
+        ensures full { IfErr result (λ fault. fault.cause ≡ StepFault.JournalFull → Full N.max_steps me.new) }
+        ensures fault { IfErr result (λ fault. Failed N.limits N.max_steps me.old me.new pid call fault.parked) }
+    {
+        let (reply, mut mark) = match self.step(rt, me, Step::Begin(pid, call)) {
+            Ok(begun) => begun,
+            Err(cause) => {
+                return Err(CallFault {
+                    cause,
+                    parked: None,
+                });
+            }
+        };
+        let Reply::Parked(number) = reply else {
+            return Ok(reply);
+        };
+        for turn in 0..turns {
+            match self.glance_turn(rt, me, number, &mut mark) {
+                Ok(None) => {}
+                Ok(Some(reply)) => return Ok(reply),
+                Err(cause) => {
+                    return Err(CallFault {
+                        cause,
+                        parked: Some(number),
+                    });
+                }
+            }
+        }
+        Ok(Reply::Parked(number))
+    }
+
+    // One glance, and where there are more steps than at the mark the call is tried again.
+    fn glance_turn<R: Wait>(
+        &self,
+        rt: &R,
+        me: &mut Caller<N, A>,
+        number: u64,
+        mark: &mut Mark,
+    ) -> Result<Option<Reply<A>>, StepFault>
+        ensures made { IfOk result (λ answer. Glanced N.limits N.max_steps me.old me.new number answer) }
+        ensures full { IsErrOf result StepFault.JournalFull → Full N.max_steps me.new }
+        ensures unmade { OnErr result (Shown N.limits N.max_steps me.old me.new) }
+    {
+        if self.glance(me) <= mark.len {
+            return Ok(None);
+        }
+        match self.step(rt, me, Step::Resume(number)) {
+            Ok((Reply::Parked(_), now)) => {
+                *mark = now;
+                Ok(None)
+            }
+            Ok((reply, _)) => Ok(Some(reply)),
+            Err(fault) => Err(fault),
+        }
+    }
+}
