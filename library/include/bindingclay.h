@@ -17,7 +17,7 @@
  * Memory. It comes from malloc and realloc, and goes by free, all three of one allocator. A call that finds none answers
  * BINDINGCLAY_NO_MEMORY and has changed nothing, neither the kernel nor what its pointers point to: make it again once there is some.
  * Some calls, marked below, ask for none. A call that is refused for another reason has asked for none either, but for the calls with a
- * name, and polls, which copy the name or the entries first. bindingclay_free gives back all.
+ * name, which copy it first. bindingclay_free gives back all.
  *
  * Pointers. None is null, but one to 0 bytes, or to 0 entries, may be. What one call is given doesn't overlap, nor the kernel's own memory.
  * The library keeps no pointer of yours after a call: a write that is parked has a copy of its bytes. A handle that was freed, that
@@ -211,7 +211,7 @@ bindingclay_answer bindingclay_tee(
 
 /* Tells of each entry what of its events, of POLLIN and POLLOUT of poll.h, is so of its descriptor, and unasked POLLERR, POLLHUP
  * and POLLNVAL (poll). Value: of how many entries revents isn't 0. Writes all revents where it is done, and else none. A negative fd is
- * passed over. With wait, and nothing found, it waits. More than 256 entries EINVAL. */
+ * passed over. With wait, and nothing found, it waits, and only then asks for memory. More than 256 entries EINVAL. */
 bindingclay_answer bindingclay_poll(
     bindingclay clay, uint32_t pid, bindingclay_pollfd *entries, size_t count, bool wait);
 

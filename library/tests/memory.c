@@ -172,6 +172,12 @@ static void with_no_memory(void)
     HOLDS(memcmp(into, "hel", 3) == 0);
     DONE(bindingclay_read(clay, 1, 2, into, 3), 2);
     HOLDS(memcmp(into, "bc", 2) == 0);
+    /* nor does a poll that doesn't wait: two bytes are left in the pipe, and a file is always ready */
+    entries[0] = (bindingclay_pollfd){ .fd = 5, .events = POLLIN };
+    entries[1] = (bindingclay_pollfd){ .fd = -1, .events = POLLIN };
+    entries[2] = (bindingclay_pollfd){ .fd = 2, .events = POLLOUT };
+    DONE(bindingclay_poll(clay, 1, entries, 3, true), 2);
+    HOLDS(entries[0].revents == POLLIN && entries[1].revents == 0 && entries[2].revents == POLLOUT);
     /* and neither does what is refused for another reason */
     FAULT(bindingclay_write(clay, 1, 0, large, 300000), EBADF);
     FAULT(mkfifo_text(clay, 1, ""), ENOENT);
@@ -179,10 +185,12 @@ static void with_no_memory(void)
     OTHER(bindingclay_fork(clay, 3), BINDINGCLAY_NO_PROCESS);
     OTHER(bindingclay_resume(clay, 1, into, 2), BINDINGCLAY_NO_CALL);
     HOLDS(refused == 0);
-    /* a name and the entries of a poll are copied first */
+    /* a name is copied first, and what a poll asks where it waits: nothing is in the second pipe */
     OTHER(mkfifo_text(clay, 1, "f"), BINDINGCLAY_NO_MEMORY);
     OTHER(unlink_text(clay, 1, "f"), BINDINGCLAY_NO_MEMORY);
-    OTHER(bindingclay_poll(clay, 1, entries, 3, false), BINDINGCLAY_NO_MEMORY);
+    entries[0].fd = 3;
+    OTHER(bindingclay_poll(clay, 1, entries, 1, true), BINDINGCLAY_NO_MEMORY);
+    HOLDS(entries[0].revents == POLLIN);
     HOLDS(refused == 3);
     DONE(bindingclay_close(clay, 1, 2), 0);
     DONE(bindingclay_exit(clay, 1), 0);

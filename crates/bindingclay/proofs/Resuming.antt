@@ -1,5 +1,5 @@
 -- What a parked call comes to that is tried again, by what the kernel answered.
-use Rattle.std.proofs.Common.{◌≡◌, ◌≤◌, ◌<◌, ℕ, List, drop, length, refl, sym, ap, ◌∙◌, arith}
+use Rattle.std.proofs.Common.{◌≡◌, ◌≤◌, ◌<◌, ℕ, List, drop, length, refl, ap, arith}
 use Rattle.std.specs.Prelude.{Result, Ok, Err, IfOk, OnErr, IsOk}
 use Rattle.std.specs.Global.{Global}
 use Rattle.pl_model.specs.declared.calls.Step.TheVariants.{Resume}
@@ -13,9 +13,9 @@ use Rattle.pl_kernel.specs.declared.kernel.buffers.Resumed.{Resumed as KernelRes
 use Rattle.pl_kernel.specs.declared.kernel.buffers.Resumed.TheVariants.{Read, Short, Other}
 use Rattle.pl_kernel.specs.Buffers.{Resumes as ResumedByKernel}
 use Rattle.pl_kernel.specs.Buffers.{resumed_count, IsRead, IsOfRead, IsOfOther}
-use Rattle.pl_numbers.specs.declared.polls.PollEntry.{PollEntry}
+use Rattle.pl_polls.specs.declared.entries.PollEntry.{PollEntry}
 use Rattle.pl_numbers.specs.Answers.{said, plain, no_memory, short}
-use Rattle.pl_numbers.specs.Polls.{entries_after}
+use Rattle.pl_polls.specs.Entries.{entries_after}
 use Rattle.bindingclay.specs.Made.{Resumes, Wants, Gathers, Notes, read_answer, bytes_after, resumed_answer, resumed_entries}
 use Rattle.bindingclay.proofs.Telling.{has_memory, has_room, again_of, resumed, too_short, found_none, read_says, read_leaves}
 

@@ -15,11 +15,11 @@ use Rattle.pl_state.specs.Parking.{ReadWaits}
 use Rattle.pl_kernel.specs.declared.kernel.buffers.Resumed.{Resumed as KernelResumed}
 use Rattle.pl_kernel.specs.declared.kernel.buffers.Resumed.TheVariants as kernel
 use Rattle.pl_numbers.specs.declared.answer.Answer.{Answer}
-use Rattle.pl_numbers.specs.declared.polls.PollEntry.{PollEntry}
+use Rattle.pl_polls.specs.declared.entries.PollEntry.{PollEntry}
 use Rattle.pl_transfers.specs.declared.reading.ReadReply.{ReadReply}
 use Rattle.pl_transfers.specs.declared.reading.ReadReply.TheVariants as read
 use Rattle.pl_numbers.specs.Answers.{said, plain, faulty, no_memory, short}
-use Rattle.pl_numbers.specs.Polls.{entries_after}
+use Rattle.pl_polls.specs.Entries.{entries_after}
 
 -- Where memory was found, this holds of the machine's reply, for each state for which the kernel stood.
 abbrev pub Replied : Contents Global → Step Global → Answer → (Reply Global → Type 0) → Type 0

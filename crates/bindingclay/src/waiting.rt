@@ -4,8 +4,9 @@ ghost use Rattle.pl_numbers.specs.Answers.{said};
 ghost use Rattle.bindingclay.specs.Made.{Says, Wants, Resumed, Gathers, Notes};
 
 use crate::handle::Handle;
+use pl_kernel::PollEntry;
 use pl_model::Step;
-use pl_numbers::{Answer, PollEntry};
+use pl_numbers::Answer;
 
 /// Tries the parked call of a number again, where a read gives its bytes into the caller's. Where it asks for more than these, the answer
 /// says how many, and nothing changed.

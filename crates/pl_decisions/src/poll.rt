@@ -33,6 +33,7 @@ fn writer_mask(room: usize, has_reader: bool, asked: PollMask) -> PollMask
 /// asked. Of a pipe, by an end that reads, `IN` where asked and something is held, and `HUP` where the pipe is hung; by one that writes,
 /// `OUT` where asked and there is room for 4,096 bytes, which is our own choice, and `ERR` where no reader is left. `HUP` and `ERR` come
 /// unasked.
+#[inline(always)]
 pub fn mask_of(polled: Polled, asked: PollMask) -> PollMask
     ensures { result ≡ machine_mask_of polled asked }
 {

@@ -37,10 +37,14 @@ rows_of tables pid = rows_in (table_of tables pid)
 abbrev pub row_at : Tables → ℕ → ℕ → Option ℕ
 row_at tables pid fd = at (rows_of tables pid) fd
 
--- the same for any whole number; one outside 0 to 255 has none
+-- the key that a table has under any whole number; one outside 0 to 255 has none
+abbrev pub row_in : List (Option ℕ) → ℤ → Option ℕ
+row_in table (pos fd) = if nat_lt fd open_max then at table fd else None
+row_in table (negsuc n) = None
+
+-- that of the table of a process
 abbrev pub row_of : Tables → ℕ → ℤ → Option ℕ
-row_of tables pid (pos fd) = if nat_lt fd open_max then row_at tables pid fd else None
-row_of tables pid (negsuc n) = None
+row_of tables pid fd = row_in (rows_of tables pid) fd
 
 -- POSIX.1-2017, File Descriptor Allocation: the least free descriptor of a process, from `least` on
 abbrev pub lowest_of : Tables → ℕ → ℕ → Option ℕ

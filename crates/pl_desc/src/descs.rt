@@ -4,7 +4,7 @@ mod described;
 ghost use Rattle.std.specs.Prelude.{◌≡◌, ℕ, ◌+◌, ◌-◌, ◌<◌, ◌≤◌, ◌^◌, ◌↔◌, [], length, IsTrue, IsOk, IfOk, OnErr, OnOk, IsSome, IfSome, OnSome, IfNone, Some, None, true, false, nat_eq, option_map, option_and_then, if◌then◌else◌};
 ghost use Rattle.std.specs.Option.{option_copied};
 ghost use Rattle.pl_model.specs.Numbers.{open_max, most_processes, most_descriptions};
-ghost use Rattle.pl_model.specs.Map.{set_at, change_at};
+ghost use Rattle.pl_model.specs.Map.{set_at};
 ghost use Rattle.pl_model.specs.Modes.{reads, writes};
 ghost use Rattle.pl_desc.specs.Rows.{at, table_of, rows_of, is_pid, row_at, row_of, lowest_of, first_open, free_pid, with_row, without_row, without_first, with_rows_of, count_at, change_count, one_more, one_less, more_if};
 ghost use Rattle.pl_desc.specs.Descs.{ends_on, live_count, HasRoom, IsNoLess, IsTidy, holders, last_hold, fresh, released};
@@ -15,7 +15,7 @@ use crate::fault::{NoMemory, OpenFault, StartFault};
 use crate::released::Released;
 use crate::table::Table;
 use crate::tables::{clear_row, put_row, reserve_place};
-use pl_model::numbers::{MAX_DESCRIPTIONS, MAX_PROCESSES, OPEN_MAX};
+use pl_model::numbers::{MAX_DESCRIPTIONS, MAX_PROCESSES};
 use pl_model::{Mode, Node, OpenFlags};
 use slab::Slab;
 use std::alloc::{Allocator, Global};
@@ -164,15 +164,22 @@ impl<A: Allocator + Copy> Descs<A> {
         key
     }
 
+    /// The table of descriptors of a process, for a caller that looks several up.
+    pub fn table(&self, pid: u32) -> Option<&Table<A>>
+        ensures { option_copied result ≡ table_of self.now.tables pid }
+    {
+        if pid == 0 {
+            return None;
+        }
+        self.tables.get(pid as usize - 1)?.as_ref()
+    }
+
     /// The key that a descriptor of a process names, if it is open (POSIX.1-2017, File Descriptor). Where there is none, a
     /// call on the descriptor is `EBADF`.
     pub fn find(&self, pid: u32, fd: i32) -> Option<usize>
         ensures { result ≡ row_of self.now.tables pid fd }
     {
-        if fd < 0 || OPEN_MAX <= fd as usize {
-            return None;
-        }
-        self.table(pid)?.get(fd as usize)
+        self.table(pid)?.find(fd)
     }
 
     /// The least free descriptor of a process, from `least` (0 to 256) on (POSIX.1-2017, File Descriptor Allocation). Where
@@ -340,16 +347,6 @@ impl<A: Allocator + Copy> Descs<A> {
         ensures { result ≡ ends_on writes self.now.opened node }
     {
         self.counts.at(node).writers
-    }
-
-    // The table of a process.
-    fn table(&self, pid: u32) -> Option<&Table<A>>
-        ensures { option_copied result ≡ table_of self.now.tables pid }
-    {
-        if pid == 0 {
-            return None;
-        }
-        self.tables.get(pid as usize - 1)?.as_ref()
     }
 
     // A table whose descriptors name the same keys as those of a process.

@@ -14,3 +14,4 @@ mod tables;
 pub use descs::Descs;
 pub use fault::{NoMemory, OpenFault, StartFault};
 pub use released::Released;
+pub use table::Table;

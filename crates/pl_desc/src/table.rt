@@ -1,7 +1,7 @@
 //! The table of descriptors of one process.
 ghost use Rattle.std.specs.Prelude.{◌≡◌, ◌-◌, ◌<◌, ◌≤◌, length, IfOk, Some, None, nat_eq, replicate, slice_set, is_none, is_some};
 ghost use Rattle.pl_model.specs.Numbers.{open_max, first_from};
-ghost use Rattle.pl_desc.specs.Rows.{at, no_key};
+ghost use Rattle.pl_desc.specs.Rows.{at, row_in, no_key};
 ghost use Rattle.pl_desc.specs.TableView.{bit_of};
 
 use crate::fault::NoMemory;
@@ -18,7 +18,7 @@ const FREE: usize = usize::MAX;
 /// The keys that the descriptors of a process name, by descriptor, and in four masks which places are free. Contracts see
 /// the list of what each descriptor names.
 #[derive(Drop)]
-pub(crate) struct Table<A: Allocator> {
+pub struct Table<A: Allocator> {
     keys: Vec<usize, A>,
     free: [u64; 4],
 }
@@ -66,6 +66,16 @@ impl<A: Allocator> Table<A> {
     {
         let key = self.keys[fd];
         if key == FREE { None } else { Some(key) }
+    }
+
+    /// The key that a descriptor names, if it is open (POSIX.1-2017, File Descriptor).
+    pub fn find(&self, fd: i32) -> Option<usize>
+        ensures { result ≡ row_in self.now fd }
+    {
+        if fd < 0 || OPEN_MAX <= fd as usize {
+            return None;
+        }
+        self.get(fd as usize)
     }
 
     /// Lets a descriptor name a key.

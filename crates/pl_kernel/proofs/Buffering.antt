@@ -5,7 +5,7 @@ use Rattle.pl_model.specs.declared.calls.Step.{Step}
 use Rattle.pl_model.proofs.renaming.Simulates.{unused_keys, same_reply}
 use Rattle.pl_state.specs.Contents.{Contents, core_of}
 use Rattle.pl_state.specs.Parking.{ReadWaits}
-use Rattle.pl_transfers.specs.ReadInto.{is_parked, ParksAtKeys}
+use Rattle.pl_state.specs.Makes.{is_parked, ParksAtKeys}
 use Rattle.pl_kernel.specs.Buffers.{Parks}
 
 pub parks : {A : Type 0} (k : Contents A) (x : Step A) → ParksAtKeys k x → Parks k x

@@ -1,5 +1,5 @@
 -- Which lists the machine's replies have: only a read answers bytes, and only a poll masks.
-use Rattle.std.proofs.Common.{◌≡◌, ℕ, suc, ℤ, pos, negsuc, Bool, true, false, cond, Option, List, [], ◌∷◌, refl, sym, ◌∙◌, ap, nat_eq, length, take, drop, min, arith}
+use Rattle.std.proofs.Common.{◌≡◌, ℕ, ℤ, Bool, true, false, cond, Option, List, [], ◌∷◌, refl, sym, ◌∙◌, ap, nat_eq, length, take, drop, min, arith}
 use Rattle.std.specs.Prelude.{◌||◌, ◌==◌, not, nat_lt, map, ⊤, if◌then◌else◌}
 use Rattle.std.specs.List.{list_any}
 use Rattle.std.specs.declared.option.Option.TheVariants.{None, Some}
@@ -34,6 +34,7 @@ use Rattle.pl_model.proofs.by_call.Ways.{LeadsTo, Refusable, ways}
 use Rattle.pl_model.proofs.by_call.Polls.{found_now, kept_now, open-described, poll-refused, poll-answered, poll-waits}
 use Rattle.pl_transfers.specs.Readable.{readable, readable_on, bytes_of_try, bytes_again}
 use Rattle.pl_polls.specs.Counts.{masks_if_ready, masks_begun, masks_of_try, masks_again}
+use Rattle.pl_polls.proofs.by_call.Entries.{masks-each}
 use Rattle.pl_kernel.specs.declared.sizes.ReplySizes.{ReplySizes}
 use Rattle.pl_kernel.specs.Sizes.{no_list, sizes_of, sizes_begun}
 
@@ -42,13 +43,6 @@ only_bytes n = record { bytes = n; masks = 0 }
 
 abbrev only_masks : ℕ → ReplySizes
 only_masks n = record { bytes = 0; masks = n }
-
--- a poll has a mask for each entry
-masks-each : {A : Type 0} {K : Keys} (s : Core A K) (entries : List (ℤ × PollMask)) (named : List (Option (Open K))) → length (masks s entries named) ≡ length entries
-masks-each s [] named = refl
-masks-each s ((negsuc n, asked) ∷ entries) named = ap (λ m. suc m) (masks-each s entries named)
-masks-each s ((pos fd, asked) ∷ entries) [] = ap (λ m. suc m) (masks-each s entries [])
-masks-each s ((pos fd, asked) ∷ entries) (o ∷ named) = ap (λ m. suc m) (masks-each s entries named)
 
 -- what is more than none is all that is held
 none-held : (held : ℕ) → nat_lt 0 held ≡ false → held ≡ 0

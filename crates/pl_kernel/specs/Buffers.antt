@@ -4,8 +4,8 @@ use Rattle.pl_model.specs.declared.calls.Step.{Step}
 use Rattle.pl_model.specs.declared.calls.Step.TheVariants.{Resume}
 use Rattle.pl_model.specs.Numbered.{State, step}
 use Rattle.pl_state.specs.Contents.{Contents}
-use Rattle.pl_state.specs.Makes.{Stands, Makes, LeavesByReply}
-use Rattle.pl_transfers.specs.ReadInto.{told, read_count, is_parked}
+use Rattle.pl_state.specs.Makes.{Stands, Makes, LeavesByReply, is_parked}
+use Rattle.pl_transfers.specs.ReadInto.{told, read_count}
 use Rattle.pl_kernel.specs.declared.kernel.buffers.Resumed.{Resumed}
 use Rattle.pl_kernel.specs.declared.kernel.buffers.Resumed.TheVariants.{Read, Short, Other}
 

@@ -10,6 +10,7 @@ mod stats;
 mod steps;
 
 pub use kernel::{Kernel, Resumed};
+pub use pl_polls::{PollEntry, PollReply};
 pub use pl_state::NoMemory;
-pub use pl_transfers::ReadReply;
+pub use pl_transfers::{ReadReply, WriteReply};
 pub use stats::Stats;

@@ -5,18 +5,22 @@ ghost use Rattle.pl_model.specs.Memory.{is_frugal, is_frugal_call};
 ghost use Rattle.pl_model.specs.Map.{get};
 ghost use Rattle.pl_state.specs.Contents.{IsProcess};
 ghost use Rattle.pl_state.specs.Sound.{IsPoll};
-ghost use Rattle.pl_state.specs.Makes.{MakesAtKeys, MayWantAtKeys};
+ghost use Rattle.pl_state.specs.Makes.{MakesAtKeys, MayWantAtKeys, ParksAtKeys};
 ghost use Rattle.pl_splices.specs.Shares.{SharesByStep};
-ghost use Rattle.pl_transfers.specs.ReadInto.{told, read_count, ParksAtKeys};
+ghost use Rattle.pl_transfers.specs.ReadInto.{told, read_count};
+ghost use Rattle.pl_transfers.specs.Waits.{reply_of};
+ghost use Rattle.pl_polls.specs.Entries.{asked, entries_after};
+ghost use Rattle.pl_polls.specs.Into.{told as poll_told};
 
 use pl_descriptors::{close, dup, dup_fd, dup2, exit, fork, get_fl, set_fl, start};
 use pl_model::{Call, Reply, Step};
 use pl_naming::{mkfifo, open_name, unlink};
-use pl_polls::{poll, resume_poll};
+use pl_polls::{PollEntry, PollReply, poll, poll_into, resume_poll};
 use pl_splices::{resume, splice, tee};
 use pl_state::{KernelState, NoMemory};
 use pl_transfers::{
-    ReadReply, get_pipe_sz, interrupt, lseek, pipe, read, read_into, set_pipe_sz, write, write_from,
+    ReadReply, WriteReply, get_pipe_sz, interrupt, lseek, pipe, read, read_into, set_pipe_sz,
+    write, write_from,
 };
 use std::alloc::Allocator;
 
@@ -76,14 +80,14 @@ pub(crate) fn begin_write_from<A: Allocator + Copy>(
     pid: u32,
     fd: i32,
     bytes: &[u8],
-) -> Result<Reply<A>, NoMemory>
+) -> Result<WriteReply, NoMemory>
     requires { length bytes.now ≤ most_bytes }
-    ensures done { IfOk result (λ reply. MakesAtKeys kernel.old (Step.Begin pid (Call.Write fd bytes.now)) reply kernel.new) }
+    ensures done { IfOk result (λ reply. MakesAtKeys {A = A} kernel.old (Step.Begin pid (Call.Write fd bytes.now)) (reply_of reply) kernel.new) }
     ensures undone { OnErr result (kernel.new ≡ kernel.old) }
     ensures wanted { OnErr result (MayWantAtKeys {A = A} kernel.old (Step.Begin pid (Call.Write fd bytes.now))) }
 {
     if !kernel.descs.has(pid) {
-        return Ok(Reply::NoProcess);
+        return Ok(WriteReply::NoProcess);
     }
     write_from(kernel, pid, fd, bytes)
 }
@@ -107,6 +111,25 @@ pub(crate) fn begin_read_into<A: Allocator + Copy>(
         return Ok(ReadReply::NoProcess);
     }
     read_into(kernel, pid, fd, into)
+}
+
+// Begins a poll of the caller's entries.
+pub(crate) fn begin_poll_into<A: Allocator + Copy>(
+    kernel: &mut KernelState<A>,
+    pid: u32,
+    entries: &mut [PollEntry],
+    wait: bool,
+) -> Result<PollReply, NoMemory>
+    ensures done { IfOk result (λ reply. MakesAtKeys {A = A} kernel.old (Step.Begin pid (Call.Poll (asked entries.old) wait)) (poll_told reply entries.new) kernel.new) }
+    ensures noted { IfOk result (λ reply. entries.new ≡ entries_after {A = A} entries.old (poll_told reply entries.new)) }
+    ensures undone { OnErr result (kernel.new ≡ kernel.old) }
+    ensures unmarked { OnErr result (entries.new ≡ entries.old) }
+    ensures wanted { OnErr result (ParksAtKeys {A = A} kernel.old (Step.Begin pid (Call.Poll (asked entries.old) wait))) }
+{
+    if !kernel.descs.has(pid) {
+        return Ok(PollReply::NoProcess);
+    }
+    poll_into(kernel, pid, entries, wait)
 }
 
 // Whether the call of a number is a poll.

@@ -1,7 +1,7 @@
-//! Steps on the caller's own bytes.
+//! Steps on the caller's own bytes and entries.
 ghost use Rattle.std.specs.Prelude.{◌<◌, ◌^◌, length};
 
-use pl_kernel::{Kernel, NoMemory, ReadReply, Resumed};
+use pl_kernel::{Kernel, NoMemory, PollEntry, PollReply, ReadReply, Resumed};
 use pl_model::{Call, Reply, Step};
 use pl_run::LIMITS;
 use pl_testing::refusing::Refusing;
@@ -62,5 +62,44 @@ fn reads_take_memory_only_to_wait(rt: HostRuntime) -> Result<(), Fail> {
     let mut buffer = Vec::from_elem(rt.alloc(), b'-', 6)?;
     assert_eq!(rt; ask_where_they_wait(&heap, &mut buffer), Ok(true));
     assert_eq!(rt; buffer.as_slice(), b"hello-".as_slice());
+    Ok(())
+}
+
+/// What is asked of a read end: whether there is something to read (`POLLIN`).
+const TO_READ: PollEntry = PollEntry {
+    fd: 0,
+    events: 1,
+    revents: 9,
+};
+
+/// A poll asks for memory only where it is to wait, is made again after it found none, and leaves its entries until it is answered.
+fn poll_where_nothing_is_there<A: Allocator + Copy>(
+    heap: &Refusing<Global>,
+    kernel: &mut Kernel<A>,
+    entries: &mut [PollEntry],
+) -> Result<bool, NoMemory> {
+    heap.refuse(1);
+    let refused = kernel.poll_into(1, entries, true).is_err();
+    let waits = kernel.poll_into(1, entries, true)? == PollReply::Parked(1);
+    let unnoted = entries.iter().all(|entry| *entry == TO_READ);
+    kernel.write_from(1, 1, b"hello".as_slice())?;
+    heap.refuse(1);
+    let ready = kernel.poll_into(1, entries, true)? == PollReply::Ready(1);
+    Ok(refused && waits && unnoted && ready && heap.requests() == 0)
+}
+
+#[test]
+fn polls_of_entries_take_memory_only_to_wait(rt: HostRuntime) -> Result<(), Fail> {
+    let heap = Refusing::new(rt.alloc());
+    let mut kernel = Kernel::new(&heap, LIMITS);
+    assert_eq!(rt; make_pipe(&mut kernel), Ok(()));
+    let mut entries = Vec::from_elem(rt.alloc(), TO_READ, 1)?;
+    assert_eq!(rt;
+        poll_where_nothing_is_there(&heap, &mut kernel, &mut entries),
+        Ok(true)
+    );
+    assert!(rt;
+        entries.iter().all(|entry| entry.fd == 0 && entry.events == 1 && entry.revents == 1)
+    );
     Ok(())
 }

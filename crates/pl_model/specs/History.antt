@@ -34,7 +34,3 @@ module _ {A : Type 0} where
   pub record IsLegal (limits : Limits) (h : List (Entry A)) : Type 0 where
     pub replies : map (λ e. e.reply) h ≡ replies (opening limits) (steps_of h)
     pub numbers : map (λ e. e.number) h ≡ numbers_after [] h
-
-  -- there is a state in which the machine gives this reply to the step
-  abbrev pub IsReplyTo : Step A → Reply A → Type 0
-  IsReplyTo x r = (s : State A) × (r ≡ (step s x).reply)

@@ -2,4 +2,3 @@ pub mod Answers
 pub mod Errors
 pub mod Flags
 pub mod Places
-pub mod Polls

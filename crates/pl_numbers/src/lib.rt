@@ -6,10 +6,8 @@ mod answer;
 mod errors;
 mod flags;
 mod places;
-mod polls;
 
 pub use answer::{Answer, Ends, answer_of, kind, tell_ends};
 pub use errors::error_number;
 pub use flags::{mode_of_bits, open_flags_of_bits, splice_flags_of_bits, status_bits};
 pub use places::whence_of_number;
-pub use polls::{PollEntry, asked_of, mark_entries};

@@ -1,3 +1,5 @@
 pub mod Masks
 pub mod Waiting
 pub mod Counts
+pub mod Entries
+pub mod Into

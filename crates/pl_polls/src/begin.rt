@@ -1,14 +1,10 @@
 //! How a poll begins.
 ghost use Rattle.std.specs.Prelude.{◌≡◌, ◌≤◌, true, false, length, IfOk, OnOk, OnErr};
-ghost use Rattle.std.specs.List.{filter_map, list_any};
 ghost use Rattle.pl_model.specs.Numbers.{last_call, open_max};
-ghost use Rattle.pl_model.specs.Poll.{is_ready as is_mask_ready};
-ghost use Rattle.pl_desc.specs.Rows.{row_of};
 ghost use Rattle.pl_state.specs.Contents.{IsProcess};
 ghost use Rattle.pl_state.specs.Parking.{with_call};
 ghost use Rattle.pl_state.specs.Makes.{MakesAtKeys, MayWantAtKeys};
 ghost use Rattle.pl_polls.specs.declared.masks.Descriptions.TheVariants.{Named};
-ghost use Rattle.pl_polls.specs.Masks.{masks_of};
 ghost use Rattle.pl_polls.specs.Waiting.{keys_named, poll_of};
 
 use crate::masks::{Descriptions, is_ready, masks_reply};
@@ -37,8 +33,8 @@ fn keys_of<A: Allocator + Copy>(
     Ok(keys)
 }
 
-// Parks a poll, all of whose descriptors are negative or open.
-fn park_poll<A: Allocator + Copy>(
+/// Parks a poll, all of whose descriptors are negative or open.
+pub(crate) fn park_poll<A: Allocator + Copy>(
     kernel: &mut KernelState<A>,
     pid: u32,
     entries: PollList<A>,
@@ -92,7 +88,10 @@ pub fn poll<A: Allocator + Copy>(
     if asked.len() > OPEN_MAX {
         return Ok(Reply::Fault(Errno::EINVAL));
     }
-    let named = Descriptions::Named(pid);
+    let named = Descriptions::Named {
+        pid,
+        table: kernel.descs.table(pid),
+    };
     if !wait || is_ready(kernel, named, asked) {
         return masks_reply(kernel, named, asked);
     }

@@ -22,7 +22,11 @@ pub fn masks_to_begin<A: Allocator + Copy>(
     if entries.len() > OPEN_MAX {
         return 0;
     }
-    if wait && !is_ready(kernel, Descriptions::Named(pid), entries) {
+    let named = Descriptions::Named {
+        pid,
+        table: kernel.descs.table(pid),
+    };
+    if wait && !is_ready(kernel, named, entries) {
         return 0;
     }
     entries.len()

@@ -3,9 +3,13 @@
 
 mod begin;
 mod counts;
+mod entries;
+mod into;
 mod masks;
 mod waiting;
 
 pub use begin::poll;
 pub use counts::{masks_to_begin, masks_to_resume};
+pub use entries::{PollEntry, mark_entries};
+pub use into::{PollReply, poll_into};
 pub use waiting::resume_poll;

@@ -5,7 +5,7 @@ ghost use Rattle.pl_segments.specs.Slices.{Lies, AllLie, reads, all_read};
 ghost use Rattle.pl_segments.specs.Turns.{Holds, Turns};
 ghost use Rattle.pl_segments.specs.Slots.{total, AllSolid, drop_bytes, front_of};
 
-use crate::places::{put_first, take_first};
+use crate::places::{put_first, take_first, take_whole};
 use circular_buffer::HeapCircularBuffer;
 use pl_segments::{NoMemory, Slice, Store};
 use std::alloc::Allocator;
@@ -95,7 +95,31 @@ fn add_bytes<A: Allocator + Copy>(
 
 /// Copies the first bytes into a list of so many.
 #[inline(always)]
-pub(crate) fn copy_into<A: Allocator + Copy>(
+fn copy_into<A: Allocator + Copy>(
+    store: &Store<A>,
+    slots: &HeapCircularBuffer<Slice, A>,
+    into: &mut [u8],
+)
+    requires lie { AllLie (segment_at store.now) slots.now.items }
+    requires count { length into.old ≤ total slots.now.items }
+    ensures { into.new ≡ take (length into.old) (all_read (segment_at store.now) slots.now.items) }
+{
+    match slots.front() {
+        Some(first) if into.len() <= first.len as usize => store.read_into(
+            Slice {
+                segment: first.segment,
+                from: first.from,
+                len: into.len() as u32,
+            },
+            into,
+        ),
+        _ => copy_slots_into(store, slots, into),
+    }
+}
+
+/// Copies the first bytes, which may stand in several slots, into a list of so many.
+#[inline(never)]
+fn copy_slots_into<A: Allocator + Copy>(
     store: &Store<A>,
     slots: &HeapCircularBuffer<Slice, A>,
     into: &mut [u8],
@@ -130,6 +154,52 @@ fn fill<A: Allocator + Copy>(
         place += 1;
     }
     filled
+}
+
+/// Takes the first bytes, into a list of so many. It takes no memory.
+#[inline(always)]
+pub(crate) fn pop_into<A: Allocator + Copy>(
+    store: &mut Store<A>,
+    slots: &mut HeapCircularBuffer<Slice, A>,
+    into: &mut [u8],
+)
+    requires held { Holds (segment_at store.old) slots.old.items }
+    requires solid { AllSolid slots.old.items }
+    requires count { length into.old ≤ total slots.old.items }
+    ensures bytes { into.new ≡ take (length into.old) (all_read (segment_at store.old) slots.old.items) }
+    ensures slots { slots.new.items ≡ drop_bytes (length into.old) slots.old.items }
+    ensures turns { Turns (segment_at store.old) slots.old.items (segment_at store.new) slots.new.items }
+    ensures read { all_read (segment_at store.new) slots.new.items ≡ drop (length into.old) (all_read (segment_at store.old) slots.old.items) }
+    ensures capacity { slots.new.capacity ≡ slots.old.capacity }
+{
+    // Most reads take what one write brought.
+    if let Some(first) = take_whole(slots, into.len()) {
+        store.read_into(first, into);
+        store.release(first);
+        return;
+    }
+    pop_parts(store, slots, into);
+}
+
+// Takes the first bytes, which may stand in several slots or be a part of one, into a list of so many.
+#[inline(never)]
+fn pop_parts<A: Allocator + Copy>(
+    store: &mut Store<A>,
+    slots: &mut HeapCircularBuffer<Slice, A>,
+    into: &mut [u8],
+)
+    requires held { Holds (segment_at store.old) slots.old.items }
+    requires solid { AllSolid slots.old.items }
+    requires count { length into.old ≤ total slots.old.items }
+    ensures bytes { into.new ≡ take (length into.old) (all_read (segment_at store.old) slots.old.items) }
+    ensures slots { slots.new.items ≡ drop_bytes (length into.old) slots.old.items }
+    ensures turns { Turns (segment_at store.old) slots.old.items (segment_at store.new) slots.new.items }
+    ensures read { all_read (segment_at store.new) slots.new.items ≡ drop (length into.old) (all_read (segment_at store.old) slots.old.items) }
+    ensures capacity { slots.new.capacity ≡ slots.old.capacity }
+{
+    let count = into.len();
+    copy_into(store, slots, into);
+    drop_front(store, slots, count);
 }
 
 /// The slices of the first bytes.

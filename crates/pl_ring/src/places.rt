@@ -1,5 +1,5 @@
 //! Slots in a ring of fixed places.
-ghost use Rattle.std.specs.Prelude.{◌≡◌, ℕ, ◌+◌, ◌*◌, ◌%◌, ◌<◌, ◌≤◌, List, [], ◌∷◌, ◌++◌, length};
+ghost use Rattle.std.specs.Prelude.{◌≡◌, ℕ, ◌+◌, ◌*◌, ◌%◌, ◌<◌, ◌≤◌, List, [], ◌∷◌, ◌++◌, length, IfSome, IfNone};
 ghost use Rattle.circular_buffer.specs.Buffer.{buffer};
 ghost use Rattle.pl_segments.specs.declared.slice.Slice.{Slice as Part};
 ghost use Rattle.pl_segments.specs.Segments.{segment_at, live_count};
@@ -22,11 +22,13 @@ pub(crate) fn put_last<A: Allocator>(slots: &mut HeapCircularBuffer<Slice, A>, s
     ensures { slots.new ≡ buffer (slots.old.items ++ slot ∷ []) slots.old.capacity }
 {
     // Field by field: a slice that was just made would be waited for if it were moved as a whole.
-    slots.push_back(Slice {
-        segment: slot.segment,
-        from: slot.from,
-        len: slot.len,
-    });
+    slots
+        .try_push_back(Slice {
+            segment: slot.segment,
+            from: slot.from,
+            len: slot.len,
+        })
+        .unwrap();
 }
 
 /// Adds slots behind the last, where there are places for them: none is overwritten. It takes no memory.
@@ -42,7 +44,7 @@ pub(crate) fn put_first<A: Allocator>(slots: &mut HeapCircularBuffer<Slice, A>, 
     requires { length slots.old.items < slots.old.capacity }
     ensures { slots.new ≡ buffer (slot ∷ slots.old.items) slots.old.capacity }
 {
-    slots.push_front(slot);
+    slots.try_push_front(slot).unwrap();
 }
 
 /// Takes the last slot out.
@@ -68,6 +70,30 @@ pub(crate) fn take_first<A: Allocator>(slots: &mut HeapCircularBuffer<Slice, A>)
     // A proof learns here that there are no more slots than places.
     let _slots = slots.len();
     slots.pop_front().unwrap()
+}
+
+/// Takes the first slot out where it has just so many bytes.
+#[inline(always)]
+pub(crate) fn take_whole<A: Allocator>(
+    slots: &mut HeapCircularBuffer<Slice, A>,
+    count: usize,
+) -> Option<Slice>
+    ensures some { IfSome result (λ slot. (slots.old.items ≡ slot ∷ slots.new.items) × (slot.len ≡ count)) }
+    ensures none { IfNone result (slots.new ≡ slots.old) }
+    ensures capacity { slots.new.capacity ≡ slots.old.capacity }
+{
+    let front = slots.front()?;
+    if front.len as usize != count {
+        return None;
+    }
+    // Field by field: a slot that was just put would be waited for if it were read as a whole.
+    let first = Slice {
+        segment: front.segment,
+        from: front.from,
+        len: front.len,
+    };
+    let _gone = slots.pop_front();
+    Some(first)
 }
 
 /// How many bytes the last slot has; 0 where there is none.

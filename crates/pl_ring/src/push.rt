@@ -1,5 +1,5 @@
 //! Slots that are pushed.
-ghost use Rattle.std.specs.Prelude.{◌≡◌, ℕ, ◌+◌, ◌*◌, ◌%◌, ◌<◌, ◌≤◌, ◌^◌, List, [], ◌∷◌, ◌++◌, length, IfOk, OnOk, OnErr};
+ghost use Rattle.std.specs.Prelude.{◌≡◌, ℕ, ◌+◌, ◌*◌, ◌%◌, ◌<◌, ◌≤◌, ◌^◌, List, [], ◌++◌, length, IfOk, OnOk, OnErr};
 ghost use Rattle.pl_segments.specs.declared.slice.Slice.{Slice as Part};
 ghost use Rattle.pl_segments.specs.Segments.{segment_size, segment_at, holders, live_count};
 ghost use Rattle.pl_segments.specs.Slices.{AllLie, all_read};
@@ -82,10 +82,64 @@ fn push_new<A: Allocator + Copy>(
     }
 }
 
+/// Pushes bytes behind no slot, at most 4,096 of them, in a segment of their own. An error leaves all as it was.
+#[inline(always)]
+fn push_first<A: Allocator + Copy>(
+    store: &mut Store<A>,
+    slots: &mut HeapCircularBuffer<Slice, A>,
+    bytes: &[u8],
+) -> Result<(), NoMemory>
+    requires none { slots.old.items ≡ [] }
+    requires place { 1 ≤ slots.old.capacity }
+    requires some { 1 ≤ length bytes.now }
+    requires most { length bytes.now ≤ segment_size }
+    ensures turns { OnOk result (Turns (segment_at store.old) [] (segment_at store.new) slots.new.items) }
+    ensures read { OnOk result (all_read (segment_at store.new) slots.new.items ≡ bytes.now) }
+    ensures solid { OnOk result (AllSolid slots.new.items) }
+    ensures merged { OnOk result (AreMerged (lens slots.new.items)) }
+    ensures in_use { OnOk result (live_count store.new.held ≡ live_count store.old.held + 1) }
+    ensures capacity { OnOk result (slots.new.capacity ≡ slots.old.capacity) }
+    ensures err { OnErr result (slots.new ≡ slots.old) }
+    ensures store_err { OnErr result (store.new ≡ record store.old { room = store.new.room }) }
+{
+    store.reserve(1)?;
+    let slice = store.make_reserved(bytes);
+    put_last(slots, slice);
+    Ok(())
+}
+
 /// Pushes bytes that fit: first into the last slot's segment, as many as it takes, and then into new segments, at most two more
 /// than the bytes fill. An error leaves all as it was.
 #[inline(always)]
 pub(crate) fn push_bytes<A: Allocator + Copy>(
+    store: &mut Store<A>,
+    slots: &mut HeapCircularBuffer<Slice, A>,
+    bytes: &[u8],
+) -> Result<(), NoMemory>
+    requires held { Holds (segment_at store.old) slots.old.items }
+    requires solid { AllSolid slots.old.items }
+    requires merged { AreMerged (lens slots.old.items) }
+    requires even { slots.old.capacity % 2 ≡ 0 }
+    requires fits { total slots.old.items + length bytes.now ≤ place_size * slots.old.capacity }
+    ensures turns { OnOk result (Turns (segment_at store.old) slots.old.items (segment_at store.new) slots.new.items) }
+    ensures read { OnOk result (all_read (segment_at store.new) slots.new.items ≡ all_read (segment_at store.old) slots.old.items ++ bytes.now) }
+    ensures solid { OnOk result (AllSolid slots.new.items) }
+    ensures merged { OnOk result (AreMerged (lens slots.new.items)) }
+    ensures in_use { OnOk result (segment_size * live_count store.new.held ≤ segment_size * live_count store.old.held + length bytes.now + 2 * segment_size) }
+    ensures capacity { OnOk result (slots.new.capacity ≡ slots.old.capacity) }
+    ensures err { OnErr result (slots.new ≡ slots.old) }
+    ensures store_err { OnErr result (store.new ≡ record store.old { room = store.new.room }) }
+{
+    // Most writes are small, and most pipes are empty when they come.
+    if slots.is_empty() && !bytes.is_empty() && bytes.len() <= SEGMENT_SIZE {
+        return push_first(store, slots, bytes);
+    }
+    push_behind(store, slots, bytes)
+}
+
+// Pushes bytes that fit, behind any slots.
+#[inline(never)]
+fn push_behind<A: Allocator + Copy>(
     store: &mut Store<A>,
     slots: &mut HeapCircularBuffer<Slice, A>,
     bytes: &[u8],

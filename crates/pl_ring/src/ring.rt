@@ -1,6 +1,6 @@
 //! The ring of a pipe.
-ghost use Rattle.std.specs.Prelude.{◌≡◌, ℕ, ◌+◌, ◌-◌, ◌*◌, ◌/◌, ◌<◌, ◌≤◌, ◌^◌, ◌↔◌, List, [], ◌++◌, length, take, drop, IfOk, OnOk, OnErr, Err};
-ghost use Rattle.pl_model.specs.Numbers.{first_capacity, most_capacity};
+ghost use Rattle.std.specs.Prelude.{◌≡◌, ℕ, ◌+◌, ◌-◌, ◌*◌, ◌/◌, ◌<◌, ◌≤◌, ◌^◌, ◌↔◌, [], ◌++◌, length, take, drop, IfOk, OnOk, OnErr, Err};
+ghost use Rattle.pl_model.specs.Numbers.{first_capacity};
 ghost use Rattle.pl_segments.specs.Segments.{segment_size, segment_at, holders, live_count};
 ghost use Rattle.pl_segments.specs.Slices.{AllLie, all_read};
 ghost use Rattle.pl_segments.specs.Turns.{Holds, Turns};
@@ -10,7 +10,7 @@ ghost use Rattle.pl_ring.specs.Parts.{strange};
 ghost use Rattle.pl_ring.specs.Ring.{IsCapacity, IsBeside};
 
 use crate::fault::CapacityFault;
-use crate::front::{copy_front, copy_into, drop_front, front_slices};
+use crate::front::{copy_front, drop_front, front_slices, pop_into};
 use crate::push::{push_bytes, push_slices};
 use circular_buffer::HeapCircularBuffer;
 use pl_model::numbers::FIRST_CAPACITY;
@@ -174,9 +174,9 @@ impl<A: Allocator + Copy> Ring<A> {
         ensures read { all_read (segment_at store.new) self.new.slots ≡ drop (length into.old) (all_read (segment_at store.old) self.old.slots) }
         ensures capacity { self.new.capacity ≡ self.old.capacity }
     {
-        let len = into.len();
-        copy_into(store, &self.slots, into);
-        self.drop_front(store, len);
+        let count = into.len();
+        pop_into(store, &mut self.slots, into);
+        self.held -= count;
     }
 
     /// Lets the first bytes go. It takes no memory.

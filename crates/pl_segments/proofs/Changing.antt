@@ -1,7 +1,7 @@
 -- A store before and after a change of one segment.
 use Rattle.std.proofs.Common.{◌≡◌, ◌≢◌, ℕ, ◌+◌, ◌-◌, ◌<◌, ◌≤◌, List, [], ◌∷◌, ◌++◌, Option, Some, None, Result, Ok, Err, refl, sym, ◌∙◌, ap, subst, inl, inr, length, take, drop, arith}
 use Rattle.std.specs.Prelude.{if◌then◌else◌, nat_le}
-use Rattle.std.proofs.lemmas.Bool.{eq-eqb, ne_eqb, le-leb}
+use Rattle.std.proofs.lemmas.Bool.{eq-eqb, ne_eqb, le-leb, lt-leb}
 use Rattle.std.proofs.lemmas.Bool.Decides.{eqb_tells}
 use Rattle.std.proofs.lemmas.List.{append-nil, length-drop, length-append, length-take-le, take-append-le, drop-append-le, take_all}
 use Rattle.pl_segments.specs.declared.slice.Slice.{Slice}
@@ -194,12 +194,24 @@ room-fits m x n some fits = elim (eqb_tells (x.from + x.len) (length (filled m x
   | inr e ↦ let r = room-none m x e.1 in absurd (omega (arith, r, some, fits))
 ]
 
--- they are appended
 abbrev ok_of : Slice → Result Slice AppendFault
 ok_of x = Ok x
 
+-- what an append comes to, by what is tested
+pub appended-not_end : (m : Map) (x : Slice) (n : ℕ) → x.from + x.len ≢ length (filled m x.segment) → appended m x n ≡ Err NotAtEnd
+appended-not_end m x n differs =
+    ap (λ b. if b then (if nat_le (x.from + x.len + n) segment_size then ok_of (longer_by n x) else Err NoRoom) else Err NotAtEnd) (ne_eqb (x.from + x.len) (length (filled m x.segment)) differs)
+
+pub appended-no_room : (m : Map) (x : Slice) (n : ℕ) → x.from + x.len ≡ length (filled m x.segment) → segment_size < x.from + x.len + n → appended m x n ≡ Err NoRoom
+appended-no_room m x n end long =
+    ap (λ b. if b then (if nat_le (x.from + x.len + n) segment_size then ok_of (longer_by n x) else Err NoRoom) else Err NotAtEnd) (eq-eqb (x.from + x.len) (length (filled m x.segment)) end)
+    ∙ ap (λ b. if b then ok_of (longer_by n x) else Err NoRoom) (lt-leb (x.from + x.len + n) segment_size long)
+
+pub appended-at_end : (m : Map) (x : Slice) (n : ℕ) → x.from + x.len ≡ length (filled m x.segment) → x.from + x.len + n ≤ segment_size → appended m x n ≡ Ok (longer_by n x)
+appended-at_end m x n end fits =
+    ap (λ b. if b then (if nat_le (x.from + x.len + n) segment_size then ok_of (longer_by n x) else Err NoRoom) else Err NotAtEnd) (eq-eqb (x.from + x.len) (length (filled m x.segment)) end)
+    ∙ ap (λ b. if b then ok_of (longer_by n x) else Err NoRoom) (le-leb (x.from + x.len + n) segment_size fits)
+
+-- so it is with bytes for which there is room
 pub appended-fits : (m : Map) (x : Slice) (n : ℕ) → 1 ≤ n → n ≤ room_after m x → appended m x n ≡ Ok (longer_by n x)
-appended-fits m x n some fits =
-    let f = room-fits m x n some fits in
-    ap (λ b. if b then (if nat_le (x.from + x.len + n) segment_size then ok_of (longer_by n x) else Err NoRoom) else Err NotAtEnd) (eq-eqb (x.from + x.len) (length (filled m x.segment)) f.0)
-    ∙ ap (λ b. if b then ok_of (longer_by n x) else Err NoRoom) (le-leb (x.from + x.len + n) segment_size f.1)
+appended-fits m x n some fits = let f = room-fits m x n some fits in appended-at_end m x n f.0 f.1

@@ -8,4 +8,3 @@ pub mod Pushing
 pub mod Fronting
 pub mod Together
 pub mod Appending
-pub mod Making

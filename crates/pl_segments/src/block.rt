@@ -1,5 +1,5 @@
 //! Blocks of memory for the bytes of one segment.
-ghost use Rattle.std.specs.Prelude.{◌≡◌, ◌+◌, ◌≤◌, ◌++◌, [], List, ℕ, length, IfOk, vec_capacity};
+ghost use Rattle.std.specs.Prelude.{◌≡◌, ◌+◌, ◌≤◌, ◌++◌, [], List, ℕ, length, IfOk};
 ghost use Rattle.pl_segments.specs.Segments.{segment_size};
 
 use crate::fault::NoMemory;
@@ -12,18 +12,20 @@ pub const SEGMENT_SIZE: usize = 4_096;
 /// At most 4,096 bytes, in memory for so many that was taken at once. Contracts see them as their list.
 #[derive(Drop)]
 pub(crate) struct Block<A: Allocator> {
-    bytes: Vec<u8, A>,
+    // 4,096 places, of which the first `len` are the bytes: they are written as a slice, without a test for room.
+    places: Vec<u8, A>,
+    len: usize,
 }
 
 impl<A: Allocator> Model for Block<A> {
-    ghost use Rattle.std.specs.Prelude.{◌≤◌, List, ℕ, length, vec_capacity};
+    ghost use Rattle.std.specs.Prelude.{◌≡◌, ◌≤◌, List, ℕ, length, take};
     ghost use Rattle.pl_segments.specs.Segments.{segment_size};
 
     ghost Value = { List ℕ };
 
-    ghost view = { λ b. b.bytes.items };
+    ghost view = { λ b. take b.len b.places.items };
 
-    ghost invariant = { λ b. (length b.bytes.items ≤ segment_size) × (segment_size ≤ vec_capacity b.bytes) };
+    ghost invariant = { λ b. (b.len ≤ segment_size) × (length b.places.items ≡ segment_size) };
 }
 
 impl<A: Allocator> Block<A> {
@@ -31,15 +33,17 @@ impl<A: Allocator> Block<A> {
     pub(crate) fn new(alloc: A) -> Result<Block<A>, NoMemory>
         ensures { IfOk result (λ block. block ≡ []) }
     {
-        let bytes = Vec::with_capacity(alloc, SEGMENT_SIZE)?;
-        Ok(Block { bytes })
+        let places = vec![in alloc; 0; SEGMENT_SIZE]?;
+        Ok(Block { places, len: 0 })
     }
 
-    /// Forgets the bytes, and keeps their memory.
-    pub(crate) fn clear(&mut self)
-        ensures { self.new ≡ [] }
+    /// Has these bytes in place of those that it had. It takes no memory.
+    pub(crate) fn refill(&mut self, bytes: &[u8])
+        requires { length bytes.now ≤ segment_size }
+        ensures { self.new ≡ bytes.now }
     {
-        self.bytes.clear();
+        self.places[0..bytes.len()].copy_from_slice(bytes);
+        self.len = bytes.len();
     }
 
     /// Adds bytes at the end, which fit. It takes no memory.
@@ -47,14 +51,16 @@ impl<A: Allocator> Block<A> {
         requires { length self.old + length more.now ≤ segment_size }
         ensures { self.new ≡ self.old ++ more.now }
     {
-        self.bytes.extend_from_slice(more).unwrap();
+        let end = self.len + more.len();
+        self.places[self.len..end].copy_from_slice(more);
+        self.len = end;
     }
 
     /// The bytes.
     pub(crate) fn as_slice(&self) -> &[u8]
         ensures { result.now ≡ self.now }
     {
-        self.bytes.as_slice()
+        &self.places[..self.len]
     }
 
     /// How many bytes there are.
@@ -62,6 +68,6 @@ impl<A: Allocator> Block<A> {
         ensures value { result ≡ length self.now }
         ensures most { result ≤ segment_size }
     {
-        self.bytes.len()
+        self.len
     }
 }

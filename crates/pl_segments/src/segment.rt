@@ -22,11 +22,11 @@ impl<A: Allocator> Model for Segment<A> {
 }
 
 impl<A: Allocator> Segment<A> {
-    /// A segment held once.
+    /// A segment that nobody holds.
     pub(crate) fn new(block: Block<A>) -> Segment<A>
-        ensures { result ≡ record { filled = block; holders = 1 } }
+        ensures { result ≡ record { filled = block; holders = 0 } }
     {
-        Segment { block, holders: 1 }
+        Segment { block, holders: 0 }
     }
 
     /// The bytes.
@@ -64,8 +64,16 @@ impl<A: Allocator> Segment<A> {
         requires { length bytes.now ≤ segment_size }
         ensures { self.new ≡ record self.old { filled = bytes.now } }
     {
-        self.block.clear();
-        self.block.append(bytes);
+        self.block.refill(bytes);
+    }
+
+    /// Has these bytes in place of those that it had, and one holder, and takes no memory.
+    pub(crate) fn begin(&mut self, bytes: &[u8])
+        requires { length bytes.now ≤ segment_size }
+        ensures { self.new ≡ record { filled = bytes.now; holders = 1 } }
+    {
+        self.block.refill(bytes);
+        self.holders = 1;
     }
 
     /// Adds a holder.
@@ -82,12 +90,5 @@ impl<A: Allocator> Segment<A> {
         ensures { self.new ≡ record self.old { holders = self.old.holders - 1 } }
     {
         self.holders -= 1;
-    }
-
-    /// The memory, which nobody holds any more.
-    pub(crate) fn into_block(self) -> Block<A>
-        ensures { result ≡ self.filled }
-    {
-        self.block
     }
 }

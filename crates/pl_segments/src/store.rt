@@ -1,5 +1,5 @@
 //! The store of segments.
-ghost use Rattle.std.specs.Prelude.{◌≡◌, ◌++◌, nat_eq, if◌then◌else◌, ℕ, ◌+◌, ◌-◌, ◌<◌, ◌≤◌, ◌^◌, [], ◌∷◌, length, take, max, IsOk, IfOk, OnErr, OnOk, Some, None};
+ghost use Rattle.std.specs.Prelude.{◌≡◌, ◌++◌, nat_eq, if◌then◌else◌, ◌+◌, ◌-◌, ◌<◌, ◌≤◌, ◌^◌, [], ◌∷◌, length, take, max, IsOk, IfOk, OnErr, OnOk, Some, None};
 ghost use Rattle.pl_segments.specs.Segments.{segment_size, most_spare, segment_at, set_at, filled, holders, AreGood, live_count, more_held, less_held, longer};
 ghost use Rattle.pl_segments.specs.Slices.{Lies, reads, longer_by, appended, room_after};
 ghost use Rattle.pl_segments.specs.Turns.{Holds, Turns};
@@ -12,8 +12,8 @@ use slab::Slab;
 use std::alloc::{Allocator, Global};
 use std::marker::Model;
 
-/// The blocks of gone segments that are kept for further ones: 1,048,576 bytes of memory, as much as one full pipe of the
-/// greatest capacity holds, so that filling and draining it again takes no memory for segments.
+/// The segments that are kept for their memory when nobody holds them any more: 1,048,576 bytes of memory, as much as one full
+/// pipe of the greatest capacity holds, so that filling and draining it again takes no memory for segments.
 const MOST_SPARE: usize = 256;
 
 /// Segments of at most 4,096 bytes, which are only added to, each with the number of its holders. A segment is there as long
@@ -22,8 +22,9 @@ const MOST_SPARE: usize = 256;
 pub struct Store<A: Allocator = Global> {
     alloc: A,
     segments: Slab<Segment<A>, A>,
-    // Memory for further segments, each of which has a place in the slab.
-    spare: Vec<Block<A>, A>,
+    // The keys of the segments that nobody holds. They stay where they are, with their memory, so that a segment comes and goes
+    // without being moved.
+    spare: Vec<usize, A>,
 }
 
 impl<A: Allocator> Model for Store<A> {
@@ -36,17 +37,6 @@ impl<A: Allocator> Model for Store<A> {
     ghost view = { view_of };
 
     ghost invariant = { IsSound };
-}
-
-// Keeps a block where fewer than `MOST_SPARE` are kept and there is a place for it. It takes no memory.
-fn keep_spare<A: Allocator>(spare: &mut Vec<Block<A>, A>, block: Block<A>)
-    ensures least { length spare.old.items ≤ length spare.new.items }
-    ensures most { length spare.new.items ≤ length spare.old.items + 1 }
-    ensures bound { length spare.new.items ≤ max most_spare (length spare.old.items) }
-{
-    if spare.len() < MOST_SPARE && spare.len() < spare.capacity() {
-        spare.push_reserved(block);
-    }
 }
 
 impl<A: Allocator + Copy> Store<A> {
@@ -66,7 +56,42 @@ impl<A: Allocator + Copy> Store<A> {
         ensures value { result ≡ live_count self.now.held }
         ensures good { AreGood self.now.held }
     {
-        self.segments.len()
+        self.segments.len() - self.spare.len()
+    }
+
+    // How many segments are spare.
+    fn room(&self) -> usize
+        ensures { result ≡ self.now.room }
+    {
+        self.spare.len()
+    }
+
+    // Makes a spare segment. An error leaves all as it was.
+    fn add_spare(&mut self) -> Result<(), NoMemory>
+        ensures room { OnOk result (self.new.room ≡ self.old.room + 1) }
+        ensures kept { self.new ≡ record self.old { room = self.new.room } }
+        ensures err { OnErr result (self.new ≡ self.old) }
+    {
+        self.segments.reserve(1)?;
+        self.spare.try_reserve(1)?;
+        let block = Block::new(self.alloc)?;
+        let key = self.segments.insert_reserved(Segment::new(block));
+        self.spare.push_reserved(key);
+        Ok(())
+    }
+
+    // Makes spare segments, until there are `count`.
+    #[inline(never)]
+    fn add_spares(&mut self, count: usize) -> Result<(), NoMemory>
+        ensures room { OnOk result (count ≤ self.new.room) }
+        ensures grows { self.old.room ≤ self.new.room }
+        ensures kept { self.new ≡ record self.old { room = self.new.room } }
+        ensures succeeds { count ≤ self.old.room → IsOk result }
+    {
+        while self.room() < count {
+            self.add_spare()?;
+        }
+        Ok(())
     }
 
     /// Makes room for `count` more segments, so that making them takes no memory. Nothing else changes.
@@ -80,14 +105,7 @@ impl<A: Allocator + Copy> Store<A> {
         if count <= self.spare.len() {
             return Ok(());
         }
-        let missing = count - self.spare.len();
-        self.segments.reserve(count)?;
-        self.spare.try_reserve(missing)?;
-        for _ in 0..missing {
-            let block = Block::new(self.alloc)?;
-            self.spare.push_reserved(block);
-        }
-        Ok(())
+        self.add_spares(count)
     }
 
     /// Makes a segment of these 1 to 4,096 bytes, for which there is room, and answers the slice of them, which holds it. It
@@ -105,11 +123,9 @@ impl<A: Allocator + Copy> Store<A> {
         ensures turns { Turns (segment_at self.old) [] (segment_at self.new) (result ∷ []) }
         ensures reads { reads (segment_at self.new) result ≡ bytes.now }
     {
-        let block = self.spare.pop().unwrap();
-        let segment = self.segments.insert_reserved(Segment::new(block));
-        // Filled where it stands: a length written just before the block is moved would be waited for.
+        let segment = self.spare.pop().unwrap();
         let made = &mut self.segments[segment];
-        made.refill(bytes);
+        made.begin(bytes);
         Slice {
             segment,
             from: 0,
@@ -141,13 +157,17 @@ impl<A: Allocator + Copy> Store<A> {
         ensures spare { self.new.room ≤ max most_spare self.old.room }
         ensures turns { Turns (segment_at self.old) (slice ∷ []) (segment_at self.new) [] }
     {
-        if 1 < self.segments[slice.segment].holders() {
-            let segment = &mut self.segments[slice.segment];
-            segment.release();
+        let segment = &mut self.segments[slice.segment];
+        segment.release();
+        if segment.holders() != 0 {
             return;
         }
-        let gone = self.segments.remove(slice.segment);
-        keep_spare(&mut self.spare, gone.into_block());
+        // It is kept where fewer than `MOST_SPARE` are and there is a place for its key.
+        if self.spare.len() < MOST_SPARE && self.spare.len() < self.spare.capacity() {
+            self.spare.push_reserved(slice.segment);
+        } else {
+            let _gone = self.segments.remove(slice.segment);
+        }
     }
 
     /// Adds bytes to a slice's segment, and answers the slice with them, which takes over its hold. An error leaves all as it
@@ -290,7 +310,7 @@ impl<A: Allocator + Copy> Store<A> {
         joined
     }
 
-    // Appends the bytes of the second slice to the first, by way of a spare block: the two may be of one segment.
+    // Appends the bytes of the second slice to the first, by way of a spare segment: the two may be of one segment.
     fn append_slice(&mut self, first: Slice, second: Slice) -> Slice
         requires room { 1 ≤ self.old.room }
         requires held { Holds (segment_at self.old) (first ∷ second ∷ []) }
@@ -302,12 +322,13 @@ impl<A: Allocator + Copy> Store<A> {
         ensures turns { Turns (segment_at self.old) (first ∷ second ∷ []) (segment_at self.new) (result ∷ []) }
         ensures reads { reads (segment_at self.new) result ≡ reads (segment_at self.old) first ++ reads (segment_at self.old) second }
     {
-        let mut block = self.spare.pop().unwrap();
-        block.clear();
-        block.append(self.bytes(second));
+        let key = self.spare.pop().unwrap();
+        let mut scratch = self.segments.remove(key);
+        scratch.refill(self.bytes(second));
         let segment = &mut self.segments[first.segment];
-        segment.append(block.as_slice());
-        self.spare.push_reserved(block);
+        segment.append(scratch.filled());
+        let key = self.segments.insert_reserved(scratch);
+        self.spare.push_reserved(key);
         self.release(second);
         Slice {
             segment: first.segment,
@@ -328,11 +349,12 @@ impl<A: Allocator + Copy> Store<A> {
         ensures turns { Turns (segment_at self.old) [] (segment_at self.new) (result ∷ []) }
         ensures reads { reads (segment_at self.new) result ≡ reads (segment_at self.old) first ++ reads (segment_at self.old) second }
     {
-        let mut block = self.spare.pop().unwrap();
-        block.clear();
-        block.append(self.bytes(first));
-        block.append(self.bytes(second));
-        let segment = self.segments.insert_reserved(Segment::new(block));
+        let key = self.spare.pop().unwrap();
+        let mut made = self.segments.remove(key);
+        made.refill(self.bytes(first));
+        made.append(self.bytes(second));
+        made.hold();
+        let segment = self.segments.insert_reserved(made);
         Slice {
             segment,
             from: 0,

@@ -1,7 +1,8 @@
 -- What a step of the kernel does.
-use Rattle.std.specs.Prelude.{◌≡◌, ℕ, List, [], false, Option, IsSome}
+use Rattle.std.specs.Prelude.{◌≡◌, ℕ, List, [], Bool, true, false, Option, IsSome}
 use Rattle.pl_model.specs.declared.calls.Step.{Step}
 use Rattle.pl_model.specs.declared.replies.Reply.{Reply}
+use Rattle.pl_model.specs.declared.replies.Reply.TheVariants.{Parked}
 use Rattle.pl_model.specs.Keys.{NewKeys, drawn}
 use Rattle.pl_model.specs.State.{file_bytes}
 use Rattle.pl_model.specs.Step.{core_step}
@@ -50,3 +51,12 @@ module _ {A : Type 0} where
   -- and memory may be wanted for it
   abbrev pub MayWantAtKeys : Contents A → Step A → Type 0
   MayWantAtKeys k x = (new : NewKeys numbers) → is_refusal (drawn new (core_step (core_of k) x)).reply ≡ false
+
+  -- a reply that leaves the call waiting
+  abbrev pub is_parked : Reply A → Bool
+  is_parked (Parked number) = true
+  is_parked other = false
+
+  -- and the call is parked
+  abbrev pub ParksAtKeys : Contents A → Step A → Type 0
+  ParksAtKeys k x = (new : NewKeys numbers) → is_parked (drawn new (core_step (core_of k) x)).reply ≡ true

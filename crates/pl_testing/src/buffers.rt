@@ -1,7 +1,8 @@
-//! Steps that are made on buffers of the test's.
+//! Steps that are made on buffers and entries of the test's.
 use crate::bench::moved;
-use pl_kernel::{Kernel, ReadReply, Resumed};
-use pl_model::{Bytes8, Call, Reply, Step};
+use bitflags::Flags;
+use pl_kernel::{Kernel, PollEntry, PollReply, ReadReply, Resumed, WriteReply};
+use pl_model::{Bytes8, Call, MaskList, PollList, PollMask, Reply, Step};
 use std::alloc::{Allocator, Global};
 use std::test::Fail;
 
@@ -10,6 +11,9 @@ const MOST: usize = 65_536;
 
 /// What every byte of a buffer is before a read.
 const UNREAD: u8 = 0xa5;
+
+/// What an entry of a poll says was found before the poll is made.
+const UNNOTED: u16 = 0xa5a5;
 
 /// The reply that a read's answer and its buffer tell. It fails where bytes behind those that were read changed.
 fn told(alloc: Global, reply: ReadReply, buffer: &[u8]) -> Result<Reply, Fail> {
@@ -35,8 +39,59 @@ fn told(alloc: Global, reply: ReadReply, buffer: &[u8]) -> Result<Reply, Fail> {
     })
 }
 
-/// Makes a write from a buffer, and a read or the resumption of a call into one, of memory of `alloc`, and any other step as it is.
-/// Answers the reply; `None` where the kernel finds no memory.
+/// The reply that a write's answer tells.
+fn written(reply: WriteReply) -> Reply {
+    match reply {
+        WriteReply::Wrote { n, sigpipe } => Reply::Count { n, sigpipe },
+        WriteReply::Fault(errno) => Reply::Fault(errno),
+        WriteReply::Parked(call) => Reply::Parked(call),
+        WriteReply::NoProcess => Reply::NoProcess,
+        WriteReply::CallsSpent => Reply::CallsSpent,
+    }
+}
+
+/// The entries that ask what a poll does.
+fn entries_of<A: Allocator>(alloc: Global, asked: &PollList<A>) -> Result<Vec<PollEntry>, Fail> {
+    let mut entries = Vec::with_capacity(alloc, asked.as_slice().len())?;
+    for (fd, events) in asked.as_slice() {
+        entries.push(PollEntry {
+            fd: *fd,
+            events: events.bits() as u16,
+            revents: UNNOTED,
+        })?;
+    }
+    Ok(entries)
+}
+
+/// The reply that a poll's answer and its entries tell. It fails where an entry changed and none was to be noted.
+fn polled(alloc: Global, reply: PollReply, entries: &[PollEntry]) -> Result<Reply, Fail> {
+    let unnoted = entries.iter().all(|entry| entry.revents == UNNOTED);
+    if !matches!(reply, PollReply::Ready(_)) && !unnoted {
+        return Err(Fail::from("a poll that isn't answered changes its entries"));
+    }
+    Ok(match reply {
+        PollReply::Ready(ready) => {
+            let mut masks = Vec::with_capacity(alloc, entries.len())?;
+            for entry in entries {
+                if entry.revents > 0xff {
+                    return Err(Fail::from("a poll notes bits that no mask has"));
+                }
+                masks.push(PollMask::from_bits_retain(entry.revents as u8))?;
+            }
+            Reply::Masks {
+                ready,
+                masks: MaskList::from_vec(masks),
+            }
+        }
+        PollReply::Fault(errno) => Reply::Fault(errno),
+        PollReply::Parked(call) => Reply::Parked(call),
+        PollReply::NoProcess => Reply::NoProcess,
+        PollReply::CallsSpent => Reply::CallsSpent,
+    })
+}
+
+/// Makes a write from a buffer, a read or the resumption of a call into one, and a poll of entries, of memory of `alloc`, and any other
+/// step as it is. Answers the reply; `None` where the kernel finds no memory.
 pub(crate) fn reply_on_buffers<A: Allocator + Copy>(
     alloc: Global,
     kernel: &mut Kernel<A>,
@@ -44,12 +99,24 @@ pub(crate) fn reply_on_buffers<A: Allocator + Copy>(
 ) -> Result<Option<Reply>, Fail> {
     match step {
         Step::Begin(pid, Call::Write { fd, bytes }) => {
-            all_moved(alloc, kernel.write_from(pid, fd, bytes.as_slice()).ok())
+            Ok(
+                kernel
+                    .write_from(pid, fd, bytes.as_slice())
+                    .ok()
+                    .map(written),
+            )
         }
         Step::Begin(pid, Call::Read { fd, n }) if n as usize <= MOST => {
             let mut buffer = Vec::from_elem(alloc, UNREAD, n as usize)?;
             match kernel.read_into(pid, fd, &mut buffer) {
                 Ok(reply) => Ok(Some(told(alloc, reply, &buffer)?)),
+                Err(_) => Ok(None),
+            }
+        }
+        Step::Begin(pid, Call::Poll { entries, wait }) => {
+            let mut noted = entries_of(alloc, &entries)?;
+            match kernel.poll_into(pid, &mut noted, wait) {
+                Ok(reply) => Ok(Some(polled(alloc, reply, &noted)?)),
                 Err(_) => Ok(None),
             }
         }

@@ -1,21 +1,17 @@
 -- What a read comes to, and what one into the caller's bytes answers.
-use Rattle.std.specs.Prelude.{◌≡◌, ◌≢◌, ℕ, ℤ, List, [], length, take, Bool, true, false, IfSome}
+use Rattle.std.specs.Prelude.{◌≡◌, ◌≢◌, ℕ, ℤ, List, [], length, take, IfSome}
 use Rattle.pl_model.specs.declared.node.Node.TheVariants as node
 use Rattle.pl_model.specs.declared.calls.Call.{Call}
-use Rattle.pl_model.specs.declared.calls.Step.{Step}
 use Rattle.pl_model.specs.declared.calls.Step.TheVariants.{Begin}
 use Rattle.pl_model.specs.declared.cases.ReadCase.TheVariants.{Gives}
 use Rattle.pl_model.specs.declared.replies.Reply.{Reply}
 use Rattle.pl_model.specs.declared.replies.Reply.TheVariants as reply
-use Rattle.pl_model.specs.Keys.{NewKeys, drawn}
 use Rattle.pl_model.specs.Modes.{reads}
-use Rattle.pl_model.specs.Numbered.{numbers}
-use Rattle.pl_model.specs.Step.{core_step}
 use Rattle.pl_model.specs.Transfer.{read_case}
 use Rattle.pl_desc.specs.Rows.{at}
 use Rattle.pl_state.specs.declared.access.OpenEnd.{OpenEnd}
 use Rattle.pl_state.specs.declared.access.OpenNode.{OpenNode}
-use Rattle.pl_state.specs.Contents.{Contents, core_of}
+use Rattle.pl_state.specs.Contents.{Contents}
 use Rattle.pl_state.specs.LastHold.{has_writer}
 use Rattle.pl_state.specs.Makes.{MakesAtKeys}
 use Rattle.pl_state.specs.Opens.{Opens, of_end}
@@ -37,31 +33,21 @@ told (Parked number) bytes = reply.Parked number
 told NoProcess bytes = reply.NoProcess
 told CallsSpent bytes = reply.CallsSpent
 
--- a reply that leaves the call waiting
-abbrev pub is_parked : {A : Type 0} → Reply A → Bool
-is_parked (reply.Parked number) = true
-is_parked other = false
+module _ {A : Type 0} (k : Contents A) (pid : ℕ) (fd : ℤ) (n : ℕ) where
+  -- a read of so many bytes takes these of a pipe
+  pub record TakesFrom (end : OpenEnd) (count : ℕ) : Type 0 where
+    pub opens : Opens k reads pid fd (of_end end)
+    pub some : n ≢ 0
+    pub gives : IfSome (at k.nodes.pipes end.pipe) (λ x. Gives count ≡ read_case n (length x.bytes) (has_writer k.opened end.pipe))
 
-module _ {A : Type 0} where
-  -- the machine parks the call, under the kernel's own keys
-  abbrev pub ParksAtKeys : Contents A → Step A → Type 0
-  ParksAtKeys k x = (new : NewKeys numbers) → is_parked (drawn new (core_step (core_of k) x)).reply ≡ true
+  -- a read of so many bytes is of a file
+  pub record ReadsFrom (o : OpenNode) (file : ℕ) : Type 0 where
+    pub opens : Opens k reads pid fd o
+    pub some : n ≢ 0
+    pub node : o.node ≡ node.File file
 
-  module _ (k : Contents A) (pid : ℕ) (fd : ℤ) (n : ℕ) where
-    -- a read of so many bytes takes these of a pipe
-    pub record TakesFrom (end : OpenEnd) (count : ℕ) : Type 0 where
-      pub opens : Opens k reads pid fd (of_end end)
-      pub some : n ≢ 0
-      pub gives : IfSome (at k.nodes.pipes end.pipe) (λ x. Gives count ≡ read_case n (length x.bytes) (has_writer k.opened end.pipe))
-
-    -- a read of so many bytes is of a file
-    pub record ReadsFrom (o : OpenNode) (file : ℕ) : Type 0 where
-      pub opens : Opens k reads pid fd o
-      pub some : n ≢ 0
-      pub node : o.node ≡ node.File file
-
-    -- what a read comes to before it moves any byte
-    abbrev pub ReadTried : ReadTry → Contents A → Type 0
-    ReadTried (Answered reply) new = MakesAtKeys k (Begin pid (Call.Read fd n)) (told reply []) new × (read_count reply ≡ 0)
-    ReadTried (Takes end count) new = (new ≡ k) × TakesFrom end count
-    ReadTried (Reads o file) new = (new ≡ k) × ReadsFrom o file
+  -- what a read comes to before it moves any byte
+  abbrev pub ReadTried : ReadTry → Contents A → Type 0
+  ReadTried (Answered reply) new = MakesAtKeys k (Begin pid (Call.Read fd n)) (told reply []) new × (read_count reply ≡ 0)
+  ReadTried (Takes end count) new = (new ≡ k) × TakesFrom end count
+  ReadTried (Reads o file) new = (new ≡ k) × ReadsFrom o file

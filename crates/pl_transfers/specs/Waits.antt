@@ -1,9 +1,11 @@
 -- What a write comes to at its first try.
-use Rattle.std.specs.Prelude.{◌≡◌, ◌≢◌, ℕ, ℤ, List, length, not, IfSome, None}
+use Rattle.std.specs.Prelude.{◌≡◌, ◌≢◌, ℕ, ℤ, List, length, false, not, IfSome, None}
 use Rattle.pl_model.specs.declared.calls.Call.{Call}
 use Rattle.pl_model.specs.declared.calls.Step.TheVariants.{Begin}
 use Rattle.pl_model.specs.declared.cases.WriteCase.{WriteCase}
 use Rattle.pl_model.specs.Modes.{writes}
+use Rattle.pl_model.specs.declared.replies.Reply.{Reply}
+use Rattle.pl_model.specs.declared.replies.Reply.TheVariants as reply
 use Rattle.pl_model.specs.Transfer.{room, write_case}
 use Rattle.pl_desc.specs.Rows.{at}
 use Rattle.pl_decisions.specs.Decided.{FitsRoom}
@@ -13,8 +15,18 @@ use Rattle.pl_state.specs.LastHold.{has_reader}
 use Rattle.pl_state.specs.Makes.{MakesAtKeys}
 use Rattle.pl_state.specs.Opens.{Opens, of_end}
 use Rattle.pl_state.specs.Parking.{refusal}
+use Rattle.pl_transfers.specs.declared.transfers.WriteReply.{WriteReply}
+use Rattle.pl_transfers.specs.declared.transfers.WriteReply.TheVariants.{Wrote, Fault, Parked, NoProcess, CallsSpent}
 use Rattle.pl_transfers.specs.declared.transfers.WriteTry.{WriteTry}
-use Rattle.pl_transfers.specs.declared.transfers.WriteTry.TheVariants.{Answered, Waits}
+use Rattle.pl_transfers.specs.declared.transfers.WriteTry.TheVariants as try
+
+-- the reply that a write's answer tells
+abbrev pub reply_of : {A : Type 0} → WriteReply → Reply A
+reply_of (Wrote n sigpipe) = reply.Count n sigpipe
+reply_of (Fault errno) = reply.Fault errno
+reply_of (Parked number) = reply.Parked number
+reply_of NoProcess = reply.NoProcess
+reply_of CallsSpent = reply.CallsSpent
 
 module _ {A : Type 0} (k : Contents A) (pid : ℕ) (fd : ℤ) (bytes : List ℕ) where
   -- nothing keeps a write of these bytes from waiting, and so many of them go in first
@@ -27,6 +39,7 @@ module _ {A : Type 0} (k : Contents A) (pid : ℕ) (fd : ℤ) (bytes : List ℕ)
     pub left : refusal {A = A} end.nonblock k.calls.next ≡ None
 
   -- what a write comes to before it is parked
-  abbrev pub WriteTried : WriteTry A → Contents A → Type 0
-  WriteTried (Answered reply) new = MakesAtKeys k (Begin pid (Call.Write fd bytes)) reply new
-  WriteTried (Waits end to) new = (new ≡ k) × WaitsToWrite end to
+  abbrev pub WriteTried : WriteTry → Contents A → Type 0
+  WriteTried (try.Answered reply) new = MakesAtKeys k (Begin pid (Call.Write fd bytes)) (reply_of reply) new
+  WriteTried (try.Wrote n) new = MakesAtKeys k (Begin pid (Call.Write fd bytes)) (reply.Count n false) new
+  WriteTried (try.Waits end to) new = (new ≡ k) × WaitsToWrite end to

@@ -3,12 +3,12 @@ ghost use Rattle.std.specs.Prelude.{◌≡◌, ◌≢◌, ◌≤◌, ◌<◌, �
 ghost use Rattle.pl_model.specs.Modes.{reads};
 ghost use Rattle.pl_state.specs.Contents.{IsProcess};
 ghost use Rattle.pl_state.specs.Opens.{Opens, of_end};
-ghost use Rattle.pl_state.specs.Makes.{MakesAtKeys, MayWantAtKeys};
-ghost use Rattle.pl_transfers.specs.ReadInto.{read_count, told, ParksAtKeys, ReadTried};
+ghost use Rattle.pl_state.specs.Makes.{MakesAtKeys, MayWantAtKeys, ParksAtKeys};
+ghost use Rattle.pl_transfers.specs.ReadInto.{read_count, told, ReadTried};
 
 use crate::files::{read_file, read_file_into};
 use crate::transfers::{case_of_read, no_bytes, open_for};
-use crate::waiting::park;
+use crate::waiting::park_read;
 use pl_model::{Bytes8, Call, Errno, Node, ReadCase, Reply, Step};
 use pl_state::{Access, KernelState, NoMemory, OpenEnd, OpenNode};
 use std::alloc::Allocator;
@@ -117,7 +117,7 @@ fn try_read_pipe<A: Allocator + Copy>(
             if kernel.parked.spent() {
                 return Ok(ReadTry::Answered(ReadReply::CallsSpent));
             }
-            let number = park(kernel, pid, Call::Read { fd, n }, end.key, 0)?;
+            let number = park_read(kernel, pid, fd, n, end.key)?;
             Ok(ReadTry::Answered(ReadReply::Parked(number)))
         }
     }

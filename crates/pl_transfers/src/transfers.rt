@@ -11,10 +11,10 @@ ghost use Rattle.pl_state.specs.Contents.{IsProcess, core_of, allows};
 ghost use Rattle.pl_state.specs.Opens.{Opens, of_end};
 ghost use Rattle.pl_state.specs.LastHold.{has_reader, has_writer};
 ghost use Rattle.pl_state.specs.Makes.{MakesAtKeys, MayWantAtKeys};
-ghost use Rattle.pl_transfers.specs.Waits.{WriteTried, WaitsToWrite};
+ghost use Rattle.pl_transfers.specs.Waits.{reply_of, WriteTried, WaitsToWrite};
 
 use crate::files::write_file;
-use crate::waiting::{park_write, refusal_to_wait};
+use crate::waiting::park_write;
 use bitflags::Flags;
 use pl_model::numbers::MAX_DESCRIPTIONS;
 use pl_model::{Bytes8, Call, Errno, Mode, Node, OpenFlags, ReadCase, Reply, Step, WriteCase};
@@ -105,7 +105,8 @@ pub(crate) fn case_of_read<A: Allocator + Copy>(
     ensures { IfSome (at kernel.now.nodes.pipes pipe) (λ x. result ≡ read_case n (length x.bytes) (has_writer kernel.now.opened pipe)) }
 {
     let held = kernel.nodes.held(pipe);
-    let has_writer = kernel.descs.writers(Node::Pipe(pipe)) > 0;
+    // Whether something writes only matters where nothing is held.
+    let has_writer = held == 0 && kernel.descs.writers(Node::Pipe(pipe)) > 0;
     pl_decisions::case_of_read(n as usize, held, has_writer)
 }
 
@@ -128,13 +129,44 @@ pub(crate) fn case_of_write<A: Allocator + Copy>(
     pl_decisions::case_of_write(length, taken, room, has_reader, may_wait)
 }
 
+/// What a write of the caller's bytes answers.
+#[derive(Clone, Copy, Debug, PartialEq, Eq)]
+pub enum WriteReply {
+    /// So many bytes went in. With `sigpipe` the last reader left before all did.
+    Wrote { n: u32, sigpipe: bool },
+    /// The call failed.
+    Fault(Errno),
+    /// The call waits under this number.
+    Parked(u64),
+    /// There is no process of this pid.
+    NoProcess,
+    /// The call would have waited, and no number is left for it.
+    CallsSpent,
+}
+
 /// What a write comes to at its first try.
-#[derive(Drop)]
-pub(crate) enum WriteTry<A: Allocator> {
+#[derive(Clone, Copy)]
+pub(crate) enum WriteTry {
     /// It is answered.
-    Answered(Reply<A>),
+    Answered(WriteReply),
+    /// It is answered, as so many bytes went into a pipe: most are, so that this has a way of its own to the answer.
+    Wrote(u32),
     /// It waits on the end of a pipe, into which so many bytes go first.
     Waits { end: OpenEnd, to: usize },
+}
+
+// The reply that a write's answer tells.
+#[inline(always)]
+fn reply_of<A: Allocator>(reply: WriteReply) -> Reply<A>
+    ensures { result ≡ reply_of reply }
+{
+    match reply {
+        WriteReply::Wrote { n, sigpipe } => Reply::Count { n, sigpipe },
+        WriteReply::Fault(errno) => Reply::Fault(errno),
+        WriteReply::Parked(number) => Reply::Parked(number),
+        WriteReply::NoProcess => Reply::NoProcess,
+        WriteReply::CallsSpent => Reply::CallsSpent,
+    }
 }
 
 /// Writes bytes to what a descriptor names (POSIX.1-2017, write; pipe(7), PIPE_BUF).
@@ -155,8 +187,12 @@ pub fn write<A: Allocator + Copy>(
     ensures wanted { OnErr result (MayWantAtKeys {A = A} kernel.old (Step.Begin pid (Call.Write fd bytes))) }
 {
     match try_write(kernel, pid, fd, bytes.as_slice())? {
-        WriteTry::Answered(reply) => Ok(reply),
-        WriteTry::Waits { end, to } => wait_to_write(kernel, pid, fd, bytes, end, to),
+        WriteTry::Answered(reply) => Ok(reply_of(reply)),
+        WriteTry::Wrote(n) => Ok(Reply::Count { n, sigpipe: false }),
+        WriteTry::Waits { end, to } => {
+            let number = wait_to_write(kernel, pid, fd, bytes, end, to)?;
+            Ok(Reply::Parked(number))
+        }
     }
 }
 
@@ -168,18 +204,19 @@ pub fn write_from<A: Allocator + Copy>(
     pid: u32,
     fd: i32,
     bytes: &[u8],
-) -> Result<Reply<A>, NoMemory>
+) -> Result<WriteReply, NoMemory>
     requires process { IsProcess kernel.old pid }
     requires few { length bytes.now ≤ most_bytes }
-    ensures done { IfOk result (λ reply. MakesAtKeys kernel.old (Step.Begin pid (Call.Write fd bytes.now)) reply kernel.new) }
+    ensures done { IfOk result (λ reply. MakesAtKeys {A = A} kernel.old (Step.Begin pid (Call.Write fd bytes.now)) (reply_of reply) kernel.new) }
     ensures undone { OnErr result (kernel.new ≡ kernel.old) }
     ensures wanted { OnErr result (MayWantAtKeys {A = A} kernel.old (Step.Begin pid (Call.Write fd bytes.now))) }
 {
     match try_write(kernel, pid, fd, bytes)? {
         WriteTry::Answered(reply) => Ok(reply),
+        WriteTry::Wrote(n) => Ok(WriteReply::Wrote { n, sigpipe: false }),
         WriteTry::Waits { end, to } => {
-            let copy = Vec::from_slice(kernel.alloc, bytes)?;
-            wait_to_write(kernel, pid, fd, Bytes8::from_vec(copy).unwrap(), end, to)
+            let number = wait_with_copy(kernel, pid, fd, bytes, end, to)?;
+            Ok(WriteReply::Parked(number))
         }
     }
 }
@@ -191,7 +228,7 @@ fn try_write<A: Allocator + Copy>(
     pid: u32,
     fd: i32,
     bytes: &[u8],
-) -> Result<WriteTry<A>, NoMemory>
+) -> Result<WriteTry, NoMemory>
     requires process { IsProcess kernel.old pid }
     requires few { length bytes.now ≤ most_bytes }
     ensures done { IfOk result (λ tried. WriteTried kernel.old pid fd bytes.now tried kernel.new) }
@@ -201,10 +238,10 @@ fn try_write<A: Allocator + Copy>(
     // A proof learns here what holds of the kernel.
     let _ = &kernel.descs;
     let Some(open) = open_for(kernel, pid, fd, Access::Writing) else {
-        return Ok(WriteTry::Answered(Reply::Fault(Errno::EBADF)));
+        return Ok(WriteTry::Answered(WriteReply::Fault(Errno::EBADF)));
     };
     if bytes.is_empty() {
-        return Ok(WriteTry::Answered(Reply::Count {
+        return Ok(WriteTry::Answered(WriteReply::Wrote {
             n: 0,
             sigpipe: false,
         }));
@@ -222,11 +259,11 @@ fn try_write<A: Allocator + Copy>(
             },
         ),
         Node::File(file) => match write_file(kernel, open.key, file, bytes) {
-            Ok(count) => Ok(WriteTry::Answered(Reply::Count {
+            Ok(count) => Ok(WriteTry::Answered(WriteReply::Wrote {
                 n: count as u32,
                 sigpipe: false,
             })),
-            Err(WriteFault::TooBig) => Ok(WriteTry::Answered(Reply::Fault(Errno::EFBIG))),
+            Err(WriteFault::TooBig) => Ok(WriteTry::Answered(WriteReply::Fault(Errno::EFBIG))),
             Err(WriteFault::NoMemory) => Err(NoMemory),
         },
     }
@@ -240,7 +277,7 @@ fn try_write_pipe<A: Allocator + Copy>(
     fd: i32,
     bytes: &[u8],
     end: OpenEnd,
-) -> Result<WriteTry<A>, NoMemory>
+) -> Result<WriteTry, NoMemory>
     requires process { IsProcess kernel.old pid }
     requires few { length bytes.now ≤ most_bytes }
     requires opens { Opens kernel.old writes pid fd (of_end end) }
@@ -250,28 +287,28 @@ fn try_write_pipe<A: Allocator + Copy>(
     ensures wanted { OnErr result (MayWantAtKeys {A = A} kernel.old (Step.Begin pid (Call.Write fd bytes.now))) }
 {
     match case_of_write(kernel, end.pipe, bytes.len(), 0, !end.nonblock) {
-        WriteCase::Broken => Ok(WriteTry::Answered(Reply::Fault(Errno::EPIPE))),
-        WriteCase::CutShort => Ok(WriteTry::Answered(Reply::Count {
+        WriteCase::Broken => Ok(WriteTry::Answered(WriteReply::Fault(Errno::EPIPE))),
+        WriteCase::CutShort => Ok(WriteTry::Answered(WriteReply::Wrote {
             n: 0,
             sigpipe: true,
         })),
         WriteCase::Ends { from, to } => {
             kernel.nodes.write_pipe(end.pipe, &bytes[from..to])?;
-            Ok(WriteTry::Answered(Reply::Count {
-                n: to as u32,
-                sigpipe: false,
-            }))
+            Ok(WriteTry::Wrote(to as u32))
         }
         WriteCase::Waits { to, .. } => {
-            if let Some(refusal) = refusal_to_wait(kernel, end.nonblock) {
-                return Ok(WriteTry::Answered(refusal));
+            if end.nonblock {
+                return Ok(WriteTry::Answered(WriteReply::Fault(Errno::EAGAIN)));
+            }
+            if kernel.parked.spent() {
+                return Ok(WriteTry::Answered(WriteReply::CallsSpent));
             }
             Ok(WriteTry::Waits { end, to })
         }
     }
 }
 
-// Parks a write, of which so many bytes go in first.
+// Parks a write, of which so many bytes go in first, and answers its number.
 #[inline(never)]
 fn wait_to_write<A: Allocator + Copy>(
     kernel: &mut KernelState<A>,
@@ -280,15 +317,37 @@ fn wait_to_write<A: Allocator + Copy>(
     bytes: Bytes8<A>,
     end: OpenEnd,
     to: usize,
-) -> Result<Reply<A>, NoMemory>
+) -> Result<u64, NoMemory>
     requires process { IsProcess kernel.old pid }
     requires waits { WaitsToWrite kernel.old pid fd bytes end to }
-    ensures done { IfOk result (λ reply. MakesAtKeys kernel.old (Step.Begin pid (Call.Write fd bytes)) reply kernel.new) }
+    ensures done { IfOk result (λ number. MakesAtKeys kernel.old (Step.Begin pid (Call.Write fd bytes)) (Reply.Parked number) kernel.new) }
     ensures undone { OnErr result (kernel.new ≡ kernel.old) }
     ensures wanted { OnErr result (MayWantAtKeys {A = A} kernel.old (Step.Begin pid (Call.Write fd bytes))) }
 {
     // A proof learns here what holds of the kernel.
     let _ = &kernel.descs;
-    let number = park_write(kernel, pid, Call::Write { fd, bytes }, end, to)?;
-    Ok(Reply::Parked(number))
+    park_write(kernel, pid, Call::Write { fd, bytes }, end, to)
+}
+
+// Parks a write of the caller's bytes, of which so many go in first, with a copy of them all, and answers its number.
+#[inline(never)]
+fn wait_with_copy<A: Allocator + Copy>(
+    kernel: &mut KernelState<A>,
+    pid: u32,
+    fd: i32,
+    bytes: &[u8],
+    end: OpenEnd,
+    to: usize,
+) -> Result<u64, NoMemory>
+    requires process { IsProcess kernel.old pid }
+    requires few { length bytes.now ≤ most_bytes }
+    requires waits { WaitsToWrite kernel.old pid fd bytes.now end to }
+    ensures done { IfOk result (λ number. MakesAtKeys {A = A} kernel.old (Step.Begin pid (Call.Write fd bytes.now)) (Reply.Parked number) kernel.new) }
+    ensures undone { OnErr result (kernel.new ≡ kernel.old) }
+    ensures wanted { OnErr result (MayWantAtKeys {A = A} kernel.old (Step.Begin pid (Call.Write fd bytes.now))) }
+{
+    // A proof learns here what holds of the kernel.
+    let _ = &kernel.descs;
+    let copy = Vec::from_slice(kernel.alloc, bytes)?;
+    wait_to_write(kernel, pid, fd, Bytes8::from_vec(copy).unwrap(), end, to)
 }

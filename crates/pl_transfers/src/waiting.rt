@@ -2,11 +2,9 @@
 ghost use Rattle.std.specs.Prelude.{◌≡◌, ◌≤◌, ℕ, true, nat_eq, length, take, drop, IfOk, OnOk, OnErr, IsSome, IfSome, IfNone};
 ghost use Rattle.pl_model.specs.Numbers.{last_call, most_bytes};
 ghost use Rattle.pl_model.specs.Map.{get};
-ghost use Rattle.pl_model.specs.Settle.{settle};
-ghost use Rattle.pl_model.specs.Step.{without_call};
 ghost use Rattle.pl_model.specs.Transfer.{room};
 ghost use Rattle.pl_desc.specs.Rows.{at};
-ghost use Rattle.pl_state.specs.Contents.{IsProcess, core_of};
+ghost use Rattle.pl_state.specs.Contents.{IsProcess};
 ghost use Rattle.pl_state.specs.Opens.{OpenOn};
 ghost use Rattle.pl_state.specs.Sound.{IsPipe, KeepsOne, MayKeep, MayWait, OnNode};
 ghost use Rattle.pl_state.specs.Parking.{written, refusal, call_on, with_call, Adds, OpenWaits, ReadWaits, WriteWaits};
@@ -17,7 +15,7 @@ use crate::parking::park_call;
 use crate::reading::ReadReply;
 use crate::transfers::{case_of_read, case_of_write, no_bytes};
 use pl_model::{Bytes8, Call, Errno, Node, ReadCase, Reply, Step, WriteCase};
-use pl_state::{KernelState, NoMemory, OpenEnd, end_call, release_all};
+use pl_state::{KernelState, NoMemory, OpenEnd, end_call};
 use std::alloc::Allocator;
 
 /// The bytes of a write, and none of another call.
@@ -71,6 +69,26 @@ pub(crate) fn park<A: Allocator + Copy>(
     let number = park_call(kernel.alloc, &mut kernel.parked, pid, call, key, taken)?;
     kernel.descs.hold(key);
     Ok(number)
+}
+
+// Parks a read. The call is made here: reads that don't wait pay nothing for it.
+#[inline(never)]
+pub(crate) fn park_read<A: Allocator + Copy>(
+    kernel: &mut KernelState<A>,
+    pid: u32,
+    fd: i32,
+    n: u32,
+    key: usize,
+) -> Result<u64, NoMemory>
+    requires process { IsProcess kernel.old pid }
+    requires left { ¬ (kernel.old.calls.next ≡ last_call) }
+    requires here { IsSome (at kernel.old.opened key) }
+    requires pipe { OnNode {A = A} (at kernel.old.opened) (call_on key pid (Call.Read fd n) 0) key }
+    ensures number { IfOk result (λ number. number ≡ kernel.old.calls.next) }
+    ensures ok { OnOk result (kernel.new ≡ with_call kernel.old (call_on key pid (Call.Read fd n) 0)) }
+    ensures err { OnErr result (kernel.new ≡ kernel.old) }
+{
+    park(kernel, pid, Call::Read { fd, n }, key, 0)
 }
 
 // Parks a write, and then adds the bytes of its first turn. Where these find no memory the call is taken back.

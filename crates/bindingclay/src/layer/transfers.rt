@@ -1,25 +1,24 @@
 //! Bytes from and into the caller's memory.
-ghost use Rattle.std.specs.Prelude.{◌≡◌, ◌≤◌, ◌<◌, ◌^◌, ⊤, length, take, min, MatchOption};
+ghost use Rattle.std.specs.Prelude.{◌≡◌, ◌≤◌, ◌<◌, ◌^◌, ⊤, List, length, take, min, MatchOption};
 ghost use Rattle.pl_model.specs.Numbers.{most_bytes};
 ghost use Rattle.pl_model.specs.declared.replies.Errno.TheVariants.{EINVAL};
+ghost use Rattle.std.specs.Global.{Global as Heap};
+ghost use Rattle.pl_transfers.specs.Waits.{reply_of};
 ghost use Rattle.pl_kernel.specs.Buffers.{Parks};
-ghost use Rattle.pl_numbers.specs.Answers.{faulty};
+ghost use Rattle.pl_numbers.specs.Answers.{said, faulty};
 ghost use Rattle.pl_numbers.specs.Flags.{splice_flags_of_bits};
-ghost use Rattle.pl_numbers.specs.Polls.{asked, entries_after};
+ghost use Rattle.pl_polls.specs.declared.entries.PollEntry.{PollEntry as Entry};
+ghost use Rattle.pl_polls.specs.Entries.{asked, entries_after};
+ghost use Rattle.pl_polls.specs.Into.{told as poll_told};
 ghost use Rattle.bindingclay.specs.Made.{Makes, Wants, Replied, bytes_after, read_answer, offset_of};
 
 use super::{Layer, no_memory};
-use pl_kernel::{NoMemory, ReadReply};
+use pl_kernel::{NoMemory, PollEntry, PollReply, ReadReply, WriteReply};
 use pl_model::{Call, Errno, Step};
-use pl_numbers::{
-    Answer, PollEntry, answer_of, asked_of, kind, mark_entries, splice_flags_of_bits,
-};
+use pl_numbers::{Answer, kind, splice_flags_of_bits};
 
 /// The most bytes that one read or write moves: a longer one is cut to them.
 const MOST_BYTES: usize = 16_777_216;
-
-/// More entries than a poll may have (POSIX.1-2017, poll, `EINVAL`): those behind them aren't looked at.
-const TOO_MANY_ENTRIES: usize = 257;
 
 // The offset that a splice is given, if any.
 fn offset_of(given: bool, offset: u64) -> Option<u64>
@@ -38,6 +37,35 @@ pub(crate) fn answer_of_read(reply: &ReadReply) -> Answer
         ReadReply::Parked(number) => Answer::of_kind(kind::PARKED, *number),
         ReadReply::NoProcess => Answer::of_kind(kind::NO_PROCESS, 0),
         ReadReply::CallsSpent => Answer::of_kind(kind::CALLS_SPENT, 0),
+    }
+}
+
+// The answer of a write of the caller's bytes.
+fn answer_of_write(reply: &WriteReply) -> Answer
+    ensures { result ≡ said {A = Heap} (reply_of reply.now) }
+{
+    match reply {
+        WriteReply::Wrote { n, sigpipe } => Answer {
+            sigpipe: *sigpipe,
+            ..Answer::done(*n as u64)
+        },
+        WriteReply::Fault(errno) => Answer::fault(*errno),
+        WriteReply::Parked(number) => Answer::of_kind(kind::PARKED, *number),
+        WriteReply::NoProcess => Answer::of_kind(kind::NO_PROCESS, 0),
+        WriteReply::CallsSpent => Answer::of_kind(kind::CALLS_SPENT, 0),
+    }
+}
+
+// The answer of a poll of the caller's entries.
+fn answer_of_poll(reply: &PollReply) -> Answer
+    ensures { (entries : List Entry) → result ≡ said {A = Heap} (poll_told reply.now entries) }
+{
+    match reply {
+        PollReply::Ready(count) => Answer::done(*count as u64),
+        PollReply::Fault(errno) => Answer::fault(*errno),
+        PollReply::Parked(number) => Answer::of_kind(kind::PARKED, *number),
+        PollReply::NoProcess => Answer::of_kind(kind::NO_PROCESS, 0),
+        PollReply::CallsSpent => Answer::of_kind(kind::CALLS_SPENT, 0),
     }
 }
 
@@ -74,7 +102,7 @@ impl Layer {
         ensures wants { Wants self.old.kernel (Step.Begin pid (Call.Write fd bytes.now)) result }
     {
         match self.kernel.write_from(pid, fd, bytes) {
-            Ok(reply) => answer_of(&reply),
+            Ok(reply) => answer_of_write(&reply),
             Err(NoMemory) => no_memory(),
         }
     }
@@ -145,23 +173,13 @@ impl Layer {
 
     /// Polls the entries, and notes in each what was found.
     pub fn poll(&mut self, pid: u32, entries: &mut [PollEntry], wait: bool) -> Answer
-        ensures makes { Makes self.old.kernel (Step.Begin pid (Call.Poll (asked (take 257 entries.old)) wait)) result self.new.kernel }
-        ensures entries { Replied self.old.kernel (Step.Begin pid (Call.Poll (asked (take 257 entries.old)) wait)) result (λ reply. entries.new ≡ entries_after entries.old reply) }
+        ensures makes { Makes self.old.kernel (Step.Begin pid (Call.Poll (asked entries.old) wait)) result self.new.kernel }
+        ensures entries { Replied self.old.kernel (Step.Begin pid (Call.Poll (asked entries.old) wait)) result (λ reply. entries.new ≡ entries_after entries.old reply) }
         ensures unmarked { result.kind ≡ 6 → entries.new ≡ entries.old }
+        ensures wants { result.kind ≡ 6 → Parks self.old.kernel (Step.Begin pid (Call.Poll (asked entries.old) wait)) }
     {
-        let count = TOO_MANY_ENTRIES.min(entries.len());
-        let Ok(list) = asked_of(self.alloc, &entries[..count]) else {
-            return no_memory();
-        };
-        let call = Call::Poll {
-            entries: list,
-            wait,
-        };
-        match self.kernel.step(Step::Begin(pid, call)) {
-            Ok(reply) => {
-                mark_entries(&reply, entries);
-                answer_of(&reply)
-            }
+        match self.kernel.poll_into(pid, entries, wait) {
+            Ok(reply) => answer_of_poll(&reply),
             Err(NoMemory) => no_memory(),
         }
     }

@@ -6,7 +6,8 @@ use super::transfers::answer_of_read;
 use super::{Layer, no_memory};
 use pl_kernel::{NoMemory, Resumed};
 use pl_model::Step;
-use pl_numbers::{Answer, PollEntry, answer_of, kind, mark_entries};
+use pl_numbers::{Answer, answer_of, kind};
+use pl_polls::{PollEntry, mark_entries};
 use std::alloc::Global;
 
 // The answer of a call that was tried again.

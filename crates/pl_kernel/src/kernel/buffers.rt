@@ -1,16 +1,20 @@
-//! Steps on the caller's own bytes.
+//! Steps on the caller's own bytes and entries.
 ghost use Rattle.std.specs.Prelude.{◌≡◌, ◌≤◌, ◌<◌, ◌^◌, ℕ, length, drop, IfOk, OnErr, IsOk, Ok};
 ghost use Rattle.pl_model.specs.Numbers.{most_bytes};
 ghost use Rattle.pl_state.specs.Makes.{Makes, LeavesByReply, WantsMemory};
 ghost use Rattle.pl_state.specs.Parking.{ReadWaits};
 ghost use Rattle.pl_transfers.specs.ReadInto.{told, read_count};
+ghost use Rattle.pl_transfers.specs.Waits.{reply_of};
+ghost use Rattle.pl_polls.specs.Entries.{asked, entries_after};
+ghost use Rattle.pl_polls.specs.Into.{told as poll_told};
 ghost use Rattle.pl_kernel.specs.Buffers.{Parks, resumed_count, IsRead, IsOfRead, IsOfOther, Resumes, ResumesByReply};
 
 use super::Kernel;
-use crate::steps::{begin_read_into, begin_write_from, try_again};
+use crate::steps::{begin_poll_into, begin_read_into, begin_write_from, try_again};
 use pl_model::{Call, Reply, Step};
+use pl_polls::{PollEntry, PollReply};
 use pl_state::NoMemory;
-use pl_transfers::{ReadReply, resume_read_into, waiting_read};
+use pl_transfers::{ReadReply, WriteReply, resume_read_into, waiting_read};
 use std::alloc::{Allocator, Global};
 
 /// What the resumption of a call answers, where a read gives its bytes into the caller's.
@@ -31,10 +35,10 @@ impl<A: Allocator + Copy> Kernel<A> {
     /// # Errors
     ///
     /// `NoMemory`, as of `step`.
-    pub fn write_from(&mut self, pid: u32, fd: i32, bytes: &[u8]) -> Result<Reply<A>, NoMemory>
+    pub fn write_from(&mut self, pid: u32, fd: i32, bytes: &[u8]) -> Result<WriteReply, NoMemory>
         requires { length bytes.now ≤ most_bytes }
-        ensures made { IfOk result (λ reply. Makes self.old (Step.Begin pid (Call.Write fd bytes.now)) reply self.new) }
-        ensures refused { IfOk result (λ reply. LeavesByReply self.old (Step.Begin pid (Call.Write fd bytes.now)) reply self.new) }
+        ensures made { IfOk result (λ reply. Makes {A = A} self.old (Step.Begin pid (Call.Write fd bytes.now)) (reply_of reply) self.new) }
+        ensures refused { IfOk result (λ reply. LeavesByReply {A = A} self.old (Step.Begin pid (Call.Write fd bytes.now)) (reply_of reply) self.new) }
         ensures unmade { OnErr result (self.new ≡ self.old) }
         ensures wanted { OnErr result (WantsMemory {A = A} self.old (Step.Begin pid (Call.Write fd bytes.now))) }
     {
@@ -64,6 +68,32 @@ impl<A: Allocator + Copy> Kernel<A> {
         let state = &self.state;
         let _ = &state.descs;
         begin_read_into(&mut self.state, pid, fd, into)
+    }
+
+    /// Makes the step at which the process of a pid begins a Poll of what the caller's entries ask. Where it is answered, what was found
+    /// of each is noted in it; at any other answer than `Ready` the entries stay as they are. What `step` promises of that step holds.
+    ///
+    /// # Errors
+    ///
+    /// `NoMemory` only where the call would be parked, which keeps a copy of what is asked. It leaves the kernel and the entries as they
+    /// were.
+    pub fn poll_into(
+        &mut self,
+        pid: u32,
+        entries: &mut [PollEntry],
+        wait: bool,
+    ) -> Result<PollReply, NoMemory>
+        ensures made { IfOk result (λ reply. Makes {A = A} self.old (Step.Begin pid (Call.Poll (asked entries.old) wait)) (poll_told reply entries.new) self.new) }
+        ensures refused { IfOk result (λ reply. LeavesByReply {A = A} self.old (Step.Begin pid (Call.Poll (asked entries.old) wait)) (poll_told reply entries.new) self.new) }
+        ensures noted { IfOk result (λ reply. entries.new ≡ entries_after {A = A} entries.old (poll_told reply entries.new)) }
+        ensures unmade { OnErr result (self.new ≡ self.old) }
+        ensures unmarked { OnErr result (entries.new ≡ entries.old) }
+        ensures wanted { OnErr result (Parks {A = A} self.old (Step.Begin pid (Call.Poll (asked entries.old) wait))) }
+    {
+        // A proof learns here that nothing was left to settle, so that a refused step leaves the very state.
+        let state = &self.state;
+        let _ = &state.descs;
+        begin_poll_into(&mut self.state, pid, entries, wait)
     }
 
     /// Makes the step that tries the parked call of a number again, where a read gives its bytes into the first of the caller's; the

@@ -114,6 +114,7 @@ impl<A: Allocator + Copy> Nodes<A> {
     }
 
     /// Takes the first bytes out of a pipe, which holds so many. An error leaves all as it was.
+    #[inline(always)]
     pub fn read_pipe(&mut self, key: usize, count: usize) -> Result<Vec<u8, A>, NoMemory>
         requires here { IsSome (at self.old.pipes key) }
         requires held { IfSome (at self.old.pipes key) (λ x. count ≤ length x.bytes) }
@@ -136,6 +137,7 @@ impl<A: Allocator + Copy> Nodes<A> {
     }
 
     /// Takes the first bytes out of a pipe, which holds so many, into a list. It takes no memory.
+    #[inline(always)]
     pub fn read_pipe_into(&mut self, key: usize, into: &mut [u8])
         requires here { IsSome (at self.old.pipes key) }
         requires held { IfSome (at self.old.pipes key) (λ x. length into.old ≤ length x.bytes) }
@@ -153,6 +155,7 @@ impl<A: Allocator + Copy> Nodes<A> {
     }
 
     /// Adds bytes at the end of a pipe that has room for them. An error leaves all as it was.
+    #[inline(always)]
     pub fn write_pipe(&mut self, key: usize, bytes: &[u8]) -> Result<(), NoMemory>
         requires here { IsSome (at self.old.pipes key) }
         requires room { IfSome (at self.old.pipes key) (λ x. length bytes.now ≤ room x) }

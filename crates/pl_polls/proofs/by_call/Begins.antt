@@ -28,9 +28,9 @@ use Rattle.pl_desc.specs.Descs.{Opened}
 use Rattle.pl_state.specs.Contents.{Contents, contents, core_of}
 use Rattle.pl_state.specs.Sound.{IsWaiting, IsAt, MayKeepFile, MayGo, GoApart, KeepsNodes, MayKeep}
 use Rattle.pl_state.specs.Parking.{with_call}
-use Rattle.pl_state.specs.Makes.{MakesAtKeys, MayWantAtKeys}
+use Rattle.pl_state.specs.Makes.{MakesAtKeys, MayWantAtKeys, ParksAtKeys}
 use Rattle.pl_state.proofs.Known.{Caller}
-use Rattle.pl_state.proofs.by_call.Begun.{does_plain, does_same, wants_plain}
+use Rattle.pl_state.proofs.by_call.Begun.{does_plain, does_same, wants_plain, parks_plain}
 use Rattle.pl_state.proofs.by_call.Moving.{flowed-still}
 use Rattle.pl_state.proofs.waiting.ParkedCalls.{call_settles}
 use Rattle.pl_polls.specs.Waiting.{poll_of}
@@ -130,6 +130,9 @@ module _ {A : Type 0} (m : Caller A) (entries : List (ℤ × PollMask)) where
       module _ (left : (k.calls.next == last_call) ≡ false) where
         pub poll-waits-wants : MayWantAtKeys k x
         poll-waits-wants = wants_plain k k x _ (waits false left) refl
+
+        pub poll-waits-parks : ParksAtKeys k x
+        poll-waits-parks = parks_plain k k x _ (waits false left) refl
 
         pub poll-parks : MakesAtKeys k x (Parked k.calls.next) (with_call k kept)
         poll-parks = does_plain k (with_call k kept) x _ (Parked k.calls.next) (waits false left) refl

@@ -1,5 +1,5 @@
 -- The mask of an entry, and those of the entries behind it, at the kernel's keys.
-use Rattle.std.proofs.Common.{◌≡◌, ◌≤◌, ◌<◌, ℕ, ℤ, pos, negsuc, ◌+◌, true, false, List, ◌∷◌, map, drop, length, Option, Some, None, IfSome, IsSome, sym, ◌∙◌, ap, nat_eq, slice_index_or, Bor, arith}
+use Rattle.std.proofs.Common.{◌≡◌, ◌≤◌, ◌<◌, ℕ, ℤ, pos, negsuc, ◌+◌, true, false, List, [], ◌∷◌, map, drop, length, Option, Some, None, IfSome, IsSome, refl, suc, sym, ◌∙◌, ap, nat_eq, slice_index_or, Bor, arith}
 use Rattle.std.specs.Prelude.{MatchOption, option_and_then}
 use Rattle.std.specs.Option.{option_copied}
 use Rattle.std.specs.Set.{is_member}
@@ -8,7 +8,8 @@ use Rattle.std.proofs.lemmas.Bool.{eq-eqb}
 use Rattle.std.proofs.lemmas.List.{drop_more, drop_all}
 use Rattle.std.proofs.lemmas.List.Folds.{list_any_at}
 use Rattle.pl_model.specs.declared.flags.PollMask.{PollMask}
-use Rattle.pl_model.specs.State.{described}
+use Rattle.pl_model.specs.Keys.{Keys}
+use Rattle.pl_model.specs.State.{Core, Open, described}
 use Rattle.pl_model.specs.Begin.{named_by}
 use Rattle.pl_model.specs.Poll.{masks, mask_at}
 use Rattle.pl_desc.specs.Rows.{at, row_of}
@@ -35,15 +36,22 @@ pub key_named : {A : Type 0} (m : Known A) (pid : ℕ) (fd : ℤ) (key : Option 
 key_named m pid fd None is = tt
 key_named m pid fd (Some d) is = named_there m pid fd d is
 
+-- a poll has a mask for each entry
+pub masks-each : {A : Type 0} {K : Keys} (s : Core A K) (entries : List (ℤ × PollMask)) (named : List (Option (Open K))) → length (masks s entries named) ≡ length entries
+masks-each s [] named = refl
+masks-each s ((negsuc n, asked) ∷ entries) named = ap (λ m. suc m) (masks-each s entries named)
+masks-each s ((pos fd, asked) ∷ entries) [] = ap (λ m. suc m) (masks-each s entries [])
+masks-each s ((pos fd, asked) ∷ entries) (o ∷ named) = ap (λ m. suc m) (masks-each s entries named)
+
 module _ {A : Type 0} (k : Contents A) where
   -- the mask of a key, of which this is asked
   abbrev pub mask_of_key : Option ℕ → PollMask → PollMask
   mask_of_key key asked = mask_at (core_of k) (option_and_then (described (core_of k)) key) asked
 
-  pub named_first : (pid : ℕ) (fd : ℤ) → lt_z fd (pos 0) ≡ false → (asked : PollMask) (key : Option ℕ) → row_of k.tables pid fd ≡ key → (before next : ℕ) (entries : List (ℤ × PollMask))
-      → masks_from k (Named pid) before ((fd, asked) ∷ entries) ≡ mask_of_key key asked ∷ masks_from k (Named pid) next entries
-  named_first pid (negsuc n) above asked key is before next entries = absurd (cc)
-  named_first pid (pos n) above asked key is before next entries = ap (λ d. mask_of_key d asked ∷ masks (core_of k) entries (named_by (core_of k) pid entries)) (row-is k pid (pos n) ∙ is)
+  pub named_first : (pid : ℕ) (table : Option (Bor (List (Option ℕ)))) (fd : ℤ) → lt_z fd (pos 0) ≡ false → (asked : PollMask) (key : Option ℕ) → row_of k.tables pid fd ≡ key → (before next : ℕ) (entries : List (ℤ × PollMask))
+      → masks_from k (Named pid table) before ((fd, asked) ∷ entries) ≡ mask_of_key key asked ∷ masks_from k (Named pid table) next entries
+  named_first pid table (negsuc n) above asked key is before next entries = absurd (cc)
+  named_first pid table (pos n) above asked key is before next entries = ap (λ d. mask_of_key d asked ∷ masks (core_of k) entries (named_by (core_of k) pid entries)) (row-is k pid (pos n) ∙ is)
 
   pub kept_first : (keys : Bor (List ℕ)) (place : ℕ) (fd : ℤ) → lt_z fd (pos 0) ≡ false → (asked : PollMask) (key : Option ℕ) → KeyAt keys.now place key → (entries : List (ℤ × PollMask))
       → masks_from k (Kept keys) place ((fd, asked) ∷ entries) ≡ mask_of_key key asked ∷ masks_from k (Kept keys) (place + 1) entries

@@ -1,6 +1,7 @@
 -- What a poll looks at of a description, at the kernel's keys.
-use Rattle.std.proofs.Common.{◌≡◌, ℕ, Bool, Option, Some, None, IfSome, sym, ◌∙◌, ap, subst, length}
+use Rattle.std.proofs.Common.{◌≡◌, ℕ, Bool, true, false, Option, Some, None, IfSome, sym, ◌∙◌, ap, subst, length}
 use Rattle.std.specs.Prelude.{nat_lt, unwrap_or, option_map, IsSome}
+use Rattle.std.proofs.lemmas.Option.{same_Some}
 use Rattle.pl_model.specs.declared.calls.Mode.{Mode}
 use Rattle.pl_model.specs.declared.cases.Polled.{Polled}
 use Rattle.pl_model.specs.declared.node.Node.TheVariants as node
@@ -16,44 +17,88 @@ use Rattle.pl_desc.specs.Rows.{at}
 use Rattle.pl_desc.specs.Descs.{Opened, ends_on}
 use Rattle.pl_state.specs.Contents.{Contents, node_of, description_of, core_of}
 use Rattle.pl_state.specs.Sound.{IsWhole}
-use Rattle.pl_state.proofs.by_call.Begun.{ends-is, pipe_there}
+use Rattle.pl_state.proofs.by_call.Begun.{ends-is, pipe_there, there}
 
-module _ {A : Type 0} (k : Contents A) (whole : IsWhole A k) (key : ℕ) (o : Opened) (here : at k.opened key ≡ Some o) where
+module _ {A : Type 0} (k : Contents A) (whole : IsWhole A k) (key : ℕ) (some : IsSome (at k.opened key)) where
   abbrev c : Core A numbers
   c = core_of k
 
-  -- what is said of the description
+  abbrev found : (o : Opened) × (at k.opened key ≡ Some o)
+  found = there (at k.opened key) some
+
+  abbrev o : Opened
+  o = found.0
+
+  -- what is told of the description
+  is_told : {X : Type 0} (f : Opened → X) (x : X) → option_map f (at k.opened key) ≡ Some x → f o ≡ x
+  is_told f x told = same_Some (f o) x (sym (ap (option_map f) found.1) ∙ told)
+
+  -- a mask of this is that of the description
   abbrev LooksAt : Polled → Type 0
-  LooksAt x = IfSome (at k.opened key) (λ o. x ≡ polled c (description_of o) (node_of o.node))
+  LooksAt x = (asked result : PollMask) → result ≡ mask_of x asked → IfSome (at k.opened key) (λ o. result ≡ mask_of (polled c (description_of o) (node_of o.node)) asked)
 
-  said : (x : Polled) → x ≡ polled c (description_of o) (node_of o.node) → LooksAt x
-  said x is = subst (λ z. IfSome z (λ o. x ≡ polled c (description_of o) (node_of o.node))) (sym here) is
+  said : (x : Polled) → ((asked : PollMask) → mask_of x asked ≡ mask_of (polled c (description_of o) (node_of o.node)) asked) → LooksAt x
+  said x is = λ asked result told. subst (λ z. IfSome z (λ o. result ≡ mask_of (polled c (description_of o) (node_of o.node)) asked)) (sym found.1) (told ∙ is asked)
 
-  pub looks_at_file : (f : ℕ) → o.node ≡ node.File f → LooksAt Polled.File
-  looks_at_file f is = said Polled.File (sym (ap (λ n. polled c (description_of o) (node_of n)) is))
+  pub looks_at_file : (f : ℕ) → option_map (λ (x : Opened). x.node) (at k.opened key) ≡ Some (node.File f) → LooksAt Polled.File
+  looks_at_file f is = said Polled.File (λ asked. sym (ap (λ n. mask_of (polled c (description_of o) (node_of n)) asked) (is_told (λ (x : Opened). x.node) (node.File f) is)))
 
-  module _ (p : ℕ) (is : o.node ≡ node.Pipe p) where
-    abbrev there : (y : Pipe) × (at k.nodes.pipes p ≡ Some y)
-    there = pipe_there k whole key p (record { opened = o; here = here; node = is })
+  module _ (p : ℕ) (told : option_map (λ (x : Opened). x.node) (at k.opened key) ≡ Some (node.Pipe p)) where
+    is : o.node ≡ node.Pipe p
+    is = is_told (λ (x : Opened). x.node) (node.Pipe p) told
 
-    of_pipe : (P : Pipe → Type 0) → IfSome (at k.nodes.pipes p) P → P there.0
-    of_pipe P h = subst (λ z. IfSome z P) there.1 h
+    abbrev pipe : (y : Pipe) × (at k.nodes.pipes p ≡ Some y)
+    pipe = pipe_there k whole key p (record { opened = o; here = found.1; node = is })
 
-    pub looks_at_pipe : (mode : Mode) (held free many : ℕ) (hung : Bool) → o.mode ≡ mode → IfSome (at k.nodes.pipes p) (λ x. held ≡ length x.bytes) → IfSome (at k.nodes.pipes p) (λ x. free ≡ room x) → many ≡ ends_on reads k.opened (node.Pipe p)
-        → IfSome (at k.nodes.pipes p) (λ x. hung ≡ x.hung) → LooksAt (Polled.Pipe mode held free (nat_lt 0 many) hung)
+    of_pipe : (P : Pipe → Type 0) → IfSome (at k.nodes.pipes p) P → P pipe.0
+    of_pipe P h = subst (λ z. IfSome z P) pipe.1 h
+
+    -- what the machine looks at, by an end of this mode
+    abbrev seen : Mode → Polled
+    seen mode = Polled.Pipe mode (length pipe.0.bytes) (room pipe.0) (nat_lt 0 (readers c p)) pipe.0.hung
+
+    looked : (mode : Mode) → option_map (λ (x : Opened). x.mode) (at k.opened key) ≡ Some mode → polled c (description_of o) (node_of o.node) ≡ seen mode
     unfolding core_of
-    looks_at_pipe mode held free many hung m h f r g = said (Polled.Pipe mode held free (nat_lt 0 many) hung) (
-        (λ i. Polled.Pipe (sym m i) (of_pipe (λ x. held ≡ length x.bytes) h i) (of_pipe (λ x. free ≡ room x) f i) (nat_lt 0 (r i)) (of_pipe (λ x. hung ≡ x.hung) g i))
-        ∙ sym (ap (λ n. polled c (description_of o) (node_of n)) is
-        ∙ ap (λ z. Polled.Pipe o.mode (length (unwrap_or z empty_pipe).bytes) (room (unwrap_or z empty_pipe)) (nat_lt 0 (readers c p)) (unwrap_or z empty_pipe).hung) there.1
-        ∙ ap (λ b. Polled.Pipe o.mode (length there.0.bytes) (room there.0) b there.0.hung) (readers-is c p ∙ ends-is k whole reads (node.Pipe p))))
+    looked mode m =
+        ap (λ n. polled c (description_of o) (node_of n)) is
+        ∙ ap (λ z. Polled.Pipe o.mode (length (unwrap_or z empty_pipe).bytes) (room (unwrap_or z empty_pipe)) (nat_lt 0 (readers c p)) (unwrap_or z empty_pipe).hung) pipe.1
+        ∙ ap seen (is_told (λ (x : Opened). x.mode) mode m)
+
+    looks : (mode : Mode) → option_map (λ (x : Opened). x.mode) (at k.opened key) ≡ Some mode → (x : Polled) → ((asked : PollMask) → mask_of x asked ≡ mask_of (seen mode) asked) → LooksAt x
+    looks mode m x same = said x (λ asked. same asked ∙ ap (λ y. mask_of y asked) (sym (looked mode m)))
+
+    -- whether the pipe has a reader, by the count of its ends
+    has_reader : (many : ℕ) → many ≡ ends_on reads k.opened (node.Pipe p) → nat_lt 0 many ≡ nat_lt 0 (readers c p)
+    has_reader many r = ap (nat_lt 0) r ∙ sym (readers-is c p ∙ ends-is k whole reads (node.Pipe p))
+
+    abbrev Holds : ℕ → Type 0
+    Holds held = IfSome (at k.nodes.pipes p) (λ x. held ≡ length x.bytes)
+
+    abbrev HasRoom : ℕ → Type 0
+    HasRoom free = IfSome (at k.nodes.pipes p) (λ x. free ≡ room x)
+
+    abbrev IsHung : Bool → Type 0
+    IsHung hung = IfSome (at k.nodes.pipes p) (λ x. hung ≡ x.hung)
+
+    pub looks_at_reader : option_map (λ (x : Opened). x.mode) (at k.opened key) ≡ Some Mode.Read → (held : ℕ) (hung : Bool) → Holds held → IsHung hung → LooksAt (Polled.Pipe Mode.Read held 0 true hung)
+    looks_at_reader m held hung h g = looks Mode.Read m (Polled.Pipe Mode.Read held 0 true hung)
+        (λ asked i. mask_of (Polled.Pipe Mode.Read (of_pipe (λ x. held ≡ length x.bytes) h i) (room pipe.0) (nat_lt 0 (readers c p)) (of_pipe (λ x. hung ≡ x.hung) g i)) asked)
+
+    pub looks_at_writer : option_map (λ (x : Opened). x.mode) (at k.opened key) ≡ Some Mode.Write → (free many : ℕ) → HasRoom free → many ≡ ends_on reads k.opened (node.Pipe p) → LooksAt (Polled.Pipe Mode.Write 0 free (nat_lt 0 many) false)
+    looks_at_writer m free many f r = looks Mode.Write m (Polled.Pipe Mode.Write 0 free (nat_lt 0 many) false)
+        (λ asked i. mask_of (Polled.Pipe Mode.Write (length pipe.0.bytes) (of_pipe (λ x. free ≡ room x) f i) (has_reader many r i) pipe.0.hung) asked)
+
+    pub looks_at_both : option_map (λ (x : Opened). x.mode) (at k.opened key) ≡ Some Mode.Both → (held free many : ℕ) (hung : Bool) → Holds held → HasRoom free → many ≡ ends_on reads k.opened (node.Pipe p) → IsHung hung
+        → LooksAt (Polled.Pipe Mode.Both held free (nat_lt 0 many) hung)
+    looks_at_both m held free many hung h f r g = looks Mode.Both m (Polled.Pipe Mode.Both held free (nat_lt 0 many) hung)
+        (λ asked i. mask_of (Polled.Pipe Mode.Both (of_pipe (λ x. held ≡ length x.bytes) h i) (of_pipe (λ x. free ≡ room x) f i) (has_reader many r i) (of_pipe (λ x. hung ≡ x.hung) g i)) asked)
 
 -- the mask of a description
-pub mask_is : {A : Type 0} (k : Contents A) (key : ℕ) → IsSome (at k.opened key) → (x : Polled) → IfSome (at k.opened key) (λ o. x ≡ polled (core_of k) (description_of o) (node_of o.node)) → (asked : PollMask)
-    → mask_of x asked ≡ mask_at (core_of k) (described (core_of k) key) asked
+pub mask_is : {A : Type 0} (k : Contents A) (key : ℕ) → IsSome (at k.opened key) → (asked m : PollMask) → IfSome (at k.opened key) (λ o. m ≡ mask_of (polled (core_of k) (description_of o) (node_of o.node)) asked)
+    → m ≡ mask_at (core_of k) (described (core_of k) key) asked
 unfolding core_of
-mask_is k key there x h asked = by (at k.opened key) there h
+mask_is k key there asked m h = by (at k.opened key) there h
   where
-    by : (o : Option Opened) → IsSome o → IfSome o (λ o. x ≡ polled (core_of k) (description_of o) (node_of o.node)) → mask_of x asked ≡ mask_at (core_of k) (option_map (λ y. record { key = key; description = y }) (option_map description_of o)) asked
+    by : (o : Option Opened) → IsSome o → IfSome o (λ o. m ≡ mask_of (polled (core_of k) (description_of o) (node_of o.node)) asked) → m ≡ mask_at (core_of k) (option_map (λ y. record { key = key; description = y }) (option_map description_of o)) asked
     by None i h = absurd (cc)
-    by (Some o) i h = ap (λ z. mask_of z asked) h
+    by (Some o) i h = h

@@ -29,7 +29,7 @@ use Rattle.pl_desc.specs.Descs.{Opened, ends_on}
 use Rattle.pl_state.specs.Contents.{Contents, IsThere, node_of, description_of, core_of}
 use Rattle.pl_state.specs.Opens.{OpenOn, Opens}
 use Rattle.pl_state.specs.Sound.{IsSound, IsWhole}
-use Rattle.pl_state.specs.Makes.{MakesAtKeys, MayWantAtKeys}
+use Rattle.pl_state.specs.Makes.{MakesAtKeys, MayWantAtKeys, is_parked, ParksAtKeys}
 use Rattle.pl_state.proofs.holders.Ends.{has_end-is}
 
 module _ {A : Type 0} (k new : Contents A) (x : Step A) where
@@ -39,6 +39,9 @@ module _ {A : Type 0} (k new : Contents A) (x : Step A) where
 
   pub wants_plain : (h : Stepped A numbers) → core_step (core_of k) x ≡ Plain h → is_refusal h.reply ≡ false → MayWantAtKeys k x
   wants_plain h e r = λ new. ap (λ (a : Drawing numbers (Stepped A numbers)). is_refusal (drawn {X = Stepped A numbers} new a).reply) e ∙ r
+
+  pub parks_plain : (h : Stepped A numbers) → core_step (core_of k) x ≡ Plain h → is_parked h.reply ≡ true → ParksAtKeys k x
+  parks_plain h e r = λ new. ap (λ (a : Drawing numbers (Stepped A numbers)). is_parked (drawn {X = Stepped A numbers} new a).reply) e ∙ r
 
 module _ {A : Type 0} (k : Contents A) (sound : IsSound A k) (x : Step A) where
   -- a step that changes nothing

@@ -10,13 +10,13 @@ use Rattle.pl_model.specs.declared.replies.Reply.{Reply}
 use Rattle.pl_model.specs.declared.replies.Reply.TheVariants.{Bytes, Fault, Parked, NoProcess, NoCall, CallsSpent}
 use Rattle.pl_model.specs.declared.replies.Errno.TheVariants.{EBADF}
 use Rattle.pl_model.specs.Modes.{reads}
-use Rattle.pl_model.specs.Keys.{Plain, Drawing, drawn}
+use Rattle.pl_model.specs.Keys.{Plain, drawn}
 use Rattle.pl_model.specs.Memory.{is_refusal}
 use Rattle.pl_model.specs.State.{Core, Open, Pipe, Waiting, set_pipe}
 use Rattle.pl_model.specs.Trial.{Begins, found, answered, tried, loses, still}
 use Rattle.pl_model.specs.Transfer.{read_row, read_case}
 use Rattle.pl_model.specs.Begin.{open_for, may_block, begin_read}
-use Rattle.pl_model.specs.Step.{Stepped, begin, core_step, ended, stepped, first_tried, waiting, parked}
+use Rattle.pl_model.specs.Step.{begin, core_step, ended, stepped, first_tried, waiting, parked}
 use Rattle.pl_model.specs.Numbered.{numbers}
 use Rattle.pl_state.specs.declared.access.OpenNode.{OpenNode}
 use Rattle.pl_state.specs.declared.access.OpenEnd.{OpenEnd}
@@ -25,20 +25,16 @@ use Rattle.pl_state.specs.Contents.{Contents, Nodes, with_pipes, contents, descr
 use Rattle.pl_state.specs.Opens.{Opens, of_end}
 use Rattle.pl_state.specs.LastHold.{has_writer}
 use Rattle.pl_state.specs.Parking.{refusal, call_on, with_call}
-use Rattle.pl_state.specs.Makes.{MakesAtKeys, MayWantAtKeys}
-use Rattle.pl_transfers.specs.ReadInto.{is_parked, ParksAtKeys}
+use Rattle.pl_state.specs.Makes.{MakesAtKeys, MayWantAtKeys, is_parked, ParksAtKeys}
 use Rattle.pl_state.proofs.Known.{Caller}
-use Rattle.pl_state.proofs.by_call.Begun.{open-found, may_block-is, does_plain, does_same, wants_plain, step-refused, step-answered, step-tried}
+use Rattle.pl_state.proofs.by_call.Begun.{open-found, may_block-is, does_plain, does_same, wants_plain, parks_plain, step-refused, step-answered, step-tried}
 use Rattle.pl_state.proofs.by_call.Moving.{changed_core, flowed-out, flowed-still}
 use Rattle.pl_transfers.proofs.by_call.Trying.{read-tries}
 use Rattle.pl_state.proofs.waiting.ParkedCalls.{park_settles}
 use Rattle.pl_transfers.proofs.by_call.Refusing.{refused, parks, is_left}
 use Rattle.pl_state.specs.Sound.{MayKeep}
 
--- a step that draws no key is parked where its reply says so; and then memory may be wanted for it
-parks_plain : {A : Type 0} (k : Contents A) (x : Step A) (h : Stepped A numbers) → core_step (core_of k) x ≡ Plain h → is_parked h.reply ≡ true → ParksAtKeys k x
-parks_plain {A} k x h e r = λ new. ap (λ (a : Drawing numbers (Stepped A numbers)). is_parked (drawn {X = Stepped A numbers} new a).reply) e ∙ r
-
+-- where a call is parked, memory may be wanted for it
 parked_said : {A : Type 0} (reply : Reply A) → is_parked reply ≡ true → is_refusal reply ≡ false
 parked_said (Parked number) h = refl
 parked_said (Fault errno) h = absurd (cc)
@@ -112,7 +108,7 @@ module _ {A : Type 0} (m : Caller A) (fd : ℤ) (n : ℕ) where
         read-waits = does_plain k (with_call k (call_on o.key pid call 0)) x _ (Parked k.calls.next) waits refl (park_settles k sound o.key opens.on.opened opens.on.here (is_left o.nonblock k.calls.next left) pid call 0 tt refl process (subst (MayKeep (call_on o.key pid call 0)) (sym opens.on.node) tt))
 
         pub read-waits-parks : ParksAtKeys k x
-        read-waits-parks = parks_plain k x _ waits refl
+        read-waits-parks = parks_plain k k x _ waits refl
 
       module _ (many : ℕ) (r : case ≡ ReadCase.Gives many) where
         gave : core_step c x ≡ Plain (ended c (record { state = set_pipe c o.pipe (record p { bytes = drop many p.bytes }); reply = Bytes (take many p.bytes); flow = loses o.pipe many }))

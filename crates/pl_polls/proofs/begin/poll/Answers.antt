@@ -1,4 +1,4 @@
-use Rattle.std.proofs.Common.{◌≡◌, ◌<◌, ◌≤◌, Bool, List, ℤ, true, false, sym, ap, subst, ◌∙◌, length}
+use Rattle.std.proofs.Common.{◌≡◌, ◌<◌, ◌≤◌, Bool, List, ℤ, None, true, false, sym, ap, subst, ◌∙◌, length}
 use Rattle.std.specs.Prelude.{◌||◌, not}
 use Rattle.std.specs.List.{list_any}
 use Rattle.pl_model.specs.declared.calls.Call.TheVariants.{Poll}
@@ -35,10 +35,10 @@ module _ (g : Over) (c : After-as_slice-asked g) where
   found = found_now (core_of k) c.args.pid c.args.entries
 
   -- what was asked of the masks, in the kernel's view
-  found_is : (ready b : Bool) → ready ≡ list_any is_ready (masks_of c.args.kernel.now (Named c.args.pid) c.as_slice-asked.result.now) → ready ≡ b → list_any is_ready found ≡ b
+  found_is : (ready b : Bool) → ready ≡ list_any is_ready (masks_of c.args.kernel.now (Named c.args.pid None) c.as_slice-asked.result.now) → ready ≡ b → list_any is_ready found ≡ b
   found_is ready b told is =
-      ap (λ (z : Contents g.row.A.Denot). list_any is_ready (masks_of z (Named c.args.pid) c.args.entries)) c.kernel.view_is
-      ∙ ap (λ es. list_any is_ready (masks_of c.args.kernel.now (Named c.args.pid) es)) (sym c.as_slice-asked.ensures) ∙ sym told ∙ is
+      ap (λ (z : Contents g.row.A.Denot). list_any is_ready (masks_of z (Named c.args.pid None) c.args.entries)) c.kernel.view_is
+      ∙ ap (λ es. list_any is_ready (masks_of c.args.kernel.now (Named c.args.pid None) es)) (sym c.as_slice-asked.ensures) ∙ sym told ∙ is
 
   few : length c.as_slice-asked.result.now ≤ open_max → length c.args.entries ≤ open_max
   few short = subst (λ (es : List (ℤ × PollMask)). length es ≤ open_max) c.as_slice-asked.ensures short
@@ -58,10 +58,10 @@ returns-then-not-wait-clause-done g c =
       | then-not-wait-via-else-not-wait+then-is_ready w ↦ ap (λ b. b || not c.args.wait) (found_is g v w.is_ready.result true w.is_ready.ensures w.if-is_ready.true)
     ] in
     let made : MakesAtKeys (k g v) x (masks_reply (found g v)) (k g v) = poll-answers (calls_on g v) c.args.entries (few g v c.if-asked-gt-OPEN_MAX.false) c.args.wait ends in
-    let now : MakesAtKeys c.args.kernel.now x (masks_reply (masks_of c.args.kernel.now (Named c.args.pid) c.as_slice-asked.result.now)) c.args.kernel.now =
-    subst (λ es. MakesAtKeys c.args.kernel.now x (masks_reply (masks_of c.args.kernel.now (Named c.args.pid) es)) c.args.kernel.now) (sym c.as_slice-asked.ensures)
-    (subst (λ (z : Contents g.row.A.Denot). MakesAtKeys z x (masks_reply (masks_of z (Named c.args.pid) c.args.entries)) z) c.kernel.view_is made) in
-    if_ok {P = λ reply. reply ≡ masks_reply (masks_of c.args.kernel.now (Named c.args.pid) c.as_slice-asked.result.now)} {Q = λ reply. MakesAtKeys c.args.kernel.now x reply c.args.kernel.now} c.masks_reply.result
+    let now : MakesAtKeys c.args.kernel.now x (masks_reply (masks_of c.args.kernel.now (Named c.args.pid None) c.as_slice-asked.result.now)) c.args.kernel.now =
+    subst (λ es. MakesAtKeys c.args.kernel.now x (masks_reply (masks_of c.args.kernel.now (Named c.args.pid None) es)) c.args.kernel.now) (sym c.as_slice-asked.ensures)
+    (subst (λ (z : Contents g.row.A.Denot). MakesAtKeys z x (masks_reply (masks_of z (Named c.args.pid None) c.args.entries)) z) c.kernel.view_is made) in
+    if_ok {P = λ reply. reply ≡ masks_reply (masks_of c.args.kernel.now (Named c.args.pid None) c.as_slice-asked.result.now)} {Q = λ reply. MakesAtKeys c.args.kernel.now x reply c.args.kernel.now} c.masks_reply.result
     (λ reply is. subst (λ r. MakesAtKeys c.args.kernel.now x r c.args.kernel.now) (sym is) now) c.masks_reply.ensures
 
 pub returns-then-not-wait-clause-wanted : goal.returns-then-not-wait-clause-wanted

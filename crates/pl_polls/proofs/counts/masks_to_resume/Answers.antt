@@ -38,9 +38,9 @@ returns-in_default-call g c =
     let v = (goal.at.returns-in_default-call g c).In-Some in
     rw (← c.kernel.view_is) (other-answered (k g v) c.kernel.invariant.0 c.args.number (w g v) (here g v) c.in_default-call.not-Poll)
 
-pub is_ready-requires-clause-open : goal.is_ready-requires-clause-open
-is_ready-requires-clause-open g c =
-    let v = (goal.at.is_ready-requires-clause-open g c).In-Some in
+pub is_ready-requires-clause-current : goal.is_ready-requires-clause-current
+is_ready-requires-clause-current g c =
+    let v = (goal.at.is_ready-requires-clause-current g c).In-Some in
     subst (λ (z : Contents g.row.A.Denot). (key : ℕ) → is_member nat_eq c.as_slice.result.now key ≡ true → IsSome (at z.opened key)) c.kernel.view_is
     (subst (λ ks. (key : ℕ) → is_member nat_eq ks key ≡ true → IsSome (at (k g v).opened key)) (sym c.as_slice.ensures) (member_there (parts_of (known c.kernel.inside c.kernel.invariant)) c.args.number (w g v) (here g v)))
 

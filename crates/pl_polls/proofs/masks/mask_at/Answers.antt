@@ -11,4 +11,4 @@ pub returns-in-Some : goal.returns-in-Some
 returns-in-Some g c =
     let k = c.args.kernel.now in
     let there : IsSome (at k.opened c.in-Some.key) = subst (λ o. IfSome o (λ d. IsSome (at k.opened d))) c.in-Some.is c.requires in
-    c.mask_of.ensures ∙ mask_is k c.in-Some.key there c.polled.result c.polled.ensures c.args.asked ∙ ap (λ o. mask_at (core_of k) (option_and_then (described (core_of k)) o) c.args.asked) (sym c.in-Some.is)
+    mask_is k c.in-Some.key there c.args.asked c.mask_of_key.result c.mask_of_key.ensures ∙ ap (λ o. mask_at (core_of k) (option_and_then (described (core_of k)) o) c.args.asked) (sym c.in-Some.is)

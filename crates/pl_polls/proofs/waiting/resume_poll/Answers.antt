@@ -19,7 +19,7 @@ use Rattle.pl_state.proofs.waiting.Ending.{member_there}
 use Rattle.pl_state.proofs.by_call.Resumed.{resume-none}
 use Rattle.pl_nodes.proofs.Keyed.{on_err}
 use Rattle.pl_polls.specs.declared.masks.Descriptions.TheVariants.{Kept}
-use Rattle.pl_polls.specs.Masks.{AreOpen, masks_of}
+use Rattle.pl_polls.specs.Masks.{AreCurrent, masks_of}
 use Rattle.pl_polls.proofs.by_call.Retrying.{found, kept_masks, retry-answers, retry-wants, retry-waits}
 use Rattle.pl_polls.proofs.waiting.resume_poll.Given.{Over}
 use Rattle.pl_polls.proofs.waiting.resume_poll.Goals.{In-Some, After-as_slice}
@@ -49,9 +49,9 @@ module _ (g : Over) (c : After-as_slice g) where
   abbrev k : Contents A
   k = view_of c.kernel.inside
 
-  kept_open : AreOpen c.args.kernel.now (Kept c.as_slice.result)
+  kept_open : AreCurrent c.args.kernel.now (Kept c.as_slice.result)
   kept_open =
-      subst (λ (z : Contents A). AreOpen z (Kept c.as_slice.result)) c.kernel.view_is
+      subst (λ (z : Contents A). AreCurrent z (Kept c.as_slice.result)) c.kernel.view_is
       (subst (λ ks. (key : ℕ) → is_member nat_eq ks key ≡ true → IsSome (at k.opened key)) (sym c.as_slice.ensures) (member_there (parts_of (known c.kernel.inside c.kernel.invariant)) c.args.number (w g v) (here g v)))
 
   abbrev looked : List PollMask
@@ -71,11 +71,11 @@ module _ (g : Over) (c : After-as_slice g) where
       let may = subst (λ z. MayWait z (w g v).taken) c.in-Poll.is waits.may in
       may.0
 
-pub is_ready-requires-clause-open : goal.is_ready-requires-clause-open
-is_ready-requires-clause-open g c = kept_open g (goal.at.is_ready-requires-clause-open g c).After-as_slice
+pub is_ready-requires-clause-current : goal.is_ready-requires-clause-current
+is_ready-requires-clause-current g c = kept_open g (goal.at.is_ready-requires-clause-current g c).After-as_slice
 
-pub masks_reply-requires-clause-open : goal.masks_reply-requires-clause-open
-masks_reply-requires-clause-open g c = kept_open g (goal.at.masks_reply-requires-clause-open g c).After-as_slice
+pub masks_reply-requires-clause-current : goal.masks_reply-requires-clause-current
+masks_reply-requires-clause-current g c = kept_open g (goal.at.masks_reply-requires-clause-current g c).After-as_slice
 
 pub returns-then-not-is_ready-clause-done : goal.returns-then-not-is_ready-clause-done
 returns-then-not-is_ready-clause-done g c =

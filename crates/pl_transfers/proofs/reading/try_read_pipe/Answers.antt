@@ -100,10 +100,10 @@ returns-in_ok-number-in-Waits-clause-done g c =
     let x = Begin c.args.pid (Call.Read c.args.fd c.args.n) in
     let call = call_on o.key c.args.pid (Call.Read c.args.fd c.args.n) 0 in
     let does = read-waits (calls_on g w) c.args.fd c.args.n o (on_end g w) (some g w) p.0 p.1 (comes_to g w ∙ c.in-Waits.is) left in
-    let new : c.park.new.kernel ≡ with_call k call =
+    let new : c.park_read.new.kernel ≡ with_call k call =
     c.in_ok-number-in-Waits.ensures.ok ∙ ap (λ z. with_call c.args.kernel.now (call_on o.key c.args.pid (Call.Read z c.args.n) 0)) (to_z-of_z w32 c.args.fd c.ranges.fd) ∙ ap (λ z. with_call z call) (sym c.kernel.view_is) in
     let number : c.in_ok-number-in-Waits.number ≡ k.calls.next = c.in_ok-number-in-Waits.ensures.number ∙ ap (λ z. z.calls.next) (sym c.kernel.view_is) in (
-      subst (λ z. MakesAtKeys z x (Parked c.in_ok-number-in-Waits.number) c.park.new.kernel) c.kernel.view_is
-          (subst (λ z. MakesAtKeys k x (Parked z) c.park.new.kernel) (sym number) (subst (λ z. MakesAtKeys k x (Parked k.calls.next) z) (sym new) does)),
+      subst (λ z. MakesAtKeys z x (Parked c.in_ok-number-in-Waits.number) c.park_read.new.kernel) c.kernel.view_is
+          (subst (λ z. MakesAtKeys k x (Parked z) c.park_read.new.kernel) (sym number) (subst (λ z. MakesAtKeys k x (Parked k.calls.next) z) (sym new) does)),
       refl,
     )

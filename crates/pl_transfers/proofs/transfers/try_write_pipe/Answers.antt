@@ -1,9 +1,11 @@
-use Rattle.std.proofs.Common.{◌≡◌, ◌++◌, false, refl, sym, ap, subst, ◌∙◌, length, IfSome, Some}
-use Rattle.std.specs.Prelude.{◌==◌, not, slice_range}
+use Rattle.std.proofs.Common.{◌≡◌, ◌++◌, false, refl, sym, ap, subst, ◌∙◌, length, IfSome, Some, None}
+use Rattle.std.specs.Prelude.{◌==◌, not, slice_range, Bool, Option, if◌then◌else◌}
 use Rattle.std.proofs.lemmas.Bool.{ne_eqb}
 use Rattle.pl_model.specs.declared.calls.Call.{Call}
 use Rattle.pl_model.specs.declared.calls.Step.TheVariants.{Begin}
-use Rattle.pl_model.specs.declared.replies.Reply.TheVariants.{Count}
+use Rattle.pl_model.specs.declared.replies.Reply.{Reply}
+use Rattle.pl_model.specs.declared.replies.Reply.TheVariants.{Count, Fault, CallsSpent}
+use Rattle.pl_model.specs.declared.replies.Errno.TheVariants.{EAGAIN}
 use Rattle.pl_model.specs.Modes.{writes}
 use Rattle.pl_model.specs.Transfer.{room, write_case}
 use Rattle.pl_decisions.specs.Decided.{FitsRoom}
@@ -23,7 +25,7 @@ use Rattle.pl_transfers.proofs.by_call.Writing.{write-ends, write-wants, write-b
 use Rattle.pl_state.specs.Sound.{IsSound}
 use Rattle.pl_state.proofs.Known.{Caller, caller, moved_view}
 use Rattle.pl_transfers.proofs.transfers.try_write_pipe.Given.{Over}
-use Rattle.pl_transfers.proofs.transfers.try_write_pipe.Goals.{After-case_of_write}
+use Rattle.pl_transfers.proofs.transfers.try_write_pipe.Goals.{After-case_of_write, Else-spent}
 use Rattle.pl_transfers.proofs.transfers.try_write_pipe.Goals as goal
 
 -- the pipe, and what the write comes to
@@ -51,6 +53,14 @@ module _ (g : Over) (c : After-case_of_write g) where
       let told = subst (λ z. IfSome (at z.nodes.pipes o.pipe) (λ x. c.case_of_write.result ≡ write_case (length c.args.bytes.now) 0 (room x) (has_reader z.opened o.pipe) (not o.nonblock))) (sym c.kernel.view_is) c.case_of_write.ensures.case in
       sym (subst (λ z. IfSome z (λ x. c.case_of_write.result ≡ write_case (length c.args.bytes.now) 0 (room x) (has_reader k.opened o.pipe) (not o.nonblock))) on_pipe.1 told)
 
+-- why a call that may wait doesn't
+abbrev why : {A : Type 0} → Bool → Option (Reply A)
+why spent = if spent then Some CallsSpent else None
+
+-- nothing keeps the call from waiting
+may_wait : (g : Over) (c : Else-spent g) → refusal {A = g.row.A.Denot} c.args.end.nonblock (view_of c.kernel.inside).calls.next ≡ None
+may_wait g c = ap (λ b. refusal {A = g.row.A.Denot} b (view_of c.kernel.inside).calls.next) c.if-end.false ∙ ap (why {A = g.row.A.Denot}) (sym c.spent.ensures ∙ c.if-spent.false)
+
 pub returns-in_err-write_pipe-in-Ends-clause-wanted : goal.returns-in_err-write_pipe-in-Ends-clause-wanted
 returns-in_err-write_pipe-in-Ends-clause-wanted g c =
     let w = (goal.at.returns-in_err-write_pipe-in-Ends-clause-wanted g c).After-case_of_write in
@@ -63,12 +73,19 @@ invariant_of-kernel-in-Ends g c =
     let p = on_pipe g w in
     (subst (IsSound g.row.A.Denot) (moved_view c.kernel.inside c.write_pipe.new.self c.in_ok-write_pipe-in-Ends.ensures.files) (changed_sound (k g w) c.kernel.invariant.0 (o g w).key (o g w).pipe (on_end g w).on p.0 p.1 _ (nodes_of c.write_pipe.new.self) (λ x. record x { bytes = x.bytes ++ slice_range c.args.bytes.now c.in-Ends.from c.in-Ends.to }) refl c.in_ok-write_pipe-in-Ends.ensures.ok), c.kernel.invariant.1)
 
-pub returns-in-Some-clause-done : goal.returns-in-Some-clause-done
-returns-in-Some-clause-done g c =
-    let w = (goal.at.returns-in-Some-clause-done g c).After-case_of_write in
+pub returns-then-end-clause-done : goal.returns-then-end-clause-done
+returns-then-end-clause-done g c =
+    let w = (goal.at.returns-then-end-clause-done g c).After-case_of_write in
     let p = on_pipe g w in
-    let refused = ap (λ z. refusal (o g w).nonblock z.calls.next) c.kernel.view_is ∙ sym c.refusal_to_wait.ensures ∙ c.in-Some.is in
-    rw (← c.kernel.view_is) (write-refused (calls_on g w) c.args.fd c.args.bytes.now (o g w) (on_end g w) (some g w) p.0 p.1 c.in-Waits.from c.in-Waits.to (comes_to g w ∙ c.in-Waits.is) c.in-Some.refusal refused)
+    let refused = ap (λ b. refusal {A = g.row.A.Denot} b (k g w).calls.next) c.if-end.true in
+    rw (← c.kernel.view_is) (write-refused (calls_on g w) c.args.fd c.args.bytes.now (o g w) (on_end g w) (some g w) p.0 p.1 c.in-Waits.from c.in-Waits.to (comes_to g w ∙ c.in-Waits.is) (Fault EAGAIN) refused)
+
+pub returns-then-spent-clause-done : goal.returns-then-spent-clause-done
+returns-then-spent-clause-done g c =
+    let w = (goal.at.returns-then-spent-clause-done g c).After-case_of_write in
+    let p = on_pipe g w in
+    let refused = ap (λ b. refusal {A = g.row.A.Denot} b (k g w).calls.next) c.if-end.false ∙ ap (why {A = g.row.A.Denot}) (sym c.spent.ensures ∙ c.if-spent.true) in
+    rw (← c.kernel.view_is) (write-refused (calls_on g w) c.args.fd c.args.bytes.now (o g w) (on_end g w) (some g w) p.0 p.1 c.in-Waits.from c.in-Waits.to (comes_to g w ∙ c.in-Waits.is) CallsSpent refused)
 
 pub returns-in-Broken-clause-done : goal.returns-in-Broken-clause-done
 returns-in-Broken-clause-done g c =
@@ -83,8 +100,8 @@ returns-in_ok-write_pipe-in-Ends-clause-done g c =
     rw (← c.kernel.view_is) (subst (MakesAtKeys (k g w) (Begin c.args.pid (Call.Write c.args.fd c.args.bytes.now)) (Count c.in-Ends.to false)) (moved_view c.kernel.inside c.write_pipe.new.self c.in_ok-write_pipe-in-Ends.ensures.files)
     (write-ends (calls_on g w) c.args.fd c.args.bytes.now (o g w) (on_end g w) (some g w) p.0 p.1 c.in-Ends.from c.in-Ends.to (comes_to g w ∙ c.in-Ends.is) (slice_range c.args.bytes.now c.in-Ends.from c.in-Ends.to) refl (nodes_of c.write_pipe.new.self) c.in_ok-write_pipe-in-Ends.ensures.ok))
 
-pub returns-in_default-clause-done : goal.returns-in_default-clause-done
-returns-in_default-clause-done g c =
+pub returns-else-spent-clause-done : goal.returns-else-spent-clause-done
+returns-else-spent-clause-done g c =
     let k = c.args.kernel.now in
     let o = c.args.end in (
       refl,
@@ -94,6 +111,6 @@ returns-in_default-clause-done g c =
         from = c.in-Waits.from;
         comes = subst (λ r. IfSome (at k.nodes.pipes o.pipe) (λ x. r ≡ write_case (length c.args.bytes.now) 0 (room x) (has_reader k.opened o.pipe) (not o.nonblock))) c.in-Waits.is c.case_of_write.ensures.case;
         fits = subst (λ r. IfSome (at k.nodes.pipes o.pipe) (λ x. FitsRoom r (length c.args.bytes.now) 0 (room x))) c.in-Waits.is c.case_of_write.ensures.fits;
-        left = sym c.refusal_to_wait.ensures ∙ c.in_default.is;
+        left = subst (λ z. refusal {A = g.row.A.Denot} o.nonblock z.calls.next ≡ None) c.kernel.view_is (may_wait g (goal.at.returns-else-spent-clause-done g c).Else-spent);
       },
     )

@@ -1,5 +1,5 @@
 use Rattle.std.proofs.Common.{◌≡◌, ◌≤◌, false, sym, ap, subst, ◌∙◌, length, take, w32, IfSome, Some, arith}
-use Rattle.std.specs.Prelude.{◌==◌, not}
+use Rattle.std.specs.Prelude.{◌==◌, not, Result, Ok, Err, IfOk, OnOk}
 use Rattle.std.proofs.lemmas.Int.{to_z-of_z}
 use Rattle.std.proofs.lemmas.Bool.{ne_eqb}
 use Rattle.pl_model.specs.declared.calls.Call.{Call}
@@ -65,11 +65,15 @@ park_write-requires-clause-room g c =
     let room_for : c.args.to ≤ room p.0 = omega (arith, f.0, f.1, f.3) in
     subst (λ z. IfSome (at z.nodes.pipes c.args.end.pipe) (λ x. c.args.to ≤ room x)) c.kernel.view_is (subst (λ o. IfSome o (λ x. c.args.to ≤ room x)) (sym p.1) room_for)
 
-pub returns-in_err-number-clause-wanted : goal.returns-in_err-number-clause-wanted
-returns-in_err-number-clause-wanted g c =
-    let v = (goal.at.returns-in_err-number-clause-wanted g c).After-kernel in
+pub returns-clause-wanted : goal.returns-clause-wanted
+returns-clause-wanted g c =
+    let v = (goal.at.returns-clause-wanted g c).After-kernel in
     let p = on_pipe g v in
-    on_err c.from_residual.result _ (rw (← c.kernel.view_is) (write-waits-wants (calls_on g v) c.args.fd c.args.bytes (o g v) (w g v).opens (some g v) p.0 p.1 (w g v).from c.args.to (comes_to g v) (w g v).left))
+    on_err c.park_write.result _ (rw (← c.kernel.view_is) (write-waits-wants (calls_on g v) c.args.fd c.args.bytes (o g v) (w g v).opens (some g v) p.0 p.1 (w g v).from c.args.to (comes_to g v) (w g v).left))
+
+both_ok : {T E : Type 0} {P Q : T → Type 0} {R : Type 0} (r : Result T E) → ((x : T) → P x → R → Q x) → IfOk r P → OnOk r R → IfOk r Q
+both_ok (Ok x) f p r = f x p r
+both_ok (Err e) f p r = tt
 
 pub returns-clause-done : goal.returns-clause-done
 returns-clause-done g c =
@@ -82,10 +86,12 @@ returns-clause-done g c =
     let from = (w g v).from in
     let call = call_on o.key c.args.pid (Call.Write c.args.fd c.args.bytes) to in
     let fits : FitsRoom (Waits from to) (length c.args.bytes) 0 (room p.0) = fits g v in
-    let told_adds = subst (λ z. Adds (with_call c.args.kernel.now (call_on o.key c.args.pid (Call.Write z c.args.bytes) to)) o.pipe (take to c.args.bytes) c.park_write.new.kernel) (to_z-of_z w32 c.args.fd c.ranges.fd) c.in_ok-number.ensures.ok in
-    let by_view = subst (λ z. Adds (with_call z call) o.pipe (take to c.args.bytes) c.park_write.new.kernel) (sym c.kernel.view_is) told_adds in
     let part = from_first c.args.bytes from to (omega (arith, fits.0)) in
+    both_ok c.park_write.result (λ number is ok.
+    let told_adds = subst (λ z. Adds (with_call c.args.kernel.now (call_on o.key c.args.pid (Call.Write z c.args.bytes) to)) o.pipe (take to c.args.bytes) c.park_write.new.kernel) (to_z-of_z w32 c.args.fd c.ranges.fd) ok in
+    let by_view = subst (λ z. Adds (with_call z call) o.pipe (take to c.args.bytes) c.park_write.new.kernel) (sym c.kernel.view_is) told_adds in
     let adds = subst (λ z. Adds (with_call k call) o.pipe z c.park_write.new.kernel) (sym part) by_view in
     let does = write-waits (calls_on g v) c.args.fd c.args.bytes o (w g v).opens (some g v) p.0 p.1 from to (comes_to g v) (w g v).left c.park_write.new.kernel (fits.2, fits.4) adds in
-    let number : c.in_ok-number.number ≡ k.calls.next = c.in_ok-number.ensures.number ∙ ap (λ z. z.calls.next) (sym c.kernel.view_is) in
-    subst (λ z. MakesAtKeys z x (Parked c.in_ok-number.number) c.park_write.new.kernel) c.kernel.view_is (subst (λ z. MakesAtKeys k x (Parked z) c.park_write.new.kernel) (sym number) does)
+    let told : number ≡ k.calls.next = is ∙ ap (λ z. z.calls.next) (sym c.kernel.view_is) in
+    subst (λ z. MakesAtKeys z x (Parked number) c.park_write.new.kernel) c.kernel.view_is (subst (λ z. MakesAtKeys k x (Parked z) c.park_write.new.kernel) (sym told) does))
+    c.park_write.ensures.number c.park_write.ensures.ok

@@ -3,6 +3,7 @@ use Rattle.std.proofs.lemmas.Int.{to_z-of_z}
 use Rattle.pl_model.specs.declared.calls.Call.{Call}
 use Rattle.pl_model.specs.declared.calls.Step.TheVariants.{Begin}
 use Rattle.pl_state.specs.Sound.{IsSound}
+use Rattle.pl_transfers.specs.Waits.{reply_of}
 use Rattle.pl_nodes.proofs.Keyed.{if_ok}
 use Rattle.pl_kernel.proofs.Stepping.{makes, leaves, wants}
 use Rattle.pl_kernel.proofs.Buffering.{if_err}
@@ -12,7 +13,7 @@ pub returns-clause-made : goal.returns-clause-made
 returns-clause-made g c =
     let fits : SFits w32 c.args.fd = search rules in
     let x = Begin c.args.pid (Call.Write c.args.fd c.args.bytes.now) in
-    rw (← c.self.view_is) (if_ok c.begin_write_from.result (λ reply does. makes c.self.inside.state c.begin_write_from.new.kernel x reply does) (rw (to_z-of_z w32 c.args.fd fits) at c.begin_write_from.ensures.done))
+    rw (← c.self.view_is) (if_ok c.begin_write_from.result (λ reply does. makes c.self.inside.state c.begin_write_from.new.kernel x (reply_of reply) does) (rw (to_z-of_z w32 c.args.fd fits) at c.begin_write_from.ensures.done))
 
 pub returns-clause-refused : goal.returns-clause-refused
 returns-clause-refused g c =
@@ -21,7 +22,7 @@ returns-clause-refused g c =
     let old = c.self.inside.state in
     let new = c.begin_write_from.new.kernel in
     let sound = subst (IsSound g.row.A.Denot) c.state.view_is c.state.invariant.0 in
-    rw (← c.self.view_is) (if_ok c.begin_write_from.result (λ reply does. leaves old new sound x reply (makes old new x reply does)) (rw (to_z-of_z w32 c.args.fd fits) at c.begin_write_from.ensures.done))
+    rw (← c.self.view_is) (if_ok c.begin_write_from.result (λ reply does. leaves old new sound x (reply_of reply) (makes old new x (reply_of reply) does)) (rw (to_z-of_z w32 c.args.fd fits) at c.begin_write_from.ensures.done))
 
 pub returns-clause-wanted : goal.returns-clause-wanted
 returns-clause-wanted g c =
