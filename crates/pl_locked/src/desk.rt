@@ -104,6 +104,7 @@ impl<N: Layer, A: Allocator + Copy> Desk<N, A> {
         ensures made { IfOk result (λ reply. Gains N.limits N.max_steps me.old me.new step reply) }
         ensures full { IsErrOf result StepFault.JournalFull ↔ (length self.old.journal ≡ N.max_steps) }
         ensures seen { IsErrOf result StepFault.JournalFull → Full N.max_steps me.new }
+        ensures wanted { IsErrOf result StepFault.NoMemory → ¬ Full N.max_steps me.new }
         ensures unmade { OnErr result ((self.new ≡ self.old) × Shown N.limits N.max_steps me.old me.new) }
         ensures number { IfOk result (KeepsItsNumber step) }
         ensures woken { IfOk result (λ reply. IsAnswer reply → self.new.changes ≡ self.old.changes + 1) }

@@ -168,6 +168,7 @@ impl<N: Layer, A: Allocator + Copy> Locked<N, A> {
         ensures made { IfOk result (λ r. Gains N.limits N.max_steps me.old me.new step r.0) }
         ensures number { IfOk result (λ r. KeepsItsNumber step r.0) }
         ensures full { IsErrOf result StepFault.JournalFull → Full N.max_steps me.new }
+        ensures wanted { IsErrOf result StepFault.NoMemory → ¬ Full N.max_steps me.new }
         ensures unmade { OnErr result (Shown N.limits N.max_steps me.old me.new) }
     {
         let before = desk.changes();
@@ -196,6 +197,7 @@ impl<N: Layer, A: Allocator + Copy> Locked<N, A> {
         ensures made { IfOk result (λ r. Gains N.limits N.max_steps me.old me.new step r.0) }
         ensures number { IfOk result (λ r. KeepsItsNumber step r.0) }
         ensures full { IsErrOf result StepFault.JournalFull → Full N.max_steps me.new }
+        ensures wanted { IsErrOf result StepFault.NoMemory → ¬ Full N.max_steps me.new }
         ensures unmade { OnErr result (Shown N.limits N.max_steps me.old me.new) }
     {
         let mut desk = self.desk.lock(rt);
@@ -215,6 +217,7 @@ impl<N: Layer, A: Allocator + Copy> Locked<N, A> {
     ) -> Result<Reply<A>, StepFault>
         ensures made { IfOk result (λ reply. Gains N.limits N.max_steps me.old me.new step reply) }
         ensures full { IsErrOf result StepFault.JournalFull → Full N.max_steps me.new }
+        ensures wanted { IsErrOf result StepFault.NoMemory → ¬ Full N.max_steps me.new }
         ensures unmade { OnErr result (Shown N.limits N.max_steps me.old me.new) }
     {
         match self.step(rt, me, step) {

@@ -27,6 +27,7 @@ impl<N: Layer, A: Allocator + Copy> Locked<N, A> {
     ) -> Result<Reply<A>, CallFault>
         ensures made { IfOk result (λ reply. Called N.limits N.max_steps me.old me.new pid call reply) }
         ensures full { IfErr result (λ fault. fault.cause ≡ StepFault.JournalFull → Full N.max_steps me.new) }
+        ensures wanted { IfErr result (λ fault. fault.cause ≡ StepFault.NoMemory → ¬ Full N.max_steps me.new) }
         ensures fault { IfErr result (λ fault. Failed N.limits N.max_steps me.old me.new pid call fault.parked) }
     {
         let (reply, mut mark) = match self.step(rt, me, Step::Begin(pid, call)) {
@@ -66,6 +67,7 @@ impl<N: Layer, A: Allocator + Copy> Locked<N, A> {
     ) -> Result<Option<Reply<A>>, StepFault>
         ensures made { IfOk result (λ answer. Turned N.limits N.max_steps me.old me.new number answer) }
         ensures full { IsErrOf result StepFault.JournalFull → Full N.max_steps me.new }
+        ensures wanted { IsErrOf result StepFault.NoMemory → ¬ Full N.max_steps me.new }
         ensures unmade { OnErr result (Shown N.limits N.max_steps me.old me.new) }
     {
         let last = mark.changes;
@@ -99,6 +101,7 @@ impl<N: Layer, A: Allocator + Copy> Locked<N, A> {
     ) -> Result<Reply<A>, CallFault>
         ensures made { IfOk result (λ reply. CalledIn turns N.limits N.max_steps me.old me.new pid call reply) }
         ensures full { IfErr result (λ fault. fault.cause ≡ StepFault.JournalFull → Full N.max_steps me.new) }
+        ensures wanted { IfErr result (λ fault. fault.cause ≡ StepFault.NoMemory → ¬ Full N.max_steps me.new) }
         ensures fault { IfErr result (λ fault. Failed N.limits N.max_steps me.old me.new pid call fault.parked) }
     {
         let (reply, mut mark) = match self.step(rt, me, Step::Begin(pid, call)) {
@@ -138,6 +141,7 @@ impl<N: Layer, A: Allocator + Copy> Locked<N, A> {
     ) -> Result<Option<Reply<A>>, StepFault>
         ensures made { IfOk result (λ answer. Glanced N.limits N.max_steps me.old me.new number answer) }
         ensures full { IsErrOf result StepFault.JournalFull → Full N.max_steps me.new }
+        ensures wanted { IsErrOf result StepFault.NoMemory → ¬ Full N.max_steps me.new }
         ensures unmade { OnErr result (Shown N.limits N.max_steps me.old me.new) }
     {
         if self.glance(me) <= mark.len {
