@@ -168,10 +168,8 @@ impl<A: Allocator + Copy> Descs<A> {
     pub fn table(&self, pid: u32) -> Option<&Table<A>>
         ensures { option_copied result ≡ table_of self.now.tables pid }
     {
-        if pid == 0 {
-            return None;
-        }
-        self.tables.get(pid as usize - 1)?.as_ref()
+        // That of pid 0 has no place, nor any as far behind.
+        self.tables.get((pid as usize).wrapping_sub(1))?.as_ref()
     }
 
     /// The key that a descriptor of a process names, if it is open (POSIX.1-2017, File Descriptor). Where there is none, a

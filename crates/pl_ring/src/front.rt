@@ -174,8 +174,7 @@ pub(crate) fn pop_into<A: Allocator + Copy>(
 {
     // Most reads take what one write brought.
     if let Some(first) = take_whole(slots, into.len()) {
-        store.read_into(first, into);
-        store.release(first);
+        store.read_out(first, into);
         return;
     }
     pop_parts(store, slots, into);

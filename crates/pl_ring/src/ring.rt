@@ -174,9 +174,8 @@ impl<A: Allocator + Copy> Ring<A> {
         ensures read { all_read (segment_at store.new) self.new.slots ≡ drop (length into.old) (all_read (segment_at store.old) self.old.slots) }
         ensures capacity { self.new.capacity ≡ self.old.capacity }
     {
-        let count = into.len();
+        self.held -= into.len();
         pop_into(store, &mut self.slots, into);
-        self.held -= count;
     }
 
     /// Lets the first bytes go. It takes no memory.

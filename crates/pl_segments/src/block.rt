@@ -9,6 +9,19 @@ use std::marker::Model;
 /// The bytes that fit a segment.
 pub const SEGMENT_SIZE: usize = 4_096;
 
+/// Puts bytes at as many places. One byte, as a token or a wake-up is, costs less than the call that copies more.
+#[inline(always)]
+pub(crate) fn put(places: &mut [u8], bytes: &[u8])
+    requires { length places.old ≡ length bytes.now }
+    ensures { places.new ≡ bytes.now }
+{
+    if bytes.len() == 1 {
+        places[0] = bytes[0];
+    } else {
+        places.copy_from_slice(bytes);
+    }
+}
+
 /// At most 4,096 bytes, in memory for so many that was taken at once. Contracts see them as their list.
 #[derive(Drop)]
 pub(crate) struct Block<A: Allocator> {
@@ -42,8 +55,8 @@ impl<A: Allocator> Block<A> {
         requires { length bytes.now ≤ segment_size }
         ensures { self.new ≡ bytes.now }
     {
-        self.places[0..bytes.len()].copy_from_slice(bytes);
         self.len = bytes.len();
+        put(&mut self.places[0..bytes.len()], bytes);
     }
 
     /// Adds bytes at the end, which fit. It takes no memory.

@@ -4,7 +4,7 @@ ghost use Rattle.pl_segments.specs.Segments.{segment_size, most_spare, segment_a
 ghost use Rattle.pl_segments.specs.Slices.{Lies, reads, longer_by, appended, room_after};
 ghost use Rattle.pl_segments.specs.Turns.{Holds, Turns};
 
-use crate::block::{Block, SEGMENT_SIZE};
+use crate::block::{Block, SEGMENT_SIZE, put};
 use crate::fault::{AppendFault, NoMemory};
 use crate::segment::Segment;
 use crate::slice::Slice;
@@ -157,15 +157,36 @@ impl<A: Allocator + Copy> Store<A> {
         ensures spare { self.new.room ≤ max most_spare self.old.room }
         ensures turns { Turns (segment_at self.old) (slice ∷ []) (segment_at self.new) [] }
     {
+        self.read_out(slice, &mut []);
+    }
+
+    /// Copies the first bytes of a slice into a list of no more, and gives up a hold of its segment, as `release` does. It takes no memory.
+    #[inline(always)]
+    pub fn read_out(&mut self, slice: Slice, into: &mut [u8])
+        requires lies { Lies (segment_at self.old) slice }
+        requires few { length into.old ≤ slice.len }
+        ensures bytes { into.new ≡ take (length into.old) (reads (segment_at self.old) slice) }
+        ensures released { segment_at self.new ≡ set_at (segment_at self.old) slice.segment (less_held (segment_at self.old slice.segment)) }
+        ensures in_use { live_count self.new.held + (if nat_eq (holders (segment_at self.old) slice.segment) 1 then 1 else 0) ≡ live_count self.old.held }
+        ensures room { self.old.room ≤ self.new.room }
+        ensures spare { self.new.room ≤ max most_spare self.old.room }
+        ensures turns { Turns (segment_at self.old) (slice ∷ []) (segment_at self.new) [] }
+    {
         let segment = &mut self.segments[slice.segment];
         segment.release();
+        let start = slice.from as usize;
+        let bytes = &segment.filled()[start..start + into.len()];
+        // The copy comes last where it can, so that little is to be kept over it.
         if segment.holders() != 0 {
+            put(into, bytes);
             return;
         }
         // It is kept where fewer than `MOST_SPARE` are and there is a place for its key.
         if self.spare.len() < MOST_SPARE && self.spare.len() < self.spare.capacity() {
             self.spare.push_reserved(slice.segment);
+            put(into, bytes);
         } else {
+            put(into, bytes);
             let _gone = self.segments.remove(slice.segment);
         }
     }

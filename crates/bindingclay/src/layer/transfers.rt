@@ -27,6 +27,26 @@ fn offset_of(given: bool, offset: u64) -> Option<u64>
     if given { Some(offset) } else { None }
 }
 
+// The first of the caller's bytes, of which there are more than one write moves. Out of line, as hardly any write has so many.
+#[inline(never)]
+fn cut(bytes: &[u8]) -> &[u8]
+    requires { most_bytes ≤ length bytes.now }
+    ensures { result.now ≡ take most_bytes bytes.now }
+{
+    &bytes[..MOST_BYTES]
+}
+
+// The first of the caller's bytes, as many as one write moves.
+#[inline(always)]
+fn within(bytes: &[u8]) -> &[u8]
+    ensures { result.now ≡ take most_bytes bytes.now }
+{
+    if bytes.len() > MOST_BYTES {
+        return cut(bytes);
+    }
+    bytes
+}
+
 /// The answer of a read into the caller's bytes.
 pub(crate) fn answer_of_read(reply: &ReadReply) -> Answer
     ensures { result ≡ read_answer reply.now }
@@ -112,8 +132,7 @@ impl Layer {
         ensures makes { Makes self.old.kernel (Step.Begin pid (Call.Write fd (take most_bytes bytes.now))) result self.new.kernel }
         ensures wants { Wants self.old.kernel (Step.Begin pid (Call.Write fd (take most_bytes bytes.now))) result }
     {
-        let count = MOST_BYTES.min(bytes.len());
-        self.write_all(pid, fd, &bytes[..count])
+        self.write_all(pid, fd, within(bytes))
     }
 
     /// Moves bytes, or with another bit than those of the flags does nothing (splice(2), `EINVAL`).

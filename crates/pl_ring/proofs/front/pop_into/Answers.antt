@@ -38,17 +38,17 @@ pub returns-in-Some-clause-turns : goal.returns-in-Some-clause-turns
 returns-in-Some-clause-turns g c =
     let k = (goal.at.returns-in-Some-clause-turns g c).In-Some in
     let m = segment_at c.args.store.now in
-    let n = segment_at c.release.new.self in
-    subst (λ zs. Turns m zs n (rest g k)) (sym (shape g k)) (gone-turns m n (x g k) (rest g k) (held g k) c.release.ensures.turns)
+    let n = segment_at c.read_out.new.self in
+    subst (λ zs. Turns m zs n (rest g k)) (sym (shape g k)) (gone-turns m n (x g k) (rest g k) (held g k) c.read_out.ensures.turns)
 
 pub returns-in-Some-clause-read : goal.returns-in-Some-clause-read
 returns-in-Some-clause-read g c =
     let k = (goal.at.returns-in-Some-clause-read g c).In-Some in
     let m = segment_at c.args.store.now in
-    let n = segment_at c.release.new.self in
+    let n = segment_at c.read_out.new.self in
     let l : (x g k).len ≡ length c.args.into.now = c.in-Some.ensures.some.1 in
     let count = length c.args.into.now in
     let none : 0 ≡ count - (x g k).len = omega (arith, l) in
     ap (λ j. drop j (all_read n (rest g k))) none
-    ∙ gone-read m n (x g k) (rest g k) (held g k) c.release.ensures.turns count (omega (arith, l))
+    ∙ gone-read m n (x g k) (rest g k) (held g k) c.read_out.ensures.turns count (omega (arith, l))
     ∙ ap (λ zs. drop count (all_read m zs)) (sym (shape g k))

@@ -1,21 +1,23 @@
-use Rattle.std.proofs.Common.{◌≡◌, ◌∙◌, ap, subst, take, rules, w32, SFits}
+use Rattle.std.proofs.Common.{◌≡◌, ◌∙◌, ap, subst, take, length, rules, w32, SFits, arith}
 use Rattle.std.proofs.lemmas.Int.{to_z-of_z}
-use Rattle.std.proofs.lemmas.List.{take_min}
+use Rattle.std.proofs.lemmas.List.{length-take}
+use Rattle.pl_model.specs.Numbers.{most_bytes}
 use Rattle.pl_model.specs.declared.calls.Call.{Call}
 use Rattle.pl_model.specs.declared.calls.Step.TheVariants.{Begin}
 use Rattle.bindingclay.specs.Made.{Makes, Wants}
 use Rattle.bindingclay.proofs.layer.Layer.write.Goals as goal
 
+pub write_all-requires : goal.write_all-requires
+write_all-requires c =
+    let few = ap length c.within.ensures ∙ length-take most_bytes c.args.bytes.now in
+    omega (arith, few)
+
 pub returns-clause-makes : goal.returns-clause-makes
 returns-clause-makes c =
     let fits : SFits w32 c.args.fd = search rules in
-    let bytes = c.args.bytes.now in
-    subst (λ l. Makes c.args.self.now.kernel (Begin c.args.pid (Call.Write c.args.fd l)) c.write_all.result c.write_all.new.self.kernel)
-    (ap (λ k. take k bytes) c.min-count.ensures ∙ take_min 16777216 bytes) (rw (to_z-of_z w32 c.args.fd fits) at c.write_all.ensures.makes)
+    subst (λ l. Makes c.args.self.now.kernel (Begin c.args.pid (Call.Write c.args.fd l)) c.write_all.result c.write_all.new.self.kernel) c.within.ensures (rw (to_z-of_z w32 c.args.fd fits) at c.write_all.ensures.makes)
 
 pub returns-clause-wants : goal.returns-clause-wants
 returns-clause-wants c =
     let fits : SFits w32 c.args.fd = search rules in
-    let bytes = c.args.bytes.now in
-    subst (λ l. Wants c.args.self.now.kernel (Begin c.args.pid (Call.Write c.args.fd l)) c.write_all.result)
-    (ap (λ k. take k bytes) c.min-count.ensures ∙ take_min 16777216 bytes) (rw (to_z-of_z w32 c.args.fd fits) at c.write_all.ensures.wants)
+    subst (λ l. Wants c.args.self.now.kernel (Begin c.args.pid (Call.Write c.args.fd l)) c.write_all.result) c.within.ensures (rw (to_z-of_z w32 c.args.fd fits) at c.write_all.ensures.wants)
