@@ -11,10 +11,13 @@
 #include <time.h>
 #include <unistd.h>
 
-enum { ROUNDS = 500, MIB = 1 << 20, MOST_ENTRIES = 256 };
+enum { ROUNDS = 500, MIB = 1 << 20, MOST_ENTRIES = 256, QUARTER_PAGE = 1024 };
 
 static bindingclay clay;
-static uint8_t data[MIB], into[MIB];
+
+/* What is written, and what is read into, each longer than is used, so that they and the handle stand at different places of their pages. A load
+ * waits for a store a little before it to the same place of another page, as if the two met: a pair of 512 bytes took 2 ns longer for it. */
+static uint8_t data[MIB + QUARTER_PAGE], into[MIB + QUARTER_PAGE];
 
 /* What calls answered, so that none is left out; and whether each answered as it should. */
 static uint64_t sum;
