@@ -18,6 +18,10 @@ fi
 here=$(cd "$(dirname "$0")" && pwd)
 archive=${ARCHIVE:-$here/../crates/bindingclay/out/libbindingclay.a}
 memory=${MEMORY:-$(dirname "$("${RT:-rt}" doc)")/c/liblibc_c.a}
+case $memory in
+/*) ;;
+*) memory=$PWD/$memory ;;
+esac
 ar=${AR:-ar}
 mkdir -p "$1/include" "$1/lib/pkgconfig"
 prefix=$(cd "$1" && pwd)

@@ -1,7 +1,7 @@
 /* Bindingclay: POSIX pipes, FIFOs and regular files in the memory of one process, with splice, tee and poll.
  *
  * A kernel has processes, descriptors, pipes, FIFOs and files of its own, and nothing of the system's: its pids, descriptors and names
- * mean something in its own calls alone. Each call does one step of it, and answers at once.
+ * mean something in its own calls alone. Each call does at most one step of it, and answers at once.
  *
  * Threads. A kernel is given to one call at a time: threads that share one hold a lock of yours around each call. It may move from
  * thread to thread, under that lock, or with the start or the end of a thread. Two kernels share nothing, and need no lock between
@@ -19,7 +19,8 @@
  * Some calls, marked below, ask for none. A call that is refused for another reason has asked for none either, but for the calls with a
  * name, which copy it first. bindingclay_free gives back all.
  *
- * Pointers. None is null, but one to 0 bytes, or to 0 entries, may be. What one call is given doesn't overlap, nor the kernel's own memory.
+ * Pointers. None is null, but one to 0 bytes or to 0 entries, or to an offset of bindingclay_splice, may be. What one call is given doesn't
+ * overlap, nor the kernel's own memory.
  * The library keeps no pointer of yours after a call: a write that is parked has a copy of its bytes. A handle that was freed, that
  * bindingclay_open didn't give, or that two calls have at once, is undefined behaviour, and isn't found out.
  *
@@ -73,7 +74,7 @@ enum bindingclay_kind {
     BINDINGCLAY_CALLS_SPENT = 5,
     /* There is no memory. Nothing changed. */
     BINDINGCLAY_NO_MEMORY = 6,
-    /* It gives more bytes than there is room for; value: how many there must be room for. Nothing changed. */
+    /* A read that waits asks for more bytes than there is room for, or a file has more; value: how many. Nothing changed. */
     BINDINGCLAY_SHORT = 7
 };
 
@@ -153,9 +154,9 @@ bindingclay_answer bindingclay_pipe(bindingclay clay, uint32_t pid, bool nonbloc
 bindingclay_answer bindingclay_mkfifo(bindingclay clay, uint32_t pid, const uint8_t *name, size_t size);
 
 /* Opens a name (open; fifo(7)). Value: the least free descriptor. flags: O_RDONLY, O_WRONLY or O_RDWR, with O_CREAT, O_EXCL, O_TRUNC,
- * O_APPEND and O_NONBLOCK of fcntl.h; others have no effect. No such mode EINVAL, before all else. The name as in bindingclay_mkfifo; it is taken, with O_CREAT and
- * O_EXCL, EEXIST; it is free, without O_CREAT, ENOENT; no free descriptor EMFILE; 4,096 open file descriptions ENFILE; a FIFO
- * without a reader, for writing with O_NONBLOCK, ENXIO. The open of a FIFO's one end waits for the other, without O_NONBLOCK. */
+ * O_APPEND and O_NONBLOCK of fcntl.h; others have no effect. No such mode EINVAL, before all else. The name as in bindingclay_mkfifo; it is
+ * taken, with O_CREAT and O_EXCL, EEXIST; it is free, without O_CREAT, ENOENT; no free descriptor EMFILE; 4,096 open file descriptions
+ * ENFILE; a FIFO without a reader, for writing with O_NONBLOCK, ENXIO. The open of a FIFO's one end waits for the other, without O_NONBLOCK. */
 bindingclay_answer bindingclay_open_name(
     bindingclay clay, uint32_t pid, const uint8_t *name, size_t size, uint32_t flags);
 
@@ -171,13 +172,13 @@ bindingclay_answer bindingclay_file_bytes(
 /* ---- Bytes ---- */
 
 /* Reads at most size bytes to the first of those at into (read); the others stay as they are. Value: how many; 0 at the end. Not
- * open for reading EBADF; an empty pipe with a writer: EAGAIN with O_NONBLOCK, and without it the read waits. Asks for memory only
- * where it waits. The bytes are given by bindingclay_resume then, so into is free. */
+ * open for reading EBADF; a size of 0 answers 0; an empty pipe with a writer: EAGAIN with O_NONBLOCK, and without it the read waits.
+ * Asks for memory only where it waits. The bytes are given by bindingclay_resume then, so into is free. */
 bindingclay_answer bindingclay_read(bindingclay clay, uint32_t pid, int32_t fd, uint8_t *into, size_t size);
 
-/* Writes size bytes (write). Value: how many went in. Not open for writing EBADF; a pipe without a reader EPIPE; too little room in
- * a pipe: EAGAIN with O_NONBLOCK (of more than 4,096 bytes some go in, where there is some room), and without it the write waits until
- * all its bytes went in; a file with no room EFBIG. At most 4,096 bytes go into a pipe whole or not at all (pipe(7), PIPE_BUF). */
+/* Writes size bytes (write). Value: how many went in. Not open for writing EBADF; a size of 0 answers 0; a pipe without a reader EPIPE; too
+ * little room in a pipe: EAGAIN with O_NONBLOCK (of more than 4,096 bytes some go in, where there is some room), and without it the write
+ * waits until all its bytes went in; a file with no room EFBIG. At most 4,096 bytes go into a pipe whole or not at all (pipe(7), PIPE_BUF). */
 bindingclay_answer bindingclay_write(bindingclay clay, uint32_t pid, int32_t fd, const uint8_t *bytes, size_t size);
 
 /* Sets the offset of a regular file (lseek), from SEEK_SET, SEEK_CUR or SEEK_END of stdio.h. Value: the offset. Another whence EINVAL,
@@ -203,8 +204,8 @@ static inline bindingclay_answer bindingclay_splice(bindingclay clay, uint32_t p
 }
 
 /* Copies at most len bytes from the front of one pipe to another, and leaves them in the first (tee(2)). Value: how many; 0 where the
- * source is empty and has no writer. flags as of bindingclay_splice. The source not open for reading, or the target not for writing,
- * EBADF; not two pipes, or the same one twice, EINVAL; a target without a reader EPIPE. It waits, or answers EAGAIN, as
+ * source is empty and has no writer. flags, and a len of 0, as of bindingclay_splice. The source not open for reading, or the target not
+ * for writing, EBADF; not two pipes, or the same one twice, EINVAL; a target without a reader EPIPE. It waits, or answers EAGAIN, as
  * bindingclay_splice does. */
 bindingclay_answer bindingclay_tee(
     bindingclay clay, uint32_t pid, int32_t from, int32_t to, uint32_t len, uint32_t flags);

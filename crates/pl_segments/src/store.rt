@@ -13,7 +13,7 @@ use std::alloc::{Allocator, Global};
 use std::marker::Model;
 
 /// The segments that are kept for their memory when nobody holds them any more: 1,048,576 bytes of memory, as much as one full
-/// pipe of the greatest capacity holds, so that filling and draining it again takes no memory for segments.
+/// pipe of the greatest capacity holds, so that filling and draining it again takes memory for one segment at most.
 const MOST_SPARE: usize = 256;
 
 /// Segments of at most 4,096 bytes, which are only added to, each with the number of its holders. A segment is there as long
@@ -23,7 +23,7 @@ pub struct Store<A: Allocator = Global> {
     alloc: A,
     segments: Slab<Segment<A>, A>,
     // The keys of the segments that nobody holds. They stay where they are, with their memory, so that a segment comes and goes
-    // without being moved.
+    // without being moved; only one that a join takes is.
     spare: Vec<usize, A>,
 }
 
@@ -73,7 +73,10 @@ impl<A: Allocator + Copy> Store<A> {
         ensures err { OnErr result (self.new ≡ self.old) }
     {
         self.segments.reserve(1)?;
-        self.spare.try_reserve(1)?;
+        // A place for the key of each segment that there is then, so that all can be kept when nobody holds them any more.
+        let places = self.segments.len().min(MOST_SPARE - 1) + 1;
+        self.spare
+            .try_reserve(places.saturating_sub(self.spare.len()).max(1))?;
         let block = Block::new(self.alloc)?;
         let key = self.segments.insert_reserved(Segment::new(block));
         self.spare.push_reserved(key);
