@@ -9,10 +9,12 @@
  * or asks anything of the system but for memory.
  *
  * Waiting. A call that would wait answers BINDINGCLAY_PARKED: that is an answer, and its value is the call's number. Keep the number,
- * and try the call again by bindingclay_resume, or bindingclay_resume_poll, after any call that could help it: a write helps a read, a
- * read a write, an open the open of the other end, a close both. Nothing tells you which. Where it still waits it answers its number
- * again, and that costs little. bindingclay_interrupt ends it. A call that is parked keeps the ends of pipes that it found open, until it
- * is answered, is interrupted, or its process exits.
+ * and try the call again by bindingclay_resume, or bindingclay_resume_poll, after any call that could help it. What brings bytes (write,
+ * splice, tee, a write that is resumed) helps who reads, what makes room (read, splice, set_pipe_sz) who writes, an open the open of the
+ * other end, what closes an end (close, dup2, exit, interrupt, the end of another parked call) all of them, and each of these a poll.
+ * Nothing tells you which. Where it still waits it answers its number again, and that costs little. bindingclay_interrupt ends it. A call
+ * that is parked keeps what it found open, until it is answered, is interrupted, or its process exits; an open of a FIFO keeps the end
+ * that it makes, which counts as one from then on.
  *
  * Memory. It comes from malloc and realloc, and goes by free, all three of one allocator. A call that finds none answers
  * BINDINGCLAY_NO_MEMORY and has changed nothing, neither the kernel nor what its pointers point to: make it again once there is some.
@@ -83,7 +85,7 @@ typedef struct {
     uint64_t value;
     int32_t error;
     uint8_t kind;
-    /* A process would get SIGPIPE here: with EPIPE, and with the count of a write whose last reader left before it was done. */
+    /* A process would get SIGPIPE here: with EPIPE, and with the count of a write that is resumed after its last reader left. */
     bool sigpipe;
 } bindingclay_answer;
 
@@ -193,9 +195,10 @@ bindingclay_answer bindingclay_splice_at(bindingclay clay, uint32_t pid, int32_t
  * the source. An offset is that of a regular file, and null for its own; the file's own stays, and *from_offset and *to_offset do, where
  * one is given. flags: SPLICE_F_NONBLOCK; SPLICE_F_MOVE, SPLICE_F_MORE and SPLICE_F_GIFT have no effect; others EINVAL, before all
  * else. A len of 0 answers 0, whatever the descriptors are. The source not open for reading, or the target not for writing, EBADF;
- * an offset of a pipe ESPIPE; one above 9,223,372,036,854,775,807, no pipe, the same pipe twice, or a target with O_APPEND EINVAL; the
- * target is a pipe without a reader EPIPE; a file with no room EFBIG. A source that is empty and may get bytes, or a pipe without room,
- * is waited for; with SPLICE_F_NONBLOCK, or O_NONBLOCK of one of the pipes, EAGAIN. */
+ * an offset of a pipe ESPIPE; one above 9,223,372,036,854,775,807, no pipe, the same pipe twice, or a target that is a file with O_APPEND
+ * EINVAL; the target is a pipe without a reader EPIPE; the source is at its end, 0; a source that is empty and may get bytes, or a target
+ * that is a pipe without room, is waited for, and with SPLICE_F_NONBLOCK, or O_NONBLOCK of one of the pipes, EAGAIN; the target is a file
+ * with no room EFBIG. */
 static inline bindingclay_answer bindingclay_splice(bindingclay clay, uint32_t pid, int32_t from,
     const uint64_t *from_offset, int32_t to, const uint64_t *to_offset, uint32_t len, uint32_t flags)
 {
@@ -221,8 +224,8 @@ bindingclay_answer bindingclay_poll(
 /* Names what fd names by the least free descriptor too (dup). Value: that one. Not open EBADF; none free EMFILE. Asks for no memory. */
 bindingclay_answer bindingclay_dup(bindingclay clay, uint32_t pid, int32_t fd);
 
-/* Names what fd names by target too, in place of what it named, which is closed (dup2). Value: target. fd not open, or target not
- * within 0 to 255, EBADF. Asks for no memory. */
+/* Names what fd names by target too, in place of what it named, which is closed; where that is the same description nothing changes
+ * (dup2). Value: target. fd not open, or target not within 0 to 255, EBADF. Asks for no memory. */
 bindingclay_answer bindingclay_dup2(bindingclay clay, uint32_t pid, int32_t fd, int32_t target);
 
 /* Names what fd names by the least free descriptor from least on too (fcntl, F_DUPFD). Value: that one. Not open EBADF; least not within

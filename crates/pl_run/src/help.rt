@@ -43,8 +43,9 @@ Each line of a script is one call, a question or a comment:
   # WORDS                            a comment
 
 BYTES is an even number of hexadecimal digits, N*hh for N times the byte hh, or
-- for none. NAME is printable, with %hh for any other byte. OFF is an offset in
-a file, or - for its own and for a pipe. FLAGS and MASK are joined by commas.
+- for none. NAME is printable, with %hh for any other byte and for %, or - for
+the empty one. OFF is an offset in a file, or - for its own and for a pipe.
+FLAGS and MASK are joined by commas.
 
 A call that would wait is parked: its reply is `parked` and its number C. For
 example, this script prints what stands beside it:

@@ -99,11 +99,11 @@ fn begin_move<A: Allocator + Copy>(
 /// Moves at most `len` bytes from what one descriptor names to what another does, of which one at least is a pipe (splice(2)). A file
 /// gives or takes them at the offset that is given for it, or else at its own, which advances.
 ///
-/// The reply is how many went over, 0 at the end of input, or a number under which the call waits, or, in this order: 0 where `len` is 0;
-/// `EBADF` where `from` isn't open for reading, or `to` for writing; `ESPIPE` of an offset for a pipe; `EINVAL` of an offset above
-/// 9,223,372,036,854,775,807, of two files, of the same pipe, and of a file with `APPEND` to write to; `EPIPE` of a pipe without readers
-/// to write to; `EFBIG` of a file with no room left; `EAGAIN` where the call would wait and may not; `CallsSpent` where no number is
-/// left. These and the only error, want of memory, leave all as it was.
+/// The reply is how many went over, or a number under which the call waits, or, in this order: 0 where `len` is 0; `EBADF` where `from`
+/// isn't open for reading, or `to` for writing; `ESPIPE` of an offset for a pipe; `EINVAL` of an offset above 9,223,372,036,854,775,807,
+/// of two files, of the same pipe, and of a file with `APPEND` to write to; `EPIPE` of a pipe without readers to write to; 0 at the end
+/// of input; where the call would wait, `EAGAIN` where it may not, and `CallsSpent` where no number is left; `EFBIG` of a file with no
+/// room left. These and the only error, want of memory, leave all as it was.
 pub fn splice<A: Allocator + Copy>(
     kernel: &mut KernelState<A>,
     pid: u32,
