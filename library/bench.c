@@ -19,7 +19,7 @@ static bindingclay clay;
  * waits for a store a little before it to the same place of another page, as if the two met: a pair of 512 bytes took 2 ns longer for it. */
 static uint8_t data[MIB + QUARTER_PAGE], into[MIB + QUARTER_PAGE];
 
-/* What calls answered, so that none is left out; and whether each answered as it should. */
+/* What calls answered, so that none is left out. */
 static uint64_t sum;
 
 static double now(void)
@@ -65,13 +65,16 @@ static void pairs(const int *host, bindingclay_ends ends, size_t size, int times
     double theirs = 0, ours = 0;
     for (int round = 0; round < ROUNDS; round++) {
         double begun = now();
-        for (int i = 0; i < times; i++)
-            sum += as_host(write(host[1], data, size)) + as_host(read(host[0], into, size));
+        for (int i = 0; i < times; i++) {
+            sum += as_host(write(host[1], data, size));
+            sum += as_host(read(host[0], into, size));
+        }
         keep_least(&theirs, begun, times);
         begun = now();
-        for (int i = 0; i < times; i++)
-            sum += done(bindingclay_write(clay, 1, ends.write_end, data, size))
-                + done(bindingclay_read(clay, 1, ends.read_end, into, size));
+        for (int i = 0; i < times; i++) {
+            sum += done(bindingclay_write(clay, 1, ends.write_end, data, size));
+            sum += done(bindingclay_read(clay, 1, ends.read_end, into, size));
+        }
         keep_least(&ours, begun, times);
     }
     print("write and read", size, "host's pipe", theirs, ours);
@@ -85,14 +88,17 @@ static void pipes(int times)
         double begun = now();
         for (int i = 0; i < times; i++) {
             int host[2];
-            sum += as_host(pipe(host)) + as_host(close(host[0])) + as_host(close(host[1]));
+            sum += as_host(pipe(host));
+            sum += as_host(close(host[0]));
+            sum += as_host(close(host[1]));
         }
         keep_least(&theirs, begun, times);
         begun = now();
         for (int i = 0; i < times; i++) {
             bindingclay_ends ends;
-            sum += done(bindingclay_pipe(clay, 1, false, &ends)) + done(bindingclay_close(clay, 1, ends.read_end))
-                + done(bindingclay_close(clay, 1, ends.write_end));
+            sum += done(bindingclay_pipe(clay, 1, false, &ends));
+            sum += done(bindingclay_close(clay, 1, ends.read_end));
+            sum += done(bindingclay_close(clay, 1, ends.write_end));
         }
         keep_least(&ours, begun, times);
     }

@@ -8,7 +8,7 @@
 #   MEMORY, AR                                    as of install.sh
 set -u
 
-here=$(cd "$(dirname "$0")" && pwd)
+here=$(CDPATH='' cd -- "$(dirname -- "$0")" && pwd) || exit 2
 rt=${RT:-rt}
 cc=${CC:-cc}
 cxx=${CXX:-c++}
@@ -16,7 +16,7 @@ rustc=${RUSTC:-rustc}
 valgrind=${VALGRIND:-valgrind}
 passed=0
 failed=0
-work=$(mktemp -d)
+work=$(mktemp -d) || exit 2
 trap 'rm -rf "$work"' EXIT
 
 # check NAME COMMAND..: runs the command, and counts it. Where it fails, its status is printed (124: it ran out of time) and what it printed.
@@ -81,7 +81,8 @@ build_archive() {
     (cd "$here/../crates/bindingclay" && "$rt" lib)
 }
 
-# Whether the archive defines the functions that the header declares, and else only the three that take memory.
+# Whether the archive defines the functions that the header declares, and else only the three that take memory, and wants nothing of the C
+# library but memory and what copies, sets and compares it.
 # shellcheck disable=SC2317
 defines_what_is_declared() {
     {
@@ -89,14 +90,18 @@ defines_what_is_declared() {
         printf 'rattle_alloc\nrattle_dealloc\nrattle_realloc\n'
     } | sort -u > "$work/declared"
     nm -g --defined-only "$work/prefix/lib/libbindingclay.a" | awk 'NF == 3 { print $3 }' | sort -u > "$work/defined"
-    diff "$work/declared" "$work/defined"
+    diff "$work/declared" "$work/defined" || return 1
+    printf '%s\n' free malloc memcmp memcpy memmove memset realloc | sort -u - "$work/defined" > "$work/may_be_wanted"
+    nm -g --undefined-only "$work/prefix/lib/libbindingclay.a" | awk 'NF == 2 { print $2 }' | sort -u > "$work/wanted"
+    [ -z "$(comm -13 "$work/may_be_wanted" "$work/wanted" | tee /dev/stderr)" ]
 }
 
 # shellcheck disable=SC2317
 build_by_pkg_config() {
     flags=$(PKG_CONFIG_PATH=$work/prefix/lib/pkgconfig pkg-config --cflags --libs bindingclay) || return 1
-    # shellcheck disable=SC2086
-    "$cc" -Wall -Wextra -Werror -std=c11 -o "$work/example" "$here/example.c" $flags
+    # pkg-config quotes what it prints for a shell
+    eval "set -- $flags"
+    "$cc" -Wall -Wextra -Werror -std=c11 -o "$work/example" "$here/example.c" "$@"
 }
 
 # shellcheck disable=SC2317
@@ -114,7 +119,7 @@ check "installing" "$here/install.sh" "$work/prefix" || end
 check "the names of the archive" defines_what_is_declared
 
 counted=-Wl,--wrap=malloc,--wrap=realloc,--wrap=free
-for name in processes pipes descriptors files fifos splices polls waiting; do
+for name in processes pipes descriptors files fifos splices polls waiting sizes; do
     build "$name" && run "$name"
 done
 build memory "$counted" && run memory
@@ -142,8 +147,10 @@ else
     echo "passed over: client.rs"
 fi
 
+check "building example" "$cc" -Wall -Wextra -Werror -std=c11 "-I$work/prefix/include" -o "$work/example" "$here/example.c" \
+    "-L$work/prefix/lib" -lbindingclay && check "example" example_prints_what_it_should
 if is_there pkg-config; then
-    check "building example with pkg-config" build_by_pkg_config && check "example" example_prints_what_it_should
+    check "building example with pkg-config" build_by_pkg_config && check "example by pkg-config" example_prints_what_it_should
 else
     echo "passed over: example with pkg-config"
 fi

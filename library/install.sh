@@ -15,23 +15,33 @@ if [ $# -ne 1 ]; then
     echo "usage: install.sh PREFIX" >&2
     exit 2
 fi
-here=$(cd "$(dirname "$0")" && pwd)
+here=$(CDPATH='' cd -- "$(dirname -- "$0")" && pwd)
 archive=${ARCHIVE:-$here/../crates/bindingclay/out/libbindingclay.a}
-memory=${MEMORY:-$(dirname "$("${RT:-rt}" doc)")/c/liblibc_c.a}
+memory=${MEMORY:-}
+if [ -z "$memory" ]; then
+    page=$("${RT:-rt}" doc)
+    memory=$(dirname -- "$page")/c/liblibc_c.a
+fi
 case $memory in
 /*) ;;
 *) memory=$PWD/$memory ;;
 esac
 ar=${AR:-ar}
-mkdir -p "$1/include" "$1/lib/pkgconfig"
-prefix=$(cd "$1" && pwd)
+for file in "$archive" "$memory"; do
+    if [ ! -f "$file" ]; then
+        echo "install.sh: no file $file (rt lib in crates/bindingclay builds the archive)" >&2
+        exit 1
+    fi
+done
+mkdir -p -- "$1/include" "$1/lib/pkgconfig"
+prefix=$(CDPATH='' cd -- "$1" && pwd)
 
 # Both in one archive, so that who links it needs nothing of the toolchain.
 work=$(mktemp -d)
 trap 'rm -rf "$work"' EXIT
 cp "$archive" "$work/libbindingclay.a"
 mkdir "$work/memory"
-(cd "$work/memory" && "$ar" x "$memory" && "$ar" rs ../libbindingclay.a ./* 2>/dev/null)
+(cd "$work/memory" && "$ar" x "$memory" && "$ar" qs ../libbindingclay.a ./*)
 install -m 644 "$work/libbindingclay.a" "$prefix/lib/libbindingclay.a"
 install -m 644 "$here/include/bindingclay.h" "$prefix/include/bindingclay.h"
 
@@ -46,7 +56,7 @@ includedir=\${prefix}/include
 Name: bindingclay
 Description: POSIX pipes, FIFOs and regular files in the memory of one process
 Version: $(number MAJOR).$(number MINOR).$(number PATCH)
-Libs: -L\${libdir} -lbindingclay
-Cflags: -I\${includedir}
+Libs: -L"\${libdir}" -lbindingclay
+Cflags: -I"\${includedir}"
 END
 install -m 644 "$work/bindingclay.pc" "$prefix/lib/pkgconfig/bindingclay.pc"

@@ -16,15 +16,15 @@
  * that is parked keeps what it found open, until it is answered, is interrupted, or its process exits; an open of a FIFO keeps the end
  * that it makes, which counts as one from then on.
  *
- * Memory. It comes from malloc and realloc, and goes by free, all three of one allocator. A call that finds none answers
- * BINDINGCLAY_NO_MEMORY and has changed nothing, neither the kernel nor what its pointers point to: make it again once there is some.
- * Some calls, marked below, ask for none. A call that is refused for another reason has asked for none either, but for the calls with a
- * name, which copy it first. bindingclay_free gives back all.
+ * Memory. It comes from malloc and realloc, and goes by free, all three of one allocator, which aligns as C demands. A call that finds none
+ * answers BINDINGCLAY_NO_MEMORY and has changed nothing, neither the kernel nor what its pointers point to: make it again once there is
+ * some. Some calls, marked below, ask for none. A call that is refused for another reason has asked for none either, but for the calls with
+ * a name, which copy it first. bindingclay_free gives back all.
  *
- * Pointers. None is null, but one to 0 bytes or to 0 entries, or to an offset of bindingclay_splice, may be. What one call is given doesn't
- * overlap, nor the kernel's own memory.
- * The library keeps no pointer of yours after a call: a write that is parked has a copy of its bytes. A handle that was freed, that
- * bindingclay_open didn't give, or that two calls have at once, is undefined behaviour, and isn't found out.
+ * Pointers. None is null, but one to 0 bytes or to 0 entries, or to an offset of bindingclay_splice, may be. What a call writes to overlaps
+ * nothing else that it is given, and nothing that it is given overlaps the kernel's own memory. The library keeps no pointer of yours after
+ * a call: a write that is parked has a copy of its bytes. A handle that was freed, that bindingclay_open didn't give, or that two calls
+ * have at once, is undefined behaviour, and isn't found out.
  *
  * Errors and flags have Linux's numbers, as errno.h, fcntl.h and poll.h have them there. Pages are those of POSIX.1-2017, and with (2)
  * or (7) behind their name those of Linux. docs/RULES.md of the project has each rule, and the order of the refusals.
@@ -128,17 +128,18 @@ bindingclay_answer bindingclay_exit(bindingclay clay, uint32_t pid);
 
 /* ---- Calls that wait ---- */
 
-/* Tries again the call of a number that waits. It answers what the call would have, or BINDINGCLAY_PARKED with the same number where
- * it still waits; a fault ends it too. A read puts its bytes into the first of the size bytes at into, which are as many as it
- * asked for at least: where they are fewer, BINDINGCLAY_SHORT tells how many, and the read waits on. The bytes behind what it
- * read stay as they are. A read that is resumed asks for no memory. Other calls leave all the bytes alone, and size may be 0. Of a poll this
- * tells no revents: it is resumed by bindingclay_resume_poll. No call of this number BINDINGCLAY_NO_CALL. */
+/* Tries again the call of a number that waits. It answers what the call would have, or BINDINGCLAY_PARKED with the same number where it
+ * still waits; a fault ends it too, as EMFILE does an open that has met and finds no descriptor free. A read puts its bytes into the first
+ * of the size bytes at into, which are as many as it asked for at least: where they are fewer, BINDINGCLAY_SHORT tells how many, and the
+ * read waits on. The bytes behind what it read stay as they are. A read that is resumed asks for no memory. Other calls leave all the bytes
+ * alone, and size may be 0. Of a poll this tells no revents: it is resumed by bindingclay_resume_poll. No call of this number
+ * BINDINGCLAY_NO_CALL. */
 bindingclay_answer bindingclay_resume(bindingclay clay, uint64_t number, uint8_t *into, size_t size);
 
 /* Tries again the poll of a number that waits. It answers as bindingclay_poll does, or BINDINGCLAY_PARKED with the same number, of what the
  * poll found open as it began and was asked then. The entries are as many as it began with: where it is done their revents are written, in
- * the same order, and nothing else of them is looked at. Of fewer entries the revents of the first are told, and the others lost. Any other
- * call is resumed as by bindingclay_resume with a size of 0. */
+ * the same order, and nothing else of them is looked at. Of fewer entries the revents of the first are told, and the others lost; of more,
+ * those behind stay as they are. Any other call is resumed as by bindingclay_resume with a size of 0. */
 bindingclay_answer bindingclay_resume_poll(bindingclay clay, uint64_t number, bindingclay_pollfd *entries, size_t count);
 
 /* Ends a call that waits, as a signal does: EINTR, or for a write that took bytes their count (read; write; open; poll). No call of this

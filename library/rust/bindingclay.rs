@@ -207,6 +207,9 @@ impl Answer {
     }
 }
 
+/// The version that this wrapper is of, as `version`.
+pub const VERSION: u32 = 1_000;
+
 /// The version of the library: 1,000,000 times the first number, 1,000 times the second, and the third.
 pub fn version() -> u32 {
     unsafe { bindingclay_version() }
@@ -228,7 +231,12 @@ impl Drop for Clay {
 impl Clay {
     /// A kernel without processes, whose calls that wait are numbered from `first_call` on. `None` where there is no memory, or
     /// `file_max`, the most bytes of a file, is above `MOST_FILE_BYTES`.
+    ///
+    /// # Panics
+    ///
+    /// Where the library that was linked declares other calls: its version differs from `VERSION` by more than the third number.
     pub fn open(first_call: CallNumber, file_max: u32) -> Option<Clay> {
+        assert_eq!(version() / 1_000, VERSION / 1_000, "the library is of another version than its wrapper");
         let mut kernel = std::ptr::null_mut();
         unsafe { bindingclay_open(first_call, file_max, &mut kernel) }.then(|| Clay(Handle { kernel }))
     }
@@ -250,9 +258,10 @@ impl Clay {
         unsafe { bindingclay_resume(self.0, number, into.as_mut_ptr(), into.len()) }.done()
     }
 
-    /// The entries are as many as the poll began with. The value is how many of them aren't empty.
-    pub fn resume_poll(&mut self, number: CallNumber, entries: &mut [PollEntry]) -> Result<usize> {
-        unsafe { bindingclay_resume_poll(self.0, number, entries.as_mut_ptr(), entries.len()) }.count()
+    /// The entries are as many as the poll began with. The value is how many of them aren't empty. Any other call is resumed as by
+    /// `resume` into no bytes.
+    pub fn resume_poll(&mut self, number: CallNumber, entries: &mut [PollEntry]) -> Result<Done> {
+        unsafe { bindingclay_resume_poll(self.0, number, entries.as_mut_ptr(), entries.len()) }.done()
     }
 
     pub fn interrupt(&mut self, number: CallNumber) -> Result<Done> {

@@ -75,7 +75,7 @@ fn descriptors(checks: &mut Checks) {
     checks.is(clay.poll(1, &mut entries[..1], true), Err(NotDone::Parked(1)));
     checks.is(clay.resume_poll(1, &mut entries[..1]), Err(NotDone::Parked(1)));
     checks.is(clay.write(1, 1, b"a"), Ok(1));
-    checks.is(clay.resume_poll(1, &mut entries[..1]), Ok(1));
+    checks.is(clay.resume_poll(1, &mut entries[..1]), Ok(Done { value: 1, sigpipe: false }));
     checks.is(entries[0].revents, POLLIN);
     for fd in [1, 2, 200, 201] {
         checks.is(clay.close(1, fd), Ok(()));
@@ -87,6 +87,11 @@ fn descriptors(checks: &mut Checks) {
     entries[0] = PollEntry::new(2, 0);
     checks.is(clay.poll(1, &mut entries[..1], true), Ok(1));
     checks.is(entries[0].revents, POLLERR);
+    // another call is resumed too, with all that it answers
+    checks.is(clay.pipe(1, false), Ok(Ends { read_end: 1, write_end: 3 }));
+    checks.is(clay.write(1, 3, &[0; 65_537]), Err(NotDone::Parked(2)));
+    checks.is(clay.close(1, 1), Ok(()));
+    checks.is(clay.resume_poll(2, &mut []), Ok(Done { value: 65_536, sigpipe: true }));
 }
 
 fn names(checks: &mut Checks) {
@@ -121,7 +126,7 @@ fn names(checks: &mut Checks) {
 }
 
 fn kernels(checks: &mut Checks) {
-    checks.is(version(), 1_000);
+    checks.is(version(), VERSION);
     checks.is(Clay::open(1, MOST_FILE_BYTES + 1).is_none(), true);
     let mut clay = Clay::open(u64::MAX, 0).expect("memory for a kernel");
     checks.is(clay.start(), Ok(1));

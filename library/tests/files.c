@@ -57,7 +57,7 @@ static void opens(void)
     FAULT(open_text(clay, 1, "f", O_WRONLY | O_CREAT | O_EXCL), EEXIST);
     DONE(open_text(clay, 1, "f", O_RDONLY | O_CREAT), 1);
     /* bits that are none of the flags have no effect */
-    DONE(open_text(clay, 1, "f", O_RDWR | O_EXCL | O_NONBLOCK | 0xffffe03c), 2);
+    DONE(open_text(clay, 1, "f", O_RDWR | O_EXCL | O_NONBLOCK | 0xfffff13c), 2);
     DONE(bindingclay_get_fl(clay, 1, 0), O_WRONLY);
     DONE(bindingclay_get_fl(clay, 1, 1), O_RDONLY);
     DONE(bindingclay_get_fl(clay, 1, 2), O_RDWR | O_NONBLOCK);

@@ -186,20 +186,28 @@ static void with_no_memory(void)
     OTHER(bindingclay_resume(clay, 1, into, 2), BINDINGCLAY_NO_CALL);
     HOLDS(refused == 0);
     /* a name is copied first, and what a poll asks where it waits: nothing is in the second pipe */
-    OTHER(mkfifo_text(clay, 1, "f"), BINDINGCLAY_NO_MEMORY);
+    OTHER(mkfifo_text(clay, 1, "g"), BINDINGCLAY_NO_MEMORY);
     OTHER(unlink_text(clay, 1, "f"), BINDINGCLAY_NO_MEMORY);
     entries[0].fd = 3;
     OTHER(bindingclay_poll(clay, 1, entries, 1, true), BINDINGCLAY_NO_MEMORY);
     HOLDS(entries[0].revents == POLLIN);
     HOLDS(refused == 3);
+    OTHER(bindingclay_interrupt(clay, 3), BINDINGCLAY_NO_CALL);
     DONE(bindingclay_close(clay, 1, 2), 0);
     DONE(bindingclay_exit(clay, 1), 0);
     DONE(bindingclay_exit(clay, 2), 0);
+    HOLDS(refused == 3);
     refuse_none();
-    /* nothing of these three was done */
+    /* nothing of these three was done: no FIFO, the file is there, and no number was given */
     DONE(bindingclay_start(clay), 1);
+    FAULT(unlink_text(clay, 1, "g"), ENOENT);
     HAS_FILE(clay, "f", "abc");
+    NEW_PIPE(clay, 1, false);
+    PARKED(bindingclay_read(clay, 1, 0, into, 1), 3);
+    refuse(0, LONG_MAX);
     bindingclay_free(clay);
+    HOLDS(refused == 0 && atomic_load(&blocks_left) == 0);
+    refuse_none();
 }
 
 int main(void)

@@ -167,7 +167,8 @@ int main(void)
     make_a_ring(parties);
     clock_gettime(CLOCK_MONOTONIC, &begun);
     for (int i = 0; i < THREADS; i++)
-        HOLDS(pthread_create(&threads[i], NULL, take_part, &parties[i]) == 0);
+        if (!HOLDS(pthread_create(&threads[i], NULL, take_part, &parties[i]) == 0))
+            exit(1);
     for (int i = 0; i < THREADS; i++)
         HOLDS(pthread_join(threads[i], NULL) == 0);
     uint64_t waited = 0;
@@ -184,6 +185,7 @@ int main(void)
     }
     for (int i = 0; i < THREADS; i++)
         DONE(bindingclay_exit(clay, parties[i].pid), 0);
+    HOLDS(atomic_load(&blocks_left) > 0);
     bindingclay_free(clay);
     HOLDS(atomic_load(&blocks_left) == 0);
     return end();

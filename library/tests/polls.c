@@ -57,6 +57,13 @@ static void masks_of_pipes(void)
     DONE(mkfifo_text(clay, 1, "q"), 0);
     DONE(open_text(clay, 1, "q", O_RDONLY | O_NONBLOCK), 1);
     MASK(clay, 1, ALL, 0);
+    /* a descriptor for both ends is its own other end */
+    int32_t both = (int32_t)open_text(clay, 1, "q", O_RDWR).value;
+    MASK(clay, both, ALL, POLLOUT);
+    DONE(put(clay, 1, both, "a"), 1);
+    MASK(clay, both, ALL, POLLIN | POLLOUT);
+    DONE(put_many(clay, 1, both, 65535), 65535);
+    MASK(clay, both, ALL, POLLIN);
     bindingclay_free(clay);
 }
 
@@ -143,7 +150,8 @@ static void polls_that_wait(void)
     bindingclay_free(clay);
 }
 
-/* Of fewer entries than it began with the first are told, and where it is resumed as other calls are, none: it is done all the same. */
+/* Of fewer entries than it began with the first are told, and where it is resumed as other calls are, none: it is done all the same. Of
+ * more, those behind are left alone. */
 static void masks_that_are_lost(void)
 {
     bindingclay clay = kernel_with_process();
@@ -157,6 +165,12 @@ static void masks_that_are_lost(void)
     HOLDS(entries[0].revents == POLLIN && entries[1].revents == 0 && entries[2].revents == UNWRITTEN);
     DONE(again(clay, 2), 2);
     OTHER(bindingclay_resume_poll(clay, 2, entries, 3), BINDINGCLAY_NO_CALL);
+    READS(clay, 1, 0, 9, "a");
+    PARKED(bindingclay_poll(clay, 1, entries, 1, true), 3);
+    DONE(put(clay, 1, 1, "a"), 1);
+    entries[1].revents = UNWRITTEN;
+    DONE(bindingclay_resume_poll(clay, 3, entries, 2), 1);
+    HOLDS(entries[0].revents == POLLIN && entries[1].revents == UNWRITTEN);
     bindingclay_free(clay);
 }
 

@@ -75,7 +75,6 @@ static void splices_of_files(void)
     /* at the file's own offset, its end, there is nothing; at one that is given its own stays */
     DONE(splice_plainly(clay, FILE_FD, WRITE_END, 100), 0);
     DONE(bindingclay_splice(clay, 1, FILE_FD, &first, WRITE_END, NULL, 3, 0), 3);
-    HOLDS(first == 1);
     DONE(bindingclay_lseek(clay, 1, FILE_FD, 0, SEEK_CUR), 5);
     DONE(bindingclay_lseek(clay, 1, FILE_FD, 3, SEEK_SET), 3);
     DONE(splice_plainly(clay, FILE_FD, WRITE_END, 1), 1);

@@ -25,17 +25,19 @@ static bool is_done(bindingclay_answer answer, uint64_t value)
 /* A write through a pipe, a tee and a file, and all of it read back. */
 static bool bytes_go_round(bindingclay clay, uint8_t mark, size_t size)
 {
-    uint8_t out[5000], in[5000];
-    memset(out, mark, size);
+    uint8_t out[5000], in[5000], file[5000];
+    for (size_t i = 0; i < size; i++)
+        out[i] = (uint8_t)(mark + i * 7 + i / 251);
     memset(in, UNTOUCHED, size);
+    memset(file, UNTOUCHED, size);
     return is_done(bindingclay_write(clay, 1, 1, out, size), size)
         && is_done(bindingclay_tee(clay, 1, 0, 3, (uint32_t)size, 0), size)
         && is_done(bindingclay_lseek(clay, 1, 4, 0, SEEK_SET), 0)
         && is_done(bindingclay_splice(clay, 1, 2, NULL, 4, NULL, (uint32_t)size, 0), size)
         && is_done(bindingclay_read(clay, 1, 0, in, size), size)
         && memcmp(out, in, size) == 0
-        && is_done(bindingclay_file_bytes(clay, bytes_of("f"), 1, in, 5000), size)
-        && memcmp(out, in, size) == 0
+        && is_done(bindingclay_file_bytes(clay, bytes_of("f"), 1, file, 5000), size)
+        && memcmp(out, file, size) == 0
         && is_done(open_text(clay, 1, "f", O_RDWR | O_TRUNC), 5)
         && is_done(bindingclay_close(clay, 1, 5), 0);
 }
@@ -77,7 +79,8 @@ static void in_two_threads(struct party *parties)
 {
     pthread_t threads[2];
     for (int i = 0; i < 2; i++)
-        HOLDS(pthread_create(&threads[i], NULL, take_part, &parties[i]) == 0);
+        if (!HOLDS(pthread_create(&threads[i], NULL, take_part, &parties[i]) == 0))
+            exit(1);
     for (int i = 0; i < 2; i++) {
         HOLDS(pthread_join(threads[i], NULL) == 0);
         HOLDS(parties[i].as_wanted);
@@ -90,6 +93,7 @@ int main(void)
     in_two_threads(parties);
     /* other threads go on with them: the end of one and the start of the next order them */
     in_two_threads(parties);
+    HOLDS(atomic_load(&blocks_left) > 0);
     for (int i = 0; i < 2; i++)
         bindingclay_free(parties[i].clay);
     HOLDS(atomic_load(&blocks_left) == 0);
