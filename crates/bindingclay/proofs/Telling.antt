@@ -7,14 +7,13 @@ use Rattle.pl_model.specs.declared.calls.Step.TheVariants.{Resume}
 use Rattle.pl_model.specs.declared.replies.Reply.{Reply}
 use Rattle.pl_model.specs.declared.replies.Reply.TheVariants.{Pid, Fd, Fds, Count, Bytes, Offset, Flags, Size, Masks, Unit, Fault, Parked, NoProcess, NoCall, CallsSpent}
 use Rattle.pl_state.specs.Contents.{Contents}
-use Rattle.pl_state.specs.Makes.{WantsMemory}
 use Rattle.pl_state.specs.Makes.{Makes as MadeByKernel}
 use Rattle.pl_transfers.specs.ReadInto.{told, read_count}
 use Rattle.pl_transfers.specs.declared.reading.ReadReply.{ReadReply}
 use Rattle.pl_transfers.specs.declared.reading.ReadReply.TheVariants as Read
 use Rattle.pl_numbers.specs.declared.answer.Answer.{Answer}
 use Rattle.pl_numbers.specs.Answers.{said, plain, no_memory, short}
-use Rattle.bindingclay.specs.Made.{Makes, Wants, Replied, Resumed, Resumes, read_answer, bytes_after}
+use Rattle.bindingclay.specs.Made.{Makes, Replied, Resumed, Resumes, read_answer, bytes_after}
 
 -- no reply has the kind of what is no reply
 pub said_at_most : (r : Reply Global) → (said r).kind ≤ 5
@@ -57,10 +56,6 @@ module _ (old : Contents Global) (x : Step Global) (a : Answer) where
           made = λ kind s stands. (made s stands).1;
           unmade = λ e. absurd (has_memory a r says e);
         }
-
-  -- a reply wants no memory
-  pub wants_none : (r : Reply Global) → a ≡ said r → Wants old x a
-  wants_none r says = λ e. absurd (has_memory a r says e)
 
   -- where no memory was found, nothing is said of a reply
   pub not_replied : (P : Reply Global → Type 0) → a ≡ plain 0 no_memory → Replied old x a P

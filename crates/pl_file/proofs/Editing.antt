@@ -87,9 +87,6 @@ module _ (m n : Map) (xs ps : List Slice) (held : Holds m xs) (t : Turns m [] n 
   pub made-held : Holds n (xs ++ ps)
   made-held = holds-turned m n xs (xs ++ ps) held made-turns
 
-  pub made-holds : Holds n ps
-  made-holds = holds-right n xs ps made-held
-
 module _ (m n : Map) (ps : List Slice) (t : Turns m [] n ps) where
   pub still-lie : (zs : List Slice) → AllLie m zs → AllLie n zs
   still-lie [] lie = tt

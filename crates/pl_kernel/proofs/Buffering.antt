@@ -1,10 +1,9 @@
 -- What a step on the caller's bytes tells of the flat machine.
-use Rattle.std.proofs.Common.{◌≡◌, ℕ, sym, ◌∙◌}
+use Rattle.std.proofs.Common.{sym, ◌∙◌}
 use Rattle.std.specs.Prelude.{Result, Ok, Err, OnErr}
 use Rattle.pl_model.specs.declared.calls.Step.{Step}
 use Rattle.pl_model.proofs.renaming.Simulates.{unused_keys, same_reply}
 use Rattle.pl_state.specs.Contents.{Contents, core_of}
-use Rattle.pl_state.specs.Parking.{ReadWaits}
 use Rattle.pl_state.specs.Makes.{is_parked, ParksAtKeys}
 use Rattle.pl_kernel.specs.Buffers.{Parks}
 
@@ -20,8 +19,3 @@ if_err (Err error) f h = f h
 pub on_err : {T E : Type 0} {P : Type 0} (result : Result T E) → P → OnErr result P
 on_err (Ok value) h = tt
 on_err (Err error) h = h
-
--- a call that waits asks for one number of bytes
-pub one_count : {A : Type 0} (k : Contents A) (number key n other_key other : ℕ) → ReadWaits k number key n → ReadWaits k number other_key other → n ≡ other
-one_count k number key n other_key other a b =
-    let here = sym a.here ∙ b.here in let one = a.asked in let two = b.asked in cc

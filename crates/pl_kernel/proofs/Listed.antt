@@ -14,7 +14,6 @@ use Rattle.pl_model.specs.declared.cases.WriteCase.{WriteCase}
 use Rattle.pl_model.specs.declared.cases.MoveCase.{MoveCase}
 use Rattle.pl_model.specs.declared.flags.OpenFlags.{OpenFlags}
 use Rattle.pl_model.specs.declared.flags.PollMask.{PollMask}
-use Rattle.pl_model.specs.declared.replies.Reply.{Reply}
 use Rattle.pl_model.specs.declared.replies.Reply.TheVariants.{Bytes, Fault, NoProcess, CallsSpent, Parked}
 use Rattle.pl_model.specs.declared.replies.Errno.TheVariants.{EBADF, EINTR}
 use Rattle.pl_model.specs.Numbers.{last_call, open_max}
@@ -23,7 +22,7 @@ use Rattle.pl_model.specs.Memory.{is_frugal, is_frugal_call}
 use Rattle.pl_model.specs.Modes.{reads}
 use Rattle.pl_model.specs.Keys.{Keys, Node, NewKeys, PipeNode, FileNode, Plain, Draws, drawn, drawing_map}
 use Rattle.pl_model.specs.State.{Core, Pipe, Description, Open, Waiting, described}
-use Rattle.pl_model.specs.Trial.{Trial, Done, Wait, still, flowed, pipe_at, Begun, Begins, Answered, Tried, found, answered, tried}
+use Rattle.pl_model.specs.Trial.{Trial, Done, Wait, still, flowed, pipe_at, Begun, Begins, Tried, found, answered, tried}
 use Rattle.pl_model.specs.Transfer.{count, file_at, read_row, write_row, write_case, read_pipe, write_pipe, read_file, write_file, read_node, write_node}
 use Rattle.pl_model.specs.Splice.{Side, move_case, move_row, source_of, target_of, try_move}
 use Rattle.pl_model.specs.Poll.{masks, masks_reply, is_ready, try_poll}
@@ -221,9 +220,6 @@ module _ {A : Type 0} {K : Keys} where
   tries-bare s u pid call kept met may_wait other =
       let w = waiting pid call kept met in
       first-sizes s w may_wait (try u w call may_wait) ∙ try-bare u w call may_wait other
-
-  answers-bare : (s u : Core A K) (pid : ℕ) (call : Call A) (reply : Reply A) → sizes_of reply ≡ no_list → AnswersBare s pid call (Answered u reply)
-  answers-bare s u pid call reply e = e
 
   open_named-bare : (new : NewKeys K) (s : Core A K) (pid fd : ℕ) (name : List ℕ) (node : Option (Node K)) (mode : Mode) (flags : OpenFlags) → LeadsTo new (AnswersBare s pid (Call.OpenName name mode flags)) (open_named s pid fd name node mode flags)
   open_named-bare new s pid fd name None mode flags = search ways

@@ -16,15 +16,12 @@ use Rattle.pl_state.specs.Makes.{MakesAtKeys, MayWantAtKeys, WantsMemory}
 use Rattle.pl_kernel.specs.declared.sizes.ReplySizes.{ReplySizes}
 use Rattle.pl_kernel.specs.Sizes.{no_list, sizes_of, sizes_begun, TellsSizes}
 use Rattle.pl_kernel.proofs.Stepping.{wants}
-use Rattle.pl_kernel.proofs.Listed.{sizes_told, reply-sizes, frugal-sizes}
+use Rattle.pl_kernel.proofs.Listed.{sizes_told, reply-sizes}
 
 -- the sizes of the machine's reply, at the kernel's keys
 module _ {A : Type 0} (k : Contents A) where
   pub tells : (x : Step A) (sizes : ReplySizes) → sizes_told (core_of k) x ≡ sizes → TellsSizes k x sizes
   tells x sizes e = λ new. reply-sizes new (core_of k) x ∙ e
-
-  pub frugal_none : (x : Step A) (sizes : ReplySizes) → sizes_told (core_of k) x ≡ sizes → is_frugal x ≡ true → sizes ≡ no_list
-  frugal_none x sizes e h = sym e ∙ frugal-sizes (core_of k) x h
 
   module _ (pid : ℕ) (call : Call A) where
     pub nobody : is_pid k.tables pid ≡ false → sizes_told (core_of k) (Begin pid call) ≡ no_list

@@ -14,9 +14,6 @@ pub record IsSoFar (all before now rest : List ℕ) : Type 0 where
   pub added : now ≡ before ++ put
   pub left : all ≡ put ++ rest
 
-pub none_yet : (all before : List ℕ) → IsSoFar all before before all
-none_yet all before = record { put = []; added = sym (append-nil before); left = refl }
-
 module _ {all before now rest : List ℕ} (so_far : IsSoFar all before now rest) where
   -- a piece more went in
   pub one_more : {X E : Type 0} {tried : Result X E} {after piece : List ℕ} (left : List ℕ) (x : X) → tried ≡ Ok x → Pushes tried now after piece → rest ≡ piece ++ left

@@ -2,7 +2,6 @@
 use Rattle.std.proofs.Common.{◌≡◌, ◌≢◌, ℕ, ◌+◌, ◌<◌, ◌≤◌, List, [], ◌∷◌, ◌++◌, length, refl, sym, ap, ◌∙◌, subst, arith, length-append}
 use Rattle.std.specs.Prelude.{slice_index, slice_set, replicate}
 use Rattle.std.proofs.lemmas.List.{get_or-set_same, get_or-set_other, length-replicate, get_or-replicate}
-use Rattle.std.proofs.Math.ListN.{length-set}
 use mathlib.Core.Logic.{dite}
 use native.Mathlib.Decide.{ℕ_discrete}
 use Rattle.pl_model.specs.declared.history.Entry.{Entry}
@@ -34,18 +33,6 @@ module _ {A : Type 0} where
       subst (λ (i : ℕ). slice_index (slice_set tally e.caller (n + 1)) i ≡ length (of i (h ++ e ∷ []))) (sym same) (omega arith))
       (λ (other : j ≢ e.caller).
       get_or-set_other tally e.caller j (n + 1) 0 other ∙ (all j lj ∙ sym (ap length (of-other j h e (λ x. other (sym x))))))
-
-  pub tallies-push : (callers most : ℕ) (h : List (Entry A)) (tally : List ℕ) (changed : ℕ) → Tallies callers most h tally changed
-      → (e : Entry A) (n now : ℕ) → e.caller < callers → n ≡ slice_index tally e.caller → length h < most → now ≤ changed + 1
-      → Tallies callers most (h ++ e ∷ []) (slice_set tally e.caller (n + 1)) now
-  tallies-push callers most h tally changed kept e n now lt is room near =
-      let longer : length (h ++ e ∷ []) ≡ length h + 1 = length-append h (e ∷ []) in
-      let few : changed ≤ length h = kept.changes in record {
-        many = length-set tally e.caller (n + 1) ∙ kept.many;
-        counts = tally-push callers n h e tally lt kept.many kept.counts is;
-        room = omega arith;
-        changes = omega arith;
-      }
 
   -- no caller made more steps than the journal takes
   pub tally_small : (callers most : ℕ) (h : List (Entry A)) (tally : List ℕ) (changed : ℕ) → Tallies callers most h tally changed → (k : ℕ) → k < callers → slice_index tally k ≤ most

@@ -77,22 +77,6 @@ module _ {A : Type 0} where
     made = s.made ∙ w.made;
   }
 
-  -- a caller that saw more, and more again
-  pub sees_again : (old mid new : CallerView A) → Sees old mid → Sees mid new → Sees old new
-  sees_again old mid new s t = record { number = t.number ∙ s.number; made = t.made ∙ s.made; earlier = prefix_trans old.seen mid.seen new.seen s.earlier t.earlier }
-
-  -- a step of a caller that saw more before
-  pub gains_after : (limits : Limits) (most : ℕ) (old mid new : CallerView A) (x : Step A) (r : Reply A) → Sees old mid → Gains limits most mid new x r → Gains limits most old new x r
-  gains_after limits most old mid new x r s g =
-      let e : ℕ → Entry A = λ k. entry k (length (of k g.before)) x r in record {
-        before = g.before;
-        earlier = prefix_trans old.seen mid.seen g.before s.earlier g.earlier;
-        seen = g.seen ∙ ap (λ (k : ℕ). g.before ++ e k ∷ []) s.number;
-        made = g.made ∙ (λ i. s.made i ++ e (s.number i) ∷ []);
-        number = g.number ∙ s.number;
-        knows = g.knows;
-      }
-
   -- one turn more
   pub turn_more : (n : ℕ) (limits : Limits) (most pid : ℕ) (call : Call A) (c : ℕ) (old mid new : CallerView A) → WaitsIn n limits most pid call c old mid → Glanced limits most mid new c None → WaitsIn (n + 1) limits most pid call c old new
   turn_more n limits most pid call c old mid new w g = ⊎_elim

@@ -28,10 +28,6 @@ module _ {A : Type 0} where
   pub steps_of-push : (h : List (Entry A)) (e : Entry A) → steps_of (h ++ e ∷ []) ≡ steps_of h ++ e.step ∷ []
   steps_of-push h e = map-append (λ (x : Entry A). x.step) h (e ∷ [])
 
-  -- the empty journal
-  pub empty_legal : (limits : Limits) → IsLegal {A = A} limits []
-  empty_legal limits = record { replies = refl; numbers = refl }
-
   -- an entry with the machine's reply, and the number of its caller's entries that stand before it
   pub legal-push : (limits : Limits) (h : List (Entry A)) (e : Entry A) → IsLegal limits h → e.reply ≡ (step (state_of_history limits h) e.step).reply → e.number ≡ length (of e.caller h) → IsLegal limits (h ++ e ∷ [])
   legal-push limits h e legal reply number =

@@ -1,7 +1,6 @@
 -- The entries of the tree of names, by the bytes of their keys.
 use Rattle.std.proofs.Common.{◌≡◌, ℕ, cond, true, false, not, List, [], ◌∷◌, Some, None, refl, sym, ◌∙◌, ap, nat_eq, map}
-use Rattle.std.specs.Prelude.{Bool, Option, Result, Ok, Err, is_some, IsSome, IsErr, IsErrOf, IfOk, ◌↔◌}
-use Rattle.std.specs.Result.{result_ok}
+use Rattle.std.specs.Prelude.{Bool, Option, Result, is_some, IsSome, IsErrOf, ◌↔◌}
 use Rattle.std.specs.declared.vec.Vec.{Vec}
 use Rattle.std.specs.declared.cmp.Ordering.{Ordering}
 use Rattle.std.specs.declared.cmp.Ordering.TheVariants.{Less, Equal, Greater}
@@ -99,13 +98,3 @@ module _ {A : Type 0} (k : Inside A) (flat : Nodes) (is : view_of k ≡ flat) (n
   -- it hasn't, and something else is said
   pub not-there : (found : Bool) → found ≡ is_some (get_by (compares name) k.names) → found ≡ false → {T E : Type 0} (r : Result T E) (e : E) → (IsErrOf r e → ⊥) → IsErrOf r e ↔ IsSome (get (pointwise nat_eq) flat.names name)
   not-there found said lacks r e other = (λ h. absurd (other h), λ some. let same = ap is_some looked-up in absurd (cc))
-
--- what was taken out is answered, and an error where nothing was
-module _ {T E : Type 0} where
-  pub taken-is : (r : Result T E) (taken was : Option T) → taken ≡ result_ok r → taken ≡ was → IfOk r (λ x. was ≡ Some x)
-  taken-is (Ok x) taken was part said = sym said ∙ part
-  taken-is (Err e) taken was part said = tt
-
-  pub none-taken : (r : Result T E) (taken was : Option T) → taken ≡ result_ok r → taken ≡ was → IsErr r ↔ (was ≡ None)
-  none-taken (Ok x) taken was part said = (λ err. absurd (cc), λ none. absurd (cc))
-  none-taken (Err e) taken was part said = (λ err. sym said ∙ part, λ none. refl)

@@ -1,5 +1,5 @@
 -- A slot that is pushed into fixed places: alone, or as one with the last.
-use Rattle.std.proofs.Common.{◌≡◌, ℕ, suc, ◌+◌, ◌-◌, ◌*◌, ◌/◌, ◌%◌, ◌≤◌, true, false, List, [], ◌∷◌, ◌++◌, None, refl, sym, ◌∙◌, ap, subst, length, drop, arith, inl, inr}
+use Rattle.std.proofs.Common.{◌≡◌, ℕ, suc, ◌+◌, ◌-◌, ◌*◌, ◌/◌, ◌%◌, ◌≤◌, true, false, List, [], ◌∷◌, ◌++◌, None, refl, sym, ◌∙◌, ap, subst, length, arith, inl, inr}
 use Rattle.std.proofs.lemmas.List.{length_push}
 use Rattle.pl_segments.specs.declared.slice.Slice.{Slice}
 use Rattle.pl_segments.specs.Segments.{segment_size, Map}
@@ -36,10 +36,6 @@ places-enough xs places m s even l =
     let b = slots-bound (lens xs) (places / 2) m (some-lens xs s) (let e = sum-lens xs in omega (arith, e, even, l)) in
     let n = length-lens xs in
     omega (arith, b, n, even)
-
--- a ring that isn't over-full keeps all
-pub keep-all : (zs : List Slice) (places : ℕ) → length zs ≤ places → drop (length zs - places) zs ≡ zs
-keep-all zs places l = ap (λ k. drop k zs) (let e : length zs - places ≡ 0 = omega arith in e)
 
 -- a slot of a whole segment stands alone
 pub full-alone : (xs : List Slice) (s : Slice) → AllSolid xs → segment_size ≤ s.len → joining xs s ≡ 0

@@ -1,7 +1,7 @@
 -- What each of two rings and a file over one store has of the laws on sharing.
 use Rattle.std.proofs.Common.{◌≡◌, ℕ, zero, suc, ◌-◌, ◌<◌, ◌≤◌, ◌^◌, Bool, true, false, List, [], ◌∷◌, nat_eq, arith}
 use Rattle.pl_segments.specs.declared.slice.Slice.{Slice}
-use Rattle.pl_segments.specs.Segments.{Map, holders}
+use Rattle.pl_segments.specs.Segments.{Map}
 use Rattle.pl_segments.specs.Slices.{AllLie, naming, one_if}
 use Rattle.pl_segments.specs.Slots.{total, AllSolid, drop_bytes, front_of}
 use Rattle.pl_segments.specs.Turns.{Holds, Turns}
@@ -43,10 +43,6 @@ module _ (m : Map) (xs ys zs : List Slice) (shared : AreShared m (xs ∷ ys ∷ 
       lie (suc zero) = left-held.lie
       lie (suc (suc zero)) = file-held.lie
       lie (suc (suc (suc p))) = tt
-
-  -- no segment has so many holders that it can't get further ones
-  pub few-hold : ((key : ℕ) → named (xs ∷ ys ∷ zs ∷ []) key < 2 ^ 100) → (key : ℕ) → holders m key < 2 ^ 100
-  few-hold f key = let c = shared.counted key in let n = f key in omega (arith, c, n)
 
   module _ (n : Map) (new : List Slice) where
     pub left-turned : Turns m xs n new → AreShared n (new ∷ ys ∷ zs ∷ [])

@@ -7,7 +7,7 @@ use Rattle.std.proofs.lemmas.List.{append-nil, length-drop, length-append, lengt
 use Rattle.pl_segments.specs.declared.slice.Slice.{Slice}
 use Rattle.pl_segments.specs.declared.fault.AppendFault.{AppendFault}
 use Rattle.pl_segments.specs.declared.fault.AppendFault.TheVariants.{NotAtEnd, NoRoom}
-use Rattle.pl_segments.specs.Segments.{segment_size, Segment, Segments, Map, segment_at, set_at, bytes_in, holders_in, filled, holders, more_held, less_held, longer, IsGood, AreGood}
+use Rattle.pl_segments.specs.Segments.{segment_size, Segment, Map, set_at, bytes_in, holders_in, filled, holders, more_held, less_held, longer}
 use Rattle.pl_segments.specs.Slices.{Lies, reads, AllLie, one_if, naming, longer_by, appended, room_after}
 use Rattle.pl_segments.specs.Turns.{Begins, Turns}
 
@@ -171,14 +171,6 @@ unfolding reads
 length-reads m x lies =
     let l = lies.within in
     length-take-le x.len (drop x.from (filled m x.segment)) (omega (arith, l, length-drop x.from (filled m x.segment)))
-
--- no slice ends past 4,096 bytes
-pub lies-most : (m : Segments) (x : Slice) → AreGood m.held → Lies (segment_at m) x → x.from + x.len ≤ 4096
-lies-most m x good lies = by (segment_at m x.segment) (good.good x.segment) lies.here lies.within
-  where
-    by : (o : Option Segment) → IsGood o → 1 ≤ holders_in o → x.from + x.len ≤ length (bytes_in o) → x.from + x.len ≤ 4096
-    by None g h w = absurd (omega (arith, h))
-    by (Some s) g h w = let l = g.1 in omega (arith, w, l)
 
 -- the room behind a slice
 pub room-end : (m : Map) (x : Slice) → x.from + x.len ≡ length (filled m x.segment) → room_after m x ≡ segment_size - (x.from + x.len)

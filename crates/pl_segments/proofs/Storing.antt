@@ -225,13 +225,6 @@ put-here slots key x y was = get_or-set_same slots key (Some y) None (at-within 
 pub put-others : (slots : List (Option Segment)) (key : ℕ) (y : Segment) (q : ℕ) → q ≢ key → at (slice_set slots key (Some y)) q ≡ at slots q
 put-others slots key y q n = get_or-set_other slots key q (Some y) None n
 
-pub put-count : (slots : List (Option Segment)) (key : ℕ) (x y : Segment) → at slots key ≡ Some x → live_count (slice_set slots key (Some y)) ≡ live_count slots
-put-count slots key x y was =
-    let c = count-change slots (slice_set slots key (Some y)) key (put-others slots key y) in
-    let a : one (at slots key) ≡ 1 = ap one was in
-    let b : one (at (slice_set slots key (Some y)) key) ≡ 1 = ap one (put-here slots key x y was) in
-    omega (arith, c, a, b)
-
 -- a segment that is held, and was lent out to be changed
 module _ (slots held : List (Option Segment)) (same : held_of slots ≡ held) (key : ℕ) where
   seen : 1 ≤ holders_in (at held key) → (s : Segment) × ((at slots key ≡ Some s) × (1 ≤ s.holders))

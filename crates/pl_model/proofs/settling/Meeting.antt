@@ -13,9 +13,9 @@ use Rattle.pl_model.specs.declared.flags.OpenFlags.{OpenFlags}
 use Rattle.pl_model.specs.Numbers.{open_max, most_processes}
 use Rattle.pl_model.specs.Modes.{any_mode, reads, writes}
 use Rattle.pl_model.specs.Map.{Map, get, without, EachOnce, kept_if}
-use Rattle.pl_model.specs.Keys.{Node, PipeNode, FileNode}
+use Rattle.pl_model.specs.Keys.{PipeNode, FileNode}
 use Rattle.pl_model.specs.State.{Core, Waiting, Pipe, set_pipe}
-use Rattle.pl_model.specs.Live.{in_rows, in_parked, in_use, pids, is_live, is_end, is_open, has_name, readers, writers}
+use Rattle.pl_model.specs.Live.{in_rows, in_parked, in_use, pids, is_live, is_end, has_name, readers, writers}
 use Rattle.pl_model.specs.Settle.{settle, with_ends, had_writer}
 use Rattle.pl_model.specs.Tables.{install, describe}
 use Rattle.pl_model.specs.Step.{parked, without_call}
@@ -95,25 +95,8 @@ module _ {A : Type 0} (c : Core A numbers) (p : ℕ) (mode : Mode) where
   pub meet-kept : (e : ℕ × Waiting A numbers) → (meeting e).1.kept ≡ e.1.kept
   meet-kept e = met_by-kept e.1
 
-  pub meet-in_parked : in_parked (meet c p mode) ≡ in_parked c
-  meet-in_parked = marked-in_parked meeting meet-kept c
-
   pub meet-in_use : in_use (meet c p mode) ≡ in_use c
   meet-in_use = marked-in_use meeting meet-kept c
-
-  pub meet-live : (d : ℕ) → is_live (meet c p mode) d ≡ is_live c d
-  meet-live d = ap (λ used. is_member nat_eq used d) meet-in_use
-
-  pub meet-open : (node : Node numbers) → is_open (meet c p mode) node ≡ is_open c node
-  meet-open node = ap (λ used. list_any (λ d. is_end any_mode node (c.descriptions d)) used) meet-in_use
-
-  pub meet-readers : (q : ℕ) → readers (meet c p mode) q ≡ readers c q
-  unfolding readers
-  meet-readers q = ap (λ used. distinct_count nat_eq (filter (λ d. is_end reads (PipeNode q) (c.descriptions d)) used)) meet-in_use
-
-  pub meet-writers : (q : ℕ) → writers (meet c p mode) q ≡ writers c q
-  unfolding writers
-  meet-writers q = ap (λ used. distinct_count nat_eq (filter (λ d. is_end writes (PipeNode q) (c.descriptions d)) used)) meet-in_use
 
   pub meet-get : (n : ℕ) → get nat_eq (meet c p mode).parked n ≡ option_map met_by (get nat_eq c.parked n)
   meet-get n = over c.parked

@@ -40,9 +40,6 @@ module _ {A : Type 0} (k : Contents A) (whole : IsWhole A k) (key : ℕ) (some :
   said : (x : Polled) → ((asked : PollMask) → mask_of x asked ≡ mask_of (polled c (description_of o) (node_of o.node)) asked) → LooksAt x
   said x is = λ asked result told. subst (λ z. IfSome z (λ o. result ≡ mask_of (polled c (description_of o) (node_of o.node)) asked)) (sym found.1) (told ∙ is asked)
 
-  pub looks_at_file : (f : ℕ) → option_map (λ (x : Opened). x.node) (at k.opened key) ≡ Some (node.File f) → LooksAt Polled.File
-  looks_at_file f is = said Polled.File (λ asked. sym (ap (λ n. mask_of (polled c (description_of o) (node_of n)) asked) (is_told (λ (x : Opened). x.node) (node.File f) is)))
-
   module _ (p : ℕ) (told : option_map (λ (x : Opened). x.node) (at k.opened key) ≡ Some (node.Pipe p)) where
     is : o.node ≡ node.Pipe p
     is = is_told (λ (x : Opened). x.node) (node.Pipe p) told

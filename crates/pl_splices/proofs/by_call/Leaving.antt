@@ -4,12 +4,10 @@ use Rattle.std.specs.Prelude.{option_map, if◌then◌else◌}
 use Rattle.pl_model.specs.declared.node.Node.{Node}
 use Rattle.pl_model.specs.declared.node.Node.TheVariants as node
 use Rattle.pl_model.specs.Map.{change_at}
-use Rattle.pl_model.specs.Settle.{settle}
 use Rattle.pl_desc.specs.Rows.{at}
-use Rattle.pl_desc.specs.Descs.{Opened}
 use Rattle.pl_state.specs.Contents.{Contents, IsThere, core_of}
 use Rattle.pl_state.specs.Sound.{IsSound, AreThere}
-use Rattle.pl_state.proofs.holders.OnNodes.{Fades, fades-same, faded, wait-by}
+use Rattle.pl_state.proofs.holders.OnNodes.{Fades, faded, wait-by}
 use Rattle.pl_state.proofs.holders.There.{settled_after, there-still}
 use Rattle.pl_splices.specs.Resembling.{Resembles}
 use Rattle.pl_splices.proofs.Resembling.{resembling-settled}
@@ -21,14 +19,6 @@ some_changed {X} m k q f h = by (nat_eq k q) (m q) h where
   by true (Some x) h = refl
   by true None h = absurd (cc)
   by false o h = h
-
--- and what it has is on the node that it was on
-pub fades_changed : (m : ℕ → Option Opened) (k q : ℕ) (f : Opened → Opened) → ((o : Opened) → (f o).node ≡ o.node) → Fades (m q) (change_at k f m q)
-fades_changed m k q f same = by (nat_eq k q) (m q) where
-  by : (b : Bool) (o : Option Opened) → Fades o (if b then option_map f o else o)
-  by true None = tt
-  by true (Some o) = (o, refl, same o)
-  by false o = fades-same o
 
 -- The same descriptions are on the same nodes, and the same calls wait.
 module _ {A : Type 0} (k new : Contents A) (sound : IsSound A k) (like : Resembles (core_of k) (core_of new))
@@ -48,9 +38,6 @@ module _ {A : Type 0} (k new : Contents A) (sound : IsSound A k) (like : Resembl
 
   like_left : Resembles (core_of k) (core_of left)
   like_left = subst (λ (z : Contents A). Resembles (core_of k) (core_of z)) rest like
-
-  pub left_settled : settle (core_of k) (core_of new) ≡ core_of new
-  left_settled = resembling-settled (core_of k) (core_of new) like sound.settled
 
   left_sound : IsSound A left
   left_sound = record {

@@ -36,10 +36,6 @@ module _ {A : Type 0} (k : Contents A) (from to : Side) (is_tee : Bool) (goes : 
   of_both P h = of_one (at k.opened to.key) goes.target.opened (λ y. P source_side (side_of to y)) goes.target.here
       (of_one (at k.opened from.key) goes.source.opened (λ x. IfSome (at k.opened to.key) (λ y. P (side_of from x) (side_of to y))) goes.source.here h)
 
-  pub say_both : (P : MachineSide numbers → MachineSide numbers → Type 0) → P source_side target_side → OfBoth k from to P
-  say_both P h = say_one (at k.opened from.key) goes.source.opened (λ x. IfSome (at k.opened to.key) (λ y. P (side_of from x) (side_of to y))) goes.source.here
-      (say_one (at k.opened to.key) goes.target.opened (λ y. P source_side (side_of to y)) goes.target.here h)
-
   module _ (len : ℕ) where
     abbrev pub case : MoveCase
     case = move_case (source_of c source_side (node_of from.node)) (target_of c target_side (node_of to.node)) len

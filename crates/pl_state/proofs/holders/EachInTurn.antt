@@ -1,10 +1,10 @@
 -- Holds of several descriptions are given up one after another.
-use Rattle.std.proofs.Common.{◌≡◌, ℕ, ◌+◌, ◌-◌, ◌<◌, ◌≤◌, Bool, true, false, cond, List, [], ◌∷◌, ◌++◌, Option, Some, None, IfSome, refl, sym, ◌∙◌, ap, subst, nat_eq, arith, take, drop, length, slice_index_or}
+use Rattle.std.proofs.Common.{◌≡◌, ℕ, ◌+◌, ◌-◌, ◌<◌, ◌≤◌, Bool, true, false, cond, List, [], ◌∷◌, ◌++◌, Option, Some, None, refl, sym, ◌∙◌, ap, subst, nat_eq, arith, take, drop, length, slice_index_or}
 use Rattle.std.proofs.lemmas.Bool.{eq-eqb}
 use Rattle.std.proofs.lemmas.List.{take_more, drop_more}
 use Rattle.pl_desc.specs.Rows.{at, count_at}
 use Rattle.pl_desc.specs.Descs.{Opened, Descs, IsTidy, holders}
-use Rattle.pl_state.specs.Contents.{Nodes, IsThere}
+use Rattle.pl_state.specs.Contents.{Nodes}
 use Rattle.pl_state.specs.LastHold.{Releases, ReleasesAll}
 use Rattle.pl_state.specs.Sound.{AreThere, times}
 use Rattle.pl_state.proofs.holders.Holding.{times-cons}
@@ -32,9 +32,6 @@ module _ (keys : List ℕ) (place : ℕ) (within : place < length keys) (old mid
       by : (o : Option Opened) → at mid.opened key ≡ o → (o : Opened) × (at mid.opened key ≡ Some o)
       by (Some o) e = (o, e)
       by None e = absurd (let none : holders mid key ≡ 0 = tidy.bare key e in omega (arith, none, next_held))
-
-  pub next_there : IfSome (at mid.opened key) (λ o. IsThere between o.node)
-  next_there = are.described key
 
   module _ (one : Releases mid new between after key) where
     pub released_next : ReleasesAll (take (place + 1) keys) old new before after

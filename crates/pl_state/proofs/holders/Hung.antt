@@ -92,13 +92,6 @@ leaves_file before after f old new b b_is is same = record {
   file_max = same.file_max;
 }
 
--- a file that is kept is as it was
-pub left_kept : (m : ℕ → Option (List ℕ)) (f : ℕ) (b : Bool) → b ≡ true → m ≡ set_at nat_eq m f (kept_if b (m f))
-left_kept m f b kept = fun_ext (λ q. elim (eqb_tells f q) as (λ _. m q ≡ set_at nat_eq m f (kept_if b (m f)) q) [
-  | inl t ↦ sym (ap (λ z. if z then kept_if b (m f) else m q) t.0 ∙ ap (λ z. kept_if z (m f)) kept ∙ ap m t.1)
-  | inr t ↦ sym (ap (λ z. if z then kept_if b (m f) else m q) t.0)
-])
-
 -- of the description of a key, which was on the node
 pub leaves_at : (before after : List (Option Opened)) (key : ℕ) (n : Node) (old new : Nodes) → option_map (λ (o : Opened). o.node) (at before key) ≡ Some n
     → Leaves before after old new n → IfSome (at before key) (λ o. Leaves before after old new o.node)

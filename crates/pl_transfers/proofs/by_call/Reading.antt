@@ -10,7 +10,7 @@ use Rattle.pl_model.specs.declared.replies.Reply.{Reply}
 use Rattle.pl_model.specs.declared.replies.Reply.TheVariants.{Bytes, Fault, Parked, NoProcess, NoCall, CallsSpent}
 use Rattle.pl_model.specs.declared.replies.Errno.TheVariants.{EBADF}
 use Rattle.pl_model.specs.Modes.{reads}
-use Rattle.pl_model.specs.Keys.{Plain, drawn}
+use Rattle.pl_model.specs.Keys.{Plain}
 use Rattle.pl_model.specs.Memory.{is_refusal}
 use Rattle.pl_model.specs.State.{Core, Open, Pipe, Waiting, set_pipe}
 use Rattle.pl_model.specs.Trial.{Begins, found, answered, tried, loses, still}
@@ -42,9 +42,6 @@ parked_said NoProcess h = absurd (cc)
 parked_said NoCall h = absurd (cc)
 parked_said CallsSpent h = absurd (cc)
 parked_said other h = absurd (cc)
-
-pub parks-wants : {A : Type 0} (k : Contents A) (x : Step A) → ParksAtKeys k x → MayWantAtKeys k x
-parks-wants k x parks = λ new. parked_said (drawn new (core_step (core_of k) x)).reply (parks new)
 
 module _ {A : Type 0} (m : Caller A) (fd : ℤ) (n : ℕ) where
   open m use {sound, pid, process}

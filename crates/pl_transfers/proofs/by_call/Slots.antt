@@ -25,9 +25,6 @@ module _ {A : Type 0} (r : Renamings) (c : Core A numbers) where
       by true = refl
       by false = refl
 
-  capacity_on : KeyNode numbers → Option ℕ
-  capacity_on n = option_map (λ p. (pipe_at c p).capacity) (pipe_of n)
-
   capacity-renamed : (n : KeyNode numbers) → option_map (λ p. (pipe_at (rename r c) p).capacity) (pipe_of (rename_node r n)) ≡ option_map (λ p. (pipe_at c p).capacity) (pipe_of n)
   capacity-renamed (PipeNode p) = ap (λ q. Some (pipe_at c q).capacity) (r.pipe.back-to p)
   capacity-renamed (FileNode f) = refl
