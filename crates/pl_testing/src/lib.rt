@@ -10,3 +10,11 @@ pub mod masks;
 pub mod refusing;
 pub mod sessions;
 pub mod wanting;
+
+use pl_model::Limits;
+
+/// The limits of most tests: calls are numbered from 1, and a file has as many bytes as any can.
+pub const LIMITS: Limits = Limits {
+    first_call: 1,
+    file_max: 16_777_216,
+};
