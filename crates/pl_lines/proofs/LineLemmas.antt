@@ -1,9 +1,9 @@
 -- The lines of a script, taken from its front.
-use Rattle.std.proofs.Common.{◌≡◌, ℕ, suc, ◌+◌, ◌<◌, ◌≤◌, Bool, true, false, not, cond, eqb, List, [], ◌∷◌, length, take, drop, refl, arith, one-add}
-use Rattle.std.specs.Prelude.{position, Some}
+use Rattle.std.proofs.Common.{◌≡◌, ℕ, suc, ◌+◌, ◌<◌, ◌≤◌, Bool, true, false, not, cond, eqb, List, [], ◌∷◌, length, take, drop, refl, ap, ◌∙◌, sym, arith, one-add}
+use Rattle.std.specs.Prelude.{position, Some, None}
 use Rattle.std.specs.List.{position_or_len}
 use Rattle.pl_model.specs.Script.{lines, onto_first}
-use Rattle.pl_words.proofs.Places.{place_of}
+use Rattle.pl_words.proofs.Places.{place_of, nowhere}
 
 abbrev is_feed : ℕ → Bool
 is_feed c = eqb c 10
@@ -46,6 +46,10 @@ last (c ∷ cs) lt le = last_more c cs (eqb c 10) refl (last cs) le
 -- a line that a line feed ends
 pub line_before_feed : (cs : List ℕ) (n : ℕ) → position is_feed cs ≡ Some n → lines cs ≡ take n cs ∷ lines (drop (n + 1) cs)
 line_before_feed cs n found = let at = place_of is_feed cs n found in rw at.0 at (first cs at.1)
+
+-- the last line, which no line feed ends
+pub line_to_end : (cs : List ℕ) → 0 < length cs → position is_feed cs ≡ None → lines cs ≡ cs ∷ lines []
+line_to_end cs lt none = last cs lt (nowhere is_feed cs none) ∙ ap (λ ls. cs ∷ ls) (sym lines-nil)
 
 -- nothing has no lines
 pub lines-empty : (cs : List ℕ) → length cs ≡ 0 → lines cs ≡ []

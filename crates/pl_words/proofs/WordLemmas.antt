@@ -74,3 +74,14 @@ pub no_word : (line : List ℕ) → position is_black line ≡ None → words li
 no_word line none =
     let all : drop (position_or_len is_black line) line ≡ [] = drop_all (position_or_len is_black line) line (nowhere is_black line none) in
     sym (words_after_blanks line) ∙ ap words all ∙ words-nil
+
+pub last_word : (line : List ℕ) (s : ℕ) → position is_black line ≡ Some s → position is_blank (drop s line) ≡ None → words line ≡ drop s line ∷ words []
+last_word line s found none =
+    let start = starts line s found in
+    sym start.0 ∙ word_to_end (drop s line) start.2 (nowhere is_blank (drop s line) none)
+
+pub word_then_blank : (line : List ℕ) (s n : ℕ) → position is_black line ≡ Some s → position is_blank (drop s line) ≡ Some n → words line ≡ take n (drop s line) ∷ words (drop n (drop s line))
+word_then_blank line s n found at =
+    let start = starts line s found in
+    let place = place_of is_blank (drop s line) n at in
+    sym start.0 ∙ rw place.0 at (word_to_blank (drop s line) start.1 place.1)
