@@ -3,8 +3,8 @@ ghost use Rattle.std.specs.Prelude.{◌<◌, ◌^◌, length};
 
 use pl_kernel::{Kernel, NoMemory, PollEntry, PollReply, ReadReply, Resumed};
 use pl_model::{Call, Reply, Step};
+use pl_refusing::Refusing;
 use pl_run::LIMITS;
-use pl_testing::refusing::Refusing;
 use std::alloc::{Allocator, Global};
 use std::test::Fail;
 

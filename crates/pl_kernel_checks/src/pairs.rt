@@ -1,8 +1,8 @@
 //! Steps whose reply is given twice, and what parked calls have taken.
 use pl_kernel::{Kernel, NoMemory};
 use pl_model::{Bytes8, Call, Errno, Reply, Step};
+use pl_refusing::Refusing;
 use pl_run::LIMITS;
-use pl_testing::refusing::Refusing;
 use std::alloc::{Allocator, Global};
 use std::test::Fail;
 

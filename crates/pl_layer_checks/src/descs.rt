@@ -4,7 +4,7 @@ ghost use Rattle.std.specs.Prelude.{◌≡◌, []};
 use crate::equal::is;
 use pl_desc::{Descs, NoMemory, OpenFault, Released, StartFault};
 use pl_model::{Mode, Node, OpenFlags};
-use pl_testing::refusing::Refusing;
+use pl_refusing::Refusing;
 use std::alloc::Global;
 use std::process::Abort;
 use std::test::Fail;

@@ -3,7 +3,7 @@ use crate::equal::is;
 use crate::nodes::weight;
 use pl_model::Node;
 use pl_nodes::{MakeFault, NoMemory, NoSuchName, Nodes, WriteFault};
-use pl_testing::refusing::Refusing;
+use pl_refusing::Refusing;
 use std::alloc::{Allocator, Global};
 use std::marker::Model;
 use std::process::Abort;

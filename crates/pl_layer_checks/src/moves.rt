@@ -2,7 +2,7 @@
 use crate::equal::is;
 use crate::nodes::weight;
 use pl_nodes::{CapacityFault, MakeFault, NoMemory, NoSuchName, Nodes, WriteFault};
-use pl_testing::refusing::Refusing;
+use pl_refusing::Refusing;
 use std::alloc::{Allocator, Global};
 use std::marker::Model;
 use std::mem;

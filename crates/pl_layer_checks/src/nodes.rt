@@ -3,7 +3,7 @@ use crate::capacities;
 use crate::equal::is;
 use pl_model::Node;
 use pl_nodes::{CapacityFault, NoMemory, Nodes};
-use pl_testing::refusing::Refusing;
+use pl_refusing::Refusing;
 use std::alloc::{Allocator, Global};
 use std::marker::Model;
 use std::mem;

@@ -8,7 +8,7 @@ use crate::equal::is;
 use orders::{CALLS, ENDED, ORDERS, are_all_taken, is_taken_back_after, park_all, pid_of};
 use pl_model::{Bytes8, Call, KeyList};
 use pl_parked::{ParkFault, Parked, ParkedCall};
-use pl_testing::refusing::Refusing;
+use pl_refusing::Refusing;
 use std::alloc::{Allocator, Global};
 use std::process::Abort;
 use std::test::Fail;

@@ -1,6 +1,6 @@
 //! The allocator that refuses a chosen request.
 use crate::equal::is;
-use pl_testing::refusing::Refusing;
+use pl_refusing::Refusing;
 use std::alloc::Global;
 use std::test::Fail;
 

@@ -4,6 +4,7 @@ mod polls;
 use crate::scarce::Scarce;
 use pl_model::Whence::{Cur, End, Set};
 use pl_model::{Errno, Limits, Mode, OpenFlags, SpliceFlags};
+use pl_refusing::Refusing;
 use pl_run::LIMITS;
 use pl_testing::asked::Ask::{
     self, Close, Dup, Dup2, DupFd, Exit, Fork, GetFl, GetPipeSz, Interrupt, Lseek, Mkfifo, Open,
@@ -15,7 +16,6 @@ use pl_testing::asked::Want::{
     self, CallsSpent, Count, Fault, Fd, Fds, Flags, NoCall, NoProcess, Offset, Parked, Pid, Size,
     Unit,
 };
-use pl_testing::refusing::Refusing;
 use pl_testing::sessions::{NEW_KERNEL, Session};
 use pl_testing::wanting::takes_no_memory;
 use std::alloc::{Allocator, Global};

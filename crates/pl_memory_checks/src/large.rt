@@ -3,14 +3,13 @@ use crate::scarce::Scarce;
 use pl_model::Errno::EAGAIN;
 use pl_model::Whence::End;
 use pl_model::{Mode, OpenFlags, SpliceFlags};
+use pl_refusing::{MOST_REQUESTS, Refusing, all_were_refused};
 use pl_run::LIMITS;
 use pl_testing::asked::Ask::{
     self, Lseek, Open, PipeNonblock, Read, SetPipeSz, Splice, Start, Tee, Write,
 };
 use pl_testing::asked::Data::{self, Part, Text};
 use pl_testing::asked::Want::{self, Bytes, Count, Fault, Fd, Fds, Offset, Pid, Size};
-use pl_testing::refusing::Refusing;
-use pl_testing::wanting::{MOST_REQUESTS, all_were_refused};
 use std::alloc::{Allocator, Global};
 use std::test::Fail;
 

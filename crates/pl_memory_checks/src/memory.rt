@@ -4,6 +4,7 @@ ghost use Rattle.pl_model.specs.Numbers.{most_file_bytes};
 
 use crate::scarce::Scarce;
 use pl_model::{Limits, Reply};
+use pl_refusing::{MOST_REQUESTS, Refusing, all_were_refused};
 use pl_run::LIMITS;
 use pl_testing::asked::{Ask, Want};
 use pl_testing::bench::Bench;
@@ -13,9 +14,8 @@ use pl_testing::examples::{
     FLAGS_OF_SHARED_DESCRIPTIONS, INTERLEAVING_WITH_A_LARGE_WRITE, PARTIAL_AND_WHOLE_NOT_WAITING,
     THE_LAST_READER_LEAVES, THREE_NAMES_OF_ONE_WRITE_END,
 };
-use pl_testing::refusing::Refusing;
 use pl_testing::sessions::{NEW_KERNEL, Session};
-use pl_testing::wanting::{MOST_REQUESTS, all_were_refused, takes_no_memory};
+use pl_testing::wanting::takes_no_memory;
 use std::alloc::{Allocator, Global};
 use std::test::Fail;
 

@@ -3,9 +3,9 @@ ghost use Rattle.std.specs.Prelude.{◌≤◌};
 ghost use Rattle.pl_model.specs.Numbers.{most_file_bytes};
 
 use pl_model::{Limits, Reply, Step};
+use pl_refusing::Refusing;
 use pl_testing::asked::{Ask, Data, Want, steps_of};
 use pl_testing::bench::Bench;
-use pl_testing::refusing::Refusing;
 use std::alloc::{Allocator, Global};
 use std::marker::Model;
 use std::test::Fail;

@@ -1,10 +1,9 @@
 //! Scripts that run where a request for memory is refused.
 use super::trickling::{Drip, Failure, run_from};
 use pl_model::Totals;
+use pl_refusing::{MOST_REQUESTS, Refusing};
 use pl_run::LIMITS;
 use pl_script::ScriptFault;
-use pl_testing::refusing::Refusing;
-use pl_testing::wanting::MOST_REQUESTS;
 use std::alloc::{Allocator, Global};
 use std::process::Abort;
 use std::test::Fail;

@@ -1,7 +1,7 @@
 //! A ring that is filled again.
 use crate::fault::Fault;
 use crate::one_store::OneStore;
-use pl_testing::refusing::Refusing;
+use pl_refusing::Refusing;
 use std::alloc::{Allocator, Global};
 use std::test::Fail;
 

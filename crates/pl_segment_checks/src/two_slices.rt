@@ -1,9 +1,9 @@
 //! Slices of a store.
 use crate::fault::Fault;
 use crate::plain::{part, same_bytes};
+use pl_refusing::Refusing;
 use pl_segments::AppendFault::{self, NoRoom, NotAtEnd};
 use pl_segments::{Slice, Store};
-use pl_testing::refusing::Refusing;
 use std::alloc::{Allocator, Global};
 use std::marker::Model;
 use std::test::Fail;

@@ -3,8 +3,7 @@ use crate::fault::Fault;
 use crate::operation::{Operation, Session};
 use crate::sessions::SESSIONS;
 use crate::watched::Watched;
-use pl_testing::refusing::Refusing;
-use pl_testing::wanting::MOST_REQUESTS;
+use pl_refusing::{MOST_REQUESTS, Refusing};
 use std::alloc::{Allocator, Global};
 use std::test::Fail;
 

@@ -1,3 +1,1 @@
-mod Lent
-mod Counted
 mod Rows

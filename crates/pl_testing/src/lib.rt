@@ -1,5 +1,4 @@
-//! What the crates of tests share: tables of steps with the replies that are wanted, and an allocator that makes memory run
-//! out at a chosen request.
+//! What the crates of tests share: tables of steps with the replies that are wanted, and a kernel on which these are made.
 #![tactic(auto)]
 
 pub mod asked;
@@ -7,7 +6,6 @@ pub mod bench;
 mod buffers;
 pub mod examples;
 pub mod masks;
-pub mod refusing;
 pub mod sessions;
 pub mod wanting;
 

@@ -3,7 +3,7 @@ use super::{read, write};
 use crate::equal::is;
 use pl_model::{Call, KeyList, Mode, Name, OpenFlags};
 use pl_parked::{ParkFault, Parked, ParkedCall};
-use pl_testing::refusing::Refusing;
+use pl_refusing::Refusing;
 use std::alloc::{Allocator, Global};
 use std::process::Abort;
 use std::test::Fail;

@@ -4,7 +4,7 @@ use super::Ask::{Get, NextOf, Park, Take, TakeBack};
 use super::answers;
 use crate::equal::is;
 use pl_parked::Parked;
-use pl_testing::refusing::Refusing;
+use pl_refusing::Refusing;
 use std::alloc::Global;
 use std::process::Abort;
 use std::test::Fail;

@@ -1,6 +1,7 @@
 //! Polls that take no memory.
 use pl_model::Errno::{EINTR, EINVAL, EPIPE};
 use pl_model::{Call, PollList, PollMask, Step};
+use pl_refusing::Refusing;
 use pl_run::LIMITS;
 use pl_testing::asked::Ask::{
     Close, Exit, Interrupt, Pipe, PollNow, PollWait, Resume, Start, Write,
@@ -12,7 +13,6 @@ use pl_testing::asked::Want::{
 };
 use pl_testing::bench::Bench;
 use pl_testing::masks::{EMPTY, IN, OUT};
-use pl_testing::refusing::Refusing;
 use pl_testing::sessions::{NEW_KERNEL, Session};
 use std::alloc::{Allocator, Global};
 use std::test::Fail;

@@ -15,8 +15,8 @@ use denote.RattleType.{RattleType}
 use denote.Ref.{shr_vals}
 use denote.Signature.{Slot, plain, type_at}
 use Rattle.std.proofs.alloc.Calls.{Al, α, seen}
-use Rattle.pl_testing.specs.contracts.refusing.Refusing as refusing
-use Rattle.pl_testing.specs.contracts.refusing.Requests as requests
+use Rattle.pl_refusing.specs.contracts.Refusing as refusing
+use Rattle.pl_refusing.specs.contracts.Requests as requests
 
 module _ (Z : Al) where
   abbrev pub Whole : RattleType

@@ -14,8 +14,8 @@ use denote.Memory.{hidden_shr}
 use denote.Steps.{nothing, only}
 use denote.Triple.Statement.{Contract}
 use denote.Triple.Spec.{triple_of}
-use Rattle.pl_testing.specs.contracts.refusing.Requests as requests
-use Rattle.pl_testing.specs.contracts.refusing.Requests.count as count
+use Rattle.pl_refusing.specs.contracts.Requests as requests
+use Rattle.pl_refusing.specs.contracts.Requests.count as count
 
 module _ {M : Type 1} {𝓤 : Ura M} (𝓛 : Logic 𝓤) (at_mem : Memory → SProp 𝓤) (run : Routine → Fun 𝓤) where
   abbrev pub Count : Contract 𝓤

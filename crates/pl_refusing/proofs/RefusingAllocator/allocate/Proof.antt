@@ -26,13 +26,13 @@ use denote.Steps.{nothing, heard}
 use denote.Triple.Call.{calls_at}
 use denote.Triple.Table.{framed}
 use denote.Triple.Walked.{Stays, walk_of, stay_dropped, Goes-dropped}
-use Rattle.pl_testing.proofs.Lent.{lent, type_args, inner_at, requests_at, fields}
-use Rattle.pl_testing.proofs.Counted.{Count, at_count, hands, gives}
-use Rattle.pl_testing.proofs.refusing.Requests.count.Met.{met as count_met}
-use Rattle.pl_testing.specs.contracts.refusing.RefusingAllocator.allocate as F
-use Rattle.pl_testing.specs.contracts.refusing.RefusingAllocator.allocate.Key as key
-use Rattle.pl_testing.proofs.refusing.RefusingAllocator.allocate.Statement.{statement}
-use Rattle.pl_testing.proofs.refusing.RefusingAllocator.allocate.Code as code
+use Rattle.pl_refusing.proofs.Lent.{lent, type_args, inner_at, requests_at, fields}
+use Rattle.pl_refusing.proofs.Counting.{Count, at_count, hands, gives}
+use Rattle.pl_refusing.proofs.Requests.count.Met.{met as count_met}
+use Rattle.pl_refusing.specs.contracts.RefusingAllocator.allocate as F
+use Rattle.pl_refusing.specs.contracts.RefusingAllocator.allocate.Key as key
+use Rattle.pl_refusing.proofs.RefusingAllocator.allocate.Statement.{statement}
+use Rattle.pl_refusing.proofs.RefusingAllocator.allocate.Code as code
 
 module _ (Z : Al) where
   abbrev function : Fn
@@ -66,7 +66,7 @@ allocate_spec 𝓤 𝓛 𝓜 𝓡 wired R laws g d drops met _ =
     sets ! (addr ! (through ! refl (fld ! refl (stop !)))) refl (tt, tt) $ group ! 2 $
     let asked = at_count 𝓛 𝓜.mem 𝓡.returns κ q (requests_at Z r.ref_ptr) r.now.requests in
     use1 𝓛 (raw ((Count 𝓛 𝓜.mem 𝓡.returns).pre asked)) (hands 𝓛 𝓜.mem 𝓡.returns κ q (requests_at Z r.ref_ptr) r.now.requests) $
-    calls_at ! (framed 𝓤 𝓛.H 𝓜 𝓣) (Count 𝓛 𝓜.mem 𝓡.returns) (count_met 𝓤 𝓛 𝓜 𝓡 (code.calls-pl_testing::refusing::Requests::count 𝓡.env wired)) asked
+    calls_at ! (framed 𝓤 𝓛.H 𝓜 𝓣) (Count 𝓛 𝓜.mem 𝓡.returns) (count_met 𝓤 𝓛 𝓜 𝓡 (code.calls-pl_refusing::Requests::count 𝓡.env wired)) asked
     (and_then ! (get ! refl) (no_more !)) (λ u.
     use1 𝓛 (later (some (λ (refused : Bool). given (u ≡ vbool refused) (‵ (flft κ q))))) (gives 𝓛 𝓜.mem 𝓡.returns κ q (requests_at Z r.ref_ptr) r.now.requests u) $
     await ! tt $ pick ! (λ refused. learn ! (λ is_bool. lands_as ! is_bool refl (tt, tt) $

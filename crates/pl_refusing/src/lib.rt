@@ -1,9 +1,15 @@
-//! An allocator for tests of what happens when memory runs out.
-use std::alloc::{AllocError, Allocator};
+//! An allocator for tests of what happens when memory runs out: it refuses a chosen request.
+#![tactic(auto)]
+
+use std::alloc::{AllocError, Allocator, Global};
 use std::cell::Cell;
+use std::test::Fail;
+
+/// More requests for memory than any example or script of the tests makes.
+pub const MOST_REQUESTS: u64 = 1_000;
 
 /// What an allocator counted, and which request it is to refuse.
-#[derive(Clone, Copy, Debug)]
+#[derive(Clone, Copy)]
 pub struct Counted {
     made: u64,
     refused: u64,
@@ -93,4 +99,13 @@ unsafe impl<B: Allocator> Allocator for Refusing<B> {
     unsafe fn deallocate(&self, ptr: *mut u8, size: usize, align: usize) {
         self.inner.deallocate(ptr, size, align);
     }
+}
+
+/// Fails unless each request of the steps was refused in turn: the last time that they were made, they made some, and met no
+/// refusal.
+pub fn all_were_refused(heap: &Refusing<Global>, name: &str) -> Result<(), Fail> {
+    if heap.requests() == 0 || heap.refused() {
+        return Err(Fail::new(format_args!("{name} makes {} requests", heap.requests())));
+    }
+    Ok(())
 }

@@ -27,11 +27,11 @@ use denote.Steps.{nothing, heard}
 use denote.Triple.Call.{calls_at}
 use denote.Triple.Table.{framed}
 use denote.Triple.Walked.{Stays, walk_of, stay_dropped, Goes-dropped}
-use Rattle.pl_testing.proofs.Lent.{lent, type_args, inner_at, fields}
-use Rattle.pl_testing.specs.contracts.refusing.RefusingAllocator.deallocate as F
-use Rattle.pl_testing.specs.contracts.refusing.RefusingAllocator.deallocate.Key as key
-use Rattle.pl_testing.proofs.refusing.RefusingAllocator.deallocate.Statement.{statement}
-use Rattle.pl_testing.proofs.refusing.RefusingAllocator.deallocate.Code as code
+use Rattle.pl_refusing.proofs.Lent.{lent, type_args, inner_at, fields}
+use Rattle.pl_refusing.specs.contracts.RefusingAllocator.deallocate as F
+use Rattle.pl_refusing.specs.contracts.RefusingAllocator.deallocate.Key as key
+use Rattle.pl_refusing.proofs.RefusingAllocator.deallocate.Statement.{statement}
+use Rattle.pl_refusing.proofs.RefusingAllocator.deallocate.Code as code
 
 module _ (Z : Al) where
   abbrev function : Fn
