@@ -237,7 +237,7 @@ fn is_bad(alloc: Global, text: &str) -> bool {
 fn each_asks(rt: &impl Abort, alloc: Global, rows: &[(&str, Ask)]) -> Result<(), Fail> {
     for (text, ask) in rows {
         let is_asked = asks(alloc, text, *ask)?;
-        assert!(rt; is_asked, "{text:?} asks for {ask:?}");
+        assert!(rt; is_asked, "{text:?} asks for something else");
     }
     Ok(())
 }

@@ -1,7 +1,4 @@
 //! Tables of what is asked of a kernel, and what it is to answer.
-ghost use Rattle.std.specs.Prelude.{◌≡◌, IfOk};
-ghost use Rattle.pl_testing.specs.Asked.{data_bytes, all_bits, poll_entries, poll_masks, asked, wanted};
-
 use bitflags::Flags;
 use pl_model::{
     Bytes8, Call, Errno, MaskList, Mode, Name, OpenFlags, Outcome, PollList, PollMask, Reply,
@@ -14,7 +11,7 @@ use std::test::Fail;
 pub const NEVER_GIVEN: u64 = 18_446_744_073_709_551_615;
 
 /// Bytes that are still to be made, at most 16,777,216 of them.
-#[derive(Clone, Copy, Debug)]
+#[derive(Clone, Copy)]
 pub enum Data {
     Text(&'static str),
     /// The byte, so many times.
@@ -30,7 +27,7 @@ pub enum Data {
 /// `Tee` does behind the two, the most bytes that go over and the flags; a poll names each of its descriptors with all that is asked
 /// of it; `Dup2` names its target last, `DupFd` the least descriptor, `SetFl` the flags, and `SetPipeSz` the size. `Resume` and
 /// `Interrupt` name a parked call by its number.
-#[derive(Clone, Copy, Debug)]
+#[derive(Clone, Copy)]
 pub enum Ask {
     Start,
     Resume(u64),
@@ -60,7 +57,7 @@ pub enum Ask {
 }
 
 /// A reply whose bytes are still to be made.
-#[derive(Clone, Copy, Debug)]
+#[derive(Clone, Copy)]
 pub enum Want {
     Pid(u32),
     Fd(i32),
@@ -83,9 +80,7 @@ pub enum Want {
 }
 
 impl Data {
-    fn list<A: Allocator>(self, alloc: A) -> Result<Vec<u8, A>, Fail>
-        ensures { IfOk result (λ bytes. bytes.items ≡ data_bytes self) }
-    {
+    fn list<A: Allocator>(self, alloc: A) -> Result<Vec<u8, A>, Fail> {
         Ok(match self {
             Data::Text(text) => Vec::from_slice(alloc, text.as_bytes())?,
             Data::Many(byte, times) => Vec::from_elem(alloc, byte, times)?,
@@ -106,24 +101,18 @@ impl Data {
         })
     }
 
-    fn bytes<A: Allocator>(self, alloc: A) -> Result<Bytes8<A>, Fail>
-        ensures { IfOk result (λ bytes. bytes ≡ data_bytes self) }
-    {
+    fn bytes<A: Allocator>(self, alloc: A) -> Result<Bytes8<A>, Fail> {
         let bytes = self.list(alloc)?;
         Ok(Bytes8::from_vec(bytes).ok_or("more bytes than a call moves")?)
     }
 
-    fn name<A: Allocator>(self, alloc: A) -> Result<Name<A>, Fail>
-        ensures { IfOk result (λ name. name ≡ data_bytes self) }
-    {
+    fn name<A: Allocator>(self, alloc: A) -> Result<Name<A>, Fail> {
         Ok(Name::from_vec(self.list(alloc)?))
     }
 }
 
 /// All flags of the list.
-fn all_of<F: Flags + Copy>(flags: &[F]) -> F
-    ensures { F.exact → F.set_of result ≡ all_bits F.set_of flags.now }
-{
+fn all_of<F: Flags + Copy>(flags: &[F]) -> F {
     let mut all = F::empty();
     for flag in flags {
         all = all.union(*flag);
@@ -132,9 +121,7 @@ fn all_of<F: Flags + Copy>(flags: &[F]) -> F
 }
 
 /// The entries of a poll.
-fn entries_of<A: Allocator>(alloc: A, asks: &[(i32, &[PollMask])]) -> Result<PollList<A>, Fail>
-    ensures { IfOk result (λ entries. entries ≡ poll_entries asks.now) }
-{
+fn entries_of<A: Allocator>(alloc: A, asks: &[(i32, &[PollMask])]) -> Result<PollList<A>, Fail> {
     let mut entries = Vec::new(alloc);
     for (fd, masks) in asks {
         entries.push((*fd, all_of(masks)))?;
@@ -143,9 +130,7 @@ fn entries_of<A: Allocator>(alloc: A, asks: &[(i32, &[PollMask])]) -> Result<Pol
 }
 
 /// What a poll found.
-fn masks_of(alloc: Global, found: &[&[PollMask]]) -> Result<MaskList, Fail>
-    ensures { IfOk result (λ masks. masks ≡ poll_masks found.now) }
-{
+fn masks_of(alloc: Global, found: &[&[PollMask]]) -> Result<MaskList, Fail> {
     let mut masks = Vec::new(alloc);
     for mask in found {
         masks.push(all_of(mask))?;
@@ -154,10 +139,39 @@ fn masks_of(alloc: Global, found: &[&[PollMask]]) -> Result<MaskList, Fail>
 }
 
 impl Ask {
+    /// What a failure calls the step.
+    pub(crate) fn kind(self) -> &'static str {
+        match self {
+            Ask::Start => "Start",
+            Ask::Resume(..) => "Resume",
+            Ask::Interrupt(..) => "Interrupt",
+            Ask::Pipe(..) => "Pipe",
+            Ask::PipeNonblock(..) => "PipeNonblock",
+            Ask::Mkfifo(..) => "Mkfifo",
+            Ask::Open(..) => "Open",
+            Ask::Read(..) => "Read",
+            Ask::Write(..) => "Write",
+            Ask::Splice(..) => "Splice",
+            Ask::Tee(..) => "Tee",
+            Ask::PollNow(..) => "PollNow",
+            Ask::PollWait(..) => "PollWait",
+            Ask::Dup(..) => "Dup",
+            Ask::Dup2(..) => "Dup2",
+            Ask::DupFd(..) => "DupFd",
+            Ask::Close(..) => "Close",
+            Ask::Lseek(..) => "Lseek",
+            Ask::GetFl(..) => "GetFl",
+            Ask::SetFl(..) => "SetFl",
+            Ask::GetPipeSz(..) => "GetPipeSz",
+            Ask::SetPipeSz(..) => "SetPipeSz",
+            Ask::Unlink(..) => "Unlink",
+            Ask::Fork(..) => "Fork",
+            Ask::Exit(..) => "Exit",
+        }
+    }
+
     /// The step, with its bytes in memory of `alloc`. It fails where there is no memory, and at more than 16,777,216 bytes.
-    pub fn step<A: Allocator>(self, alloc: A) -> Result<Step<A>, Fail>
-        ensures { IfOk result (λ step. step ≡ asked self) }
-    {
+    pub fn step<A: Allocator>(self, alloc: A) -> Result<Step<A>, Fail> {
         Ok(match self {
             Ask::Start => Step::Start,
             Ask::Resume(call) => Step::Resume(call),
@@ -250,9 +264,7 @@ impl Ask {
 
 impl Want {
     /// The reply. It fails where there is no memory, and at more than 16,777,216 bytes.
-    pub fn reply(self, alloc: Global) -> Result<Reply, Fail>
-        ensures { IfOk result (λ reply. reply ≡ wanted self) }
-    {
+    pub fn reply(self, alloc: Global) -> Result<Reply, Fail> {
         Ok(match self {
             Want::Pid(pid) => Reply::Pid(pid),
             Want::Fd(fd) => Reply::Fd(fd),
@@ -280,9 +292,7 @@ impl Want {
     }
 
     /// What a step comes to that answers this. It fails where there is no memory, and at more than 16,777,216 bytes.
-    pub fn outcome(self, alloc: Global) -> Result<Outcome, Fail>
-        ensures { IfOk result (λ outcome. outcome ≡ Outcome.Replied (wanted self)) }
-    {
+    pub fn outcome(self, alloc: Global) -> Result<Outcome, Fail> {
         Ok(Outcome::Replied(self.reply(alloc)?))
     }
 }

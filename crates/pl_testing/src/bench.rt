@@ -1,11 +1,8 @@
 //! A kernel on which tests make their steps.
-ghost use Rattle.std.specs.Prelude.{◌≤◌};
-ghost use Rattle.pl_model.specs.Numbers.{most_file_bytes};
-
 use crate::asked::{Ask, Data, Want};
 use crate::buffers::reply_on_buffers;
 use pl_kernel::Kernel;
-use pl_model::numbers::MAX_PROCESSES;
+use pl_model::numbers::{MAX_FILE_BYTES, MAX_PROCESSES};
 use pl_model::{Bytes8, Call, Limits, MaskList, Outcome, Reply, Step};
 use std::alloc::{Allocator, Global};
 use std::marker::Model;
@@ -81,10 +78,12 @@ pub(crate) fn moved<A: Allocator>(alloc: Global, reply: Reply<A>) -> Result<Repl
 }
 
 impl<A: Allocator + Copy> Bench<A> {
-    /// A new kernel within the limits, in memory of `heap`. What it is compared with is in memory of `alloc`.
-    pub fn new(name: &'static str, alloc: Global, heap: A, limits: Limits) -> Result<Self, Fail>
-        requires { limits.file_max ≤ most_file_bytes }
-    {
+    /// A new kernel within the limits, in memory of `heap`. What it is compared with is in memory of `alloc`. It fails where a file
+    /// may have more bytes than any can.
+    pub fn new(name: &'static str, alloc: Global, heap: A, limits: Limits) -> Result<Self, Fail> {
+        if limits.file_max > MAX_FILE_BYTES {
+            return Err(Fail::from("no file has so many bytes"));
+        }
         Ok(Bench {
             name,
             alloc,
@@ -108,17 +107,17 @@ impl<A: Allocator + Copy> Bench<A> {
 
     /// What a test fails with at the last step.
     pub fn fault(&self, ask: Ask, what: &str) -> Fail {
-        let (made, name, refused) = (self.made, self.name, self.refused);
+        let (made, name, refused, kind) = (self.made, self.name, self.refused, ask.kind());
         Fail::new(format_args!(
-            "step {made} of {name}, {ask:?}, {what}; request {refused} (0: none) is refused"
+            "step {made} of {name}, {kind}, {what}; request {refused} (0: none) is refused"
         ))
     }
 
     /// What a test fails with where the last step didn't come to what is wanted.
     fn other_than(&self, ask: Ask, want: &Reply, reply: &Reply) -> Fail {
-        let (made, name, refused) = (self.made, self.name, self.refused);
+        let (made, name, refused, kind) = (self.made, self.name, self.refused, ask.kind());
         Fail::new(format_args!(
-            "step {made} of {name}, {ask:?}, answers {reply:?} and not {want:?}; request {refused} (0: none) is refused"
+            "step {made} of {name}, {kind}, answers {reply:?} and not {want:?}; request {refused} (0: none) is refused"
         ))
     }
 
@@ -195,9 +194,9 @@ impl<A: Allocator + Copy> Bench<A> {
         if segments == want {
             return Ok(());
         }
-        let (made, name) = (self.made, self.name);
+        let (made, name, kind) = (self.made, self.name, ask.kind());
         Err(Fail::new(format_args!(
-            "step {made} of {name}, {ask:?}, leaves {segments} segments and not {want}"
+            "step {made} of {name}, {kind}, leaves {segments} segments and not {want}"
         )))
     }
 
@@ -212,9 +211,9 @@ impl<A: Allocator + Copy> Bench<A> {
         if slots == want {
             return Ok(());
         }
-        let (made, name) = (self.made, self.name);
+        let (made, name, kind) = (self.made, self.name, ask.kind());
         Err(Fail::new(format_args!(
-            "step {made} of {name}, {ask:?}, leaves {slots:?} slots and not {want:?} under {fd} of {pid}"
+            "step {made} of {name}, {kind}, leaves {slots:?} slots and not {want:?} under {fd} of {pid}"
         )))
     }
 

@@ -1,7 +1,4 @@
 //! Tables of sessions: each is made on a kernel of its own.
-ghost use Rattle.std.specs.Prelude.{◌≤◌};
-ghost use Rattle.pl_model.specs.Numbers.{most_file_bytes};
-
 use crate::asked::{Ask, Data, Want};
 use crate::bench::Bench;
 use pl_model::Limits;
@@ -9,7 +6,7 @@ use std::alloc::Global;
 use std::test::Fail;
 
 /// What is asked of a new kernel, and what it is to answer.
-#[derive(Clone, Copy, Debug)]
+#[derive(Clone, Copy)]
 pub struct Session {
     /// What a failure calls the session.
     pub name: &'static str,
@@ -42,9 +39,7 @@ pub const NEW_KERNEL: Session = Session {
 /// buffers, and whose reads go into such. It fails at the first row that isn't
 /// answered as it says, which it names with its session, at a session whose bytes outlive its processes and names or that has no
 /// rows, and where there is no memory for the bytes of a row.
-pub fn each_answers(alloc: Global, limits: Limits, sessions: &[Session]) -> Result<(), Fail>
-    requires { limits.file_max ≤ most_file_bytes }
-{
+pub fn each_answers(alloc: Global, limits: Limits, sessions: &[Session]) -> Result<(), Fail> {
     for session in sessions {
         session_answers(alloc, limits, session, false)?;
         session_answers(alloc, limits, session, true)?;
@@ -65,9 +60,7 @@ fn session_answers(
     limits: Limits,
     session: &Session,
     on_buffers: bool,
-) -> Result<(), Fail>
-    requires { limits.file_max ≤ most_file_bytes }
-{
+) -> Result<(), Fail> {
     if session.rows.is_empty() {
         return Err(Fail::new(format_args!("{} has no rows", session.name)));
     }

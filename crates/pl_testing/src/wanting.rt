@@ -1,7 +1,4 @@
 //! Which steps are to take no memory.
-ghost use Rattle.std.specs.Prelude.{◌≡◌, ◌||◌};
-ghost use Rattle.pl_testing.specs.Frugal.{wants_refusal, asks_none};
-
 use crate::asked::Ask::{
     self, Close, Dup, Dup2, DupFd, Exit, GetFl, GetPipeSz, Interrupt, Lseek, SetFl, Unlink,
 };
@@ -9,9 +6,7 @@ use crate::asked::Want::{self, CallsSpent, Fault, NoCall, NoProcess};
 
 /// Whether the step is to take no memory: a step that is refused, an interrupt, and each call on descriptors or names that neither
 /// makes something new nor moves bytes.
-pub fn takes_no_memory(ask: Ask, want: Want) -> bool
-    ensures { result ≡ (wants_refusal want || asks_none ask) }
-{
+pub fn takes_no_memory(ask: Ask, want: Want) -> bool {
     matches!(want, Fault(_) | NoProcess | NoCall | CallsSpent)
         || matches!(
             ask,
