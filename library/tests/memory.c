@@ -210,6 +210,25 @@ static void with_no_memory(void)
     refuse_none();
 }
 
+/* A read asks for memory only where it is to wait, and is made again after it found none. */
+static void reads_that_wait(void)
+{
+    bindingclay clay = kernel_with_process();
+    NEW_PIPE(clay, 1, false);
+    clear();
+    refuse(0, LONG_MAX);
+    OTHER(bindingclay_read(clay, 1, 0, into, 6), BINDINGCLAY_NO_MEMORY);
+    HOLDS(refused == 1 && is_clear());
+    refuse_none();
+    PARKED(bindingclay_read(clay, 1, 0, into, 6), 1);
+    DONE(put(clay, 1, 1, "hello"), 5);
+    refuse(0, LONG_MAX);
+    DONE(bindingclay_read(clay, 1, 0, into, 6), 5);
+    HOLDS(refused == 0 && memcmp(into, "hello\xa5", 6) == 0);
+    refuse_none();
+    bindingclay_free(clay);
+}
+
 int main(void)
 {
     for (size_t i = 0; i < sizeof large; i++)
@@ -219,5 +238,6 @@ int main(void)
         granted++;
     HOLDS(granted > 40);
     with_no_memory();
+    reads_that_wait();
     return end();
 }

@@ -4,7 +4,7 @@
 #include <fcntl.h>
 #include <poll.h>
 
-enum { ENTRIES = 256, UNWRITTEN = 0x5555 };
+enum { ENTRIES = 256, MANY = 70000, UNWRITTEN = 0x5555 };
 
 static bindingclay_pollfd asking(int32_t fd, int16_t events)
 {
@@ -114,6 +114,22 @@ static void lists_of_entries(void)
     bindingclay_free(clay);
 }
 
+/* Many more entries than there may be, also of a poll that may wait: it takes no number. */
+static void long_lists(void)
+{
+    bindingclay clay = kernel_with_process();
+    bindingclay_pollfd *entries = needed(malloc(MANY * sizeof *entries));
+    for (int i = 0; i < MANY; i++)
+        entries[i] = asking(9, POLLIN);
+    FAULT(bindingclay_poll(clay, 1, entries, MANY, false), EINVAL);
+    FAULT(bindingclay_poll(clay, 1, entries, MANY, true), EINVAL);
+    for (int i = 0; i < MANY; i++)
+        HOLDS(entries[i].revents == UNWRITTEN);
+    PARKED(bindingclay_poll(clay, 1, entries, 0, true), 1);
+    free(entries);
+    bindingclay_free(clay);
+}
+
 static void polls_that_wait(void)
 {
     bindingclay clay = kernel_with_process();
@@ -195,6 +211,7 @@ int main(void)
     masks_of_pipes();
     masks_of_others();
     lists_of_entries();
+    long_lists();
     polls_that_wait();
     masks_that_are_lost();
     other_calls();
