@@ -1,23 +1,18 @@
-//! What the kernel answers, step by step: as the worked examples and the order of refusals say.
+//! What the kernel answers where no script can say it: large bytes and files of few bytes, a hundred rounds, what memory bytes take, runs,
+//! replies that are given twice, and the kernel as a newcomer uses it.
 #![tactic(auto)]
 
 #[cfg(test)]
-mod buffers;
-#[cfg(test)]
-mod capacities;
-#[cfg(test)]
-mod examples;
-#[cfg(test)]
-mod fifo_ends;
-#[cfg(test)]
-mod fifos;
-#[cfg(test)]
 mod first_use;
+#[cfg(test)]
+mod large;
 #[cfg(test)]
 mod pairs;
 #[cfg(test)]
-mod refusals;
+mod rounds;
 #[cfg(test)]
-mod sessions;
+mod runs;
 #[cfg(test)]
-mod transfers;
+mod segments;
+#[cfg(test)]
+mod small_files;

@@ -1,142 +1,100 @@
-//! Steps whose reply is given twice, and what parked calls have taken.
+//! Steps whose reply is given twice, and what a parked call has taken.
 use pl_kernel::{Kernel, NoMemory};
 use pl_model::{Bytes8, Call, Errno, Reply, Step};
 use pl_refusing::Refusing;
-use pl_run::LIMITS;
+use pl_testing::LIMITS;
 use std::alloc::{Allocator, Global};
 use std::test::Fail;
 
 /// What a new pipe can hold (pipe(7), Pipe capacity).
 const CAPACITY: u32 = 65_536;
 
-/// Process 1 has a pipe on which no call waits; descriptor 0 is its read end, and it holds "a".
-fn hold_a<A: Allocator + Copy>(kernel: &mut Kernel<A>) -> Result<(), NoMemory> {
+/// What both replies to a read are.
+#[derive(Clone, Copy)]
+enum Read {
+    /// The byte "a".
+    A,
+    /// That nothing is there (POSIX.1-2017, read, EAGAIN).
+    Nothing,
+    /// No replies: there was no memory.
+    NoMemory,
+    Other,
+}
+
+/// Process 1 has a pipe on which no call waits, whose ends are descriptors 0 and 1, and one on which calls wait, whose ends are 2 and 3.
+/// The first holds "a".
+fn make_pipes<A: Allocator + Copy>(kernel: &mut Kernel<A>) -> Result<(), NoMemory> {
     kernel.step(Step::Start)?;
     kernel.step(Step::Begin(1, Call::Pipe { nonblock: true }))?;
+    kernel.step(Step::Begin(1, Call::Pipe { nonblock: false }))?;
     kernel.write_from(1, 1, b"a".as_slice())?;
     Ok(())
 }
 
-/// The replies to a read of so many bytes of descriptor 0.
-fn read_pair<A: Allocator + Copy>(
-    kernel: &mut Kernel<A>,
-    n: u32,
-) -> Result<(Reply<A>, Reply<A>), NoMemory> {
-    kernel.step_pair(Step::Begin(1, Call::Read { fd: 0, n }))
-}
-
-/// Whether the reply is the byte "a".
-fn is_a<A: Allocator>(reply: &Reply<A>) -> bool {
-    match reply {
-        Reply::Bytes(bytes) => bytes.as_slice() == b"a".as_slice(),
-        _ => false,
+/// Reads as many bytes of the first pipe as a call can ask for.
+fn read_twice<A: Allocator + Copy>(kernel: &mut Kernel<A>) -> Read {
+    let pair = kernel.step_pair(Step::Begin(1, Call::Read { fd: 0, n: u32::MAX }));
+    match &pair {
+        Ok((Reply::Bytes(first), Reply::Bytes(second)))
+            if first.as_slice() == b"a".as_slice() && second.as_slice() == b"a".as_slice() => {
+            Read::A
+        }
+        Ok((Reply::Fault(Errno::EAGAIN), Reply::Fault(Errno::EAGAIN))) => Read::Nothing,
+        Ok(_) => Read::Other,
+        Err(NoMemory) => Read::NoMemory,
     }
 }
 
-/// Whether a read of so many bytes answers "a" twice.
-fn gives_a<A: Allocator + Copy>(kernel: &mut Kernel<A>, n: u32) -> Result<bool, NoMemory> {
-    let (first, second) = read_pair(kernel, n)?;
-    Ok(is_a(&first) && is_a(&second))
-}
-
-/// Whether a read of so many bytes answers twice that nothing is there (POSIX.1-2017, read, EAGAIN).
-fn finds_nothing<A: Allocator + Copy>(kernel: &mut Kernel<A>, n: u32) -> Result<bool, NoMemory> {
-    let pair = read_pair(kernel, n)?;
-    Ok(matches!(
-        pair,
-        (Reply::Fault(Errno::EAGAIN), Reply::Fault(Errno::EAGAIN))
-    ))
-}
-
-#[test]
-fn a_byte_is_read_once_and_given_twice(rt: HostRuntime) -> Result<(), Fail> {
-    let mut kernel = Kernel::new(rt.alloc(), LIMITS);
-    assert_eq!(rt; hold_a(&mut kernel), Ok(()));
-    assert_eq!(rt; gives_a(&mut kernel, 1), Ok(true));
-    assert_eq!(rt; finds_nothing(&mut kernel, 1), Ok(true));
-    Ok(())
-}
-
-/// Both requests of a read, for the second reply and for the first, are refused in turn; then the byte is there still. Where nothing is
-/// there to read, none is made, however much is asked for.
-fn ask_for_each(heap: &Refusing<Global>) -> Result<bool, NoMemory> {
-    let mut kernel = Kernel::new(heap, LIMITS);
-    hold_a(&mut kernel)?;
+/// Both requests of a read, for the second reply and for the first, are refused in turn; then the byte is there still, and is read once.
+/// Where nothing is there to read, no request is made, however much is asked for.
+fn reads_are_answered_twice<A: Allocator + Copy>(
+    heap: &Refusing<Global>,
+    kernel: &mut Kernel<A>,
+) -> bool {
     heap.refuse(1);
-    let first = read_pair(&mut kernel, u32::MAX).is_err();
+    let first = read_twice(kernel);
     heap.refuse(2);
-    let second = read_pair(&mut kernel, u32::MAX).is_err();
+    let second = read_twice(kernel);
     heap.refuse(0);
-    let read = gives_a(&mut kernel, u32::MAX)?;
+    let third = read_twice(kernel);
     let requests = heap.requests();
     heap.refuse(1);
-    let nothing = finds_nothing(&mut kernel, u32::MAX)?;
-    Ok(first && second && read && requests == 2 && nothing && heap.requests() == 0)
+    let fourth = read_twice(kernel);
+    let made_none = heap.requests() == 0;
+    heap.refuse(0);
+    let reads = (first, second, third, fourth);
+    matches!(
+        reads,
+        (Read::NoMemory, Read::NoMemory, Read::A, Read::Nothing)
+    ) && requests == 2
+        && made_none
 }
 
-#[test]
-fn a_pair_that_wants_memory_reads_nothing(rt: HostRuntime) -> Result<(), Fail> {
-    let heap = Refusing::new(rt.alloc());
-    assert_eq!(rt; ask_for_each(&heap), Ok(true));
-    Ok(())
+/// A write to the second pipe of more bytes than that can hold waits, as call 1, and has taken what went in (POSIX.1-2017, write).
+fn write_waits_for_the_rest<A: Allocator + Copy>(kernel: &mut Kernel<A>, bytes: Bytes8<A>) -> bool {
+    let pair = kernel.step_pair(Step::Begin(1, Call::Write { fd: 3, bytes }));
+    let waits = matches!(pair, Ok((Reply::Parked(1), Reply::Parked(1))));
+    waits && kernel.taken(1) == Some(CAPACITY) && kernel.taken(99) == None
 }
 
-/// Process 1 writes 70,000 bytes to an empty pipe, as call 1: what the pipe can hold goes in, and the call waits for the rest
-/// (POSIX.1-2017, write).
-fn write_more<A: Allocator + Copy>(
+/// Whether each step is answered twice as it is to be, on a new kernel whose memory is that of `heap`.
+fn all_are_answered_twice<A: Allocator + Copy>(
+    heap: &Refusing<Global>,
+    alloc: A,
     kernel: &mut Kernel<A>,
-    bytes: Bytes8<A>,
-) -> Result<Reply<A>, NoMemory> {
-    kernel.step(Step::Start)?;
-    kernel.step(Step::Begin(1, Call::Pipe { nonblock: false }))?;
-    kernel.step(Step::Begin(1, Call::Write { fd: 1, bytes }))
+) -> Result<bool, NoMemory> {
+    make_pipes(kernel)?;
+    let reads = reads_are_answered_twice(heap, kernel);
+    let bytes = Bytes8::from_vec(Vec::from_elem(alloc, b'x', 70_000)?).unwrap();
+    Ok(reads && write_waits_for_the_rest(kernel, bytes))
 }
 
 #[test]
-fn a_write_that_waits_has_taken_what_went_in(rt: HostRuntime) -> Result<(), Fail> {
-    let bytes = Bytes8::from_vec(Vec::from_elem(rt.alloc(), b'x', 70_000)?).unwrap();
-    let mut kernel = Kernel::new(rt.alloc(), LIMITS);
-    assert_eq!(rt; write_more(&mut kernel, bytes), Ok(Reply::Parked(1)));
-    assert_eq!(rt; kernel.taken(1), Some(CAPACITY));
-    assert_eq!(rt; kernel.taken(99), None);
-    Ok(())
-}
-
-fn ab(alloc: Global) -> Option<Bytes8> {
-    Bytes8::from_vec(Vec::from_slice(alloc, b"ab").ok()?)
-}
-
-/// Whether the step is a write of "ab" to descriptor 1 of process 1.
-fn is_write_of_ab(step: &Step) -> bool {
-    match step {
-        Step::Begin(pid, Call::Write { fd, bytes }) => {
-            *pid == 1 && *fd == 1 && bytes.as_slice() == b"ab".as_slice()
-        }
-        _ => false,
-    }
-}
-
-/// A write of "ab", copied.
-fn copied_write(alloc: Global) -> Option<Step> {
-    let bytes = ab(alloc)?;
-    Step::Begin(1, Call::Write { fd: 1, bytes })
-        .copy(alloc)
-        .ok()
-}
-
-/// The bytes "ab" of a read, copied.
-fn copied_bytes(alloc: Global) -> Option<Reply> {
-    Reply::Bytes(ab(alloc)?).copy(alloc).ok()
-}
-
-#[test]
-fn copies_of_a_write_and_of_bytes_are_equal(rt: HostRuntime) -> Result<(), Fail> {
-    let write = copied_write(rt.alloc()).ok_or("the copy of the write finds memory")?;
-    assert!(rt; is_write_of_ab(&write));
-    let reply = copied_bytes(rt.alloc()).ok_or("the copy of the reply finds memory")?;
-    match reply {
-        Reply::Bytes(bytes) => assert_eq!(rt; bytes.as_slice(), b"ab".as_slice()),
-        _ => return Err(Fail::from("the copy of bytes is another reply")),
-    }
+fn steps_are_answered_twice(rt: HostRuntime) -> Result<(), Fail> {
+    let heap = Refusing::new(rt.alloc());
+    let mut kernel = Kernel::new(&heap, LIMITS);
+    let answered = all_are_answered_twice(&heap, &heap, &mut kernel);
+    drop(kernel);
+    assert_eq!(rt; answered, Ok(true));
     Ok(())
 }

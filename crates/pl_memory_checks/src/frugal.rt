@@ -5,7 +5,7 @@ use crate::scarce::Scarce;
 use pl_model::Whence::{Cur, End, Set};
 use pl_model::{Errno, Limits, Mode, OpenFlags, SpliceFlags};
 use pl_refusing::Refusing;
-use pl_run::LIMITS;
+use pl_testing::LIMITS;
 use pl_testing::asked::Ask::{
     self, Close, Dup, Dup2, DupFd, Exit, Fork, GetFl, GetPipeSz, Interrupt, Lseek, Mkfifo, Open,
     Pipe, PipeNonblock, Read, Resume, SetFl, SetPipeSz, Splice, Start, Tee, Unlink, Write,

@@ -4,7 +4,7 @@ use pl_model::Errno::EAGAIN;
 use pl_model::Whence::End;
 use pl_model::{Mode, OpenFlags, SpliceFlags};
 use pl_refusing::{MOST_REQUESTS, Refusing, all_were_refused};
-use pl_run::LIMITS;
+use pl_testing::LIMITS;
 use pl_testing::asked::Ask::{
     self, Lseek, Open, PipeNonblock, Read, SetPipeSz, Splice, Start, Tee, Write,
 };

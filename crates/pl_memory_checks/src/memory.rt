@@ -5,7 +5,7 @@ ghost use Rattle.pl_model.specs.Numbers.{most_file_bytes};
 use crate::scarce::Scarce;
 use pl_model::{Limits, Reply};
 use pl_refusing::{MOST_REQUESTS, Refusing, all_were_refused};
-use pl_run::LIMITS;
+use pl_testing::LIMITS;
 use pl_testing::asked::{Ask, Want};
 use pl_testing::bench::Bench;
 use pl_testing::examples::{

@@ -9,7 +9,7 @@ use crate::scarce::Scarce;
 use capacities::capacities;
 use fifos::fifos;
 use pl_refusing::{MOST_REQUESTS, Refusing, all_were_refused};
-use pl_run::LIMITS;
+use pl_testing::LIMITS;
 use pl_testing::asked::{Ask, Want};
 use polls::polls;
 use splices::splices;

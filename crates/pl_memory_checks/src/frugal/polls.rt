@@ -2,7 +2,7 @@
 use pl_model::Errno::{EINTR, EINVAL, EPIPE};
 use pl_model::{Call, PollList, PollMask, Step};
 use pl_refusing::Refusing;
-use pl_run::LIMITS;
+use pl_testing::LIMITS;
 use pl_testing::asked::Ask::{
     Close, Exit, Interrupt, Pipe, PollNow, PollWait, Resume, Start, Write,
 };
