@@ -14,6 +14,7 @@ cc=${CC:-cc}
 cxx=${CXX:-c++}
 rustc=${RUSTC:-rustc}
 valgrind=${VALGRIND:-valgrind}
+examples=$here/../crates/pl_examples/data
 passed=0
 failed=0
 work=$(mktemp -d) || exit 2
@@ -44,18 +45,30 @@ is_there() {
     command -v "$1" > /dev/null 2>&1
 }
 
-# run NAME ARGUMENT..: runs a program that was built, and again under valgrind, where no block may be left of the kinds of $leaks.
-leaks=all
-run() {
+# plainly NAME ARGUMENT..: runs a program that was built.
+plainly() {
     built=$1
     shift
     check "$built" timeout 120 "$work/$built" "$@"
+}
+
+# under_valgrind NAME ARGUMENT..: runs it under valgrind, where no block may be left of the kinds of $leaks.
+leaks=all
+under_valgrind() {
+    built=$1
+    shift
     if is_there "$valgrind"; then
         check "$built under valgrind" timeout 900 "$valgrind" -q --error-exitcode=99 --leak-check=full "--show-leak-kinds=$leaks" \
             "--errors-for-leak-kinds=$leaks" "--suppressions=$here/tests/valgrind.supp" "$work/$built" "$@"
     else
         echo "passed over: $built under valgrind"
     fi
+}
+
+# run NAME ARGUMENT..: runs it both ways.
+run() {
+    plainly "$@"
+    under_valgrind "$@"
 }
 
 # without_races NAME: runs a program with threads, and looks for races between them.
@@ -126,7 +139,17 @@ build memory "$counted" && run memory
 for name in one_lock two_kernels; do
     build "$name" "$counted" -pthread && run "$name" && without_races "$name"
 done
-build scripts && run scripts "$here"/../examples/*.script
+
+# the scripts of the list are the arguments from here on
+set --
+while IFS= read -r name; do
+    set -- "$@" "$examples/$name.script"
+done < "$examples/scripts"
+if build scripts "$counted"; then
+    # each request for memory is refused in turn in scripts that make at most so many: under valgrind, which takes longer, in short ones
+    plainly scripts 400 "$@" && sed 's/^/scripts: /' "$work/log"
+    under_valgrind scripts 12 "$@"
+fi
 
 check "building bench" "$cc" -Wall -Wextra -Werror -std=c11 -O2 "-I$work/prefix/include" -o "$work/bench" "$here/bench.c" \
     "-L$work/prefix/lib" -lbindingclay

@@ -2,12 +2,15 @@
 #ifndef SCRIPT_CALLS_H
 #define SCRIPT_CALLS_H
 
-#include "check.h"
+#include "script_files.h"
 
 #include <fcntl.h>
 #include <poll.h>
 
-enum { MOST_WORDS = 300, MOST_FILE = BINDINGCLAY_MOST_FILE_BYTES };
+enum { MOST_FILE = BINDINGCLAY_MOST_FILE_BYTES };
+
+/* The revents of an entry of a poll before the call. */
+enum { UNWRITTEN = 0x5555 };
 
 /* What the value of an answer tells. */
 enum told { NOTHING, PID, FD, FDS, COUNT, DATA, OFFSET, FLAGS, SIZE, MASKS, FILE_DATA };
@@ -32,6 +35,13 @@ static size_t byte_count;
 static int32_t number(const char *word)
 {
     return (int32_t)strtoll(word, NULL, 10);
+}
+
+/* For how many bytes of a read there is to be room: no read gives more than MOST_FILE. */
+static size_t room_of(const char *word)
+{
+    uint32_t size = (uint32_t)number(word);
+    return size < MOST_FILE ? size : MOST_FILE;
 }
 
 static int hex_digit(char digit)
@@ -139,7 +149,7 @@ static enum told call_unlink(uint32_t pid)
 
 static enum told call_read(uint32_t pid)
 {
-    answer = bindingclay_read(clay, pid, number(words[0]), into, (uint32_t)number(words[1]));
+    answer = bindingclay_read(clay, pid, number(words[0]), into, room_of(words[1]));
     return DATA;
 }
 
@@ -170,7 +180,8 @@ static enum told call_poll(uint32_t pid)
     entry_count = (size_t)word_count - 1;
     for (size_t i = 0; i < entry_count; i++)
         entries[i] = (bindingclay_pollfd){ .fd = number(words[i + 1]),
-            .events = (int16_t)bits_of(EVENTS, strchr(words[i + 1], ':') + 1) };
+            .events = (int16_t)bits_of(EVENTS, strchr(words[i + 1], ':') + 1),
+            .revents = UNWRITTEN };
     answer = bindingclay_poll(clay, pid, entries, entry_count, strcmp(words[0], "wait") == 0);
     return MASKS;
 }

@@ -1,35 +1,73 @@
-/* Runs each script that it is given, NAME.script, through the library, and compares each answer with the line of NAME.out. docs/RULES.md
- * has the format of scripts and of answers, in "Scripts". */
+/* Runs scripts through the library, and compares each answer with what the script is to print. docs/RULES.md has the format of scripts and
+ * of answers, in "Scripts".
+ *
+ *     scripts MOST_REQUESTS NAME.script ..
+ *
+ * Each script is run as it is, and then nothing is left of it. A script that makes at most MOST_REQUESTS requests for memory is run again
+ * with each of them refused in turn: the call that finds no memory has changed nothing, and is made once more. */
 #define _GNU_SOURCE
-#include "script_calls.h"
+#include "counted.h"
+#include "script_text.h"
 
-/* ---- Lines ---- */
+#include <limits.h>
 
-enum { MOST_PARKED = 1000, MOST_KEPT_ENTRIES = 16 };
+enum { MOST_PARKED = 20000, MOST_KEPT_ENTRIES = 65536, MOST_NAMES = 20000, MOST_PROCESSES = 1024 };
+
+/* ---- What is known of a run ---- */
 
 /* What is to be told of a call that waits, once it is done, and its room or entries. */
 static struct parked {
     enum told told;
     size_t room;
-    bindingclay_pollfd entries[MOST_KEPT_ENTRIES];
+    bindingclay_pollfd *entries;
     size_t entry_count;
 } parked[MOST_PARKED];
 
-static void keep(struct parked *call, enum told told)
+/* How many calls have waited in this run, and the number of the first one in the kernel. The script counts from its own first one. */
+static uint64_t parked_count, first_number;
+
+/* The entries of the polls among them. */
+static bindingclay_pollfd kept_entries[MOST_KEPT_ENTRIES];
+static size_t kept_count;
+
+/* The names that this run made. */
+static const char *names[MOST_NAMES];
+static size_t name_count;
+
+/* How often a call of this run found no memory. */
+static long told_no_memory;
+
+/* ---- Calls ---- */
+
+/* Notes a call that waits, of the words of its line. */
+static void keep(enum told told)
 {
-    call->told = told;
-    call->room = told == DATA ? (uint32_t)number(words[1]) : 0;
-    call->entry_count = told == MASKS ? entry_count : 0;
-    if (call->entry_count > MOST_KEPT_ENTRIES) {
-        printf("too many entries of a poll that waits for this test\n");
+    if (parked_count == MOST_PARKED || entry_count > MOST_KEPT_ENTRIES - kept_count) {
+        printf("too many calls that wait for this test\n");
         exit(1);
     }
-    memcpy(call->entries, entries, call->entry_count * sizeof *entries);
+    struct parked *call = &parked[parked_count++];
+    *call = (struct parked){ .told = told, .entries = &kept_entries[kept_count] };
+    if (told == DATA)
+        call->room = room_of(words[1]);
+    if (told == MASKS) {
+        call->entry_count = entry_count;
+        memcpy(call->entries, entries, entry_count * sizeof *entries);
+        kept_count += entry_count;
+    }
+}
+
+/* The number that the kernel gave a call by that which the script gives it. */
+static uint64_t in_kernel(const struct script *script, const char *word)
+{
+    return strtoull(word, NULL, 10) - script->first_call + first_number;
 }
 
 static enum told resume(uint64_t call_number)
 {
-    const struct parked *call = &parked[call_number % MOST_PARKED];
+    static const struct parked none = { .told = NOTHING };
+    uint64_t place = call_number - first_number;
+    const struct parked *call = place < parked_count ? &parked[place] : &none;
     if (call->told == MASKS) {
         entry_count = call->entry_count;
         memcpy(entries, call->entries, entry_count * sizeof *entries);
@@ -40,251 +78,224 @@ static enum told resume(uint64_t call_number)
     return call->told;
 }
 
-/* Makes the call of a line's words; false where it is no line that this program knows. */
-static bool make(char **line_words, int count, enum told *told)
+/* Whether the call of these words makes a name where it is done. */
+static bool makes_name(const char *call)
 {
-    const char *first = line_words[0];
-    if (strcmp(first, "start") == 0) {
+    return strcmp(call, "mkfifo") == 0 || (strcmp(call, "open") == 0 && (flags_at(OPEN_FLAGS, 2) & O_CREAT) != 0);
+}
+
+/* Notes what a new call leaves behind. */
+static void note(const char *call, enum told told)
+{
+    if (answer.kind == BINDINGCLAY_PARKED)
+        keep(told);
+    if (answer.kind != BINDINGCLAY_DONE || !makes_name(call))
+        return;
+    if (name_count == MOST_NAMES) {
+        printf("too many names for this test\n");
+        exit(1);
+    }
+    names[name_count++] = words[0];
+}
+
+/* Makes the call of a process; false where no call has this name. */
+static bool begin(const struct line *line, enum told *told)
+{
+    for (size_t i = 0; i < sizeof CALLS / sizeof *CALLS; i++)
+        if (line->count >= 2 + CALLS[i].words && strcmp(line->words[1], CALLS[i].name) == 0) {
+            word_count = line->count - 2;
+            memcpy(words, line->words + 2, (size_t)word_count * sizeof *words);
+            *told = CALLS[i].make((uint32_t)number(line->words[0]));
+            note(CALLS[i].name, *told);
+            return true;
+        }
+    return false;
+}
+
+/* Does what a line asks; false where it is no line that this program knows. */
+static bool make(const struct script *script, const struct line *line, enum told *told)
+{
+    char **line_words = line->words;
+    if (strcmp(line_words[0], "start") == 0) {
         answer = bindingclay_start(clay);
         *told = PID;
-    } else if (strcmp(first, "resume") == 0 && count == 2) {
-        *told = resume(strtoull(line_words[1], NULL, 10));
-    } else if (strcmp(first, "interrupt") == 0 && count == 2) {
-        answer = bindingclay_interrupt(clay, strtoull(line_words[1], NULL, 10));
+    } else if (strcmp(line_words[0], "resume") == 0 && line->count == 2) {
+        *told = resume(in_kernel(script, line_words[1]));
+    } else if (strcmp(line_words[0], "interrupt") == 0 && line->count == 2) {
+        answer = bindingclay_interrupt(clay, in_kernel(script, line_words[1]));
         *told = COUNT;
-    } else if (strcmp(first, "file") == 0 && count == 2) {
+    } else if (strcmp(line_words[0], "file") == 0 && line->count == 2) {
         take_name(line_words[1]);
         answer = bindingclay_file_bytes(clay, bytes, byte_count, into, sizeof into);
         *told = FILE_DATA;
     } else {
-        for (size_t i = 0; i < sizeof CALLS / sizeof *CALLS; i++)
-            if (count >= 2 + CALLS[i].words && strcmp(line_words[1], CALLS[i].name) == 0) {
-                word_count = count - 2;
-                memcpy(words, line_words + 2, (size_t)word_count * sizeof *words);
-                *told = CALLS[i].make((uint32_t)number(first));
-                if (answer.kind == BINDINGCLAY_PARKED)
-                    keep(&parked[answer.value % MOST_PARKED], *told);
-                return true;
-            }
-        return false;
+        return begin(line, told);
     }
     return true;
 }
 
-/* ---- Texts of answers ---- */
+/* ---- Want of memory ---- */
 
-static char text[2 * (size_t)MOST_FILE + 10000];
-static size_t text_length;
+/* How many bytes at the front of into are looked at. */
+enum { WATCHED = 64 };
 
-static void say(const char *word)
+/* Marks what a call may write. The entries of a poll are marked where they are taken from words. */
+static void mark(void)
 {
-    text_length += (size_t)sprintf(text + text_length, "%s", word);
+    memset(into, UNTOUCHED, WATCHED);
+    ends = (bindingclay_ends){ -7, -8 };
+    entry_count = 0;
 }
 
-static void say_number(const char *word, uint64_t value)
+static bool is_marked(void)
 {
-    text_length += (size_t)sprintf(text + text_length, "%s %" PRIu64, word, value);
-}
-
-/* The names of bits in the order of a table, joined by commas, or -. */
-static void say_bits(const struct named *table, uint32_t bits)
-{
-    bool any = false;
-    for (const struct named *row = table; row->name != NULL; row++)
-        if ((bits & row->bits) != 0) {
-            say(any ? "," : " ");
-            say(row->name);
-            any = true;
-        }
-    if (!any)
-        say(" -");
-}
-
-static void say_bytes(const char *word, size_t count)
-{
-    say(word);
-    say(count == 0 ? " -" : " ");
-    for (size_t i = 0; i < count; i++)
-        text_length += (size_t)sprintf(text + text_length, "%02x", into[i]);
-}
-
-static void say_flags(uint64_t flags)
-{
-    say("flags ");
-    say((flags & O_ACCMODE) == O_RDONLY ? "r" : (flags & O_ACCMODE) == O_WRONLY ? "w" : "rw");
-    say_bits(OPEN_FLAGS, (uint32_t)flags & ~(uint32_t)O_ACCMODE);
-}
-
-static void say_masks(uint64_t count)
-{
-    say_number("masks", count);
+    for (size_t i = 0; i < WATCHED; i++)
+        if (into[i] != UNTOUCHED)
+            return false;
     for (size_t i = 0; i < entry_count; i++)
-        say_bits(EVENTS, (uint16_t)entries[i].revents);
+        if (entries[i].revents != UNWRITTEN)
+            return false;
+    return ends.read_end == -7 && ends.write_end == -8;
 }
 
-static void say_done(enum told told)
+/* Does what a line asks, and once more where there was no memory for it. */
+static bool make_at_last(const struct script *script, const struct line *line, enum told *told)
 {
-    static const char *const WORDS[]
-        = { [PID] = "pid", [FD] = "fd", [COUNT] = "count", [OFFSET] = "offset", [SIZE] = "size" };
-    switch (told) {
-    case NOTHING:
-        say("ok");
-        break;
-    case FDS:
-        text_length += (size_t)sprintf(text + text_length, "fds %d %d", ends.read_end, ends.write_end);
-        break;
-    case DATA:
-        say_bytes("data", answer.value);
-        break;
-    case FILE_DATA:
-        say_bytes("file", answer.value);
-        break;
-    case FLAGS:
-        say_flags(answer.value);
-        break;
-    case MASKS:
-        say_masks(answer.value);
-        break;
-    default:
-        say_number(WORDS[told], answer.value);
-    }
-    if (answer.sigpipe)
-        say(" sigpipe");
+    mark();
+    bool is_known = make(script, line, told);
+    if (!is_known || answer.kind != BINDINGCLAY_NO_MEMORY)
+        return is_known;
+    told_no_memory++;
+    OTHER(answer, BINDINGCLAY_NO_MEMORY);
+    HOLDS(is_marked());
+    return make(script, line, told);
 }
 
-static const struct named ERRORS[] = { { "EPERM", EPERM }, { "ENOENT", ENOENT }, { "EINTR", EINTR }, { "ENXIO", ENXIO },
-    { "EBADF", EBADF }, { "EAGAIN", EAGAIN }, { "EBUSY", EBUSY }, { "EEXIST", EEXIST }, { "EINVAL", EINVAL },
-    { "ENFILE", ENFILE }, { "EMFILE", EMFILE }, { "EFBIG", EFBIG }, { "ESPIPE", ESPIPE }, { "EPIPE", EPIPE },
-    { "ENAMETOOLONG", ENAMETOOLONG }, { "EOVERFLOW", EOVERFLOW }, { NULL, 0 } };
+/* ---- Runs ---- */
 
-static void say_fault(enum told told)
+/* Whether the text of an answer is what is to be printed next. */
+static bool is_wanted(const struct script *script, int line_number, size_t next)
 {
-    if (told == FILE_DATA && answer.error == ENOENT) {
-        say("no file");
-        return;
-    }
-    for (const struct named *row = ERRORS; row->name != NULL; row++)
-        if ((int32_t)row->bits == answer.error)
-            say(row->name);
-    if (answer.sigpipe)
-        say(" sigpipe");
+    const char *wanted = next < script->wanted_count ? script->wanted[next] : "(nothing)";
+    if (strcmp(text, wanted) == 0)
+        return true;
+    checks_failed++;
+    printf("%s:%d: %.200s, and not %.200s\n", script->path, line_number, text, wanted);
+    return false;
 }
 
-static void say_answer(enum told told)
+/* Makes the lines of a script. */
+static void run(const struct script *script)
 {
-    text_length = 0;
-    text[0] = '\0';
-    switch (answer.kind) {
-    case BINDINGCLAY_DONE:
-        say_done(told);
-        break;
-    case BINDINGCLAY_FAULT:
-        say_fault(told);
-        break;
-    case BINDINGCLAY_PARKED:
-        say_number("parked", answer.value);
-        break;
-    case BINDINGCLAY_NO_PROCESS:
-        say("no process");
-        break;
-    case BINDINGCLAY_NO_CALL:
-        say("no call");
-        break;
-    case BINDINGCLAY_CALLS_SPENT:
-        say("calls spent");
-        break;
-    default:
-        say_number("kind", answer.kind);
-    }
-}
-
-/* ---- Scripts ---- */
-
-/* All of a file, ended by a NUL. */
-static char *file_text(const char *path)
-{
-    FILE *file = fopen(path, "rb");
-    if (file == NULL) {
-        printf("%s: cannot open\n", path);
-        exit(1);
-    }
-    size_t length = 0, room = 1 << 20;
-    char *all = needed(malloc(room));
-    for (size_t got; (got = fread(all + length, 1, room - length - 1, file)) > 0;) {
-        length += got;
-        if (room - length < 2)
-            all = needed(realloc(all, room *= 2));
-    }
-    fclose(file);
-    all[length] = '\0';
-    return all;
-}
-
-/* The next line of a text, without its line feed; null behind the last. */
-static char *next_line(char **rest)
-{
-    if (**rest == '\0')
-        return NULL;
-    char *line = *rest;
-    size_t length = strcspn(line, "\n");
-    *rest = line + length + (line[length] == '\n');
-    line[length] = '\0';
-    return line;
-}
-
-static int split(char *line, char **line_words)
-{
-    int count = 0;
-    for (char *word = strtok(line, " \t\r"); word != NULL && count < MOST_WORDS; word = strtok(NULL, " \t\r"))
-        line_words[count++] = word;
-    return count;
-}
-
-/* Makes the lines of a script, and compares each answer with the next line that is wanted. */
-static void run(const char *path, char *script, char *wanted)
-{
-    char *line_words[MOST_WORDS];
-    int line_number = 0;
-    for (char *line; (line = next_line(&script)) != NULL;) {
-        line_number++;
-        int count = split(line, line_words);
-        if (count == 0 || line_words[0][0] == '#')
-            continue;
+    parked_count = 0;
+    kept_count = name_count = 0;
+    size_t said = 0;
+    bool is_known = true;
+    for (size_t i = 0; i < script->line_count && is_known; i++) {
+        const struct line *line = &script->lines[i];
         enum told told = NOTHING;
-        if (make(line_words, count, &told)) {
-            say_answer(told);
-        } else {
-            sprintf(text, "piperun: line %d: not a command", line_number);
-            script = "";
-        }
-        const char *wanted_line = next_line(&wanted);
-        if (wanted_line == NULL || strcmp(text, wanted_line) != 0) {
-            checks_failed++;
-            printf("%s:%d: %.200s, and not %.200s\n", path, line_number, text, wanted_line == NULL ? "(nothing)" : wanted_line);
+        is_known = make_at_last(script, line, &told);
+        if (is_known)
+            say_answer(told, answer.value - first_number + script->first_call);
+        else
+            sprintf(text, "piperun: line %d: not a command", line->number);
+        if (!is_wanted(script, line->number, said++))
             return;
-        }
     }
-    holds(path, line_number, "nothing more is wanted", *wanted == '\0');
+    holds(script->path, 0, "nothing more is to be printed", said == script->wanted_count);
+}
+
+/* Ends all processes, and takes away each name that a run made. No call waits then. */
+static void leave(void)
+{
+    for (uint32_t pid = 1; pid <= MOST_PROCESSES; pid++) {
+        answer = bindingclay_exit(clay, pid);
+        HOLDS(answer.kind == BINDINGCLAY_DONE || answer.kind == BINDINGCLAY_NO_PROCESS);
+    }
+    DONE(bindingclay_start(clay), 1);
+    for (size_t i = 0; i < name_count; i++) {
+        take_name(names[i]);
+        answer = bindingclay_unlink(clay, 1, bytes, byte_count);
+        HOLDS(answer.kind == BINDINGCLAY_DONE || (answer.kind == BINDINGCLAY_FAULT && answer.error == ENOENT));
+        FAULT(bindingclay_file_bytes(clay, bytes, byte_count, into, 0), ENOENT);
+    }
+    DONE(bindingclay_exit(clay, 1), 0);
+    for (uint64_t i = 0; i < parked_count; i++)
+        OTHER(bindingclay_interrupt(clay, first_number + i), BINDINGCLAY_NO_CALL);
+}
+
+/* Runs a script on a new kernel, which is granted so many requests for memory, and then refused one. Answers how many were granted before a
+ * refused one. */
+static long run_with(const struct script *script, long granted)
+{
+    first_number = script->first_call;
+    told_no_memory = 0;
+    refuse(granted, 1);
+    if (!bindingclay_open(first_number, MOST_FILE, &clay.kernel)) {
+        told_no_memory++;
+        clay = new_kernel(first_number, MOST_FILE);
+    }
+    run(script);
+    long requests = granted - granted_before;
+    refuse_none();
+    HOLDS(told_no_memory == refused);
+    leave();
+    return requests;
+}
+
+/* Runs a script once more on the kernel of the last run, where enough numbers are left for its calls. */
+static void run_again(const struct script *script)
+{
+    if (parked_count > (UINT64_MAX - script->first_call) / 2)
+        return;
+    first_number += parked_count;
+    run(script);
+    leave();
+}
+
+/* Runs a script as it is, and then, if it makes no more requests for memory than that, with each of them refused in turn. Answers whether
+ * it did the latter.
+ *
+ * A kernel keeps some blocks for what is to come, as many after each of these runs, and also after a second run on the same kernel. If a
+ * run left a segment there, the next one would take another block in its place. */
+static bool try_script(const struct script *script, long most_requests)
+{
+    long before = atomic_load(&blocks_left);
+    int failed = checks_failed;
+    long requests = run_with(script, LONG_MAX);
+    long kept = atomic_load(&blocks_left);
+    if (checks_failed == failed)
+        run_again(script);
+    HOLDS(atomic_load(&blocks_left) == kept);
+    bindingclay_free(clay);
+    HOLDS(atomic_load(&blocks_left) == before);
+    bool in_turn = requests <= most_requests;
+    for (long granted = 0; in_turn && granted < requests && checks_failed == failed; granted++) {
+        run_with(script, granted);
+        HOLDS(refused == 1 && atomic_load(&blocks_left) == kept);
+        bindingclay_free(clay);
+        HOLDS(atomic_load(&blocks_left) == before);
+        if (checks_failed > failed)
+            printf("that was with request %ld refused\n", granted + 1);
+    }
+    if (checks_failed > failed)
+        printf("that was %s\n", script->path);
+    return in_turn;
 }
 
 int main(int argc, char **argv)
 {
-    for (int i = 1; i < argc; i++) {
-        size_t length = strlen(argv[i]);
-        if (length < 7 || strcmp(argv[i] + length - 7, ".script") != 0) {
-            printf("%s: not a script\n", argv[i]);
-            return 1;
-        }
-        char *script = file_text(argv[i]);
-        memcpy(argv[i] + length - 7, ".out", 5);
-        char *wanted = file_text(argv[i]);
-        memset(parked, 0, sizeof parked);
-        clay = new_kernel(1, MOST_FILE);
-        run(argv[i], script, wanted);
-        bindingclay_free(clay);
-        free(script);
-        free(wanted);
+    if (argc < 3) {
+        printf("usage: scripts MOST_REQUESTS NAME.script ..\n");
+        return 2;
     }
-    HOLDS(argc > 1);
+    long most_requests = strtol(argv[1], NULL, 10);
+    int in_turn = 0;
+    for (int i = 2; i < argc; i++) {
+        struct script script = read_script(argv[i]);
+        in_turn += try_script(&script, most_requests);
+        free_script(&script);
+    }
+    printf("%d run; each request for memory refused in turn in %d of them, and not in %d\n", argc - 2, in_turn, argc - 2 - in_turn);
     return end();
 }
