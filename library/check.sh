@@ -1,6 +1,6 @@
 #!/bin/sh
-# Builds the library for C, and runs the programs of tests/ over it: as they are, and under valgrind where there is one. The last line is
-# 'N passed, M failed', and the status is 1 where one failed.
+# Builds the library for C, and runs the programs of tests/ over it: as they are, and under valgrind where there is one; and piperun, where
+# it is built. The last line is 'N passed, M failed', and the status is 1 where one failed.
 #
 # Environment, each with what is taken without it:
 #   ARCHIVE   an archive that is built already    it is built by rt lib in crates/bindingclay
@@ -15,6 +15,7 @@ cxx=${CXX:-c++}
 rustc=${RUSTC:-rustc}
 valgrind=${VALGRIND:-valgrind}
 examples=$here/../crates/pl_examples/data
+piperun=$here/../crates/piperun/out/piperun
 passed=0
 failed=0
 work=$(mktemp -d) || exit 2
@@ -109,6 +110,45 @@ defines_what_is_declared() {
     [ -z "$(comm -13 "$work/may_be_wanted" "$work/wanted" | tee /dev/stderr)" ]
 }
 
+# Whether the list of scripts names exactly those that are there, and whether no other files are there.
+# shellcheck disable=SC2317
+lists_what_is_there() {
+    (cd "$examples" && find . -type f ! -path ./scripts) | sed 's|^\./||' | sort > "$work/there"
+    sed -n 's/\.script$//p' "$work/there" > "$work/scripts_there"
+    sort "$examples/scripts" | diff - "$work/scripts_there" || return 1
+    while IFS= read -r name; do
+        printf '%s\n' "$name.script" "$name.out"
+        [ ! -f "$examples/$name.args" ] || printf '%s\n' "$name.args"
+    done < "$examples/scripts" | sort | diff - "$work/there"
+}
+
+# piperun_answers STATUS OUTPUT COMPLAINT ARGUMENT..: whether piperun, given these arguments, ends with the status, prints what is in the
+# file OUTPUT, and to standard error the line COMPLAINT, or nothing where that is empty.
+# shellcheck disable=SC2317
+piperun_answers() {
+    wanted=$1
+    output=$2
+    complaint=$3
+    shift 3
+    ended=0
+    "$piperun" "$@" < /dev/null > "$work/output" 2> "$work/complaint" || ended=$?
+    diff "$output" "$work/output" || return 1
+    if [ -n "$complaint" ]; then printf '%s\n' "$complaint"; fi | diff - "$work/complaint" || return 1
+    [ "$ended" -eq "$wanted" ] || { echo "it ended with $ended, and not $wanted"; return 1; }
+}
+
+# The words of piperun, as docs/RULES.md has them in "The program".
+try_piperun() {
+    sed -n '/^pub const HELP/,/^";$/{//!p;}' "$here/../crates/pl_run/src/help.rt" > "$work/help"
+    check "piperun on a bad line" piperun_answers 3 "$here/tests/bad_line.out" 'piperun: line 5: not a command' \
+        --first-call 7 "$here/tests/bad_line.script"
+    check "piperun on a file" piperun_answers 0 "$examples/session.out" '' "$examples/session.script"
+    check "piperun on no file" piperun_answers 1 /dev/null 'piperun: cannot read' "$work/no_such_file"
+    check "piperun with an unknown option" piperun_answers 2 /dev/null 'piperun: bad command line' --last-call 7
+    check "piperun with no number" piperun_answers 2 /dev/null 'piperun: bad command line' --first-call seven
+    check "the help text of piperun" piperun_answers 0 "$work/help" '' --help
+}
+
 # shellcheck disable=SC2317
 build_by_pkg_config() {
     flags=$(PKG_CONFIG_PATH=$work/prefix/lib/pkgconfig pkg-config --cflags --libs bindingclay) || return 1
@@ -140,6 +180,7 @@ for name in one_lock two_kernels; do
     build "$name" "$counted" -pthread && run "$name" && without_races "$name"
 done
 
+check "the list of scripts" lists_what_is_there
 # the scripts of the list are the arguments from here on
 set --
 while IFS= read -r name; do
@@ -149,6 +190,12 @@ if build scripts "$counted"; then
     # each request for memory is refused in turn in scripts that make at most so many: under valgrind, which takes longer, in short ones
     plainly scripts 400 "$@" && sed 's/^/scripts: /' "$work/log"
     under_valgrind scripts 12 "$@"
+fi
+
+if [ -x "$piperun" ]; then
+    try_piperun
+else
+    echo "passed over: piperun"
 fi
 
 check "building bench" "$cc" -Wall -Wextra -Werror -std=c11 -O2 "-I$work/prefix/include" -o "$work/bench" "$here/bench.c" \
