@@ -31,24 +31,30 @@ module _ {V : Type 0} (key : ℕ) (m n : ℕ → Option V) where
     pub there-set : IsSome (n key)
     there-set = subst IsSome (sym ((λ i. is i key) ∙ ap (λ b. if b then Some x else m key) (eq-eqb key key refl))) refl
 
--- a file that is written to, or isn't
-pub stays-written : {T E : Type 0} (r : Result T E) (key : ℕ) (old new : Nodes) (f : List ℕ → List ℕ) → OnOk r (at new.files ≡ change_at key f (at old.files)) → OnErr r (new ≡ old) → (q : ℕ) → IsSome (at old.files q) → IsSome (at new.files q)
-stays-written (Ok x) key old new f ok err = stays-changed key (at old.files) (at new.files) f ok
-stays-written (Err e) key old new f ok err = stays-same (at old.files) (at new.files) (ap (λ (v : Nodes). at v.files) err)
+-- a file that changes, or doesn't
+pub stays-file : {T E : Type 0} (r : Result T E) (key : ℕ) (old new : Nodes) (f : List ℕ → List ℕ) → OnOk r (at new.files ≡ change_at key f (at old.files)) → OnErr r (new ≡ old) → (q : ℕ) → IsSome (at old.files q) → IsSome (at new.files q)
+stays-file (Ok x) key old new f ok err = stays-changed key (at old.files) (at new.files) f ok
+stays-file (Err e) key old new f ok err = stays-same (at old.files) (at new.files) (ap (λ (v : Nodes). at v.files) err)
 
--- a pipe whose capacity is set, or isn't
-pub stays-resized : {T E : Type 0} (r : Result T E) (key : ℕ) (old new : Nodes) (f : Pipe → Pipe) → OnOk r (at new.pipes ≡ change_at key f (at old.pipes)) → OnErr r (new ≡ old) → (q : ℕ) → IsSome (at old.pipes q) → IsSome (at new.pipes q)
-stays-resized (Ok x) key old new f ok err = stays-changed key (at old.pipes) (at new.pipes) f ok
-stays-resized (Err e) key old new f ok err = stays-same (at old.pipes) (at new.pipes) (ap (λ (v : Nodes). at v.pipes) err)
+-- a pipe that changes, or doesn't
+pub stays-pipe : {T E : Type 0} (r : Result T E) (key : ℕ) (old new : Nodes) (f : Pipe → Pipe) → OnOk r (at new.pipes ≡ change_at key f (at old.pipes)) → OnErr r (new ≡ old) → (q : ℕ) → IsSome (at old.pipes q) → IsSome (at new.pipes q)
+stays-pipe (Ok x) key old new f ok err = stays-changed key (at old.pipes) (at new.pipes) f ok
+stays-pipe (Err e) key old new f ok err = stays-same (at old.pipes) (at new.pipes) (ap (λ (v : Nodes). at v.pipes) err)
+
+-- two pipes that change, or don't
+pub stays-pipes : {T E : Type 0} (r : Result T E) (key other : ℕ) (old new : Nodes) (f g : Pipe → Pipe) → OnOk r (at new.pipes ≡ change_at key f (change_at other g (at old.pipes))) → OnErr r (new ≡ old) → (q : ℕ) → IsSome (at old.pipes q) → IsSome (at new.pipes q)
+stays-pipes (Ok x) key other old new f g ok err = λ q there. stays-changed key (change_at other g (at old.pipes)) (at new.pipes) f ok q (stays-changed other (at old.pipes) (change_at other g (at old.pipes)) g refl q there)
+stays-pipes (Err e) key other old new f g ok err = stays-same (at old.pipes) (at new.pipes) (ap (λ (v : Nodes). at v.pipes) err)
 
 -- a pipe that is made, or isn't
-pub stays-made : {E : Type 0} (r : Result ℕ E) (old new : Nodes) (x : Pipe) → IfOk r (λ key. at new.pipes ≡ set_at nat_eq (at old.pipes) key (Some x)) → OnErr r (new ≡ old) → (q : ℕ) → IsSome (at old.pipes q) → IsSome (at new.pipes q)
-stays-made (Ok key) old new x ok err = stays-set key (at old.pipes) (at new.pipes) x ok
-stays-made (Err e) old new x ok err = stays-same (at old.pipes) (at new.pipes) (ap (λ (v : Nodes). at v.pipes) err)
+pub stays-pipe-made : {E : Type 0} (r : Result ℕ E) (old new : Nodes) (x : Pipe) → IfOk r (λ key. at new.pipes ≡ set_at nat_eq (at old.pipes) key (Some x)) → OnErr r (new ≡ old) → (q : ℕ) → IsSome (at old.pipes q) → IsSome (at new.pipes q)
+stays-pipe-made (Ok key) old new x ok err = stays-set key (at old.pipes) (at new.pipes) x ok
+stays-pipe-made (Err e) old new x ok err = stays-same (at old.pipes) (at new.pipes) (ap (λ (v : Nodes). at v.pipes) err)
 
--- a map that changes at two keys
-pub stays-twice : {V : Type 0} (key other : ℕ) (m n : ℕ → Option V) (f g : V → V) → n ≡ change_at key f (change_at other g m) → (q : ℕ) → IsSome (m q) → IsSome (n q)
-stays-twice key other m n f g is q there = stays-changed key (change_at other g m) n f is q (stays-changed other m (change_at other g m) g refl q there)
+-- a file that is made, or isn't
+pub stays-file-made : {E : Type 0} (r : Result ℕ E) (old new : Nodes) (x : List ℕ) → IfOk r (λ key. at new.files ≡ set_at nat_eq (at old.files) key (Some x)) → OnErr r (new ≡ old) → (q : ℕ) → IsSome (at old.files q) → IsSome (at new.files q)
+stays-file-made (Ok key) old new x ok err = stays-set key (at old.files) (at new.files) x ok
+stays-file-made (Err e) old new x ok err = stays-same (at old.files) (at new.files) (ap (λ (v : Nodes). at v.files) err)
 
 -- what is there is at another key than what isn't
 none-there : {V : Type 0} (o : Option V) → o ≡ None → IsSome o → ⊥

@@ -3,15 +3,11 @@
 #![tactic(auto)]
 
 #[cfg(test)]
-mod capacities;
-#[cfg(test)]
 mod descs;
 #[cfg(test)]
+mod ends;
+#[cfg(test)]
 mod equal;
-#[cfg(test)]
-mod files;
-#[cfg(test)]
-mod moves;
 #[cfg(test)]
 mod nodes;
 #[cfg(test)]

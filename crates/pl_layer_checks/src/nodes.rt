@@ -1,298 +1,319 @@
-//! A FIFO and a pipe over one store of segments, with memory and without.
-use crate::capacities;
+//! Pipes, a file, names, and bytes that go between them over one store of segments, with memory and without.
+mod files;
+mod moves;
+mod names;
+mod pipes;
+
+use crate::ends::{Answer, Ends, FILE_MAX, Operation, Told, weight};
 use crate::equal::is;
-use pl_model::Node;
-use pl_nodes::{CapacityFault, NoMemory, Nodes};
+use Answer::{Busy, Done, Weight};
+use Operation::{Fill, Hold, Read, ReadFile, Turn, Unlink, Write};
 use pl_refusing::Refusing;
 use std::alloc::{Allocator, Global};
-use std::marker::Model;
-use std::mem;
 use std::process::Abort;
-use std::test::Fail;
 
-/// Two pipes, and what is done to the one in front. One of them is a FIFO, which is in front at first.
-#[derive(Drop)]
-pub(crate) struct TwoPipes<A: Allocator = Global> {
-    alloc: A,
-    nodes: Nodes<A>,
-    front: usize,
-    behind: usize,
-}
-
-impl<A: Allocator> Model for TwoPipes<A> {
-    ghost use Rattle.std.specs.Prelude.{ℕ, IsSome};
-    ghost use Rattle.pl_segments.specs.Segments.{at};
-
-    ghost Value = { ℕ };
-
-    ghost view = { λ _. 0 };
-
-    ghost invariant = { λ k. IsSome (at k.nodes.pipes k.front) × IsSome (at k.nodes.pipes k.behind) };
-}
-
-/// What is done.
+/// What is wanted to be told after an operation. What isn't named may be anything.
 #[derive(Clone, Copy)]
-enum Operation {
-    /// These bytes are written.
-    Write(&'static [u8]),
-    /// So many of one byte are written, as far as there is room.
-    Fill(u8, usize),
-    /// So many bytes are read, as far as they are there.
-    Read(usize),
-    /// The pipe is hung or not.
-    Hang(bool),
-    /// The pipe is made what a new one is.
-    Reset,
-    /// The other pipe comes to the front.
-    Turn,
+enum Wanted {
+    Any,
+    /// What was told before it.
+    Same,
+    /// Of the first pipe, whose capacity is that of a new one, how many bytes it holds, in how many slots, and whether it is hung;
+    /// how many segments there are.
+    Pipe(usize, usize, bool, usize),
+    /// The capacity of the first pipe, how many bytes it holds, and in how many slots.
+    Capacity(usize, usize, usize),
+    /// The first pipe holds so many bytes, and no more.
+    Full(usize),
+    /// How many bytes the file has, where the first pipe holds four.
+    File(usize),
+    /// How many bytes each pipe holds, and in how many slots; how many the file has; how many segments there are.
+    All((usize, usize), (usize, usize), usize, usize),
 }
 
-/// What is told of the pipe in front, and of the segments of both.
-#[derive(Clone, Copy, Debug, PartialEq)]
-pub(crate) struct Told {
-    pub(crate) held: usize,
-    pub(crate) room: usize,
-    pub(crate) capacity: usize,
-    pub(crate) slots: usize,
-    is_hung: bool,
-    segments: usize,
-}
+/// An operation, what it answers, and what is told after it.
+type Row = (Operation, Answer, Wanted);
 
-impl<A: Allocator + Copy> TwoPipes<A> {
-    pub(crate) fn new(alloc: A) -> Result<TwoPipes<A>, NoMemory> {
-        let mut nodes = Nodes::new(alloc, 0);
-        let name = Vec::from_slice(alloc, b"fifo")?;
-        let Ok(front) = nodes.make_fifo(name) else {
-            return Err(NoMemory);
-        };
-        let behind = nodes.make_pipe()?;
-        Ok(TwoPipes {
-            alloc,
-            nodes,
-            front,
-            behind,
-        })
-    }
-
-    /// Writes bytes, as many as there is room for.
-    fn write(&mut self, bytes: &[u8]) -> Result<(), NoMemory> {
-        let count = bytes.len().min(self.nodes.room(self.front));
-        self.nodes.write_pipe(self.front, &bytes[..count])?;
-        Ok(())
-    }
-
-    /// Writes so many of one byte, as far as there is room.
-    pub(crate) fn fill(&mut self, byte: u8, count: usize) -> Result<(), NoMemory> {
-        let bytes = vec![in self.alloc; byte; count]?;
-        self.write(bytes.as_slice())
-    }
-
-    /// The first bytes, which are taken.
-    pub(crate) fn read(&mut self, count: usize) -> Result<Vec<u8, A>, NoMemory> {
-        let count = count.min(self.nodes.held(self.front));
-        let bytes = self.nodes.read_pipe(self.front, count)?;
-        Ok(bytes)
-    }
-
-    /// Lets the pipe in front go, and answers how many segments the other one has.
-    fn discard(self) -> usize {
-        let mut nodes = self.nodes;
-        if !nodes.has_name(Node::Pipe(self.front)) {
-            nodes.discard_pipe(self.front);
-        }
-        nodes.segments()
-    }
-
-    /// Takes the FIFO's name away.
-    fn unlink(&mut self) {
-        let _fifo = self.nodes.unlink(b"fifo");
-    }
-
-    /// Sets how many bytes it can hold, and answers whether that is set: it isn't where it holds more, nor what is no capacity.
-    pub(crate) fn set_capacity(&mut self, capacity: usize) -> Result<bool, NoMemory> {
-        if capacity < 4_096 || 1_048_576 < capacity || capacity.next_power_of_two() != capacity {
-            return Ok(false);
-        }
-        match self.nodes.set_capacity(self.front, capacity) {
-            Ok(()) => Ok(true),
-            Err(CapacityFault::Busy) => Ok(false),
-            Err(CapacityFault::NoMemory) => Err(NoMemory),
-        }
-    }
-
-    fn hang(&mut self, hung: bool) {
-        self.nodes.set_hung(self.front, hung);
-    }
-
-    fn reset(&mut self) {
-        self.nodes.reset_pipe(self.front);
-    }
-
-    fn turn(&mut self) {
-        mem::swap(&mut self.front, &mut self.behind);
-    }
-
-    pub(crate) fn tell(&self) -> Told {
-        Told {
-            held: self.nodes.held(self.front),
-            room: self.nodes.room(self.front),
-            capacity: self.nodes.capacity(self.front),
-            slots: self.nodes.slots(self.front),
-            is_hung: self.nodes.is_hung(self.front),
-            segments: self.nodes.segments(),
-        }
-    }
-
-    /// Does the operation, and answers the sum of the bytes that are read.
-    fn make(&mut self, operation: Operation) -> Result<u32, NoMemory> {
-        match operation {
-            Operation::Write(bytes) => self.write(bytes)?,
-            Operation::Fill(byte, count) => self.fill(byte, count)?,
-            Operation::Read(count) => {
-                let bytes = self.read(count)?;
-                return Ok(weight(bytes.as_slice()));
-            }
-            Operation::Hang(hung) => self.hang(hung),
-            Operation::Reset => self.reset(),
-            Operation::Turn => self.turn(),
-        }
-        Ok(0)
+/// All that is wanted: what isn't named is what is told.
+fn complete(before: Told, told: Told, want: Wanted) -> Told {
+    match want {
+        Wanted::Any => told,
+        Wanted::Same => before,
+        Wanted::Pipe(held, slots, is_hung, segments) => Told {
+            capacity: 65_536,
+            room: 65_536usize.saturating_sub(held),
+            is_hung,
+            first: (held, slots),
+            segments,
+            ..told
+        },
+        Wanted::Capacity(capacity, held, slots) => Told {
+            capacity,
+            first: (held, slots),
+            ..told
+        },
+        Wanted::Full(capacity) => Told {
+            capacity,
+            room: 0,
+            first: (capacity, told.first.1),
+            ..told
+        },
+        Wanted::File(file) => Told {
+            first: (4, told.first.1),
+            file,
+            ..told
+        },
+        Wanted::All(first, second, file, segments) => Told {
+            first,
+            second,
+            file,
+            segments,
+            ..told
+        },
     }
 }
-
-/// A number that tells bytes and their order apart.
-pub(crate) fn weight(bytes: &[u8]) -> u32 {
-    let mut sum = 0u32;
-    for byte in bytes {
-        sum = sum.wrapping_mul(257).wrapping_add(*byte as u32);
-    }
-    sum
-}
-
-/// An operation, the weight of what it reads, and what is told after it of the pipe in front: how many bytes it holds, in how many
-/// slots, and whether it is hung; and how many segments both have.
-type Row = (Operation, u32, (usize, usize, bool, usize));
-
-/// What a row wants to be told. No pipe has another capacity than that of a new one.
-fn wanted(row: Row) -> Told {
-    let (held, slots, is_hung, segments) = row.2;
-    Told {
-        held,
-        room: 65_536usize.saturating_sub(held),
-        capacity: 65_536,
-        slots,
-        is_hung,
-        segments,
-    }
-}
-
-const ROWS: &[Row] = &[
-    (Operation::Write(b"abc"), 0, (3, 1, false, 1)),
-    (Operation::Turn, 0, (0, 0, false, 1)),
-    (Operation::Write(b"de"), 0, (2, 1, false, 2)),
-    (Operation::Hang(true), 0, (2, 1, true, 2)),
-    (Operation::Turn, 0, (3, 1, false, 2)),
-    // "ab"
-    (Operation::Read(2), 25_027, (1, 1, false, 2)),
-    // into the segment of the byte that is left
-    (Operation::Write(b"f"), 0, (2, 1, false, 2)),
-    // "cf"
-    (Operation::Read(9), 25_545, (0, 0, false, 1)),
-    (Operation::Fill(b'a', 5_000), 0, (5_000, 2, false, 3)),
-    (Operation::Turn, 0, (2, 1, true, 3)),
-    // "d"
-    (Operation::Read(1), 100, (1, 1, true, 3)),
-    (Operation::Hang(false), 0, (1, 1, false, 3)),
-    (Operation::Turn, 0, (5_000, 2, false, 3)),
-    (Operation::Read(5_000), 2_807_317_128, (0, 0, false, 1)),
-    // a full pipe: 16 segments, beside that of the other pipe
-    (Operation::Fill(b'b', 70_000), 0, (65_536, 16, false, 17)),
-    (Operation::Write(b"c"), 0, (65_536, 16, false, 17)),
-    (Operation::Read(65_536), 3_479_306_240, (0, 0, false, 1)),
-    (Operation::Turn, 0, (1, 1, false, 1)),
-    // "e"
-    (Operation::Read(1), 101, (0, 0, false, 0)),
-    (Operation::Write(b"gh"), 0, (2, 1, false, 1)),
-    (Operation::Hang(true), 0, (2, 1, true, 1)),
-    (Operation::Reset, 0, (0, 0, false, 0)),
-];
 
 /// Does an operation, and again where it is refused, which leaves all as it was. Answers how often it was refused.
-fn insist<A: Allocator + Copy>(
-    rt: &impl Abort,
-    pipes: &mut TwoPipes<A>,
-    row: Row,
-) -> Result<u32, NoMemory> {
-    let before = pipes.tell();
+fn insist<A: Allocator + Copy>(rt: &impl Abort, name: &str, ends: &mut Ends<A>, row: Row) -> u32 {
+    let (operation, answer, want) = row;
+    let before = ends.tell();
     let mut refusals = 0;
-    let weight = match pipes.make(row.0) {
-        Ok(weight) => weight,
-        Err(NoMemory) => {
-            is(rt, "after a refusal", pipes.tell(), before);
-            refusals = 1;
-            pipes.make(row.0)?
-        }
-    };
-    is(rt, "bytes that are read", weight, row.1);
-    is(rt, "a pipe", pipes.tell(), wanted(row));
-    Ok(refusals)
+    let mut answered = ends.make(operation);
+    if answered == Answer::NoMemory {
+        is(rt, name, ends.tell(), before);
+        refusals = 1;
+        answered = ends.make(operation);
+    }
+    let told = ends.tell();
+    is(rt, name, answered, answer);
+    is(rt, name, told, complete(before, told, want));
+    refusals
 }
 
-/// All rows on two new pipes, and then those of capacities. Answers how many operations were refused, making pipes among them.
-fn session<A: Allocator + Copy>(rt: &impl Abort, alloc: A) -> Result<u32, NoMemory> {
+/// Does all, in turn. Answers how many operations were refused.
+fn insist_on_all<A: Allocator + Copy>(
+    rt: &impl Abort,
+    name: &str,
+    ends: &mut Ends<A>,
+    rows: &[Row],
+) -> u32 {
     let mut refusals = 0u32;
-    let mut pipes = match TwoPipes::new(alloc) {
-        Ok(pipes) => pipes,
-        Err(NoMemory) => {
-            refusals = 1;
-            TwoPipes::new(alloc)?
+    for row in rows {
+        refusals = refusals.wrapping_add(insist(rt, name, ends, *row));
+    }
+    refusals
+}
+
+/// Each power of two that may be a capacity, and the weight of so many bytes `a`.
+const CAPACITIES: &[(usize, u32)] = &[
+    (4_096, 754_847_744),
+    (8_192, 1_509_695_488),
+    (16_384, 3_019_390_976),
+    (32_768, 1_743_814_656),
+    (65_536, 3_487_629_312),
+    (131_072, 2_680_291_328),
+    (262_144, 1_065_615_360),
+    (524_288, 2_131_230_720),
+    (1_048_576, 4_262_461_440),
+];
+
+/// A pipe that holds a byte more than so many is busy, but where no pipe holds more; with just so many it keeps them.
+fn lower<A: Allocator + Copy>(
+    rt: &impl Abort,
+    name: &str,
+    ends: &mut Ends<A>,
+    capacity: usize,
+    weight: u32,
+) {
+    let filled = [
+        (Hold(1_048_576), Done, Wanted::Capacity(1_048_576, 0, 0)),
+        (Fill(b'a', capacity), Done, Wanted::Any),
+    ];
+    insist_on_all(rt, name, ends, &filled);
+    if capacity < 1_048_576 {
+        let busy = [
+            (Fill(b'a', 1), Done, Wanted::Any),
+            (Hold(capacity), Busy, Wanted::Same),
+            (Read(1), Weight(97), Wanted::Any),
+        ];
+        insist_on_all(rt, name, ends, &busy);
+    }
+    let full = [
+        (Hold(capacity), Done, Wanted::Full(capacity)),
+        (Fill(b'a', 1), Done, Wanted::Full(capacity)),
+        (Read(capacity), Weight(weight), Wanted::Any),
+    ];
+    insist_on_all(rt, name, ends, &full);
+}
+
+/// What the first pipe, the second and the file hold, which are empty and without a name then.
+fn drain<A: Allocator + Copy>(
+    rt: &impl Abort,
+    name: &str,
+    ends: &mut Ends<A>,
+    texts: (&str, &str, &str),
+) {
+    let (first, second, file) = texts;
+    let rows = [
+        (Read(65_536), Weight(weight(first.as_bytes())), Wanted::Any),
+        (Turn, Done, Wanted::Any),
+        (Read(65_536), Weight(weight(second.as_bytes())), Wanted::Any),
+        (
+            ReadFile(0, FILE_MAX),
+            Weight(weight(file.as_bytes())),
+            Wanted::Any,
+        ),
+        (Unlink("file"), Done, Wanted::Same),
+    ];
+    insist_on_all(rt, name, ends, &rows);
+}
+
+/// What is tried on new pipes and a new file.
+#[derive(Clone, Copy)]
+enum Trial {
+    Rows(&'static [Row]),
+    Capacities,
+    /// After so many rows these texts are what the first pipe, the second and the file hold.
+    Contents(&'static [Row], usize, (&'static str, &'static str, &'static str)),
+}
+
+/// What is tried, with its name; how many requests for memory it doesn't make at the most, each of which is refused in turn; and
+/// how many segments are left once the first pipe and the file have gone that have no name.
+const TRIALS: &[(&str, Trial, u64, usize)] = &[
+    ("pipes", Trial::Rows(pipes::ROWS), 150, 0),
+    ("a file beside a pipe", Trial::Rows(files::ROWS), 60, 0),
+    ("names", Trial::Rows(names::ROWS), 40, 0),
+    ("moves", Trial::Rows(moves::ROWS), 80, 3),
+    ("capacities", Trial::Capacities, 1, 0),
+    (
+        "contents",
+        Trial::Contents(moves::ROWS, 4, ("abc", "", "")),
+        1,
+        0,
+    ),
+    (
+        "contents",
+        Trial::Contents(moves::ROWS, 5, ("abc", "ab", "")),
+        1,
+        0,
+    ),
+    (
+        "contents",
+        Trial::Contents(moves::ROWS, 6, ("bc", "aba", "")),
+        1,
+        0,
+    ),
+    (
+        "contents",
+        Trial::Contents(moves::ROWS, 7, ("bc", "a", "ab")),
+        1,
+        0,
+    ),
+    (
+        "contents",
+        Trial::Contents(moves::ROWS, 8, ("bcb", "a", "ab")),
+        1,
+        0,
+    ),
+    (
+        "contents",
+        Trial::Contents(moves::ROWS, 9, ("bcb", "a", "abz")),
+        1,
+        0,
+    ),
+    (
+        "contents",
+        Trial::Contents(moves::ROWS, 12, ("", "a", "abz")),
+        1,
+        0,
+    ),
+    // a pipe goes with its bytes, and a FIFO that has no name
+    (
+        "a pipe",
+        Trial::Rows(&[
+            (Write(b"abc"), Done, Wanted::Any),
+            (Turn, Done, Wanted::Any),
+            (Write(b"d"), Done, Wanted::Any),
+        ]),
+        1,
+        1,
+    ),
+    (
+        "a FIFO",
+        Trial::Rows(&[
+            (Write(b"abc"), Done, Wanted::Any),
+            (Turn, Done, Wanted::Any),
+            (Write(b"d"), Done, Wanted::Any),
+            (Turn, Done, Wanted::Any),
+            (Unlink("fifo"), Done, Wanted::Same),
+        ]),
+        1,
+        1,
+    ),
+];
+
+/// Its rows are read here alone.
+fn trials() -> &'static [(&'static str, Trial, u64, usize)] {
+    TRIALS
+}
+
+fn tries<A: Allocator + Copy>(
+    rt: &impl Abort,
+    name: &str,
+    ends: &mut Ends<A>,
+    trial: Trial,
+) -> u32 {
+    match trial {
+        Trial::Rows(rows) => insist_on_all(rt, name, ends, rows),
+        Trial::Capacities => {
+            for (capacity, weight) in CAPACITIES {
+                lower(rt, name, ends, *capacity, *weight);
+            }
+            0
         }
+        Trial::Contents(rows, count, texts) => {
+            insist_on_all(rt, name, ends, &rows[..count.min(rows.len())]);
+            drain(rt, name, ends, texts);
+            0
+        }
+    }
+}
+
+/// Tries it on new ones, and answers how many operations were refused, and how many segments are left; `None` where it is refused to
+/// make them. They stand here alone, so that the end of them is proved once.
+fn on_new<A: Allocator + Copy>(
+    rt: &impl Abort,
+    name: &str,
+    alloc: A,
+    trial: Trial,
+) -> Option<(u32, usize)> {
+    let Ok(mut ends) = Ends::new(alloc) else {
+        return None;
     };
-    for row in ROWS {
-        refusals = refusals.wrapping_add(insist(rt, &mut pipes, *row)?);
-    }
-    Ok(refusals.wrapping_add(capacities::insist_on_all(rt, &mut pipes)?))
+    let refusals = tries(rt, name, &mut ends, trial);
+    Some((refusals, ends.discard()))
 }
 
-#[test]
-fn pipes_over_one_store(rt: HostRuntime) -> Result<(), Fail> {
-    is(&rt, "refusals", session(&rt, rt.alloc())?, 0);
-    Ok(())
-}
-
-#[test]
-fn a_refused_operation_is_made_again(rt: HostRuntime) -> Result<(), Fail> {
-    let heap = Refusing::new(rt.alloc());
-    for chosen in 1..150u64 {
+/// Tries it where each request for memory is refused in turn, below a number of which none is.
+fn meets(rt: &impl Abort, alloc: Global, name: &str, trial: Trial, requests: u64, left: usize) {
+    let heap = Refusing::new(alloc);
+    for chosen in 0..requests {
         heap.refuse(chosen);
-        let refusals = session(&rt, &heap)?;
-        is(&rt, "refusals", refusals, heap.refused() as u32);
+        let told = match on_new(rt, name, &heap, trial) {
+            Some(told) => Some(told),
+            None => match on_new(rt, name, &heap, trial) {
+                Some((refusals, left)) => Some((refusals.wrapping_add(1), left)),
+                None => None,
+            },
+        };
+        is(rt, name, told, Some((heap.refused() as u32, left)));
     }
-    // So many requests that each was refused once.
-    is(&rt, "the last is not refused", heap.refused(), false);
-    Ok(())
-}
-
-fn write_to_both(pipes: &mut TwoPipes) -> Result<(), NoMemory> {
-    pipes.write(b"abc")?;
-    pipes.turn();
-    pipes.write(b"d")
+    is(rt, name, heap.refused(), false);
 }
 
 #[test]
-fn a_pipe_goes_with_its_bytes(rt: HostRuntime) -> Result<(), Fail> {
-    let mut pipes = TwoPipes::new(rt.alloc())?;
-    write_to_both(&mut pipes)?;
-    is(&rt, "segments", pipes.discard(), 1);
-    Ok(())
-}
-
-#[test]
-fn a_fifo_goes_once_it_has_no_name(rt: HostRuntime) -> Result<(), Fail> {
-    let mut pipes = TwoPipes::new(rt.alloc())?;
-    write_to_both(&mut pipes)?;
-    pipes.turn();
-    pipes.unlink();
-    is(&rt, "segments", pipes.discard(), 1);
-    Ok(())
+fn pipes_a_file_and_names_over_one_store(rt: HostRuntime) {
+    for (name, trial, requests, left) in trials() {
+        meets(&rt, rt.alloc(), name, *trial, *requests, *left);
+    }
 }
