@@ -2,20 +2,22 @@
 #![tactic(auto)]
 
 #[cfg(test)]
-mod callers;
+mod acts;
+#[cfg(test)]
+mod alone;
+#[cfg(test)]
+mod asked;
+#[cfg(test)]
+mod came;
 #[cfg(test)]
 mod changed;
 #[cfg(test)]
-mod numbers;
+mod closing;
 #[cfg(test)]
-mod readers;
+mod left;
 #[cfg(test)]
-mod scarce;
-#[cfg(test)]
-mod single;
+mod scenes;
 #[cfg(test)]
 mod storm;
 #[cfg(test)]
-mod turns;
-#[cfg(test)]
-mod writers;
+mod threads;

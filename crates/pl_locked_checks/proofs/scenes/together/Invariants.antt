@@ -1,0 +1,8 @@
+use Rattle.pl_locked_checks.proofs.scenes.together.Given as goal
+
+-- the layer that is opened there
+abbrev pub ghosts-together_on-N-Ledger : goal.ghosts-together_on-N-Ledger
+ghosts-together_on-N-Ledger g a = record { name = a.ground.name; parts = a.ground.parts }
+
+abbrev pub ghosts-together_on-N-Layer : goal.ghosts-together_on-N-Layer
+ghosts-together_on-N-Layer g a = record { table = a.ground.table; limits = a.limits; callers = a.callers; max_steps = a.max_steps }

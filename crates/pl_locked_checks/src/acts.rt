@@ -1,0 +1,214 @@
+//! What callers do on a layer. Each function that makes a step tells what it came to in plain numbers, and has no contract.
+use crate::asked::{Ask, step_of};
+use crate::came::Came;
+use crate::storm::storm;
+use pl_locked::{Caller, Layer, Locked};
+use pl_model::Step;
+use std::alloc::Allocator;
+use std::sync::Wait;
+
+/// What a caller does.
+pub(crate) enum Act {
+    /// It makes one step.
+    Step(Ask),
+    /// It makes a whole call, which waits until it is answered.
+    Call(Ask),
+    /// It makes a whole call, which takes at most so many turns.
+    Turns(Ask, u32),
+    /// It glances.
+    Glance,
+    /// It glances, at most 100,000,000 times, until there are so many steps, and then tells of that many.
+    Sees(u64),
+    /// It makes 500 steps that look like chance.
+    Storm,
+}
+
+/// What a caller does in a scene: the acts, each with what it is to come to, so many times over.
+pub(crate) struct Part {
+    pub(crate) times: u32,
+    pub(crate) acts: &'static [(Act, Came)],
+}
+
+/// What the acts of callers came to.
+#[derive(Clone, Copy)]
+pub(crate) struct Told {
+    /// The caller, and its act, counted from 0, that first came to something else than is wanted.
+    pub(crate) missed: Option<(u32, usize)>,
+    /// How many `a` and `b` were read.
+    pub(crate) read: (u32, u32),
+    /// Whether an act found no memory, and was done once more.
+    pub(crate) again: bool,
+}
+
+/// No acts came to this.
+const NOTHING: Told = Told {
+    missed: None,
+    read: (0, 0),
+    again: false,
+};
+
+impl Told {
+    /// What these acts and others came to.
+    pub(crate) fn and(self, other: Told) -> Told {
+        let (some, others) = (self.read, other.read);
+        Told {
+            missed: self.missed.or(other.missed),
+            read: (some.0.wrapping_add(others.0), some.1.wrapping_add(others.1)),
+            again: self.again || other.again,
+        }
+    }
+}
+
+/// The caller makes the step.
+pub(crate) fn attempt<N: Layer, R: Wait, A: Allocator + Copy>(
+    rt: &R,
+    alloc: A,
+    locked: &Locked<N, A>,
+    me: &mut Caller<N, A>,
+    ask: Ask,
+) -> Came {
+    let Some(step) = step_of(alloc, ask) else {
+        return Came::NoMemory;
+    };
+    match locked.attempt(rt, me, step) {
+        Ok(reply) => Came::of(&reply),
+        Err(fault) => Came::refused(fault),
+    }
+}
+
+/// The caller makes the call, and waits.
+fn call<N: Layer, R: Wait, A: Allocator + Copy>(
+    rt: &R,
+    alloc: A,
+    locked: &Locked<N, A>,
+    me: &mut Caller<N, A>,
+    ask: Ask,
+) -> Came {
+    let Some(Step::Begin(pid, call)) = step_of(alloc, ask) else {
+        return Came::NoMemory;
+    };
+    match locked.call(rt, me, pid, call) {
+        Ok(reply) => Came::of(&reply),
+        Err(fault) => Came::refused(fault.cause),
+    }
+}
+
+/// The caller makes the call, which takes at most so many turns.
+fn call_turns<N: Layer, R: Wait, A: Allocator + Copy>(
+    rt: &R,
+    alloc: A,
+    locked: &Locked<N, A>,
+    me: &mut Caller<N, A>,
+    ask: Ask,
+    turns: u32,
+) -> Came {
+    let Some(Step::Begin(pid, call)) = step_of(alloc, ask) else {
+        return Came::NoMemory;
+    };
+    match locked.call_turns(rt, me, pid, call, turns) {
+        Ok(reply) => Came::of(&reply),
+        Err(fault) => Came::refused(fault.cause),
+    }
+}
+
+/// How many steps the caller sees.
+pub(crate) fn glance<N: Layer, A: Allocator + Copy>(
+    locked: &Locked<N, A>,
+    me: &mut Caller<N, A>,
+) -> u64 {
+    locked.glance(me)
+}
+
+/// Glances, at most 100,000,000 times, until there are so many steps.
+fn sees<N: Layer, A: Allocator + Copy>(
+    locked: &Locked<N, A>,
+    me: &mut Caller<N, A>,
+    steps: u64,
+) -> Came {
+    for _time in 0..100_000_000u32 {
+        if steps <= glance(locked, me) {
+            return Came::Steps(steps);
+        }
+    }
+    Came::Other
+}
+
+/// What the act comes to.
+fn does<N: Layer, R: Wait, A: Allocator + Copy>(
+    rt: &R,
+    alloc: A,
+    locked: &Locked<N, A>,
+    me: &mut Caller<N, A>,
+    act: &Act,
+) -> Came {
+    match act {
+        Act::Step(ask) => attempt(rt, alloc, locked, me, *ask),
+        Act::Call(ask) => call(rt, alloc, locked, me, *ask),
+        Act::Turns(ask, turns) => call_turns(rt, alloc, locked, me, *ask, *turns),
+        Act::Glance => Came::Steps(glance(locked, me)),
+        Act::Sees(steps) => sees(locked, me, *steps),
+        Act::Storm => storm(rt, alloc, locked, me),
+    }
+}
+
+/// The caller does the acts, in order, up to the first that comes to something else than is wanted. One that finds no memory it
+/// does once more.
+fn once<N: Layer, R: Wait, A: Allocator + Copy>(
+    rt: &R,
+    alloc: A,
+    locked: &Locked<N, A>,
+    me: &mut Caller<N, A>,
+    acts: &[(Act, Came)],
+) -> Told {
+    let mut told = NOTHING;
+    for (place, (act, want)) in acts.iter().enumerate() {
+        let mut came = does(rt, alloc, locked, me, act);
+        if came == Came::NoMemory {
+            told.again = true;
+            came = does(rt, alloc, locked, me, act);
+        }
+        if !came.is(*want) {
+            told.missed = Some((me.number(), place));
+            return told;
+        }
+        if let Came::Bytes(some, others) = came {
+            told = told.and(Told {
+                read: (some, others),
+                ..NOTHING
+            });
+        }
+    }
+    told
+}
+
+/// The caller does the part of its number, if there is one.
+fn play<N: Layer, R: Wait, A: Allocator + Copy>(
+    rt: &R,
+    alloc: A,
+    locked: &Locked<N, A>,
+    parts: &[Part],
+    me: &mut Caller<N, A>,
+) -> Told {
+    let mut told = NOTHING;
+    if let Some(part) = parts.get(me.number() as usize) {
+        for _time in 0..part.times {
+            told = told.and(once(rt, alloc, locked, me, part.acts));
+        }
+    }
+    told
+}
+
+/// Each caller does its part, one after the other.
+pub(crate) fn in_turn<N: Layer, R: Wait, A: Allocator + Copy>(
+    rt: &R,
+    alloc: A,
+    locked: &Locked<N, A>,
+    parts: &[Part],
+    callers: &mut [Caller<N, A>],
+) -> Told {
+    let mut told = NOTHING;
+    for me in callers.iter_mut() {
+        told = told.and(play(rt, alloc, locked, parts, me));
+    }
+    told
+}

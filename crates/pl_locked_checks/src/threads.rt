@@ -1,0 +1,179 @@
+//! Scenes in threads.
+use crate::acts::{Act, Part, Told, in_turn};
+use crate::asked::Ask;
+use crate::came::Came;
+use crate::left::Left;
+use crate::scenes::{PIPE, START, Scene, together};
+use crate::storm::ALL_STEPS;
+use pl_locked::{Caller, Layer, Locked};
+use std::alloc::Global;
+use std::sync::Wait;
+use std::test::Fail;
+use std::thread::{Threads, join};
+
+/// At most two callers do their parts, each in a thread.
+fn both<N: Layer + Send + Sync, R: Threads + Wait + Sync>(
+    rt: &R,
+    alloc: Global,
+    locked: &Locked<N>,
+    parts: &'static [Part],
+    callers: &mut [Caller<N>],
+) -> Told {
+    let middle = callers.len().min(1);
+    let (one, other) = callers.split_at_mut(middle);
+    let (some, others) = join(
+        rt,
+        move || in_turn(rt, alloc, locked, parts, one),
+        move || in_turn(rt, alloc, locked, parts, other),
+    );
+    some.and(others)
+}
+
+/// At most four callers do their parts, each in a thread.
+fn all<N: Layer + Send + Sync, R: Threads + Wait + Sync>(
+    rt: &R,
+    alloc: Global,
+    locked: &Locked<N>,
+    parts: &'static [Part],
+    callers: &mut [Caller<N>],
+) -> Told {
+    let middle = callers.len().min(2);
+    let (low, high) = callers.split_at_mut(middle);
+    let (some, others) = join(
+        rt,
+        move || both(rt, alloc, locked, parts, low),
+        move || both(rt, alloc, locked, parts, high),
+    );
+    some.and(others)
+}
+
+/// The callers, at most four, do their parts of the scene: first in turn, and then at once.
+pub(crate) fn at_once<N: Layer + Send + Sync, R: Threads + Wait + Sync>(
+    rt: &R,
+    alloc: Global,
+    locked: &Locked<N>,
+    scene: &Scene,
+    callers: &mut [Caller<N>],
+) -> Told {
+    let told = in_turn(rt, alloc, locked, scene.in_turn, callers);
+    told.and(all(rt, alloc, locked, scene.at_once, callers))
+}
+
+/// Two callers write to one pipe, a hundred bytes each.
+const WRITERS: Scene = Scene {
+    name: "two write to one pipe",
+    callers: 2,
+    max_steps: 1_000,
+    in_turn: &[Part {
+        times: 1,
+        acts: &[START, PIPE],
+    }],
+    at_once: &[
+        Part {
+            times: 100,
+            acts: &[(Act::Step(Ask::Write("a")), Came::Count(1))],
+        },
+        Part {
+            times: 100,
+            acts: &[(Act::Step(Ask::Write("b")), Came::Count(1))],
+        },
+    ],
+    read: (0, 0),
+    steps: (202, 202),
+    left: Left::HundredOfEach,
+};
+
+/// One caller writes two bytes at once, after it has seen that two others wait for a byte each.
+const READERS: Scene = Scene {
+    name: "two wait for a third",
+    callers: 3,
+    max_steps: 20,
+    in_turn: &[Part {
+        times: 1,
+        acts: &[START, PIPE],
+    }],
+    at_once: &[
+        Part {
+            times: 1,
+            acts: &[
+                (Act::Sees(4), Came::Steps(4)),
+                (Act::Step(Ask::Write("ab")), Came::Count(2)),
+            ],
+        },
+        ONE_READ,
+        ONE_READ,
+    ],
+    read: (1, 1),
+    steps: (5, 20),
+    left: Left::Anything,
+};
+
+/// A caller waits for a byte.
+const ONE_READ: Part = Part {
+    times: 1,
+    acts: &[(Act::Call(Ask::Read(1)), Came::OneByte)],
+};
+
+/// A byte that is written only once a read of it is known to wait, and read only once it is known to be written: so neither thread
+/// holds the lock while the other needs it.
+const TURNS: Scene = Scene {
+    name: "a read takes turns",
+    callers: 2,
+    max_steps: 1_000,
+    in_turn: &[Part {
+        times: 1,
+        acts: &[START, PIPE],
+    }],
+    at_once: &[
+        Part {
+            times: 1,
+            acts: &[(Act::Turns(Ask::Read(1), 100_000_000), Came::Bytes(1, 0))],
+        },
+        Part {
+            times: 1,
+            acts: &[
+                (Act::Sees(3), Came::Steps(3)),
+                (Act::Step(Ask::Write("a")), Came::Count(1)),
+            ],
+        },
+    ],
+    read: (1, 0),
+    steps: (5, 5),
+    left: Left::Anything,
+};
+
+/// Four callers do this and that.
+const STORM: Scene = Scene {
+    name: "a storm",
+    callers: 4,
+    max_steps: 4_000,
+    in_turn: &[Part {
+        times: 1,
+        acts: &[START, PIPE, (Act::Step(Ask::Mkfifo), Came::Unit)],
+    }],
+    at_once: &[BLOWS, BLOWS, BLOWS, BLOWS],
+    read: (0, 0),
+    steps: (ALL_STEPS, ALL_STEPS),
+    left: Left::Nothing,
+};
+
+const BLOWS: Part = Part {
+    times: 1,
+    acts: &[(Act::Storm, Came::Unit)],
+};
+
+#[test]
+fn callers_in_threads(rt: HostRuntime) -> Result<(), Fail> {
+    for scene in [&WRITERS, &READERS, &TURNS] {
+        assert!(rt; together(&rt, rt.alloc(), scene)?);
+    }
+    Ok(())
+}
+
+#[test]
+fn twenty_storms(rt: HostRuntime) -> Result<(), Fail> {
+    for _storm in 0..20u8 {
+        assert!(rt; together(&rt, rt.alloc(), &STORM)?);
+    }
+    Ok(())
+}
