@@ -11,6 +11,8 @@ use std::sync::Wait;
 pub(crate) enum Act {
     /// It makes one step.
     Step(Ask),
+    /// It makes a step so many times, which come to the same.
+    Steps(u32, Ask),
     /// It makes a whole call, which waits until it is answered.
     Call(Ask),
     /// It makes a whole call, which takes at most so many turns.
@@ -23,11 +25,8 @@ pub(crate) enum Act {
     Storm,
 }
 
-/// What a caller does in a scene: the acts, each with what it is to come to, so many times over.
-pub(crate) struct Part {
-    pub(crate) times: u32,
-    pub(crate) acts: &'static [(Act, Came)],
-}
+/// What a caller does in a scene, each act with what it is to come to.
+pub(crate) type Acts = &'static [(Act, Came)];
 
 /// What the acts of callers came to.
 #[derive(Clone, Copy)]
@@ -76,7 +75,25 @@ pub(crate) fn attempt<N: Layer, R: Wait, A: Allocator + Copy>(
     }
 }
 
-/// The caller makes the call, and waits.
+/// The caller makes the step so many times. It comes to `Other` where they don't come to the same.
+fn attempts<N: Layer, R: Wait, A: Allocator + Copy>(
+    rt: &R,
+    alloc: A,
+    locked: &Locked<N, A>,
+    me: &mut Caller<N, A>,
+    times: u32,
+    ask: Ask,
+) -> Came {
+    let first = attempt(rt, alloc, locked, me, ask);
+    for _time in 1..times {
+        if attempt(rt, alloc, locked, me, ask) != first {
+            return Came::Other;
+        }
+    }
+    first
+}
+
+/// The caller makes the call that is asked, and waits.
 fn call<N: Layer, R: Wait, A: Allocator + Copy>(
     rt: &R,
     alloc: A,
@@ -93,7 +110,7 @@ fn call<N: Layer, R: Wait, A: Allocator + Copy>(
     }
 }
 
-/// The caller makes the call, which takes at most so many turns.
+/// The caller makes the call that is asked, which takes at most so many turns.
 fn call_turns<N: Layer, R: Wait, A: Allocator + Copy>(
     rt: &R,
     alloc: A,
@@ -143,6 +160,7 @@ fn does<N: Layer, R: Wait, A: Allocator + Copy>(
 ) -> Came {
     match act {
         Act::Step(ask) => attempt(rt, alloc, locked, me, *ask),
+        Act::Steps(times, ask) => attempts(rt, alloc, locked, me, *times, *ask),
         Act::Call(ask) => call(rt, alloc, locked, me, *ask),
         Act::Turns(ask, turns) => call_turns(rt, alloc, locked, me, *ask, *turns),
         Act::Glance => Came::Steps(glance(locked, me)),
@@ -153,7 +171,7 @@ fn does<N: Layer, R: Wait, A: Allocator + Copy>(
 
 /// The caller does the acts, in order, up to the first that comes to something else than is wanted. One that finds no memory it
 /// does once more.
-fn once<N: Layer, R: Wait, A: Allocator + Copy>(
+fn play<N: Layer, R: Wait, A: Allocator + Copy>(
     rt: &R,
     alloc: A,
     locked: &Locked<N, A>,
@@ -181,34 +199,19 @@ fn once<N: Layer, R: Wait, A: Allocator + Copy>(
     told
 }
 
-/// The caller does the part of its number, if there is one.
-fn play<N: Layer, R: Wait, A: Allocator + Copy>(
-    rt: &R,
-    alloc: A,
-    locked: &Locked<N, A>,
-    parts: &[Part],
-    me: &mut Caller<N, A>,
-) -> Told {
-    let mut told = NOTHING;
-    if let Some(part) = parts.get(me.number() as usize) {
-        for _time in 0..part.times {
-            told = told.and(once(rt, alloc, locked, me, part.acts));
-        }
-    }
-    told
-}
-
-/// Each caller does its part, one after the other.
+/// Each caller does the acts of its number, if there are any, one caller after the other.
 pub(crate) fn in_turn<N: Layer, R: Wait, A: Allocator + Copy>(
     rt: &R,
     alloc: A,
     locked: &Locked<N, A>,
-    parts: &[Part],
+    acts: &[Acts],
     callers: &mut [Caller<N, A>],
 ) -> Told {
     let mut told = NOTHING;
     for me in callers.iter_mut() {
-        told = told.and(play(rt, alloc, locked, parts, me));
+        if let Some(own) = acts.get(me.number() as usize) {
+            told = told.and(play(rt, alloc, locked, me, own));
+        }
     }
     told
 }

@@ -1,5 +1,5 @@
 //! Scenes in one thread, one of them also where each request for memory is refused in turn.
-use crate::acts::{Act, Part};
+use crate::acts::{Act, Acts};
 use crate::asked::Ask;
 use crate::came::Came;
 use crate::left::Left;
@@ -12,16 +12,13 @@ const FILLS: Scene = Scene {
     name: "the journal fills",
     callers: 1,
     max_steps: 3,
-    in_turn: &[Part {
-        times: 1,
-        acts: &[
-            START,
-            PIPE,
-            (Act::Call(Ask::Write("a")), Came::Count(1)),
-            (Act::Step(Ask::Read(1)), Came::Full),
-            (Act::Glance, Came::Steps(3)),
-        ],
-    }],
+    in_turn: &[&[
+        START,
+        PIPE,
+        (Act::Call(Ask::Write("a")), Came::Count(1)),
+        (Act::Step(Ask::Read(1)), Came::Full),
+        (Act::Glance, Came::Steps(3)),
+    ]],
     at_once: &[],
     read: (0, 0),
     steps: (3, 3),
@@ -33,13 +30,10 @@ const TAKES_NONE: Scene = Scene {
     name: "the journal takes no step",
     callers: 1,
     max_steps: 0,
-    in_turn: &[Part {
-        times: 1,
-        acts: &[
-            (Act::Step(Ask::Start), Came::Full),
-            (Act::Glance, Came::Steps(0)),
-        ],
-    }],
+    in_turn: &[&[
+        (Act::Step(Ask::Start), Came::Full),
+        (Act::Glance, Came::Steps(0)),
+    ]],
     at_once: &[],
     read: (0, 0),
     steps: (0, 0),
@@ -52,14 +46,8 @@ const HANDS_OVER: Scene = Scene {
     callers: 2,
     max_steps: 1_000,
     in_turn: &[
-        Part {
-            times: 1,
-            acts: &[START, PIPE, (Act::Step(Ask::Write("a")), Came::Count(1))],
-        },
-        Part {
-            times: 1,
-            acts: &[(Act::Call(Ask::Read(1)), Came::Bytes(1, 0))],
-        },
+        &[START, PIPE, (Act::Step(Ask::Write("a")), Came::Count(1))],
+        &[(Act::Call(Ask::Read(1)), Came::Bytes(1, 0))],
     ],
     at_once: &[],
     read: (1, 0),
@@ -72,14 +60,11 @@ const NO_BYTE: Scene = Scene {
     name: "a read waits on after its turns",
     callers: 1,
     max_steps: 1_000,
-    in_turn: &[Part {
-        times: 1,
-        acts: &[
-            START,
-            PIPE,
-            (Act::Turns(Ask::Read(1), 1_000), Came::Parked(1)),
-        ],
-    }],
+    in_turn: &[&[
+        START,
+        PIPE,
+        (Act::Turns(Ask::Read(1), 1_000), Came::Parked(1)),
+    ]],
     at_once: &[],
     read: (0, 0),
     steps: (3, 3),
@@ -99,15 +84,12 @@ const FOUR_STEPS: Scene = Scene {
     name: "a layer in scarce memory",
     callers: 1,
     max_steps: 4,
-    in_turn: &[Part {
-        times: 1,
-        acts: &[
-            START,
-            PIPE,
-            (Act::Step(Ask::Write("a")), Came::Count(1)),
-            (Act::Step(Ask::Read(9)), Came::Bytes(1, 0)),
-        ],
-    }],
+    in_turn: &[&[
+        START,
+        PIPE,
+        (Act::Step(Ask::Write("a")), Came::Count(1)),
+        (Act::Step(Ask::Read(9)), Came::Bytes(1, 0)),
+    ]],
     at_once: &[],
     read: (1, 0),
     steps: (4, 4),

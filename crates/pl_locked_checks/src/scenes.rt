@@ -2,7 +2,7 @@
 ghost use Rattle.std.specs.Prelude.{◌≡◌, ◌≤◌};
 ghost use Rattle.pl_model.specs.Numbers.{most_file_bytes};
 
-use crate::acts::{Act, Part, Told, glance, in_turn};
+use crate::acts::{Act, Acts, Told, glance, in_turn};
 use crate::asked::Ask;
 use crate::came::Came;
 use crate::left::{Left, replays};
@@ -26,9 +26,9 @@ pub(crate) struct Scene {
     /// How many steps the journal takes.
     pub(crate) max_steps: u32,
     /// What each caller does, by its number: first one after the other, in one thread.
-    pub(crate) in_turn: &'static [Part],
+    pub(crate) in_turn: &'static [Acts],
     /// And then all at once, each in a thread.
-    pub(crate) at_once: &'static [Part],
+    pub(crate) at_once: &'static [Acts],
     /// How many `a` and `b` they read.
     pub(crate) read: (u32, u32),
     /// The fewest and the most steps that are in the journal then.
@@ -45,7 +45,7 @@ pub(crate) const PIPE: (Act, Came) = (Act::Step(Ask::Pipe), Came::Fds(0, 1));
 
 /// What is otherwise than the scene says, and two numbers that tell more of it.
 #[derive(Clone, Copy)]
-pub(crate) struct Fault {
+struct Fault {
     what: &'static str,
     numbers: (u64, u64),
 }
@@ -58,8 +58,8 @@ fn otherwise(what: &'static str, one: u64, other: u64) -> Result<bool, Fault> {
 }
 
 /// Fails unless all is as the scene says: what the acts came to, what the journal and the kernel are that the layer leaves, and
-/// that a caller saw as many steps as there are. It answers whether nothing had to be done again for want of memory: a replay is
-/// asked for once more, too.
+/// that a caller saw as many steps as there are. Where it finds no memory it asks for the replay once more. It answers whether
+/// nothing was done once more.
 fn look<A: Allocator + Copy>(
     alloc: A,
     scene: &Scene,

@@ -1,5 +1,5 @@
 //! Scenes in threads.
-use crate::acts::{Act, Part, Told, in_turn};
+use crate::acts::{Act, Acts, Told, in_turn};
 use crate::asked::Ask;
 use crate::came::Came;
 use crate::left::Left;
@@ -11,43 +11,43 @@ use std::sync::Wait;
 use std::test::Fail;
 use std::thread::{Threads, join};
 
-/// At most two callers do their parts, each in a thread.
+/// At most two callers do what the scene says of them at once, each in a thread.
 fn both<N: Layer + Send + Sync, R: Threads + Wait + Sync>(
     rt: &R,
     alloc: Global,
     locked: &Locked<N>,
-    parts: &'static [Part],
+    scene: &Scene,
     callers: &mut [Caller<N>],
 ) -> Told {
     let middle = callers.len().min(1);
     let (one, other) = callers.split_at_mut(middle);
     let (some, others) = join(
         rt,
-        move || in_turn(rt, alloc, locked, parts, one),
-        move || in_turn(rt, alloc, locked, parts, other),
+        move || in_turn(rt, alloc, locked, scene.at_once, one),
+        move || in_turn(rt, alloc, locked, scene.at_once, other),
     );
     some.and(others)
 }
 
-/// At most four callers do their parts, each in a thread.
+/// At most four callers do what the scene says of them at once, each in a thread.
 fn all<N: Layer + Send + Sync, R: Threads + Wait + Sync>(
     rt: &R,
     alloc: Global,
     locked: &Locked<N>,
-    parts: &'static [Part],
+    scene: &Scene,
     callers: &mut [Caller<N>],
 ) -> Told {
     let middle = callers.len().min(2);
     let (low, high) = callers.split_at_mut(middle);
     let (some, others) = join(
         rt,
-        move || both(rt, alloc, locked, parts, low),
-        move || both(rt, alloc, locked, parts, high),
+        move || both(rt, alloc, locked, scene, low),
+        move || both(rt, alloc, locked, scene, high),
     );
     some.and(others)
 }
 
-/// The callers, at most four, do their parts of the scene: first in turn, and then at once.
+/// The callers, at most four, do all that the scene says: first in turn, and then at once.
 pub(crate) fn at_once<N: Layer + Send + Sync, R: Threads + Wait + Sync>(
     rt: &R,
     alloc: Global,
@@ -56,7 +56,10 @@ pub(crate) fn at_once<N: Layer + Send + Sync, R: Threads + Wait + Sync>(
     callers: &mut [Caller<N>],
 ) -> Told {
     let told = in_turn(rt, alloc, locked, scene.in_turn, callers);
-    told.and(all(rt, alloc, locked, scene.at_once, callers))
+    if told.missed.is_some() {
+        return told;
+    }
+    told.and(all(rt, alloc, locked, scene, callers))
 }
 
 /// Two callers write to one pipe, a hundred bytes each.
@@ -64,19 +67,10 @@ const WRITERS: Scene = Scene {
     name: "two write to one pipe",
     callers: 2,
     max_steps: 1_000,
-    in_turn: &[Part {
-        times: 1,
-        acts: &[START, PIPE],
-    }],
+    in_turn: &[&[START, PIPE]],
     at_once: &[
-        Part {
-            times: 100,
-            acts: &[(Act::Step(Ask::Write("a")), Came::Count(1))],
-        },
-        Part {
-            times: 100,
-            acts: &[(Act::Step(Ask::Write("b")), Came::Count(1))],
-        },
+        &[(Act::Steps(100, Ask::Write("a")), Came::Count(1))],
+        &[(Act::Steps(100, Ask::Write("b")), Came::Count(1))],
     ],
     read: (0, 0),
     steps: (202, 202),
@@ -88,18 +82,12 @@ const READERS: Scene = Scene {
     name: "two wait for a third",
     callers: 3,
     max_steps: 20,
-    in_turn: &[Part {
-        times: 1,
-        acts: &[START, PIPE],
-    }],
+    in_turn: &[&[START, PIPE]],
     at_once: &[
-        Part {
-            times: 1,
-            acts: &[
-                (Act::Sees(4), Came::Steps(4)),
-                (Act::Step(Ask::Write("ab")), Came::Count(2)),
-            ],
-        },
+        &[
+            (Act::Sees(4), Came::Steps(4)),
+            (Act::Step(Ask::Write("ab")), Came::Count(2)),
+        ],
         ONE_READ,
         ONE_READ,
     ],
@@ -109,10 +97,7 @@ const READERS: Scene = Scene {
 };
 
 /// A caller waits for a byte.
-const ONE_READ: Part = Part {
-    times: 1,
-    acts: &[(Act::Call(Ask::Read(1)), Came::OneByte)],
-};
+const ONE_READ: Acts = &[(Act::Call(Ask::Read(1)), Came::OneByte)];
 
 /// A byte that is written only once a read of it is known to wait, and read only once it is known to be written: so neither thread
 /// holds the lock while the other needs it.
@@ -120,22 +105,13 @@ const TURNS: Scene = Scene {
     name: "a read takes turns",
     callers: 2,
     max_steps: 1_000,
-    in_turn: &[Part {
-        times: 1,
-        acts: &[START, PIPE],
-    }],
+    in_turn: &[&[START, PIPE]],
     at_once: &[
-        Part {
-            times: 1,
-            acts: &[(Act::Turns(Ask::Read(1), 100_000_000), Came::Bytes(1, 0))],
-        },
-        Part {
-            times: 1,
-            acts: &[
-                (Act::Sees(3), Came::Steps(3)),
-                (Act::Step(Ask::Write("a")), Came::Count(1)),
-            ],
-        },
+        &[(Act::Turns(Ask::Read(1), 100_000_000), Came::Bytes(1, 0))],
+        &[
+            (Act::Sees(3), Came::Steps(3)),
+            (Act::Step(Ask::Write("a")), Came::Count(1)),
+        ],
     ],
     read: (1, 0),
     steps: (5, 5),
@@ -147,20 +123,14 @@ const STORM: Scene = Scene {
     name: "a storm",
     callers: 4,
     max_steps: 4_000,
-    in_turn: &[Part {
-        times: 1,
-        acts: &[START, PIPE, (Act::Step(Ask::Mkfifo), Came::Unit)],
-    }],
+    in_turn: &[&[START, PIPE, (Act::Step(Ask::Mkfifo), Came::Unit)]],
     at_once: &[BLOWS, BLOWS, BLOWS, BLOWS],
     read: (0, 0),
     steps: (ALL_STEPS, ALL_STEPS),
     left: Left::Nothing,
 };
 
-const BLOWS: Part = Part {
-    times: 1,
-    acts: &[(Act::Storm, Came::Unit)],
-};
+const BLOWS: Acts = &[(Act::Storm, Came::Unit)];
 
 #[test]
 fn callers_in_threads(rt: HostRuntime) -> Result<(), Fail> {
