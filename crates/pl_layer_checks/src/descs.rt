@@ -5,11 +5,11 @@ use crate::equal::is;
 use pl_desc::{Descs, NoMemory, OpenFault, Released, StartFault};
 use pl_model::{Mode, Node, OpenFlags};
 use pl_refusing::Refusing;
-use std::alloc::Global;
+use std::alloc::{Allocator, Global};
 use std::process::Abort;
 use std::test::Fail;
 
-fn start_in_order(rt: &impl Abort, descs: &mut Descs) {
+fn start_in_order<A: Allocator + Copy>(rt: &impl Abort, descs: &mut Descs<A>) {
     for pid in 1..1_025 {
         is(rt, "started", descs.start(), Ok(pid));
     }
@@ -20,7 +20,7 @@ fn start_in_order(rt: &impl Abort, descs: &mut Descs) {
     is(rt, "not open", descs.find(1_024, 255), None);
 }
 
-fn open_the_most(rt: &impl Abort, descs: &mut Descs) {
+fn open_the_most<A: Allocator + Copy>(rt: &impl Abort, descs: &mut Descs<A>) {
     for _ in 0..4_096u32 {
         let opened = descs.open_desc(Node::Pipe(0), Mode::Both, OpenFlags::NONBLOCK);
         is(rt, "opened", opened.is_ok(), true);
@@ -33,7 +33,7 @@ fn open_the_most(rt: &impl Abort, descs: &mut Descs) {
     is(rt, "one more", opened, Err(OpenFault::Enfile));
 }
 
-fn open_past_all_memory(rt: &impl Abort, descs: &mut Descs) {
+fn open_past_all_memory<A: Allocator + Copy>(rt: &impl Abort, descs: &mut Descs<A>) {
     let opened = descs.open_desc(Node::Pipe(usize::MAX), Mode::Read, OpenFlags::NONBLOCK);
     is(rt, "opened", opened, Err(OpenFault::NoMemory));
     is(rt, "live", descs.live(), 0);
@@ -41,7 +41,11 @@ fn open_past_all_memory(rt: &impl Abort, descs: &mut Descs) {
 }
 
 /// A parent opens the only description, and a child has it too. Answers its key.
-fn fork_with_one(rt: &impl Abort, descs: &mut Descs, node: Node) -> Result<usize, Fail>
+fn fork_with_one<A: Allocator + Copy>(
+    rt: &impl Abort,
+    descs: &mut Descs<A>,
+    node: Node,
+) -> Result<usize, Fail>
     requires { descs.old ≡ record { tables = []; opened = []; loose = []; room = record { descriptions = 0; pipes = 0; files = 0 } } }
 {
     let parent = descs.start()?;
@@ -56,12 +60,12 @@ fn fork_with_one(rt: &impl Abort, descs: &mut Descs, node: Node) -> Result<usize
 }
 
 /// Closes the first descriptor of a process. Answers the key that it named, and what became of the description.
-fn close(descs: &mut Descs, pid: u32) -> Result<(usize, Released), Fail> {
+fn close<A: Allocator + Copy>(descs: &mut Descs<A>, pid: u32) -> Result<(usize, Released), Fail> {
     let named = descs.remove(pid, 0).ok_or("not open")?;
     Ok((named, descs.release(named)))
 }
 
-fn close_twice(rt: &impl Abort, descs: &mut Descs) -> Result<(), Fail>
+fn close_twice<A: Allocator + Copy>(rt: &impl Abort, descs: &mut Descs<A>) -> Result<(), Fail>
     requires { descs.old ≡ record { tables = []; opened = []; loose = []; room = record { descriptions = 0; pipes = 0; files = 0 } } }
 {
     let node = Node::Pipe(7);
@@ -77,6 +81,47 @@ fn close_twice(rt: &impl Abort, descs: &mut Descs) -> Result<(), Fail>
     Ok(())
 }
 
+/// Each of the two requests for memory of a start is refused, and then of an open, which leave nothing behind.
+fn refuse_each<A: Allocator + Copy>(
+    rt: &impl Abort,
+    heap: &Refusing<Global>,
+    descs: &mut Descs<A>,
+) {
+    for request in 1..3u64 {
+        heap.refuse(request);
+        is(rt, "started", descs.start(), Err(StartFault::NoMemory));
+        is(rt, "a start is refused", heap.refused(), true);
+        is(rt, "a process", descs.has(1), false);
+    }
+    heap.refuse(0);
+    is(rt, "started", descs.start(), Ok(1));
+    let node = Node::Pipe(0);
+    for request in 1..3u64 {
+        heap.refuse(request);
+        let opened = descs.open_desc(node, Mode::Read, OpenFlags::NONBLOCK);
+        is(rt, "opened", opened, Err(OpenFault::NoMemory));
+        is(rt, "an open is refused", heap.refused(), true);
+        is(rt, "live", descs.live(), 0);
+        is(rt, "readers", descs.readers(node), 0);
+    }
+}
+
+/// Memory is reserved for two, which then are opened without any.
+fn reserve<A: Allocator + Copy>(rt: &impl Abort, heap: &Refusing<Global>, descs: &mut Descs<A>) {
+    let node = Node::Pipe(5);
+    heap.refuse(1);
+    is(rt, "refused", descs.reserve(node, 2), Err(NoMemory));
+    heap.refuse(0);
+    is(rt, "reserved", descs.reserve(node, 2), Ok(()));
+    heap.refuse(1);
+    let reader = descs.open_desc(node, Mode::Read, OpenFlags::NONBLOCK);
+    is(rt, "a reader", reader.is_ok(), true);
+    let writer = descs.open_desc(node, Mode::Write, OpenFlags::NONBLOCK);
+    is(rt, "a writer", writer.is_ok(), true);
+    is(rt, "a request is refused", heap.refused(), false);
+    is(rt, "live", descs.live(), 2);
+}
+
 /// What is tried on descriptions that are new.
 #[derive(Clone, Copy)]
 enum Trial {
@@ -84,18 +129,32 @@ enum Trial {
     OpenTheMost,
     OpenPastAllMemory,
     CloseTwice,
+    RefuseEach,
+    Reserve,
 }
 
 /// Tries it. The descriptions stand here alone, so that the end of them is proved once.
-fn meets(rt: &impl Abort, alloc: Global, trial: Trial) -> Result<(), Fail> {
+fn on_new<A: Allocator + Copy>(
+    rt: &impl Abort,
+    heap: &Refusing<Global>,
+    alloc: A,
+    trial: Trial,
+) -> Result<(), Fail> {
     let mut descs = Descs::new(alloc);
     match trial {
         Trial::StartInOrder => start_in_order(rt, &mut descs),
         Trial::OpenTheMost => open_the_most(rt, &mut descs),
         Trial::OpenPastAllMemory => open_past_all_memory(rt, &mut descs),
         Trial::CloseTwice => close_twice(rt, &mut descs)?,
+        Trial::RefuseEach => refuse_each(rt, heap, &mut descs),
+        Trial::Reserve => reserve(rt, heap, &mut descs),
     }
     Ok(())
+}
+
+fn meets(rt: &impl Abort, alloc: Global, trial: Trial) -> Result<(), Fail> {
+    let heap = Refusing::new(alloc);
+    on_new(rt, &heap, &heap, trial)
 }
 
 #[test]
@@ -104,12 +163,8 @@ fn processes_start_in_order(rt: HostRuntime) -> Result<(), Fail> {
 }
 
 #[test]
-fn no_description_more_than_4096(rt: HostRuntime) -> Result<(), Fail> {
-    meets(&rt, rt.alloc(), Trial::OpenTheMost)
-}
-
-#[test]
-fn a_key_past_all_memory(rt: HostRuntime) -> Result<(), Fail> {
+fn descriptions_have_limits(rt: HostRuntime) -> Result<(), Fail> {
+    meets(&rt, rt.alloc(), Trial::OpenTheMost)?;
     meets(&rt, rt.alloc(), Trial::OpenPastAllMemory)
 }
 
@@ -119,83 +174,8 @@ fn the_last_hold_of_a_description(rt: HostRuntime) -> Result<(), Fail> {
     meets(&rt, rt.alloc(), Trial::CloseTwice)
 }
 
-/// The requests for memory that a start makes, or an open: each is refused in turn.
-const REQUESTS: &[u64] = &[1, 2];
-
-/// The descriptions whose requests for memory can be refused.
-type Refused<'a> = Descs<&'a Refusing<Global>>;
-
-fn refuse_a_start<'a>(
-    rt: &impl Abort,
-    heap: &'a Refusing<Global>,
-    descs: &mut Refused<'a>,
-    request: u64,
-) {
-    heap.refuse(request);
-    is(rt, "started", descs.start(), Err(StartFault::NoMemory));
-    is(rt, "a start is refused", heap.refused(), true);
-    is(rt, "a process", descs.has(1), false);
-}
-
-fn refuse_an_open<'a>(
-    rt: &impl Abort,
-    heap: &'a Refusing<Global>,
-    descs: &mut Refused<'a>,
-    request: u64,
-) {
-    heap.refuse(request);
-    let opened = descs.open_desc(Node::Pipe(0), Mode::Read, OpenFlags::NONBLOCK);
-    is(rt, "opened", opened, Err(OpenFault::NoMemory));
-    is(rt, "an open is refused", heap.refused(), true);
-    is(rt, "live", descs.live(), 0);
-    is(rt, "readers", descs.readers(Node::Pipe(0)), 0);
-}
-
-fn refuse_each<'a>(rt: &impl Abort, heap: &'a Refusing<Global>, descs: &mut Refused<'a>) {
-    for request in REQUESTS {
-        refuse_a_start(rt, heap, descs, *request);
-    }
-    heap.refuse(0);
-    is(rt, "started", descs.start(), Ok(1));
-    for request in REQUESTS {
-        refuse_an_open(rt, heap, descs, *request);
-    }
-}
-
-fn reserve<'a>(rt: &impl Abort, heap: &'a Refusing<Global>, descs: &mut Refused<'a>) {
-    heap.refuse(1);
-    is(
-        rt,
-        "refused",
-        descs.reserve(Node::Pipe(5), 2),
-        Err(NoMemory),
-    );
-    heap.refuse(0);
-    is(rt, "reserved", descs.reserve(Node::Pipe(5), 2), Ok(()));
-}
-
-/// Two are opened of which neither may ask for memory.
-fn open_two<'a>(rt: &impl Abort, heap: &'a Refusing<Global>, descs: &mut Refused<'a>) {
-    heap.refuse(1);
-    let reader = descs.open_desc(Node::Pipe(5), Mode::Read, OpenFlags::NONBLOCK);
-    is(rt, "a reader", reader.is_ok(), true);
-    let writer = descs.open_desc(Node::Pipe(5), Mode::Write, OpenFlags::NONBLOCK);
-    is(rt, "a writer", writer.is_ok(), true);
-    is(rt, "a request is refused", heap.refused(), false);
-    is(rt, "live", descs.live(), 2);
-}
-
 #[test]
-fn a_want_of_memory_changes_nothing(rt: HostRuntime) {
-    let heap = Refusing::new(rt.alloc());
-    let mut descs = Descs::new(&heap);
-    refuse_each(&rt, &heap, &mut descs);
-}
-
-#[test]
-fn a_reserve_is_enough(rt: HostRuntime) {
-    let heap = Refusing::new(rt.alloc());
-    let mut descs = Descs::new(&heap);
-    reserve(&rt, &heap, &mut descs);
-    open_two(&rt, &heap, &mut descs);
+fn a_want_of_memory_changes_nothing(rt: HostRuntime) -> Result<(), Fail> {
+    meets(&rt, rt.alloc(), Trial::RefuseEach)?;
+    meets(&rt, rt.alloc(), Trial::Reserve)
 }

@@ -1,41 +1,13 @@
 //! The allocator that refuses a chosen request.
 use crate::equal::is;
 use pl_refusing::Refusing;
-use std::alloc::Global;
-use std::test::Fail;
+use std::alloc::{Allocator, Global};
+use std::process::Abort;
 
-/// A request for memory, and what the allocator tells after it.
-#[derive(Clone, Copy, Debug, PartialEq)]
-struct Told {
-    /// The request that is to be refused; 0 for none.
-    chosen: u64,
-    number: u64,
-    is_refused: bool,
-    requests: u64,
-    refused: bool,
-}
-
-/// The request of the number is made.
-fn made(heap: &Refusing<Global>, chosen: u64, number: u64) -> Told {
-    let made = Vec::<u8, _>::with_capacity(heap, 8);
-    Told {
-        chosen,
-        number,
-        is_refused: made.is_err(),
-        requests: heap.requests(),
-        refused: heap.refused(),
-    }
-}
-
-/// What is wanted of it.
-fn wanted(chosen: u64, number: u64) -> Told {
-    Told {
-        chosen,
-        number,
-        is_refused: number == chosen,
-        requests: number,
-        refused: chosen != 0 && chosen <= number,
-    }
+/// A request for memory is made. Answers whether it is refused, how many were made, and whether one was refused.
+fn made(heap: &Refusing<Global>) -> (bool, u64, bool) {
+    let is_refused = Vec::<u8, _>::with_capacity(heap, 8).is_err();
+    (is_refused, heap.requests(), heap.refused())
 }
 
 #[test]
@@ -45,36 +17,40 @@ fn one_request_is_refused(rt: HostRuntime) {
         heap.refuse(chosen);
         is(&rt, "refused before any request", heap.refused(), false);
         for number in 1..5u64 {
-            is(
-                &rt,
-                "a request",
-                made(&heap, chosen, number),
-                wanted(chosen, number),
-            );
+            let was_refused = chosen != 0 && chosen <= number;
+            let wanted = (number == chosen, number, was_refused);
+            is(&rt, "a request", made(&heap), wanted);
         }
     }
 }
 
-#[test]
-fn a_refused_push_is_made_again(rt: HostRuntime) -> Result<(), Fail> {
-    let heap = Refusing::new(rt.alloc());
-    let mut bytes = Vec::with_capacity(&heap, 2)?;
-    bytes.push(1u8)?;
-    bytes.push(2)?;
-    is(&rt, "requests", heap.requests(), 1);
+/// Two bytes fill a vector that has room for them, so that the third asks for memory.
+fn push<A: Allocator>(rt: &impl Abort, heap: &Refusing<Global>, bytes: &mut Vec<u8, A>) {
+    is(rt, "pushed", bytes.push(1).is_ok(), true);
+    is(rt, "pushed", bytes.push(2).is_ok(), true);
+    is(rt, "requests", heap.requests(), 1);
 
     heap.refuse(1);
     is(
-        &rt,
-        "a vector that is full has to grow",
+        rt,
+        "a full vector has to grow",
         bytes.push(3).is_err(),
         true,
     );
-    is(&rt, "refused", heap.refused(), true);
-    is(&rt, "bytes", bytes.as_slice(), [1, 2].as_slice());
+    is(rt, "refused", heap.refused(), true);
+    is(rt, "bytes", bytes.as_slice(), [1, 2].as_slice());
 
-    bytes.push(3)?;
-    is(&rt, "bytes", bytes.as_slice(), [1, 2, 3].as_slice());
-    is(&rt, "requests", heap.requests(), 2);
-    Ok(())
+    is(rt, "pushed", bytes.push(3).is_ok(), true);
+    is(rt, "bytes", bytes.as_slice(), [1, 2, 3].as_slice());
+    is(rt, "requests", heap.requests(), 2);
+}
+
+#[test]
+fn a_refused_push_is_made_again(rt: HostRuntime) {
+    let heap = Refusing::new(rt.alloc());
+    let made = Vec::with_capacity(&heap, 2);
+    is(&rt, "made", made.is_ok(), true);
+    if let Ok(mut bytes) = made {
+        push(&rt, &heap, &mut bytes);
+    }
 }
