@@ -3,8 +3,9 @@
  *
  *     scripts MOST_REQUESTS NAME.script ..
  *
- * Each script is run as it is, and then nothing is left of it. A script that makes at most MOST_REQUESTS requests for memory is run again
- * with each of them refused in turn: the call that finds no memory has changed nothing, and is made once more. */
+ * Each script is run as it is, and then nothing is left of it. What is to take no memory asks for none. A script that makes at most
+ * MOST_REQUESTS requests for memory is run again with each of them refused in turn: the call that finds no memory has changed nothing, and
+ * is made once more. */
 #define _GNU_SOURCE
 #include "counted.h"
 #include "script_text.h"
@@ -158,11 +159,37 @@ static bool is_marked(void)
     return ends.read_end == -7 && ends.write_end == -8;
 }
 
+/* Whether a word is one of a list, which ends with a null. */
+static bool is_one_of(const char *word, const char *const *list)
+{
+    while (*list != NULL && strcmp(word, *list) != 0)
+        list++;
+    return *list != NULL;
+}
+
+/* Whether the line that was just made is one that asks for no memory: an interrupt, a call that neither makes something new nor moves bytes,
+ * and whatever is refused, except by a name, which is copied first. */
+static bool asks_for_none(const struct line *line)
+{
+    static const char *const FRUGAL[]
+        = { "close", "dup", "dup2", "dupfd", "lseek", "getfl", "setfl", "getsz", "exit", NULL };
+    static const char *const WITH_A_NAME[] = { "open", "mkfifo", "unlink", NULL };
+    bool is_refused = answer.kind == BINDINGCLAY_FAULT || answer.kind == BINDINGCLAY_NO_PROCESS
+        || answer.kind == BINDINGCLAY_NO_CALL || answer.kind == BINDINGCLAY_CALLS_SPENT;
+    if (line->count < 2 || strcmp(line->words[0], "file") == 0)
+        return false;
+    return strcmp(line->words[0], "interrupt") == 0 || is_one_of(line->words[1], FRUGAL)
+        || (is_refused && !is_one_of(line->words[1], WITH_A_NAME));
+}
+
 /* Does what a line asks, and once more where there was no memory for it. */
 static bool make_at_last(const struct script *script, const struct line *line, enum told *told)
 {
     mark();
+    long granted = granted_before;
     bool is_known = make(script, line, told);
+    if (is_known && asks_for_none(line))
+        HOLDS(granted_before == granted && answer.kind != BINDINGCLAY_NO_MEMORY);
     if (!is_known || answer.kind != BINDINGCLAY_NO_MEMORY)
         return is_known;
     told_no_memory++;
