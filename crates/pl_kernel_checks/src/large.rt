@@ -1,9 +1,9 @@
-//! Bytes of which no script line can be written: large writes, and files as large as any may be.
+//! More bytes than stand well in a script: large writes, and files as large as any may be.
 use pl_model::Errno::EFBIG;
 use pl_model::Whence::{Cur, End, Set};
 use pl_model::{Mode, OpenFlags, SpliceFlags};
 use pl_testing::LIMITS;
-use pl_testing::asked::Ask::{Close, Lseek, Open, Pipe, Read, Resume, Splice, Start, Write};
+use pl_testing::asked::Ask::{self, Close, Lseek, Open, Pipe, Read, Resume, Splice, Start, Write};
 use pl_testing::asked::Data::{self, Many, Part, Text, TwoRuns};
 use pl_testing::asked::Want::{
     self, Bytes, Count, Fault, Fd, Fds, NoCall, Offset, Parked, Pid, Unit,
@@ -125,8 +125,10 @@ fn each_large_session_answers(rt: HostRuntime) -> Result<(), Fail> {
     each_answers(rt.alloc(), LIMITS, SESSIONS)
 }
 
-/// Sixteen pieces of 1,000,000 bytes go into a file whole, each of its own number, and of one more what is left up to the limit. At its limit
-/// the file takes no byte more. After the first each read takes the end of one piece and the beginning of the next.
+const READ_ON: Ask = Read(1, 0, 1_000_000);
+
+/// Sixteen pieces of 1,000,000 bytes go into a file whole, each of its own number, and of one more what is left up to the limit. There the
+/// file takes no byte more. After the first each read takes the end of one piece and the beginning of the next.
 const PIECES: Session = Session {
     name: "a_file_as_large_as_may_be",
     rows: &[
@@ -154,70 +156,22 @@ const PIECES: Session = Session {
         (Lseek(1, 0, 0, End), Offset(16_777_216)),
         (Lseek(1, 0, 0, Set), Offset(0)),
         (Read(1, 0, 600_000), Bytes(Many(0, 600_000))),
-        (
-            Read(1, 0, 1_000_000),
-            Bytes(TwoRuns(0, 400_000, 1, 600_000)),
-        ),
-        (
-            Read(1, 0, 1_000_000),
-            Bytes(TwoRuns(1, 400_000, 2, 600_000)),
-        ),
-        (
-            Read(1, 0, 1_000_000),
-            Bytes(TwoRuns(2, 400_000, 3, 600_000)),
-        ),
-        (
-            Read(1, 0, 1_000_000),
-            Bytes(TwoRuns(3, 400_000, 4, 600_000)),
-        ),
-        (
-            Read(1, 0, 1_000_000),
-            Bytes(TwoRuns(4, 400_000, 5, 600_000)),
-        ),
-        (
-            Read(1, 0, 1_000_000),
-            Bytes(TwoRuns(5, 400_000, 6, 600_000)),
-        ),
-        (
-            Read(1, 0, 1_000_000),
-            Bytes(TwoRuns(6, 400_000, 7, 600_000)),
-        ),
-        (
-            Read(1, 0, 1_000_000),
-            Bytes(TwoRuns(7, 400_000, 8, 600_000)),
-        ),
-        (
-            Read(1, 0, 1_000_000),
-            Bytes(TwoRuns(8, 400_000, 9, 600_000)),
-        ),
-        (
-            Read(1, 0, 1_000_000),
-            Bytes(TwoRuns(9, 400_000, 10, 600_000)),
-        ),
-        (
-            Read(1, 0, 1_000_000),
-            Bytes(TwoRuns(10, 400_000, 11, 600_000)),
-        ),
-        (
-            Read(1, 0, 1_000_000),
-            Bytes(TwoRuns(11, 400_000, 12, 600_000)),
-        ),
-        (
-            Read(1, 0, 1_000_000),
-            Bytes(TwoRuns(12, 400_000, 13, 600_000)),
-        ),
-        (
-            Read(1, 0, 1_000_000),
-            Bytes(TwoRuns(13, 400_000, 14, 600_000)),
-        ),
-        (
-            Read(1, 0, 1_000_000),
-            Bytes(TwoRuns(14, 400_000, 15, 600_000)),
-        ),
-        (
-            Read(1, 0, 1_000_000),
-            Bytes(TwoRuns(15, 400_000, 16, 600_000)),
-        ),
+        (READ_ON, Bytes(TwoRuns(0, 400_000, 1, 600_000))),
+        (READ_ON, Bytes(TwoRuns(1, 400_000, 2, 600_000))),
+        (READ_ON, Bytes(TwoRuns(2, 400_000, 3, 600_000))),
+        (READ_ON, Bytes(TwoRuns(3, 400_000, 4, 600_000))),
+        (READ_ON, Bytes(TwoRuns(4, 400_000, 5, 600_000))),
+        (READ_ON, Bytes(TwoRuns(5, 400_000, 6, 600_000))),
+        (READ_ON, Bytes(TwoRuns(6, 400_000, 7, 600_000))),
+        (READ_ON, Bytes(TwoRuns(7, 400_000, 8, 600_000))),
+        (READ_ON, Bytes(TwoRuns(8, 400_000, 9, 600_000))),
+        (READ_ON, Bytes(TwoRuns(9, 400_000, 10, 600_000))),
+        (READ_ON, Bytes(TwoRuns(10, 400_000, 11, 600_000))),
+        (READ_ON, Bytes(TwoRuns(11, 400_000, 12, 600_000))),
+        (READ_ON, Bytes(TwoRuns(12, 400_000, 13, 600_000))),
+        (READ_ON, Bytes(TwoRuns(13, 400_000, 14, 600_000))),
+        (READ_ON, Bytes(TwoRuns(14, 400_000, 15, 600_000))),
+        (READ_ON, Bytes(TwoRuns(15, 400_000, 16, 600_000))),
         (Read(1, 0, 4_294_967_295), Bytes(Many(16, 177_216))),
         (Read(1, 0, 1), NOTHING),
     ],

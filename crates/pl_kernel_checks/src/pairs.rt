@@ -9,65 +9,81 @@ use std::test::Fail;
 /// What a new pipe can hold (pipe(7), Pipe capacity).
 const CAPACITY: u32 = 65_536;
 
-/// What both replies to a read are.
+/// What a read comes to.
 #[derive(Clone, Copy)]
-enum Read {
+enum Found {
     /// The byte "a".
     A,
     /// That nothing is there (POSIX.1-2017, read, EAGAIN).
     Nothing,
-    /// No replies: there was no memory.
+    /// No reply: there is no memory.
     NoMemory,
     Other,
 }
 
 /// Process 1 has a pipe on which no call waits, whose ends are descriptors 0 and 1, and one on which calls wait, whose ends are 2 and 3.
-/// The first holds "a".
 fn make_pipes<A: Allocator + Copy>(kernel: &mut Kernel<A>) -> Result<(), NoMemory> {
     kernel.step(Step::Start)?;
     kernel.step(Step::Begin(1, Call::Pipe { nonblock: true }))?;
     kernel.step(Step::Begin(1, Call::Pipe { nonblock: false }))?;
+    Ok(())
+}
+
+/// Writes "a" to the first pipe.
+fn write_a<A: Allocator + Copy>(kernel: &mut Kernel<A>) -> Result<(), NoMemory> {
     kernel.write_from(1, 1, b"a".as_slice())?;
     Ok(())
 }
 
-/// Reads as many bytes of the first pipe as a call can ask for.
-fn read_twice<A: Allocator + Copy>(kernel: &mut Kernel<A>) -> Read {
-    let pair = kernel.step_pair(Step::Begin(1, Call::Read { fd: 0, n: u32::MAX }));
-    match &pair {
-        Ok((Reply::Bytes(first), Reply::Bytes(second)))
-            if first.as_slice() == b"a".as_slice() && second.as_slice() == b"a".as_slice() => {
-            Read::A
-        }
-        Ok((Reply::Fault(Errno::EAGAIN), Reply::Fault(Errno::EAGAIN))) => Read::Nothing,
-        Ok(_) => Read::Other,
-        Err(NoMemory) => Read::NoMemory,
+fn found_in<A: Allocator>(reply: &Reply<A>) -> Found {
+    match reply {
+        Reply::Bytes(bytes) if bytes.as_slice() == b"a".as_slice() => Found::A,
+        Reply::Fault(Errno::EAGAIN) => Found::Nothing,
+        _ => Found::Other,
     }
 }
 
-/// Both requests of a read, for the second reply and for the first, are refused in turn; then the byte is there still, and is read once.
-/// Where nothing is there to read, no request is made, however much is asked for.
-fn reads_are_answered_twice<A: Allocator + Copy>(
+/// Reads so many bytes of the first pipe, and answers what both replies are.
+fn read_twice<A: Allocator + Copy>(kernel: &mut Kernel<A>, n: u32) -> Found {
+    let Ok((first, second)) = kernel.step_pair(Step::Begin(1, Call::Read { fd: 0, n })) else {
+        return Found::NoMemory;
+    };
+    match (found_in(&first), found_in(&second)) {
+        (Found::A, Found::A) => Found::A,
+        (Found::Nothing, Found::Nothing) => Found::Nothing,
+        _ => Found::Other,
+    }
+}
+
+/// Both requests of a read of "a", for the second reply and for the first, are refused in turn; then the byte is there still, and is read
+/// once. Where nothing is there to read, no request is made, however much is asked for.
+fn each_request_is_refused<A: Allocator + Copy>(
     heap: &Refusing<Global>,
     kernel: &mut Kernel<A>,
 ) -> bool {
     heap.refuse(1);
-    let first = read_twice(kernel);
+    let first = read_twice(kernel, u32::MAX);
     heap.refuse(2);
-    let second = read_twice(kernel);
+    let second = read_twice(kernel, u32::MAX);
     heap.refuse(0);
-    let third = read_twice(kernel);
+    let third = read_twice(kernel, u32::MAX);
     let requests = heap.requests();
     heap.refuse(1);
-    let fourth = read_twice(kernel);
-    let made_none = heap.requests() == 0;
+    let fourth = read_twice(kernel, u32::MAX);
+    let none_more = heap.requests() == 0;
     heap.refuse(0);
-    let reads = (first, second, third, fourth);
-    matches!(
-        reads,
-        (Read::NoMemory, Read::NoMemory, Read::A, Read::Nothing)
-    ) && requests == 2
-        && made_none
+    let found = (first, second, third, fourth);
+    let as_wanted = matches!(
+        found,
+        (Found::NoMemory, Found::NoMemory, Found::A, Found::Nothing)
+    );
+    as_wanted && requests == 2 && none_more
+}
+
+/// Of "a", one byte is read, and then none.
+fn a_byte_is_read_once<A: Allocator + Copy>(kernel: &mut Kernel<A>) -> bool {
+    let found = (read_twice(kernel, 1), read_twice(kernel, 1));
+    matches!(found, (Found::A, Found::Nothing))
 }
 
 /// A write to the second pipe of more bytes than that can hold waits, as call 1, and has taken what went in (POSIX.1-2017, write).
@@ -77,16 +93,19 @@ fn write_waits_for_the_rest<A: Allocator + Copy>(kernel: &mut Kernel<A>, bytes: 
     waits && kernel.taken(1) == Some(CAPACITY) && kernel.taken(99) == None
 }
 
-/// Whether each step is answered twice as it is to be, on a new kernel whose memory is that of `heap`.
+/// Whether each step is answered twice as it is to be, on a new kernel whose memory is that of `heap`, which is `alloc` too.
 fn all_are_answered_twice<A: Allocator + Copy>(
     heap: &Refusing<Global>,
     alloc: A,
     kernel: &mut Kernel<A>,
 ) -> Result<bool, NoMemory> {
     make_pipes(kernel)?;
-    let reads = reads_are_answered_twice(heap, kernel);
+    write_a(kernel)?;
+    let refused = each_request_is_refused(heap, kernel);
+    write_a(kernel)?;
+    let read = a_byte_is_read_once(kernel);
     let bytes = Bytes8::from_vec(Vec::from_elem(alloc, b'x', 70_000)?).unwrap();
-    Ok(reads && write_waits_for_the_rest(kernel, bytes))
+    Ok(refused && read && write_waits_for_the_rest(kernel, bytes))
 }
 
 #[test]

@@ -46,16 +46,20 @@ const SPLICES: &[(Ask, Want)] = &[
     ),
 ];
 
-const ALL_OF_THEM: (Ask, Want) = (Read(1, 0, 20_000), Bytes(Part(0, 10_000)));
+const ALL_OF_THEM: &[(Ask, Want)] = &[(Read(1, 0, 20_000), Bytes(Part(0, 10_000)))];
 
-#[test]
-fn a_hundred_rounds(rt: HostRuntime) -> Result<(), Fail> {
-    let mut bench = Bench::new("a_hundred_rounds", rt.alloc(), rt.alloc(), LIMITS)?;
+fn go_round(bench: &mut Bench) -> Result<(), Fail> {
     bench.all_answer(TWO_PIPES)?;
     for _round in 0..100u8 {
         bench.all_answer(TEES)?;
         bench.all_answer(SPLICES)?;
     }
-    bench.all_answer(&[ALL_OF_THEM])?;
+    bench.all_answer(ALL_OF_THEM)?;
     bench.ends_empty(&[])
+}
+
+#[test]
+fn a_hundred_rounds(rt: HostRuntime) -> Result<(), Fail> {
+    let mut bench = Bench::new("a_hundred_rounds", rt.alloc(), rt.alloc(), LIMITS)?;
+    go_round(&mut bench)
 }

@@ -21,9 +21,9 @@ enum Seen {
     Segments(u64),
     /// At most so many segments more than before the step.
     MoreSegments(u64),
-    /// So many slots of the pipe of a descriptor of a process; none where it isn't open on a pipe.
+    /// The pipe of a descriptor of a process has so many slots; `None` where that isn't open on a pipe.
     Slots(u32, i32, Option<u32>),
-    /// At most so many of them, and some pipe.
+    /// The pipe of a descriptor of a process has at most so many slots.
     MostSlots(u32, i32, u32),
 }
 
@@ -175,15 +175,15 @@ fn go_through(bench: &mut Bench, course: &Course) -> Result<(), Fail> {
     bench.ends_empty(course.names)
 }
 
-fn is_as_seen(alloc: Global, course: &Course) -> Result<(), Fail> {
+fn course_is_seen(alloc: Global, course: &Course) -> Result<(), Fail> {
     let mut bench = Bench::new(course.name, alloc, alloc, LIMITS)?;
     go_through(&mut bench, course)
 }
 
 #[test]
-fn bytes_are_shared(rt: HostRuntime) -> Result<(), Fail> {
+fn segments_and_slots_are_few(rt: HostRuntime) -> Result<(), Fail> {
     for course in COURSES {
-        is_as_seen(rt.alloc(), course)?;
+        course_is_seen(rt.alloc(), course)?;
     }
     Ok(())
 }
