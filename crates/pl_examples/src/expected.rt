@@ -57,11 +57,14 @@ fn push_line(text: &mut String, line: &str) -> Result<()> {
 /// Where a piece is malformed, or there is no memory.
 pub fn expanded(alloc: Global, text: &str) -> Result<String> {
     let mut all = String::new(alloc);
-    let mut end = "";
-    for line in text.split('\n') {
-        all.push_str(end)?;
-        push_line(&mut all, line)?;
-        end = "\n";
+    for line in text.split_inclusive('\n') {
+        match line.strip_suffix('\n') {
+            Some(content) => {
+                push_line(&mut all, content)?;
+                all.push_str("\n")?;
+            }
+            None => push_line(&mut all, line)?,
+        }
     }
     Ok(all)
 }
