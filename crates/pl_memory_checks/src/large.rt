@@ -4,13 +4,12 @@ use pl_model::Errno::EAGAIN;
 use pl_model::Whence::End;
 use pl_model::{Mode, OpenFlags, SpliceFlags};
 use pl_refusing::{MOST_REQUESTS, Refusing, all_were_refused};
-use pl_testing::LIMITS;
 use pl_testing::asked::Ask::{
     self, Lseek, Open, PipeNonblock, Read, SetPipeSz, Splice, Start, Tee, Write,
 };
 use pl_testing::asked::Data::{self, Part, Text};
 use pl_testing::asked::Want::{self, Bytes, Count, Fault, Fd, Fds, Offset, Pid, Size};
-use std::alloc::{Allocator, Global};
+use std::alloc::Global;
 use std::test::Fail;
 
 const F: Data = Text("f");
@@ -76,12 +75,7 @@ const SHARING: &[Sharing] = &[
 ];
 
 /// Compares what the ends answer, and the segments with those of before.
-fn compare<B: Allocator>(
-    bench: &mut Scarce<'_, B>,
-    sharing: &Sharing,
-    went: bool,
-    before: u64,
-) -> Result<(), Fail> {
+fn compare(bench: &mut Scarce, sharing: &Sharing, went: bool, before: u64) -> Result<(), Fail> {
     let (most_new, rows) = if went {
         (sharing.most_new, sharing.all_went)
     } else {
@@ -95,20 +89,12 @@ fn compare<B: Allocator>(
 
 /// Makes the step, of which the `n`th request for memory is refused. Either it has its reply and all bytes went over, or it found no
 /// memory and none did.
-fn make<B: Allocator>(
-    alloc: Global,
-    heap: &Refusing<B>,
-    sharing: &Sharing,
-    n: u64,
-) -> Result<(), Fail> {
-    let mut bench = Scarce::new(sharing.name, alloc, heap, 0, LIMITS)?;
+fn make(alloc: Global, heap: &Refusing<Global>, sharing: &Sharing, n: u64) -> Result<(), Fail> {
+    let mut bench = Scarce::new(sharing.name, alloc, heap)?;
     bench.all_answer(ENDS)?;
     let before = bench.segments();
     bench.refuse(n);
     let went = bench.makes(sharing.ask, Count(1_048_576))?;
-    if went == heap.refused() {
-        return Err(bench.fault(sharing.ask, "goes on where it finds no memory"));
-    }
     compare(&mut bench, sharing, went, before)?;
     bench.ends_empty(&[F])
 }

@@ -2,22 +2,14 @@
 #![tactic(auto)]
 
 #[cfg(test)]
-mod capacities;
-#[cfg(test)]
-mod fifos;
-#[cfg(test)]
-mod files;
-#[cfg(test)]
-mod frugal;
-#[cfg(test)]
 mod large;
 #[cfg(test)]
-mod memory;
+mod made_again;
 #[cfg(test)]
 mod passed_over;
 #[cfg(test)]
-mod polls;
-#[cfg(test)]
 mod scarce;
 #[cfg(test)]
-mod splices;
+mod steps;
+#[cfg(test)]
+mod tables;

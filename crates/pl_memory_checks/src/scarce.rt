@@ -1,26 +1,22 @@
 //! A bench in memory of which a chosen request is refused.
-ghost use Rattle.std.specs.Prelude.{◌≤◌};
-ghost use Rattle.pl_model.specs.Numbers.{most_file_bytes};
-
-use pl_model::{Limits, Reply, Step};
+use pl_model::Reply;
 use pl_refusing::Refusing;
+use pl_testing::LIMITS;
 use pl_testing::asked::{Ask, Data, Want, steps_of};
 use pl_testing::bench::Bench;
-use std::alloc::{Allocator, Global};
+use pl_testing::wanting::takes_no_memory;
+use std::alloc::Global;
 use std::marker::Model;
 use std::test::Fail;
 
-/// Steps in that memory.
-type Steps<'a, B> = Vec<Step<&'a Refusing<B>>, &'a Refusing<B>>;
-
 /// A kernel in memory of `heap`. The bytes of what it is asked are in that memory too, and are no requests for it.
 #[derive(Drop)]
-pub(crate) struct Scarce<'a, B: Allocator = Global> {
-    heap: &'a Refusing<B>,
-    bench: Bench<&'a Refusing<B>>,
+pub(crate) struct Scarce<'a> {
+    heap: &'a Refusing<Global>,
+    bench: Bench<&'a Refusing<Global>>,
 }
 
-impl<'a, B: Allocator> Model for Scarce<'a, B> {
+impl<'a> Model for Scarce<'a> {
     ghost use Rattle.std.specs.Prelude.{ℕ};
 
     ghost Value = { ℕ };
@@ -28,57 +24,59 @@ impl<'a, B: Allocator> Model for Scarce<'a, B> {
     ghost view = { λ _. 0 };
 }
 
-impl<'a, B: Allocator> Scarce<'a, B> {
-    /// A new kernel within the limits, where the `n`th request is refused.
+impl<'a> Scarce<'a> {
+    /// A new kernel, of which no request is refused.
     pub(crate) fn new(
         name: &'static str,
         alloc: Global,
-        heap: &'a Refusing<B>,
-        n: u64,
-        limits: Limits,
-    ) -> Result<Self, Fail>
-        requires { limits.file_max ≤ most_file_bytes }
-    {
-        let bench = Bench::new(name, alloc, heap, limits)?;
-        let mut scarce = Scarce { heap, bench };
-        scarce.refuse(n);
-        Ok(scarce)
+        heap: &'a Refusing<Global>,
+    ) -> Result<Self, Fail> {
+        heap.refuse(0);
+        let bench = Bench::new(name, alloc, heap, LIMITS)?;
+        Ok(Scarce { heap, bench })
     }
 
-    /// From now on the `n`th request is refused, and the count begins anew; at 0 none is refused.
+    /// So many processes start, and the first `full_tables` of them fill their tables.
+    pub(crate) fn prepare(&mut self, processes: u32, full_tables: u32) -> Result<(), Fail> {
+        self.bench.prepare(processes, full_tables)
+    }
+
+    /// From now on the `n`th request is refused, and the count begins anew.
     pub(crate) fn refuse(&mut self, n: u64) {
         self.heap.refuse(n);
         self.bench.tell_refused(n);
     }
 
-    /// Makes the step, and answers whether it found memory. It fails where the step did, and doesn't answer what is wanted.
-    pub(crate) fn makes(&mut self, ask: Ask, want: Want) -> Result<bool, Fail> {
+    /// Makes the step, and answers whether it found memory.
+    fn reaches(&mut self, ask: Ask, want: Want) -> Result<bool, Fail> {
         let counted = self.heap.pause();
         let step = ask.step(self.heap)?;
         self.heap.go_on(counted);
         self.bench.makes(ask, step, want)
     }
 
-    /// Makes the step, and fails where it doesn't answer what is wanted.
-    pub(crate) fn answers(&mut self, ask: Ask, want: Want) -> Result<(), Fail> {
-        if self.makes(ask, want)? {
-            Ok(())
-        } else {
-            Err(self.fault(ask, "finds no memory"))
+    /// Makes the step, and answers whether it found memory: it finds none just where a request that it makes is refused. It
+    /// fails where that isn't so, where the step is to take no memory and asks for some, and where it doesn't answer what is
+    /// wanted.
+    pub(crate) fn makes(&mut self, ask: Ask, want: Want) -> Result<bool, Fail> {
+        let (requests, refused) = (self.heap.requests(), self.heap.refused());
+        let found = self.reaches(ask, want)?;
+        if found == (self.heap.refused() != refused) {
+            return Err(self.fault(ask, "finds memory, or none, against what is refused"));
         }
+        if takes_no_memory(ask, want) && self.heap.requests() != requests {
+            return Err(self.fault(ask, "asks for memory"));
+        }
+        Ok(found)
     }
 
-    /// In how many segments of memory bytes are kept.
-    pub(crate) fn segments(&self) -> u64 {
-        self.bench.segments()
-    }
-
-    /// So many processes start, and the first `full_tables` of them fill their tables; no request for memory is refused.
-    pub(crate) fn prepare(&mut self, processes: u32, full_tables: u32) -> Result<(), Fail> {
+    /// Makes the steps as one run, and answers what each came to, `None` where it found no memory; `None` where the run itself
+    /// found none.
+    pub(crate) fn run(&mut self, rows: &[(Ask, Want)]) -> Result<Option<Vec<Option<Reply>>>, Fail> {
         let counted = self.heap.pause();
-        self.bench.prepare(processes, full_tables)?;
+        let steps = steps_of(self.heap, rows)?;
         self.heap.go_on(counted);
-        Ok(())
+        self.bench.run(steps)
     }
 
     /// Makes the steps, of which each answers what its row says; no request for memory is refused.
@@ -98,32 +96,13 @@ impl<'a, B: Allocator> Scarce<'a, B> {
         Ok(())
     }
 
+    /// In how many segments of memory bytes are kept.
+    pub(crate) fn segments(&self) -> u64 {
+        self.bench.segments()
+    }
+
     /// What a test fails with at the last step.
     pub(crate) fn fault(&self, ask: Ask, what: &str) -> Fail {
         self.bench.fault(ask, what)
-    }
-
-    /// The steps of the rows.
-    fn steps(&self, rows: &[(Ask, Want)]) -> Result<Steps<'a, B>, Fail> {
-        let counted = self.heap.pause();
-        let steps = steps_of(self.heap, rows)?;
-        self.heap.go_on(counted);
-        Ok(steps)
-    }
-
-    /// Makes the steps as one run, and answers what each came to, `None` where it found no memory; `None` where the run itself
-    /// found none.
-    fn run_once(&mut self, rows: &[(Ask, Want)]) -> Result<Option<Vec<Option<Reply>>>, Fail> {
-        let steps = self.steps(rows)?;
-        self.bench.run(steps)
-    }
-
-    /// Makes the steps as one run, and answers what each came to, `None` where it found no memory. A run that is refused itself
-    /// is made again.
-    pub(crate) fn run(&mut self, rows: &[(Ask, Want)]) -> Result<Vec<Option<Reply>>, Fail> {
-        match self.run_once(rows)? {
-            Some(replies) => Ok(replies),
-            None => Ok(self.run_once(rows)?.ok_or("a run is refused twice")?),
-        }
     }
 }

@@ -1,24 +1,20 @@
-//! Want of memory where bytes are spliced and copied: no byte of a step that finds none goes over.
-use crate::memory::refuse_each;
-use pl_model::Errno::{EAGAIN, EINTR, EPIPE};
+//! Many bytes that go over, and full tables.
+use pl_model::Errno::{EAGAIN, EMFILE, ENFILE, ENOENT};
 use pl_model::Whence::{Cur, End, Set};
 use pl_model::{Mode, OpenFlags, SpliceFlags};
 use pl_testing::asked::Ask::{
-    self, Close, Interrupt, Lseek, Open, Pipe, Read, Resume, SetPipeSz, Splice, Start, Tee, Write,
+    Close, Dup, Fork, Lseek, Mkfifo, Open, Pipe, Read, Resume, SetPipeSz, Splice, Start, Tee,
+    Unlink, Write,
 };
 use pl_testing::asked::Data::{self, Many, Part, Text};
-use pl_testing::asked::Want::{
-    self, Bytes, Count, Fault, Fd, Fds, Offset, Parked, Pid, Size, Unit,
-};
-use pl_testing::examples::{
-    A_SHARED_TAIL, A_SPLICE_TO_AN_OFFSET, BYTES_OF_THEIR_MOMENT, SPLICES_AND_TEES_REFUSED,
-};
+use pl_testing::asked::Want::{Bytes, Count, Fault, Fd, Fds, Offset, Parked, Pid, Size, Unit};
 use pl_testing::sessions::{NEW_KERNEL, Session};
-use std::test::Fail;
 
 const F: Data = Text("f");
 
 const G: Data = Text("g");
+
+const CREAT: &[OpenFlags] = &[OpenFlags::CREAT];
 
 const NEW: &[OpenFlags] = &[OpenFlags::CREAT, OpenFlags::EXCL];
 
@@ -28,29 +24,6 @@ const AT_ONCE: &[SpliceFlags] = &[SpliceFlags::NONBLOCK];
 
 /// Each is refused every request for memory in turn.
 const SESSIONS: &[Session] = &[
-    Session {
-        name: "a_shared_tail",
-        rows: &A_SHARED_TAIL,
-        ..NEW_KERNEL
-    },
-    Session {
-        name: "bytes_of_their_moment",
-        rows: &BYTES_OF_THEIR_MOMENT,
-        names: &[F],
-        ..NEW_KERNEL
-    },
-    Session {
-        name: "a_splice_to_an_offset",
-        rows: &A_SPLICE_TO_AN_OFFSET,
-        names: &[F],
-        ..NEW_KERNEL
-    },
-    Session {
-        name: "splices_and_tees_refused",
-        rows: &SPLICES_AND_TEES_REFUSED,
-        names: &[Text("a"), Text("b")],
-        ..NEW_KERNEL
-    },
     // Many slices at once, in pieces that begin and end anywhere. One more piece goes into a pipe that has many already.
     Session {
         name: "between_pipes",
@@ -119,51 +92,37 @@ const SESSIONS: &[Session] = &[
         names: &[F, G],
         ..NEW_KERNEL
     },
-    // A call that waits stays parked where it finds no memory, with the ends that it keeps.
+    // The process, the descriptors, the descriptions and the file for which there is no place, and an open that was met and for
+    // which there is none, take no memory.
     Session {
-        name: "calls_that_wait",
+        name: "full_tables",
+        processes: 1_024,
+        full_tables: 16,
         rows: &[
-            (Start, Pid(1)),
-            (Pipe(1), Fds(0, 1)),
-            (Pipe(1), Fds(2, 3)),
-            (Open(1, F, Mode::Both, NEW), Fd(4)),
-            (Splice(1, (0, None), (3, None), 9, WITHOUT), Parked(1)),
-            (Tee(1, 0, 3, 9, WITHOUT), Parked(2)),
-            (Splice(1, (0, None), (4, None), 3, WITHOUT), Parked(3)),
-            (Splice(1, (0, None), (3, None), 9, AT_ONCE), Fault(EAGAIN)),
+            (Start, Fault(EAGAIN)),
+            (Fork(1), Fault(EAGAIN)),
+            (Pipe(1), Fault(EMFILE)),
+            (Dup(1, 0), Fault(EMFILE)),
+            (Open(1, F, Mode::Both, CREAT), Fault(EMFILE)),
+            (Pipe(17), Fault(ENFILE)),
+            (Open(17, F, Mode::Both, CREAT), Fault(ENFILE)),
+            (Unlink(17, F), Fault(ENOENT)),
+            (Mkfifo(17, F), Unit),
             (Close(1, 0), Unit),
-            (Close(1, 3), Unit),
-            (Write(1, 1, Many(b'a', 5_000)), Count(5_000)),
-            (Resume(2), Count(9)),
-            (Resume(3), Count(3)),
-            (Lseek(1, 4, 0, Cur), Offset(3)),
-            (Resume(1), Count(9)),
-            (Write(1, 1, Text("b")), Fault(EPIPE)),
-            (Read(1, 2, 99), Bytes(Many(b'a', 18))),
-            (Read(1, 2, 99), Bytes(Text(""))),
-            (Pipe(1), Fds(0, 3)),
-            (Write(1, 3, Many(b'b', 65_536)), Count(65_536)),
-            (Splice(1, (4, Some(0)), (3, None), 9, WITHOUT), Parked(4)),
-            (Splice(1, (4, Some(1)), (3, None), 9, WITHOUT), Parked(5)),
-            (Interrupt(5), Fault(EINTR)),
-            (Read(1, 0, 65_535), Bytes(Many(b'b', 65_535))),
-            (Resume(4), Count(3)),
-            (Read(1, 0, 9), Bytes(Text("baaa"))),
+            (Close(1, 1), Unit),
+            (Open(1, F, Mode::Read, &[]), Parked(1)),
+            (Open(17, F, Mode::Write, &[]), Fd(0)),
+            (Open(17, F, Mode::Read, &[]), Fault(ENFILE)),
+            (Dup(1, 2), Fd(0)),
+            (Dup(1, 2), Fd(1)),
+            (Resume(1), Fault(EMFILE)),
         ],
         names: &[F],
         ..NEW_KERNEL
     },
 ];
 
-/// The table, of which a proof of the test then need not see the rows.
-fn sessions() -> &'static [Session] {
+/// The table, of which a proof of a test then need not see the rows.
+pub(super) fn sessions() -> &'static [Session] {
     SESSIONS
-}
-
-#[test]
-fn each_session_survives_refusals(rt: HostRuntime) -> Result<(), Fail> {
-    for session in sessions() {
-        refuse_each(rt.alloc(), session)?;
-    }
-    Ok(())
 }

@@ -1,0 +1,29 @@
+//! The steps that are refused memory.
+mod calls;
+mod capacities;
+mod examples;
+mod fifos;
+mod polls;
+mod splices;
+mod whole;
+
+use crate::steps::Steps;
+use pl_testing::sessions::Session;
+
+/// All tables of steps.
+pub(crate) fn tables() -> [&'static [Steps]; 7] {
+    [
+        examples::transfers(),
+        examples::ends(),
+        calls::calls(),
+        capacities::capacities(),
+        fifos::fifos(),
+        polls::polls(),
+        splices::splices(),
+    ]
+}
+
+/// The sessions of which a step that finds no memory is made again, and not passed over.
+pub(crate) fn sessions() -> &'static [Session] {
+    whole::sessions()
+}
