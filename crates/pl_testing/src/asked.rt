@@ -4,7 +4,7 @@ use pl_model::{
     Bytes8, Call, Errno, MaskList, Mode, Name, OpenFlags, Outcome, PollList, PollMask, Reply,
     SpliceFlags, Step, Whence,
 };
-use std::alloc::{Allocator, Global};
+use std::alloc::{AllocError, Allocator, Global};
 use std::test::Fail;
 
 /// The number that no call gets.
@@ -79,26 +79,40 @@ pub enum Want {
     CallsSpent,
 }
 
+/// The first byte, so many times, and then the second, so many times.
+fn two_runs<A: Allocator>(
+    alloc: A,
+    first: u8,
+    times: usize,
+    second: u8,
+    more: usize,
+) -> Result<Vec<u8, A>, AllocError> {
+    let mut bytes = Vec::from_elem(alloc, first, times)?;
+    for _place in 0..more {
+        bytes.push(second)?;
+    }
+    Ok(bytes)
+}
+
+/// From a place on, so many bytes of the text without end.
+fn part<A: Allocator>(alloc: A, from: usize, count: usize) -> Result<Vec<u8, A>, AllocError> {
+    let mut bytes = Vec::with_capacity(alloc, count)?;
+    for i in 0..count {
+        bytes.push((from.wrapping_add(i) % 251) as u8)?;
+    }
+    Ok(bytes)
+}
+
 impl Data {
-    fn list<A: Allocator>(self, alloc: A) -> Result<Vec<u8, A>, Fail> {
-        Ok(match self {
-            Data::Text(text) => Vec::from_slice(alloc, text.as_bytes())?,
-            Data::Many(byte, times) => Vec::from_elem(alloc, byte, times)?,
+    fn list<A: Allocator>(self, alloc: A) -> Result<Vec<u8, A>, AllocError> {
+        match self {
+            Data::Text(text) => Vec::from_slice(alloc, text.as_bytes()),
+            Data::Many(byte, times) => Vec::from_elem(alloc, byte, times),
             Data::TwoRuns(first, times, second, more) => {
-                let mut bytes = Vec::from_elem(alloc, first, times)?;
-                for _place in 0..more {
-                    bytes.push(second)?;
-                }
-                bytes
+                two_runs(alloc, first, times, second, more)
             }
-            Data::Part(from, count) => {
-                let mut bytes = Vec::with_capacity(alloc, count)?;
-                for i in 0..count {
-                    bytes.push((from.wrapping_add(i) % 251) as u8)?;
-                }
-                bytes
-            }
-        })
+            Data::Part(from, count) => part(alloc, from, count),
+        }
     }
 
     fn bytes<A: Allocator>(self, alloc: A) -> Result<Bytes8<A>, Fail> {

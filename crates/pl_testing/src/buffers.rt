@@ -15,6 +15,16 @@ const UNREAD: u8 = 0xa5;
 /// What an entry of a poll says was found before the poll is made.
 const UNNOTED: u16 = 0xa5a5;
 
+/// Whether no byte was read into any of these.
+fn are_unread(bytes: &[u8]) -> bool {
+    for byte in bytes {
+        if *byte != UNREAD {
+            return false;
+        }
+    }
+    true
+}
+
 /// The reply that a read's answer and its buffer tell. It fails where bytes behind those that were read changed.
 fn told(alloc: Global, reply: ReadReply, buffer: &[u8]) -> Result<Reply, Fail> {
     let count = match reply {
@@ -24,7 +34,7 @@ fn told(alloc: Global, reply: ReadReply, buffer: &[u8]) -> Result<Reply, Fail> {
     let (Some(read), Some(rest)) = (buffer.get(..count), buffer.get(count..)) else {
         return Err(Fail::from("a read answers more bytes than there are in its buffer"));
     };
-    if rest.iter().any(|byte| *byte != UNREAD) {
+    if !are_unread(rest) {
         return Err(Fail::from("a read changes bytes behind those that it answers"));
     }
     Ok(match reply {
@@ -63,10 +73,19 @@ fn entries_of<A: Allocator>(alloc: Global, asked: &PollList<A>) -> Result<Vec<Po
     Ok(entries)
 }
 
+/// Whether nothing was noted in any entry.
+fn are_unnoted(entries: &[PollEntry]) -> bool {
+    for entry in entries {
+        if entry.revents != UNNOTED {
+            return false;
+        }
+    }
+    true
+}
+
 /// The reply that a poll's answer and its entries tell. It fails where an entry changed and none was to be noted.
 fn polled(alloc: Global, reply: PollReply, entries: &[PollEntry]) -> Result<Reply, Fail> {
-    let unnoted = entries.iter().all(|entry| entry.revents == UNNOTED);
-    if !matches!(reply, PollReply::Ready(_)) && !unnoted {
+    if !matches!(reply, PollReply::Ready(_)) && !are_unnoted(entries) {
         return Err(Fail::from("a poll that isn't answered changes its entries"));
     }
     Ok(match reply {
