@@ -1,4 +1,5 @@
 //! The line and the status of each fault.
+use super::equal::is;
 use super::trickling::{Drip, Failure};
 use pl_run::{Fault, status, write_fault};
 use pl_script::{ScriptFault, Writes};
@@ -42,7 +43,7 @@ fn writes_line<A: Allocator + Copy>(
     let mut writer = Drip::new(alloc, most);
     let told = took_line(fault, &mut writer);
     let is_written = writer.taken() == line.as_bytes();
-    assert!(rt; told && is_written, "{fault:?}");
+    is(rt, line, most, (told, is_written), (true, true));
     writer.calls()
 }
 
@@ -50,7 +51,7 @@ fn writes_line<A: Allocator + Copy>(
 fn each_fault_has_a_line_and_a_status(rt: HostRuntime) {
     for (fault, line, number) in FAULTS {
         writes_line(&rt, rt.alloc(), usize::MAX, fault, line);
-        assert_eq!(rt; status(fault), *number, "{fault:?}");
+        is(&rt, line, 0, status(fault), *number);
     }
 }
 
@@ -66,7 +67,7 @@ const ENDS: &[(ScriptFault, Fault)] = &[
 #[test]
 fn each_end_of_a_script_is_a_fault(rt: HostRuntime) {
     for (end, fault) in ENDS {
-        assert_eq!(rt; Fault::from(*end), *fault, "{end:?}");
+        is(&rt, "the end of a script", 0, Fault::from(*end), *fault);
     }
 }
 
@@ -84,28 +85,15 @@ fn fail_the_write<A: Allocator + Copy>(
     let mut writer = Drip::failing(alloc, 1, n, failure);
     let told = took_line(fault, &mut writer);
     let is_front = line.as_bytes().starts_with(writer.taken());
-    assert!(rt;
-        !told && is_front,
-        "{fault:?}, where write {n} has {failure:?}"
-    );
-}
-
-fn fail_the_write_by_each<A: Allocator + Copy>(
-    rt: &impl Abort,
-    alloc: A,
-    fault: &Fault,
-    line: &str,
-    n: usize,
-) {
-    for failure in FAILURES {
-        fail_the_write(rt, alloc, fault, line, n, *failure);
-    }
+    is(rt, line, n, (told, is_front), (false, true));
 }
 
 fn fail_writes<A: Allocator + Copy>(rt: &impl Abort, alloc: A, fault: &Fault, line: &str) {
     let writes = writes_line(rt, alloc, 1, fault, line);
     for n in 1..=writes {
-        fail_the_write_by_each(rt, alloc, fault, line, n);
+        for failure in FAILURES {
+            fail_the_write(rt, alloc, fault, line, n, *failure);
+        }
     }
 }
 

@@ -1,4 +1,5 @@
 //! What lines ask.
+use crate::equal::is;
 use crate::{fifo_lines, file_lines, poll_lines, shared_lines, size_lines, splice_lines};
 use pl_model::Name;
 use pl_script::{Line, LineFault, parse_line};
@@ -237,14 +238,14 @@ fn is_bad(alloc: Global, text: &str) -> bool {
 fn each_asks(rt: &impl Abort, alloc: Global, rows: &[(&str, Ask)]) -> Result<(), Fail> {
     for (text, ask) in rows {
         let is_asked = asks(alloc, text, *ask)?;
-        assert!(rt; is_asked, "{text:?} asks for something else");
+        is(rt, text, 0, is_asked, true);
     }
     Ok(())
 }
 
 fn each_is_bad(rt: &impl Abort, alloc: Global, texts: &[&str]) {
     for text in texts {
-        assert!(rt; is_bad(alloc, text), "{text:?} is bad");
+        is(rt, text, 0, is_bad(alloc, text), true);
     }
 }
 
@@ -266,7 +267,7 @@ fn good_lines(rt: HostRuntime) -> Result<(), Fail> {
 fn lines_that_ask_for_a_file(rt: HostRuntime) -> Result<(), Fail> {
     for (text, name) in FILES {
         let is_asked = asks_for_file(rt.alloc(), text, name)?;
-        assert!(rt; is_asked, "{text:?} asks for the file {name:?}");
+        is(&rt, text, 0, is_asked, true);
     }
     Ok(())
 }
@@ -274,7 +275,7 @@ fn lines_that_ask_for_a_file(rt: HostRuntime) -> Result<(), Fail> {
 #[test]
 fn lines_that_ask_nothing(rt: HostRuntime) {
     for text in ASK_NOTHING {
-        assert!(rt; asks_nothing(rt.alloc(), text), "{text:?} asks nothing");
+        is(&rt, text, 0, asks_nothing(rt.alloc(), text), true);
     }
 }
 

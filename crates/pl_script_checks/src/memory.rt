@@ -1,4 +1,5 @@
 //! Scripts that run where a request for memory is refused.
+use super::equal::is;
 use super::trickling::{Drip, Failure, run_from};
 use pl_model::Totals;
 use pl_refusing::{MOST_REQUESTS, Refusing};
@@ -113,7 +114,7 @@ const A_POLL_WAITS: Run = Run {
 };
 
 /// Which request of a run is refused, and what the run printed.
-#[derive(Clone, Copy, Debug)]
+#[derive(Clone, Copy)]
 struct At<'a> {
     request: u64,
     is_refused: bool,
@@ -128,9 +129,9 @@ fn is_front(run: Run, output: &str) -> bool {
 
 /// The run found no memory to go on, and printed the lines till then, each of them whole.
 fn is_stopped(rt: &impl Abort, run: Run, at: At<'_>, fault: ScriptFault) {
-    assert!(rt; at.is_refused, "no request is refused");
-    assert!(rt; fault == ScriptFault::NoMemory, "{fault:?}, {at:?}");
-    assert!(rt; is_front(run, at.output), "{at:?}");
+    let told = (at.request, at.is_refused, fault, is_front(run, at.output));
+    let wanted = (at.request, true, ScriptFault::NoMemory, true);
+    is(rt, at.output, 0, told, wanted);
 }
 
 /// Whether that is what one step without memory makes of the run.
@@ -147,9 +148,9 @@ fn is_ended(rt: &impl Abort, run: Run, at: At<'_>, totals: Totals) -> bool {
         steps: run.steps,
         nomem: u32::from(is_nomem),
     };
-    assert!(rt; totals == wanted, "{totals:?}, {at:?}");
-    let is_known = at.is_refused && has_nomem(run, at.output);
-    assert!(rt; !is_nomem || is_known, "{at:?}");
+    let is_known = !is_nomem || at.is_refused && has_nomem(run, at.output);
+    let told = (at.request, totals, is_known);
+    is(rt, at.output, 0, told, (at.request, wanted, true));
     is_nomem
 }
 
@@ -207,8 +208,8 @@ impl<A: Allocator + Copy> Subject<A> {
     fn fail_the_write_too(&self, rt: &impl Abort, n: u64) {
         let mut writer = Drip::failing(self.alloc, usize::MAX, 1, Failure::Nothing);
         let ended = self.run_without(n, &mut writer);
-        let is_so = ended == Err(ScriptFault::Write);
-        assert!(rt; is_so, "where request {n} is refused: {ended:?}");
+        let wanted = (n, Err(ScriptFault::Write));
+        is(rt, "a write fails too", 0, (n, ended), wanted);
     }
 
     fn see(
@@ -266,12 +267,9 @@ impl<A: Allocator + Copy> Subject<A> {
 /// A step found no memory in some run, and each output before a line that writes, polls or has a name was printed by some run
 /// that found none to go on.
 fn are_seen(rt: &impl Abort, run: Run, seen: Seen) {
-    assert!(rt; seen.has_printed_nomem, "no run printed nomem");
-    let printed = seen.before_writes;
-    assert!(rt;
-        printed == run.outputs_before_writes.len(),
-        "{printed} outputs before writes"
-    );
+    let told = (seen.has_printed_nomem, seen.before_writes);
+    let wanted = (true, run.outputs_before_writes.len());
+    is(rt, run.output, 0, told, wanted);
 }
 
 /// Each request is refused. Where a line finds no memory for its bytes, its name or its entries, the lines before it are printed.
@@ -279,9 +277,12 @@ fn each_is_refused<A: Allocator + Copy>(rt: &impl Abort, alloc: A, run: Run) -> 
     let subject = Subject::new(alloc, run);
     let seen = subject.refuse_each(rt)?;
     let requests = subject.heap.requests();
-    assert!(rt;
-        seen.has_ended && requests > 0,
-        "the script makes {requests} requests"
+    is(
+        rt,
+        run.output,
+        0,
+        (seen.has_ended, requests > 0),
+        (true, true),
     );
     are_seen(rt, run, seen);
     Ok(())

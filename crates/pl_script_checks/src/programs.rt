@@ -1,4 +1,5 @@
 //! The program between streams in memory.
+use super::equal::is;
 use super::trickling::{Coming, Drip, Script, prints};
 use super::words::strings;
 use pl_model::Totals;
@@ -127,7 +128,13 @@ fn the_program(rt: HostRuntime) -> Result<(), Fail> {
     for program in PROGRAMS {
         let words = strings(rt.alloc(), program.words)?;
         let is_so = is_as_expected(&rt, words.as_slice(), program);
-        assert!(rt; is_so, "{:?}, {:?}", program.words, program.input);
+        is(
+            &rt,
+            program.output,
+            usize::from(program.status),
+            is_so,
+            true,
+        );
     }
     Ok(())
 }

@@ -1,4 +1,5 @@
 //! The text of each reply.
+use super::equal::is;
 use pl_model::{Errno, Mode, OpenFlags, Outcome, PollMask};
 use pl_script::{show, show_file};
 use pl_testing::asked::Data::{Text, TwoRuns};
@@ -95,7 +96,7 @@ const REPLIES: &[(Want, &str)] = &[
 
 fn shows(rt: &impl Abort, alloc: Global, outcome: &Outcome, text: &str) -> Result<(), Fail> {
     let shown = show(alloc, outcome)?;
-    assert!(rt; shown.as_str() == text, "{text:?} is shown");
+    is(rt, text, 0, shown.as_str() == text, true);
     Ok(())
 }
 
@@ -127,7 +128,7 @@ fn shows_file(
     text: &str,
 ) -> Result<(), Fail> {
     let shown = show_file(alloc, bytes)?;
-    assert!(rt; shown.as_str() == text, "{text:?} is shown");
+    is(rt, text, 0, shown.as_str() == text, true);
     Ok(())
 }
 

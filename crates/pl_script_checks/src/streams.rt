@@ -1,4 +1,5 @@
 //! Scripts that come, and output that goes, in pieces, and reads and writes that fail.
+use super::equal::is;
 use super::trickling::{Coming, Drip, Failure, Script, Trickle, prints, run_from};
 use pl_model::Totals;
 use pl_script::ScriptFault;
@@ -73,25 +74,17 @@ fn fail_the_read<A: Allocator + Copy>(
     let mut reader = Trickle::failing(script.bytes, 1, n, Failure::Error(kind));
     let mut writer = Drip::new(alloc, usize::MAX);
     let end = run_from(alloc, script.first_call, &mut reader, &mut writer);
-    let is_so = end == Err(ScriptFault::Read) && writer.taken().is_empty() && reader.calls() == n;
-    assert!(rt; is_so, "where read {n} has {kind:?}: {end:?}");
-}
-
-fn fail_the_read_by_each<A: Allocator + Copy>(
-    rt: &impl Abort,
-    alloc: A,
-    script: Script<'_>,
-    n: usize,
-) {
-    for kind in ERRORS {
-        fail_the_read(rt, alloc, script, n, *kind);
-    }
+    let told = (end, writer.taken().is_empty(), reader.calls());
+    let wanted = (Err(ScriptFault::Read), true, n);
+    is(rt, "a read that fails", n, told, wanted);
 }
 
 fn fail_reads<A: Allocator + Copy>(rt: &impl Abort, alloc: A, script: Script<'_>) {
     // Each read gives one byte, and the last finds the end.
     for n in 1..script.bytes.len() + 2 {
-        fail_the_read_by_each(rt, alloc, script, n);
+        for kind in ERRORS {
+            fail_the_read(rt, alloc, script, n, *kind);
+        }
     }
 }
 
@@ -115,20 +108,9 @@ fn fail_the_write<A: Allocator + Copy>(
     let mut writer = Drip::failing(alloc, most, n, failure);
     let end = run_from(alloc, script.first_call, script.bytes, &mut writer);
     let is_front = script.output.as_bytes().starts_with(writer.taken());
-    let is_so = end == Err(ScriptFault::Write) && writer.calls() == n && is_front;
-    assert!(rt; is_so, "where write {n} has {failure:?}: {end:?}");
-}
-
-fn fail_the_write_by_each<A: Allocator + Copy>(
-    rt: &impl Abort,
-    alloc: A,
-    most: usize,
-    script: Script<'_>,
-    n: usize,
-) {
-    for failure in FAILURES {
-        fail_the_write(rt, alloc, most, script, n, *failure);
-    }
+    let told = (end, is_front, writer.calls());
+    let wanted = (Err(ScriptFault::Write), true, n);
+    is(rt, "a write that fails", n, told, wanted);
 }
 
 /// The number of writes of so many bytes, none of which fails.
@@ -141,9 +123,12 @@ fn count_writes<A: Allocator + Copy>(
     let mut writer = Drip::new(alloc, most);
     let end = run_from(alloc, script.first_call, script.bytes, &mut writer);
     let is_whole = writer.taken() == script.output.as_bytes();
-    assert!(rt;
-        is_whole && end == script.end,
-        "with {most} bytes a write: {end:?}"
+    is(
+        rt,
+        "writes of so many bytes",
+        most,
+        (end, is_whole),
+        (script.end, true),
     );
     writer.calls()
 }
@@ -158,7 +143,9 @@ fn fail_each_write<A: Allocator + Copy>(
 ) -> usize {
     let writes = count_writes(rt, alloc, most, script);
     for n in 1..=writes {
-        fail_the_write_by_each(rt, alloc, most, script, n);
+        for failure in FAILURES {
+            fail_the_write(rt, alloc, most, script, n, *failure);
+        }
     }
     writes
 }
@@ -167,7 +154,13 @@ fn fail_each_write<A: Allocator + Copy>(
 fn each_write_fails(rt: HostRuntime) {
     for script in SCRIPTS {
         let writes = fail_each_write(&rt, rt.alloc(), 1, *script);
-        assert_eq!(rt; writes, script.output.len(), "the writes of one byte");
+        is(
+            &rt,
+            "the writes of one byte",
+            0,
+            writes,
+            script.output.len(),
+        );
     }
 }
 
@@ -196,7 +189,13 @@ fn each_write_of_much_output_fails(rt: HostRuntime) -> Result<(), Fail> {
         }),
     };
     let writes = fail_each_write(&rt, rt.alloc(), usize::MAX, script);
-    assert!(rt; writes > 1, "the output is written at once");
+    is(
+        &rt,
+        "the output is written at once",
+        writes,
+        writes > 1,
+        true,
+    );
     fail_each_write(&rt, rt.alloc(), 40_000, script);
     Ok(())
 }

@@ -1,4 +1,5 @@
 //! A reader and a writer that move few bytes a call, and that fail at a chosen call.
+use crate::equal::is;
 use pl_model::{Limits, Totals};
 use pl_run::LIMITS;
 use pl_script::{MAX_READS, Reads, ScriptFault, Writes, run_script};
@@ -7,7 +8,7 @@ use std::io::{self, ErrorKind, Read, Write};
 use std::process::Abort;
 
 /// How a call fails.
-#[derive(Clone, Copy, Debug)]
+#[derive(Clone, Copy)]
 pub(crate) enum Failure {
     Error(ErrorKind),
     /// No byte is moved, and no error is told.
@@ -15,7 +16,7 @@ pub(crate) enum Failure {
 }
 
 /// The calls of a reader or a writer, numbered from 1.
-#[derive(Clone, Copy, Debug)]
+#[derive(Clone, Copy)]
 struct Calls {
     made: usize,
     /// The number of the call that fails; 0 for none.
@@ -165,7 +166,7 @@ pub(crate) struct Script<'a> {
 }
 
 /// How a script comes.
-#[derive(Clone, Copy, Debug)]
+#[derive(Clone, Copy)]
 pub(crate) enum Coming {
     Whole,
     /// With so many bytes a read.
@@ -201,7 +202,16 @@ pub(crate) fn prints<A: Allocator + Copy>(
     let mut writer = Drip::new(alloc, usize::MAX);
     let end = run_coming(alloc, script.first_call, script.bytes, coming, &mut writer);
     let is_printed = writer.taken() == script.output.as_bytes();
-    let name = script.name;
-    assert!(rt; end == script.end, "{name:?}, {coming:?}, ends by {end:?}");
-    assert!(rt; is_printed, "the output of {name:?}, {coming:?}");
+    let place = match coming {
+        Coming::Whole => 0,
+        Coming::InPieces(most) => most,
+        Coming::CutAt(cut) => cut,
+    };
+    is(
+        rt,
+        script.name,
+        place,
+        (end, is_printed),
+        (script.end, true),
+    );
 }

@@ -1,11 +1,12 @@
 //! What the words of the command line ask for.
 use self::Asked::{Fails, Helps, Runs, RunsFile};
+use super::equal::is;
 use pl_run::{Choice, Fault, words};
 use std::alloc::Global;
 use std::test::Fail;
 
 /// What words ask for.
-#[derive(Clone, Copy, Debug)]
+#[derive(Clone, Copy)]
 enum Asked {
     /// A run of the input, with calls numbered from here.
     Runs(u64),
@@ -84,10 +85,12 @@ fn is_so(choice: &Result<Choice, Fault>, asked: Asked) -> bool {
 
 #[test]
 fn what_words_ask_for(rt: HostRuntime) -> Result<(), Fail> {
+    let mut row = 0usize;
     for (given, asked) in WORDS {
         let strings = strings(rt.alloc(), given)?;
         let choice = words(rt.alloc(), strings.as_slice());
-        assert!(rt; is_so(&choice, *asked), "{given:?} asks for {choice:?}");
+        is(&rt, "the words of a row", row, is_so(&choice, *asked), true);
+        row = row.saturating_add(1);
     }
     Ok(())
 }
