@@ -96,7 +96,7 @@ impl<A: Allocator + Copy> Bench<A> {
     }
 
     /// Writes come from buffers of the test's from now on, and reads go into such.
-    pub fn use_buffers(&mut self) {
+    pub(crate) fn use_buffers(&mut self) {
         self.on_buffers = true;
     }
 
@@ -176,11 +176,7 @@ impl<A: Allocator + Copy> Bench<A> {
             let _reply = reply_to(&mut self.kernel, Step::Begin(pid, Call::Exit));
         }
         self.unlink_all(names)?;
-        let (name, segments) = (self.name, self.segments());
-        if segments == 0 {
-            return Ok(());
-        }
-        Err(Fail::new(format_args!("{segments} segments are left at the end of {name}")))
+        self.has_segments(Ask::Exit(1), 0)
     }
 
     /// In how many segments of memory bytes are kept.
@@ -190,14 +186,11 @@ impl<A: Allocator + Copy> Bench<A> {
 
     /// Fails where bytes are kept in another number of segments, after the step that was asked last.
     pub fn has_segments(&self, ask: Ask, want: u64) -> Result<(), Fail> {
-        let segments = self.segments();
-        if segments == want {
-            return Ok(());
+        if self.segments() == want {
+            Ok(())
+        } else {
+            Err(self.fault(ask, "leaves another number of segments"))
         }
-        let (made, name, kind) = (self.made, self.name, ask.kind());
-        Err(Fail::new(format_args!(
-            "step {made} of {name}, {kind}, leaves {segments} segments and not {want}"
-        )))
     }
 
     /// In how many slots the bytes of the pipe of a descriptor stand, if it is open on one.
@@ -207,14 +200,11 @@ impl<A: Allocator + Copy> Bench<A> {
 
     /// Fails where another number of slots is told of a descriptor, after the step that was asked last.
     pub fn has_slots(&self, ask: Ask, pid: u32, fd: i32, want: Option<u32>) -> Result<(), Fail> {
-        let slots = self.slots(pid, fd);
-        if slots == want {
-            return Ok(());
+        if self.slots(pid, fd) == want {
+            Ok(())
+        } else {
+            Err(self.fault(ask, "leaves another number of slots"))
         }
-        let (made, name, kind) = (self.made, self.name, ask.kind());
-        Err(Fail::new(format_args!(
-            "step {made} of {name}, {kind}, leaves {slots:?} slots and not {want:?} under {fd} of {pid}"
-        )))
     }
 
     /// Makes the steps, in order, and fails at the first that doesn't answer what its row says.
@@ -226,7 +216,7 @@ impl<A: Allocator + Copy> Bench<A> {
     }
 
     /// The process makes 128 pipes, which fill its table. It fails where one has other descriptors than the next two.
-    pub fn fill_table(&mut self, pid: u32) -> Result<(), Fail> {
+    fn fill_table(&mut self, pid: u32) -> Result<(), Fail> {
         for i in 0..128u8 {
             let first = 2 * i32::from(i);
             self.answers(Ask::Pipe(pid), Want::Fds(first, first + 1))?;

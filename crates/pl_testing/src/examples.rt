@@ -99,7 +99,7 @@ pub const A_WAITING_WRITER_IS_A_WRITER: [(Ask, Want); 9] = [
 ];
 
 /// Both flags that `SetFl` sets.
-pub const APPEND_AND_NONBLOCK: &[OpenFlags] = &[OpenFlags::APPEND, OpenFlags::NONBLOCK];
+const APPEND_AND_NONBLOCK: &[OpenFlags] = &[OpenFlags::APPEND, OpenFlags::NONBLOCK];
 
 /// The flags of a description are those of each descriptor that names it, and of no other.
 pub const FLAGS_OF_SHARED_DESCRIPTIONS: [(Ask, Want); 10] = [

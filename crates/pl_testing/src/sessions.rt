@@ -36,9 +36,9 @@ pub const NEW_KERNEL: Session = Session {
 };
 
 /// Makes each session on a kernel of its own, within the limits but for its first call, and once more on one whose writes come from
-/// buffers, and whose reads go into such. It fails at the first row that isn't
-/// answered as it says, which it names with its session, at a session whose bytes outlive its processes and names or that has no
-/// rows, and where there is no memory for the bytes of a row.
+/// buffers, and whose reads go into such. It fails at the first row that isn't answered as it says, whose number it tells with its
+/// session, at a session whose bytes outlive its processes and names or that has no rows, and where there is no memory for the bytes
+/// of a row.
 pub fn each_answers(alloc: Global, limits: Limits, sessions: &[Session]) -> Result<(), Fail> {
     for session in sessions {
         session_answers(alloc, limits, session, false)?;
@@ -62,7 +62,7 @@ fn session_answers(
     on_buffers: bool,
 ) -> Result<(), Fail> {
     if session.rows.is_empty() {
-        return Err(Fail::new(format_args!("{} has no rows", session.name)));
+        return Err(Fail::from("a session has no rows"));
     }
     let limits = Limits {
         first_call: session.first_call,
