@@ -29,6 +29,30 @@ fn call<N: Layer, R: Wait>(
     (locked.call(rt, &mut me, 1, call).ok(), me)
 }
 
+/// What the reader reads of what the writer writes, on a pipe that the writer makes. Both callers are among the others again then.
+fn read_and_write<N: Layer + Send + Sync, R: Threads + Wait + Sync>(
+    rt: &R,
+    alloc: Global,
+    locked: &Locked<N>,
+    callers: &mut Vec<Caller<N>>,
+) -> Option<Reply> {
+    let mut writer = callers.pop()?;
+    let reader = callers.pop()?;
+    locked.attempt(rt, &mut writer, Step::Start).ok()?; // Pid(1)
+    let pipe = Step::Begin(1, Call::Pipe { nonblock: false });
+    locked.attempt(rt, &mut writer, pipe).ok()?; // Fds(0, 1)
+
+    let bytes = Bytes8::from_vec(Vec::from_slice(alloc, b"hello").ok()?)?;
+    let (read, written) = join(
+        rt,
+        move || call(rt, locked, reader, Call::Read { fd: 0, n: 5 }),
+        move || call(rt, locked, writer, Call::Write { fd: 1, bytes }),
+    );
+    callers.push(read.1).ok()?;
+    callers.push(written.1).ok()?;
+    read.0
+}
+
 /// What the reader read, and whether the journal of all that happened replays.
 fn talk<N: Layer + Send + Sync, R: Threads + Wait + Sync>(
     rt: &R,
@@ -45,24 +69,9 @@ fn talk<N: Layer + Send + Sync, R: Threads + Wait + Sync>(
     requires steps { max_steps ≡ N.max_steps }
 {
     let (locked, mut callers) = Locked::<N>::open(alloc, ground, limits, count, max_steps).ok()?;
-    let mut writer = callers.pop()?;
-    let reader = callers.pop()?;
-    locked.attempt(rt, &mut writer, Step::Start).ok()?; // Pid(1)
-    let pipe = Step::Begin(1, Call::Pipe { nonblock: false });
-    locked.attempt(rt, &mut writer, pipe).ok()?; // Fds(0, 1)
-
-    let bytes = Bytes8::from_vec(Vec::from_slice(alloc, b"hello").ok()?)?;
-    let shared = &locked;
-    let (read, written) = join(
-        rt,
-        move || call(rt, shared, reader, Call::Read { fd: 0, n: 5 }),
-        move || call(rt, shared, writer, Call::Write { fd: 1, bytes }),
-    );
-
-    callers.push(read.1).ok()?;
-    callers.push(written.1).ok()?;
+    let read = read_and_write(rt, alloc, &locked, &mut callers);
     let (journal, _kernel) = locked.close(callers).ok()?;
-    Some((read.0?, journal.replay(alloc, limits).ok()?))
+    Some((read?, journal.replay(alloc, limits).ok()?))
 }
 
 fn main(rt: HostRuntime) -> io::Result<ExitCode> {
