@@ -6,7 +6,8 @@ use crate::operation::Operation::{
 };
 use crate::operation::{MOST, Operation, Session};
 use crate::watched::Watched;
-use std::alloc::Global;
+use std::alloc::{Allocator, Global};
+use std::marker;
 use std::test::Fail;
 
 pub(crate) const SESSIONS: &[Session] = &[
@@ -224,7 +225,10 @@ pub(crate) const SESSIONS: &[Session] = &[
 ];
 
 /// Makes the operations, and sees that all is as the lists say after each. It answers how many went well.
-fn steps(watched: &mut Watched, operations: &[Operation]) -> (usize, Option<Fault>) {
+fn steps<A: Allocator + marker::Copy>(
+    watched: &mut Watched<A>,
+    operations: &[Operation],
+) -> (usize, Option<Fault>) {
     for row in 0..operations.len() {
         if let Err(fault) = watched.step(operations[row]) {
             return (row, Some(fault));
@@ -233,9 +237,13 @@ fn steps(watched: &mut Watched, operations: &[Operation]) -> (usize, Option<Faul
     (operations.len(), None)
 }
 
-/// Makes the operations of a session, and answers how many went well, and why the next one didn't.
-fn goes(alloc: Global, session: &Session) -> (usize, Option<Fault>) {
-    match Watched::new(alloc, alloc, session.capacities, session.most) {
+/// Makes the operations of a session in `memory`, and answers how many went well, and why the next one didn't.
+fn goes<A: Allocator + marker::Copy>(
+    alloc: Global,
+    memory: A,
+    session: &Session,
+) -> (usize, Option<Fault>) {
+    match Watched::new(alloc, memory, session.capacities, session.most) {
         Ok(mut watched) => steps(&mut watched, session.operations),
         Err(fault) => (0, Some(fault)),
     }
@@ -244,7 +252,7 @@ fn goes(alloc: Global, session: &Session) -> (usize, Option<Fault>) {
 /// Each session goes as the lists say.
 pub(crate) fn all_go(alloc: Global, sessions: &[Session]) -> Result<(), Fail> {
     for session in sessions {
-        if let (row, Some(fault)) = goes(alloc, session) {
+        if let (row, Some(fault)) = goes(alloc, alloc, session) {
             let name = session.name;
             return Err(Fail::new(format_args!("{fault:?} at row {row} of {name}")));
         }

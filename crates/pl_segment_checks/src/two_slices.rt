@@ -121,16 +121,22 @@ fn grow(
     answer: Result<(), AppendFault>,
     wanted: Result<(), AppendFault>,
 ) -> Result<(), Fault> {
-    match (answer, wanted) {
-        (Ok(()), Ok(())) => list.extend_from_slice(bytes)?,
-        (Err(NotAtEnd), Err(NotAtEnd)) | (Err(NoRoom), Err(NoRoom)) => {}
-        _ => return Err(Fault::OtherSizes),
+    if answer != wanted {
+        return Err(Fault::OtherSizes);
+    }
+    if answer.is_ok() {
+        list.extend_from_slice(bytes)?;
     }
     Ok(())
 }
 
 /// Appends bytes to a slice, and looks at both.
-fn append(alloc: Global, slices: &mut TwoSlices, lists: &mut Lists, row: Row) -> Result<(), Fault> {
+fn append<A: Allocator + Copy>(
+    alloc: Global,
+    slices: &mut TwoSlices<A>,
+    lists: &mut Lists,
+    row: Row,
+) -> Result<(), Fault> {
     match row {
         Row::First(count, wanted) => {
             let bytes = part(alloc, 0, count)?;
@@ -147,7 +153,11 @@ fn append(alloc: Global, slices: &mut TwoSlices, lists: &mut Lists, row: Row) ->
 }
 
 /// Appends to both slices what the rows say.
-fn append_each(alloc: Global, slices: &mut TwoSlices, rows: &[Row]) -> Result<(), Fault> {
+fn append_each<A: Allocator + Copy>(
+    alloc: Global,
+    slices: &mut TwoSlices<A>,
+    rows: &[Row],
+) -> Result<(), Fault> {
     let mut lists = Lists {
         first: Vec::from_slice(alloc, AB)?,
         second: Vec::from_slice(alloc, AB)?,
@@ -159,9 +169,9 @@ fn append_each(alloc: Global, slices: &mut TwoSlices, rows: &[Row]) -> Result<()
     Ok(())
 }
 
-/// Makes two slices, appends to them, and gives them up, so that no segment is left.
-fn goes(alloc: Global, rows: &[Row]) -> Result<(), Fault> {
-    let mut slices = TwoSlices::new(alloc)?;
+/// Makes two slices in `memory`, appends to them, and gives them up, so that no segment is left.
+fn goes<A: Allocator + Copy>(alloc: Global, memory: A, rows: &[Row]) -> Result<(), Fault> {
+    let mut slices = TwoSlices::new(memory)?;
     append_each(alloc, &mut slices, rows)?;
     if slices.release_both() != 0 {
         return Err(Fault::OtherSegments);
@@ -172,7 +182,7 @@ fn goes(alloc: Global, rows: &[Row]) -> Result<(), Fault> {
 #[test]
 fn a_segment_with_two_holders(rt: HostRuntime) -> Result<(), Fail> {
     for rows in ROWS {
-        goes(rt.alloc(), rows)?;
+        goes(rt.alloc(), rt.alloc(), rows)?;
     }
     Ok(())
 }
