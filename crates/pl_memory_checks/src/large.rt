@@ -90,7 +90,7 @@ fn compare(bench: &mut Scarce, sharing: &Sharing, went: bool, before: u64) -> Re
 /// Makes the step, of which the `n`th request for memory is refused. Either it has its reply and all bytes went over, or it found no
 /// memory and none did.
 fn make(alloc: Global, heap: &Refusing<Global>, sharing: &Sharing, n: u64) -> Result<(), Fail> {
-    let mut bench = Scarce::new(sharing.name, alloc, heap)?;
+    let mut bench = Scarce::new(sharing.name, 1, alloc, heap)?;
     bench.all_answer(ENDS)?;
     let before = bench.segments();
     bench.refuse(n);

@@ -20,7 +20,7 @@ fn make_each(bench: &mut Scarce, rows: &[(Ask, Want)]) -> Result<(), Fail> {
 
 /// Makes the session, where the `n`th request for memory is refused. At its end nothing is left.
 fn make(alloc: Global, heap: &Refusing<Global>, session: &Session, n: u64) -> Result<(), Fail> {
-    let mut bench = Scarce::new(session.name, alloc, heap)?;
+    let mut bench = Scarce::new(session.name, session.first_call, alloc, heap)?;
     bench.prepare(session.processes, session.full_tables)?;
     bench.refuse(n);
     make_each(&mut bench, session.rows)?;
@@ -39,8 +39,16 @@ fn refuse_each(alloc: Global, session: &Session) -> Result<(), Fail> {
     all_were_refused(&heap, session.name)
 }
 
+/// Refuses each request of the sessions in turn.
+fn refuse_sessions(alloc: Global, sessions: &[Session]) -> Result<(), Fail> {
+    for session in sessions {
+        refuse_each(alloc, session)?;
+    }
+    Ok(())
+}
+
 /// Refuses each request of the steps of the table in turn.
-fn refuse_all(alloc: Global, table: &[Steps]) -> Result<(), Fail> {
+fn refuse_table(alloc: Global, table: &[Steps]) -> Result<(), Fail> {
     for steps in table {
         refuse_each(alloc, &steps.session())?;
     }
@@ -50,10 +58,10 @@ fn refuse_all(alloc: Global, table: &[Steps]) -> Result<(), Fail> {
 #[test]
 fn each_step_is_made_again(rt: HostRuntime) -> Result<(), Fail> {
     for table in tables() {
-        refuse_all(rt.alloc(), table)?;
+        refuse_table(rt.alloc(), table)?;
     }
-    for session in sessions() {
-        refuse_each(rt.alloc(), session)?;
+    for table in sessions() {
+        refuse_sessions(rt.alloc(), table)?;
     }
     Ok(())
 }

@@ -72,7 +72,7 @@ fn pass_over(
     way: Way,
     n: u64,
 ) -> Result<usize, Fail> {
-    let mut bench = Scarce::new(steps.name, alloc, heap)?;
+    let mut bench = Scarce::new(steps.name, 1, alloc, heap)?;
     match way {
         Way::OneByOne => {
             bench.refuse(n);
@@ -116,7 +116,7 @@ fn refuse_first(bench: &mut Scarce, steps: &Steps) -> Result<(), Fail> {
 /// Refuses a run of the steps as a whole.
 fn refuse_run(alloc: Global, steps: &Steps) -> Result<(), Fail> {
     let heap = Refusing::new(alloc);
-    let mut bench = Scarce::new(steps.name, alloc, &heap)?;
+    let mut bench = Scarce::new(steps.name, 1, alloc, &heap)?;
     refuse_first(&mut bench, steps)
 }
 

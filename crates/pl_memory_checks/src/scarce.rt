@@ -1,5 +1,5 @@
 //! A bench in memory of which a chosen request is refused.
-use pl_model::Reply;
+use pl_model::{Limits, Reply};
 use pl_refusing::Refusing;
 use pl_testing::LIMITS;
 use pl_testing::asked::{Ask, Data, Want, steps_of};
@@ -25,14 +25,19 @@ impl<'a> Model for Scarce<'a> {
 }
 
 impl<'a> Scarce<'a> {
-    /// A new kernel, of which no request is refused.
+    /// A new kernel, whose calls are numbered from `first_call`; no request of it is refused.
     pub(crate) fn new(
         name: &'static str,
+        first_call: u64,
         alloc: Global,
         heap: &'a Refusing<Global>,
     ) -> Result<Self, Fail> {
+        let limits = Limits {
+            first_call,
+            ..LIMITS
+        };
         heap.refuse(0);
-        let bench = Bench::new(name, alloc, heap, LIMITS)?;
+        let bench = Bench::new(name, alloc, heap, limits)?;
         Ok(Scarce { heap, bench })
     }
 

@@ -3,6 +3,7 @@ mod calls;
 mod capacities;
 mod examples;
 mod fifos;
+mod names;
 mod polls;
 mod splices;
 mod whole;
@@ -23,7 +24,7 @@ pub(crate) fn tables() -> [&'static [Steps]; 7] {
     ]
 }
 
-/// The sessions of which a step that finds no memory is made again, and not passed over.
-pub(crate) fn sessions() -> &'static [Session] {
-    whole::sessions()
+/// All tables of sessions of which a step that finds no memory is made again, and not passed over.
+pub(crate) fn sessions() -> [&'static [Session]; 2] {
+    [names::names(), whole::sessions()]
 }
