@@ -1,7 +1,7 @@
 //! Slots of a file replaced: what is put in is made whole first, and then takes the place of what goes.
 ghost use Rattle.std.specs.Prelude.{◌≡◌, ℕ, ◌+◌, ◌-◌, ◌<◌, ◌≤◌, ◌^◌, ◌++◌, [], ◌∷◌, length, take, drop, replicate, IfOk, OnOk, OnErr};
 ghost use Rattle.pl_model.specs.Numbers.{most_file_bytes};
-ghost use Rattle.pl_segments.specs.Segments.{segment_at, holders, live_count};
+ghost use Rattle.pl_segments.specs.Segments.{most_spare, segment_at, holders, live_count};
 ghost use Rattle.pl_segments.specs.Slices.{AllLie, all_read};
 ghost use Rattle.pl_segments.specs.Turns.{Holds, Turns};
 ghost use Rattle.pl_segments.specs.Slots.{total, AllSolid, solid_of, drop_bytes, front_of, tail_room};
@@ -60,7 +60,7 @@ fn open<A: Allocator + Copy>(
     ensures capacity { IfOk result (λ o. length row.old.slots + o.patch.capacity ≤ row.new.capacity) }
     ensures in_use { OnOk result (place ≤ total row.old.slots → live_count store.new.held ≡ live_count store.old.held) }
     ensures row { row.new ≡ record row.old { capacity = row.new.capacity } }
-    ensures store_err { OnErr result (store.new ≡ record store.old { room = store.new.room }) }
+    ensures store_err { OnErr result (store.new ≡ store.old) }
 {
     let front = front_cut(row, place);
     let rest = rest_cut(row, place + count);
@@ -97,10 +97,12 @@ fn close<A: Allocator + Copy>(
     ensures turns { Turns (segment_at store.old) (row.old.slots ++ patch.now.slots) (segment_at store.new) row.new.slots }
     ensures read { all_read (segment_at store.new) row.new.slots ≡ all_read (segment_at store.old) (take first row.old.slots) ++ (all_read (segment_at store.old) patch.now.slots ++ all_read (segment_at store.old) (drop end row.old.slots)) }
     ensures in_use { live_count store.new.held ≤ live_count store.old.held }
+    ensures spare { store.new.room ≤ most_spare }
 {
     // A proof learns here that there are no more slots than fit.
     let _slots = patch.len();
     release_range(store, row, first, end);
+    store.trim();
     row.replace(first, end, patch);
 }
 
@@ -128,7 +130,8 @@ pub(crate) fn write<A: Allocator + Copy>(
     ensures within { OnOk result (AllWithin row.new.slots) }
     ensures base { row.new.base ≡ row.old.base }
     ensures err { OnErr result (row.new.slots ≡ row.old.slots) }
-    ensures store_err { OnErr result (store.new ≡ record store.old { room = store.new.room }) }
+    ensures spare { store.old.room ≤ most_spare → store.new.room ≤ most_spare }
+    ensures store_err { OnErr result (store.new ≡ store.old) }
 {
     if place == row.end() && bytes.len() <= tail_room(store, row) {
         grow_tail(store, row, bytes);
@@ -161,7 +164,8 @@ fn overwrite<A: Allocator + Copy>(
     ensures within { OnOk result (AllWithin row.new.slots) }
     ensures base { row.new.base ≡ row.old.base }
     ensures err { OnErr result (row.new.slots ≡ row.old.slots) }
-    ensures store_err { OnErr result (store.new ≡ record store.old { room = store.new.room }) }
+    ensures spare { store.old.room ≤ most_spare → store.new.room ≤ most_spare }
+    ensures store_err { OnErr result (store.new ≡ store.old) }
 {
     let chunks = bytes.len() / SEGMENT_SIZE + 4;
     let Opening { patch, first, rest } = open(
@@ -210,7 +214,8 @@ pub(crate) fn put<A: Allocator + Copy>(
     ensures within { OnOk result (AllWithin row.new.slots) }
     ensures base { row.new.base ≡ row.old.base }
     ensures err { OnErr result (row.new.slots ≡ row.old.slots) }
-    ensures store_err { OnErr result (store.new ≡ record store.old { room = store.new.room }) }
+    ensures spare { store.old.room ≤ most_spare → store.new.room ≤ most_spare }
+    ensures store_err { OnErr result (store.new ≡ store.old) }
 {
     let Opening { patch, first, rest } = open(
         alloc,
@@ -255,6 +260,7 @@ fn grow_tail<A: Allocator + Copy>(store: &mut Store<A>, row: &mut Row<A>, bytes:
     ensures within { AllWithin row.new.slots }
     ensures total { total row.new.slots ≡ total row.old.slots + length bytes.now }
     ensures base { row.new.base ≡ row.old.base }
+    ensures room { store.new.room ≡ store.old.room }
 {
     // A proof learns here that there are no more slots than fit.
     let _slots = row.len();

@@ -1,7 +1,7 @@
 //! Regular files.
 ghost use Rattle.std.specs.Prelude.{◌≡◌, ℕ, ◌+◌, ◌-◌, ◌<◌, ◌≤◌, ◌^◌, ◌↔◌, ◌++◌, [], ◌∷◌, length, take, drop, IfOk, OnOk, OnErr, Err};
 ghost use Rattle.pl_model.specs.Numbers.{most_file_bytes};
-ghost use Rattle.pl_segments.specs.Segments.{segment_at, holders, live_count};
+ghost use Rattle.pl_segments.specs.Segments.{most_spare, segment_at, holders, live_count};
 ghost use Rattle.pl_segments.specs.Slices.{AllLie, all_read};
 ghost use Rattle.pl_segments.specs.Turns.{Holds, Turns};
 ghost use Rattle.pl_segments.specs.Slots.{total, AllSolid, solid_of, drop_bytes, front_of};
@@ -126,7 +126,8 @@ impl<A: Allocator + Copy> File<A> {
         ensures turns { OnOk result (Turns (segment_at store.old) self.old (segment_at store.new) self.new) }
         ensures read { OnOk result (all_read (segment_at store.new) self.new ≡ written place (take (most - place) bytes.now) (all_read (segment_at store.old) self.old)) }
         ensures err { OnErr result (self.new ≡ self.old) }
-        ensures store_err { OnErr result (store.new ≡ record store.old { room = store.new.room }) }
+        ensures spare { store.old.room ≤ most_spare → store.new.room ≤ most_spare }
+        ensures store_err { OnErr result (store.new ≡ store.old) }
     {
         let count = fitting(bytes.len(), place, most)?;
         if count == 0 {
@@ -166,7 +167,8 @@ impl<A: Allocator + Copy> File<A> {
         ensures slots { IfOk result (λ count. 1 ≤ count → place ≤ total self.old → self.new ≡ front_of place self.old ++ (solid_of (front_of count slices.now) ++ drop_bytes (place + count) self.old)) }
         ensures in_use { OnOk result (place ≤ total self.old → live_count store.new.held ≤ live_count store.old.held) }
         ensures err { OnErr result (self.new ≡ self.old) }
-        ensures store_err { OnErr result (store.new ≡ record store.old { room = store.new.room }) }
+        ensures spare { store.old.room ≤ most_spare → store.new.room ≤ most_spare }
+        ensures store_err { OnErr result (store.new ≡ store.old) }
     {
         let slices = slices.as_slice();
         let count = fitting(len_of(slices), place, most)?;
@@ -185,6 +187,7 @@ impl<A: Allocator + Copy> File<A> {
         ensures value { self.new ≡ [] }
         ensures turns { Turns (segment_at store.old) self.old (segment_at store.new) [] }
         ensures in_use { live_count store.new.held ≤ live_count store.old.held }
+        ensures spare { store.old.room ≤ most_spare → store.new.room ≤ most_spare }
     {
         let slots = self.row.len();
         release_range(store, &self.row, 0, slots);

@@ -1,6 +1,6 @@
 //! The slots that are put into a file, made and held before it changes.
 ghost use Rattle.std.specs.Prelude.{◌≡◌, ℕ, ◌+◌, ◌*◌, ◌/◌, ◌<◌, ◌≤◌, ◌^◌, ◌++◌, [], ◌∷◌, length, take, drop, replicate};
-ghost use Rattle.pl_segments.specs.Segments.{segment_size, segment_at, holders, live_count};
+ghost use Rattle.pl_segments.specs.Segments.{segment_size, most_spare, segment_at, holders, live_count};
 ghost use Rattle.pl_segments.specs.Slices.{Lies, AllLie, reads, all_read};
 ghost use Rattle.pl_segments.specs.Turns.{Holds, Turns};
 ghost use Rattle.pl_segments.specs.Slots.{total, AllSolid, solid_of, front_of};
@@ -264,6 +264,7 @@ pub(crate) fn release_range<A: Allocator + Copy>(
     requires held { Holds (segment_at store.old) (drop first (take end row.now.slots)) }
     ensures turns { Turns (segment_at store.old) (drop first (take end row.now.slots)) (segment_at store.new) [] }
     ensures in_use { live_count store.new.held ≤ live_count store.old.held }
+    ensures spare { store.old.room ≤ most_spare → store.new.room ≤ most_spare }
 {
     for index in first..end {
         store.release(row.get(index));

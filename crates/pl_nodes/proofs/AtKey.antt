@@ -5,7 +5,7 @@ use Rattle.std.proofs.lemmas.Bool.Decides.{eqb_tells}
 use Rattle.std.proofs.lemmas.List.{get_or-set_same, get_or-set_other}
 use Rattle.pl_model.specs.Numbers.{most_file_bytes}
 use Rattle.pl_segments.specs.declared.slice.Slice.{Slice}
-use Rattle.pl_segments.specs.Segments.{Segments, segment_at, at, holders, live_count}
+use Rattle.pl_segments.specs.Segments.{Segments, most_spare, segment_at, at, holders, live_count}
 use Rattle.pl_segments.specs.Turns.{Holds, Turns}
 use Rattle.pl_segments.specs.Sharing.{slots_at, AreShared}
 use Rattle.pl_nodes.specs.declared.content.PipeNode.{PipeNode}
@@ -60,12 +60,13 @@ module _ {A : Type 0} (k : Inside A) (key : ℕ) (old : Content A) (there : at k
     ]
 
     pub still-sound : Turns (segment_at k.store) (slots_in (Some old)) (segment_at store) (slots_in (Some new)) → length (slots_in (Some new)) ≤ most_file_bytes → NamedAlike (Some old) (Some new)
-        → IsSound (with_content store new)
-    still-sound turns few alike = record {
+        → store.room ≤ most_spare → IsSound (with_content store new)
+    still-sound turns few alike spare = record {
       shared = changed-shared (segment_at k.store) k.contents.slots key old there sound.shared (segment_at store) (slots_in (Some new)) turns new refl;
       short = still-short few;
       named = put-named k.contents.slots key old new there alike k.names.entries sound.named;
       most = sound.most;
+      spare = spare;
     }
 
     -- it lost all its slots
@@ -87,12 +88,13 @@ module _ {A : Type 0} (k : Inside A) (key : ℕ) (old : Content A) (there : at k
     refused-contents : slice_set k.contents.slots key (Some new) ≡ k.contents.slots
     refused-contents = put-back k.contents.slots key old new there same
 
-    pub refused-sound : IsSound (with_content store new)
-    refused-sound = record {
+    pub refused-sound : store.room ≤ most_spare → IsSound (with_content store new)
+    refused-sound spare = record {
       shared = subst (λ m. AreShared m (lists (slice_set k.contents.slots key (Some new)))) (sym (ap at kept)) (subst (λ cs. AreShared (segment_at k.store) (lists cs)) (sym refused-contents) sound.shared);
       short = subst (λ cs. (q : ℕ) → length (slots_at (lists cs) q) ≤ most_file_bytes) (sym refused-contents) sound.short;
       named = subst (λ cs. AreNamed k.names.entries cs) (sym refused-contents) sound.named;
       most = sound.most;
+      spare = spare;
     }
 
     pub refused-seen : view_of (with_content store new) ≡ view_of k
@@ -115,10 +117,11 @@ few-holders k sound short key =
     omega (arith, named, counted, len, short)
 
 -- where there is nothing all is well
-pub empty-sound : {A : Type 0} (k : Inside A) → k.store.held ≡ [] → k.contents.slots ≡ [] → k.names.entries ≡ [] → k.file_max ≤ most_file_bytes → IsSound k
-empty-sound {A} k none nothing nobody most = record {
+pub empty-sound : {A : Type 0} (k : Inside A) → k.store.held ≡ [] → k.store.room ≡ 0 → k.contents.slots ≡ [] → k.names.entries ≡ [] → k.file_max ≤ most_file_bytes → IsSound k
+empty-sound {A} k none spare nothing nobody most = record {
   shared = subst (λ cs. AreShared (segment_at k.store) (lists cs)) (sym nothing) (record { counted = λ key. ap (λ held. holders (at held) key) none; lie = λ q. tt });
   short = λ q. subst (λ cs. length (slots_at (lists cs) q) ≤ most_file_bytes) (sym nothing) (omega arith);
   named = subst (λ es. AreNamed es k.contents.slots) (sym nobody) (subst (λ cs. AreNamed [] cs) (sym nothing) (λ n. ap one_if (sym (named-none A n))));
   most = most;
+  spare = omega (arith, spare);
 }

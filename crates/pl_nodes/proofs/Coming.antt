@@ -8,7 +8,7 @@ use Rattle.pl_model.specs.Numbers.{most_file_bytes}
 use Rattle.pl_model.specs.declared.node.Node.{Node}
 use Rattle.pl_model.specs.Nodes.{key_of, has_name}
 use Rattle.pl_segments.specs.declared.slice.Slice.{Slice}
-use Rattle.pl_segments.specs.Segments.{Segments, segment_at, at, live_count}
+use Rattle.pl_segments.specs.Segments.{Segments, most_spare, segment_at, at, live_count}
 use Rattle.pl_segments.specs.Turns.{Turns}
 use Rattle.pl_segments.specs.Sharing.{slots_at, AreShared}
 use Rattle.slab.specs.Slab.{Slab, Updates}
@@ -38,12 +38,13 @@ module _ {A : Type 0} (k : Inside A) (sound : IsSound k) where
     ]
 
     -- it had no name
-    pub gone-sound : NamedAlike (Some old) None → IsSound (record k { store = store; contents = after })
-    gone-sound alike = record {
+    pub gone-sound : NamedAlike (Some old) None → store.room ≤ most_spare → IsSound (record k { store = store; contents = after })
+    gone-sound alike spare = record {
       shared = gone-shared (segment_at k.store) (segment_at store) k.contents after key old there sound.shared turned u;
       short = λ q. subst (λ (xs : List Slice). length xs ≤ most_file_bytes) (sym (gone-lists (segment_at k.store) (segment_at store) k.contents after key old there sound.shared turned u q)) (gone-short q);
       named = still-named k.contents.slots after.slots key u.others (Some old) None there u.changed alike k.names.entries sound.named;
       most = sound.most;
+      spare = spare;
     }
 
     pub gone-shrinks : live_count store.held ≤ live_count k.store.held → (flat : Nodes) → view_of k ≡ flat → Shrinks (memory_of flat) (memory_of (view_of (record k { store = store; contents = after })))
@@ -78,6 +79,7 @@ module _ {A : Type 0} (k : Inside A) (sound : IsSound k) where
           (sound.short q);
       named = named;
       most = sound.most;
+      spare = sound.spare;
     }
 
     pub came-slots : (flat : Nodes) → view_of k ≡ flat → (q : ℕ) → slots_at (lists after.slots) q ≡ slots_at flat.slots q

@@ -39,6 +39,7 @@ module _ {A : Type 0} (k : Inside A) (sound : IsSound k) (key : ℕ) (x new : Co
     short = subst (λ ls. (q : ℕ) → length (slots_at ls q) ≤ most_file_bytes) (sym (kept slots_in (same-slots x))) sound.short;
     named = subst (λ y. AreNamed names.entries (slice_set k.contents.slots key (Some y))) (sym is) named;
     most = sound.most;
+    spare = sound.spare;
   }
 
   pub unnamed-seen : view_of without_name ≡ record (view_of k) { names = names_of names.entries }

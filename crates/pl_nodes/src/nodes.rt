@@ -1,7 +1,7 @@
 //! Pipes and regular files under keys, over one store of segments, and their names.
 ghost use Rattle.std.specs.Prelude.{ℕ, ◌≡◌, ◌≤◌, [], None};
 ghost use Rattle.pl_model.specs.Numbers.{most_file_bytes};
-ghost use Rattle.pl_segments.specs.Segments.{at};
+ghost use Rattle.pl_segments.specs.Segments.{most_spare, at};
 ghost use Rattle.pl_nodes.specs.Nodes.{NamesBelow, segments_named};
 
 use crate::content::Content;
@@ -73,5 +73,12 @@ impl<A: Allocator + Copy> Nodes<A> {
         ensures none { ((key : ℕ) → at self.now.pipes key ≡ None) → ((key : ℕ) → at self.now.files key ≡ None) → result ≡ 0 }
     {
         self.store.in_use()
+    }
+
+    /// How many segments are kept for further bytes, with 4,096 bytes of memory each, though no slot names them.
+    pub fn spare(&self) -> usize
+        ensures { result ≤ most_spare }
+    {
+        self.store.spare()
     }
 }

@@ -1,6 +1,6 @@
 -- Slots, and slices that are still to be pushed behind them.
-use Rattle.std.proofs.Common.{◌≡◌, ◌≢◌, ℕ, ◌+◌, ◌<◌, ◌≤◌, Bool, true, false, List, [], ◌∷◌, ◌++◌, refl, sym, ◌∙◌, ap, subst, get_or, drop, length, arith}
-use Rattle.std.specs.Prelude.{if◌then◌else◌}
+use Rattle.std.proofs.Common.{◌≡◌, ◌≢◌, ℕ, ◌+◌, ◌-◌, ◌<◌, ◌≤◌, Bool, true, false, List, [], ◌∷◌, ◌++◌, refl, sym, ◌∙◌, ap, subst, get_or, drop, length, arith}
+use Rattle.std.specs.Prelude.{if◌then◌else◌, min, max}
 use Rattle.std.proofs.lemmas.Bool.{eq-eqb, ne_eqb}
 use Rattle.std.proofs.lemmas.List.{append-nil, append_assoc, drop_more, drop_all}
 use Rattle.pl_segments.specs.declared.slice.Slice.{Slice}
@@ -8,12 +8,28 @@ use Rattle.pl_segments.specs.Segments.{Map, Segments, segment_at, live_count}
 use Rattle.pl_segments.specs.Slices.{all_read, one_if}
 use Rattle.pl_segments.specs.Turns.{Holds, Turns}
 use Rattle.pl_segments.proofs.Turning.{read-append, turns-then, turns-same, holds-turned, turns-before, read-before}
-use Rattle.pl_segments.specs.Slots.{total, AllSolid, solid_of, last_len}
+use Rattle.pl_segments.specs.Slots.{total, AllSolid, solid_of, last_len, ends_in_part}
 use Rattle.pl_ring.specs.Merging.{lens, AreMerged, joins, joining, merges, merges_onto}
 use Rattle.pl_ring.specs.Parts.{strange}
 use Rattle.pl_segments.proofs.SlotLemmas.{no_slice, solid-append, solid-left, solid-right, total-append, total-read}
 use Rattle.pl_segments.proofs.Together.{holds-left}
+use Rattle.pl_segments.proofs.LastSlot.{part-most}
 use Rattle.pl_ring.proofs.Lying.{strange-append}
+
+-- How many segments slices may take as they are pushed: one for each that becomes one with what stands before it, or one for each that
+-- doesn't, and so is copied later once at most, one for the last slot if it is a part of its segment, and one to append by.
+abbrev pub takes : Map → List Slice → List Slice → ℕ
+takes m xs ds = min (merges_onto xs (lens ds)) (length ds + 1 + ends_in_part m xs - merges_onto xs (lens ds))
+
+-- no more become one than there are
+pub merges-few : (count last : ℕ) (ds : List Slice) → merges count last (lens ds) ≤ length ds
+merges-few count last [] = omega arith
+merges-few count last (x ∷ ds) = by (joins count last x.len) (merges-few count (last + x.len) ds) (merges-few (count + 1) x.len ds)
+  where
+    by : (b : Bool) → merges count (last + x.len) (lens ds) ≤ length ds → merges (count + 1) x.len (lens ds) ≤ length ds
+        → (if b then 1 + merges count (last + x.len) (lens ds) else merges (count + 1) x.len (lens ds)) ≤ length (x ∷ ds)
+    by true l r = omega (arith, l)
+    by false l r = omega (arith, r)
 
 -- Slots xs0 with slices ds0 became slots xs with slices ds, and the merges that are left were all counted.
 pub record Underway (m0 : Map) (xs0 ds0 : List Slice) (live0 : ℕ) (m : Map) (xs ds : List Slice) (live room : ℕ) : Type 0 where
@@ -21,7 +37,7 @@ pub record Underway (m0 : Map) (xs0 ds0 : List Slice) (live0 : ℕ) (m : Map) (x
   pub read : all_read m (xs ++ ds) ≡ all_read m0 (xs0 ++ ds0)
   pub solid : AllSolid (xs ++ ds)
   pub merged : AreMerged (lens xs)
-  pub enough : merges_onto xs (lens ds) ≤ room
+  pub enough : takes m xs ds ≤ room
   pub in_use : live + merges_onto xs (lens ds) ≤ live0 + merges_onto xs0 (lens ds0)
   pub parts : (ps : List Slice) → strange ps (xs ++ ds) + merges_onto xs (lens ds) ≤ strange ps (xs0 ++ ds0) + merges_onto xs0 (lens ds0)
 
@@ -54,7 +70,7 @@ underway-as {m0} {xs0} {ds0} {live0} {ds} s t ys zs e f u =
     (subst (λ ks. Underway m0 xs0 ds0 live0 (segment_at t) ks ds (live_count t.held) t.room) (sym f) u)
 
 -- before the first
-pub underway-first : (m : Map) (xs ds : List Slice) (live room : ℕ) → Holds m (xs ++ ds) → AllSolid (xs ++ ds) → AreMerged (lens xs) → merges_onto xs (lens ds) ≤ room → Underway m xs ds live m xs ds live room
+pub underway-first : (m : Map) (xs ds : List Slice) (live room : ℕ) → Holds m (xs ++ ds) → AllSolid (xs ++ ds) → AreMerged (lens xs) → takes m xs ds ≤ room → Underway m xs ds live m xs ds live room
 underway-first m xs ds live room held solid merged enough = record {
   turns = turns-same m (xs ++ ds) held.lie;
   read = refl;
@@ -90,23 +106,39 @@ module _ {m0 : Map} {xs0 ds0 : List Slice} {live0 : ℕ} {m : Map} {xs : List Sl
       omega (arith, all, sum)
 
   pub next-room : joining xs x ≤ room
-  next-room = by (joins (length xs) (last_len xs) x.len) u.enough
+  next-room = by (joins (length xs) (last_len xs) x.len) (merges-few (length xs) (last_len xs + x.len) ds) u.enough
     where
-      by : (b : Bool) → (if b then 1 + merges (length xs) (last_len xs + x.len) (lens ds) else merges (length xs + 1) x.len (lens ds)) ≤ room → one_if b ≤ room
-      by true l = omega (arith, l)
-      by false l = omega arith
+      by : (b : Bool) → merges (length xs) (last_len xs + x.len) (lens ds) ≤ length ds
+          → min (if b then 1 + merges (length xs) (last_len xs + x.len) (lens ds) else merges (length xs + 1) x.len (lens ds))
+          (length (x ∷ ds) + 1 + ends_in_part m xs - (if b then 1 + merges (length xs) (last_len xs + x.len) (lens ds) else merges (length xs + 1) x.len (lens ds))) ≤ room → one_if b ≤ room
+      by true few l = omega (arith, few, l)
+      by false few l = omega arith
 
   module _ (n : Map) (ys : List Slice) (live1 room1 : ℕ) (t : Turns m (xs ++ x ∷ []) n ys) (r : all_read n ys ≡ all_read m (xs ++ x ∷ []))
-      (tight : AreMerged (lens ys)) (some : AllSolid ys) (left : room ≤ room1 + joining xs x) (made : live1 ≤ live + joining xs x)
+      (tight : AreMerged (lens ys)) (some : AllSolid ys) (left : room ≤ room1 + joining xs x)
+      (once : ends_in_part n ys + room ≤ room1 + max (1 - joining xs x) (ends_in_part m xs)) (made : live1 ≤ live + joining xs x)
       (plan : (rest : List ℕ) → merges_onto ys rest + joining xs x ≡ merges_onto xs (x.len ∷ rest))
       (within : (ps : List Slice) → strange ps ys ≤ strange ps (xs ++ x ∷ []) + joining xs x) where
+    joining-most : joining xs x ≤ 1
+    joining-most = by (joins (length xs) (last_len xs) x.len)
+      where
+        by : (b : Bool) → one_if b ≤ 1
+        by true = omega arith
+        by false = omega arith
+
     pub underway-next : Underway m0 xs0 ds0 live0 n ys ds live1 room1
     underway-next = record {
       turns = turns-then m0 m n (xs0 ++ ds0) (xs ++ (x ∷ ds)) (ys ++ ds) u.turns (subst (λ zs. Turns m zs n (ys ++ ds)) (sym apart) (turns-before m n (xs ++ x ∷ []) ys ds held t));
       read = read-before m n (xs ++ x ∷ []) ys ds held t ∙ ap (λ bs. bs ++ all_read m ds) r ∙ sym (read-append m (xs ++ x ∷ []) ds) ∙ ap (all_read m) (sym apart) ∙ u.read;
       solid = solid-append ys ds some (solid-right (xs ++ x ∷ []) ds solid);
       merged = tight;
-      enough = (let p = plan (lens ds) in let e = u.enough in omega (arith, p, e, left));
+      enough =
+          let p = plan (lens ds) in
+          let e = u.enough in
+          let one = joining-most in
+          let was = part-most m xs in
+          let now = part-most n ys in
+          omega (arith, p, e, left, once, one, was, now);
       in_use = (let p = plan (lens ds) in let e = u.in_use in omega (arith, p, e, made));
       parts = λ ps.
           let p = plan (lens ds) in let w = within ps in let o = u.parts ps in

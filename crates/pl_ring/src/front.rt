@@ -1,6 +1,6 @@
 //! Slots at the front.
 ghost use Rattle.std.specs.Prelude.{◌≡◌, ◌+◌, ◌-◌, ◌≤◌, ◌++◌, length, take, drop, vec_len, vec_capacity, IfOk};
-ghost use Rattle.pl_segments.specs.Segments.{segment_at};
+ghost use Rattle.pl_segments.specs.Segments.{most_spare, segment_at};
 ghost use Rattle.pl_segments.specs.Slices.{Lies, AllLie, reads, all_read};
 ghost use Rattle.pl_segments.specs.Turns.{Holds, Turns};
 ghost use Rattle.pl_segments.specs.Slots.{total, AllSolid, drop_bytes, front_of};
@@ -171,6 +171,7 @@ pub(crate) fn pop_into<A: Allocator + Copy>(
     ensures turns { Turns (segment_at store.old) slots.old.items (segment_at store.new) slots.new.items }
     ensures read { all_read (segment_at store.new) slots.new.items ≡ drop (length into.old) (all_read (segment_at store.old) slots.old.items) }
     ensures capacity { slots.new.capacity ≡ slots.old.capacity }
+    ensures spare { store.old.room ≤ most_spare → store.new.room ≤ most_spare }
 {
     // Most reads take what one write brought.
     if let Some(first) = take_whole(slots, into.len()) {
@@ -195,6 +196,7 @@ fn pop_parts<A: Allocator + Copy>(
     ensures turns { Turns (segment_at store.old) slots.old.items (segment_at store.new) slots.new.items }
     ensures read { all_read (segment_at store.new) slots.new.items ≡ drop (length into.old) (all_read (segment_at store.old) slots.old.items) }
     ensures capacity { slots.new.capacity ≡ slots.old.capacity }
+    ensures spare { store.old.room ≤ most_spare → store.new.room ≤ most_spare }
 {
     let count = into.len();
     copy_into(store, slots, into);
@@ -257,6 +259,7 @@ pub(crate) fn drop_front<A: Allocator + Copy>(
     ensures turns { Turns (segment_at store.old) slots.old.items (segment_at store.new) slots.new.items }
     ensures read { all_read (segment_at store.new) slots.new.items ≡ drop count (all_read (segment_at store.old) slots.old.items) }
     ensures capacity { slots.new.capacity ≡ slots.old.capacity }
+    ensures spare { store.old.room ≤ most_spare → store.new.room ≤ most_spare }
 {
     let mut rest = count;
     while 0 < rest {

@@ -1,11 +1,11 @@
 //! Slots in a ring of fixed places.
-ghost use Rattle.std.specs.Prelude.{◌≡◌, ℕ, ◌+◌, ◌*◌, ◌%◌, ◌<◌, ◌≤◌, List, [], ◌∷◌, ◌++◌, length, IfSome, IfNone};
+ghost use Rattle.std.specs.Prelude.{◌≡◌, ℕ, ◌+◌, ◌-◌, ◌*◌, ◌%◌, ◌<◌, ◌≤◌, List, [], ◌∷◌, ◌++◌, length, max, IfSome, IfNone};
 ghost use Rattle.circular_buffer.specs.Buffer.{buffer};
 ghost use Rattle.pl_segments.specs.declared.slice.Slice.{Slice as Part};
 ghost use Rattle.pl_segments.specs.Segments.{segment_at, live_count};
 ghost use Rattle.pl_segments.specs.Slices.{all_read};
 ghost use Rattle.pl_segments.specs.Turns.{Holds, Turns};
-ghost use Rattle.pl_segments.specs.Slots.{total, AllSolid, last_len};
+ghost use Rattle.pl_segments.specs.Slots.{total, AllSolid, last_len, ends_in_part};
 ghost use Rattle.pl_ring.specs.Ring.{place_size};
 ghost use Rattle.pl_ring.specs.Merging.{lens, AreMerged, joining, merges_onto};
 ghost use Rattle.pl_ring.specs.Parts.{strange};
@@ -107,7 +107,8 @@ pub(crate) fn last_len<A: Allocator>(slots: &HeapCircularBuffer<Slice, A>) -> u3
 }
 
 /// Adds a slot behind the last, with which it becomes one where they aren't the first pair and fit a segment; then there is room
-/// for one. It takes no memory, and overwrites no slot: there are places for merged slots of all bytes that fit.
+/// for one. A last slot that is all of its segment takes the bytes in, and no segment is made. It takes no memory, and overwrites no
+/// slot: there are places for merged slots of all bytes that fit.
 #[inline(always)]
 pub(crate) fn push_slot<A: Allocator + Copy>(
     store: &mut Store<A>,
@@ -126,6 +127,7 @@ pub(crate) fn push_slot<A: Allocator + Copy>(
     ensures solid { AllSolid slots.new.items }
     ensures capacity { slots.new.capacity ≡ slots.old.capacity }
     ensures room { store.old.room ≤ store.new.room + joining slots.old.items slot }
+    ensures once { ends_in_part (segment_at store.new) slots.new.items + store.old.room ≤ store.new.room + max (1 - joining slots.old.items slot) (ends_in_part (segment_at store.old) slots.old.items) }
     ensures in_use { live_count store.new.held ≤ live_count store.old.held + joining slots.old.items slot }
     ensures plan { (rest : List ℕ) → merges_onto slots.new.items rest + joining slots.old.items slot ≡ merges_onto slots.old.items (slot.len ∷ rest) }
     ensures parts { (parts : List Part) → strange parts slots.new.items ≤ strange parts (slots.old.items ++ slot ∷ []) + joining slots.old.items slot }

@@ -1,5 +1,5 @@
 //! What becomes one slot.
-ghost use Rattle.std.specs.Prelude.{◌≡◌, ◌+◌, ◌*◌, ◌<◌, ◌^◌, length};
+ghost use Rattle.std.specs.Prelude.{◌≡◌, ◌+◌, ◌*◌, ◌<◌, ◌≤◌, ◌^◌, length};
 ghost use Rattle.pl_segments.specs.Slots.{total, solid_of};
 ghost use Rattle.pl_ring.specs.Merging.{lens, merges, joins};
 
@@ -29,6 +29,8 @@ pub(crate) fn plan_of(count: usize, last: u32, slices: &[Slice]) -> Plan
     requires { count + last + 2 * total slices.now < 2 ^ 32 }
     ensures merges { result.merges ≡ merges count last (lens (solid_of slices.now)) }
     ensures slots { result.slots + result.merges ≡ count + length (solid_of slices.now) }
+    ensures more { count ≤ result.slots }
+    ensures few { result.slots < 2 ^ 32 }
     ensures bytes { result.bytes ≡ total slices.now }
 {
     let mut plan = Plan {

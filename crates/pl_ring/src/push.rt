@@ -1,10 +1,10 @@
 //! Slots that are pushed.
-ghost use Rattle.std.specs.Prelude.{◌≡◌, ℕ, ◌+◌, ◌*◌, ◌%◌, ◌<◌, ◌≤◌, ◌^◌, List, [], ◌++◌, length, IfOk, OnOk, OnErr};
+ghost use Rattle.std.specs.Prelude.{◌≡◌, ℕ, ◌+◌, ◌-◌, ◌*◌, ◌%◌, ◌<◌, ◌≤◌, ◌^◌, List, [], ◌++◌, length, min, IfOk, OnOk, OnErr};
 ghost use Rattle.pl_segments.specs.declared.slice.Slice.{Slice as Part};
-ghost use Rattle.pl_segments.specs.Segments.{segment_size, segment_at, holders, live_count};
+ghost use Rattle.pl_segments.specs.Segments.{segment_size, most_spare, segment_at, holders, live_count};
 ghost use Rattle.pl_segments.specs.Slices.{AllLie, all_read};
 ghost use Rattle.pl_segments.specs.Turns.{Holds, Turns};
-ghost use Rattle.pl_segments.specs.Slots.{total, AllSolid, solid_of, tail_room};
+ghost use Rattle.pl_segments.specs.Slots.{total, AllSolid, solid_of, tail_room, ends_in_part};
 ghost use Rattle.pl_ring.specs.Ring.{place_size};
 ghost use Rattle.pl_ring.specs.Merging.{lens, AreMerged, merges_onto};
 ghost use Rattle.pl_ring.specs.Parts.{strange};
@@ -100,7 +100,8 @@ fn push_first<A: Allocator + Copy>(
     ensures in_use { OnOk result (live_count store.new.held ≡ live_count store.old.held + 1) }
     ensures capacity { OnOk result (slots.new.capacity ≡ slots.old.capacity) }
     ensures err { OnErr result (slots.new ≡ slots.old) }
-    ensures store_err { OnErr result (store.new ≡ record store.old { room = store.new.room }) }
+    ensures spare { store.old.room ≤ most_spare → store.new.room ≤ most_spare }
+    ensures store_err { OnErr result (store.new ≡ store.old) }
 {
     store.reserve(1)?;
     let slice = store.make_reserved(bytes);
@@ -128,7 +129,8 @@ pub(crate) fn push_bytes<A: Allocator + Copy>(
     ensures in_use { OnOk result (segment_size * live_count store.new.held ≤ segment_size * live_count store.old.held + length bytes.now + 2 * segment_size) }
     ensures capacity { OnOk result (slots.new.capacity ≡ slots.old.capacity) }
     ensures err { OnErr result (slots.new ≡ slots.old) }
-    ensures store_err { OnErr result (store.new ≡ record store.old { room = store.new.room }) }
+    ensures spare { store.old.room ≤ most_spare → store.new.room ≤ most_spare }
+    ensures store_err { OnErr result (store.new ≡ store.old) }
 {
     // Most writes are small, and most pipes are empty when they come.
     if slots.is_empty() && !bytes.is_empty() && bytes.len() <= SEGMENT_SIZE {
@@ -156,7 +158,8 @@ fn push_behind<A: Allocator + Copy>(
     ensures in_use { OnOk result (segment_size * live_count store.new.held ≤ segment_size * live_count store.old.held + length bytes.now + 2 * segment_size) }
     ensures capacity { OnOk result (slots.new.capacity ≡ slots.old.capacity) }
     ensures err { OnErr result (slots.new ≡ slots.old) }
-    ensures store_err { OnErr result (store.new ≡ record store.old { room = store.new.room }) }
+    ensures spare { store.old.room ≤ most_spare → store.new.room ≤ most_spare }
+    ensures store_err { OnErr result (store.new ≡ store.old) }
 {
     let grown = tail_room(store, slots).min(bytes.len());
     let (first, rest) = bytes.split_at(grown);
@@ -168,6 +171,7 @@ fn push_behind<A: Allocator + Copy>(
         grow_tail(store, slots, first);
     }
     push_new(store, slots, rest);
+    store.trim();
     Ok(())
 }
 
@@ -188,8 +192,9 @@ fn hold_all<A: Allocator + Copy>(store: &mut Store<A>, slices: &[Slice])
     }
 }
 
-/// Pushes slices that are held, but those of no bytes. There is room for those that become one with what stands before them;
-/// `many` is how many slots there are then. It takes no memory.
+/// Pushes slices that are held, but those of no bytes. There is room for those that become one with what stands before them: one
+/// segment for each, or for each slot that comes and two more, since a slot is copied once at most. `many` is how many slots there
+/// are then. It takes no memory.
 fn push_held<A: Allocator + Copy>(
     store: &mut Store<A>,
     slots: &mut HeapCircularBuffer<Slice, A>,
@@ -197,7 +202,7 @@ fn push_held<A: Allocator + Copy>(
     many: usize,
 )
     requires held { Holds (segment_at store.old) (slots.old.items ++ solid_of slices.now) }
-    requires room { merges_onto slots.old.items (lens (solid_of slices.now)) ≤ store.old.room }
+    requires room { min (merges_onto slots.old.items (lens (solid_of slices.now))) (length (solid_of slices.now) + 1 + ends_in_part (segment_at store.old) slots.old.items - merges_onto slots.old.items (lens (solid_of slices.now))) ≤ store.old.room }
     requires many { many + merges_onto slots.old.items (lens (solid_of slices.now)) ≡ length slots.old.items + length (solid_of slices.now) }
     requires solid { AllSolid slots.old.items }
     requires merged { AreMerged (lens slots.old.items) }
@@ -249,11 +254,14 @@ pub(crate) fn push_slices<A: Allocator + Copy>(
     ensures in_use { OnOk result (live_count store.new.held ≤ live_count store.old.held + merges_onto slots.old.items (lens (solid_of slices.now))) }
     ensures parts { OnOk result (strange (slots.old.items ++ slices.now) slots.new.items ≤ merges_onto slots.old.items (lens (solid_of slices.now))) }
     ensures err { OnErr result (slots.new ≡ slots.old) }
-    ensures store_err { OnErr result (store.new ≡ record store.old { room = store.new.room }) }
+    ensures spare { store.old.room ≤ most_spare → store.new.room ≤ most_spare }
+    ensures store_err { OnErr result (store.new ≡ store.old) }
 {
-    let plan = plan_of(slots.len(), last_len(slots), slices);
-    store.reserve(plan.merges)?;
+    let count = slots.len();
+    let plan = plan_of(count, last_len(slots), slices);
+    store.reserve(plan.merges.min(plan.slots - count + 2))?;
     hold_all(store, slices);
     push_held(store, slots, slices, plan.slots);
+    store.trim();
     Ok(plan.bytes)
 }

@@ -1,7 +1,7 @@
 //! The ring of a pipe.
 ghost use Rattle.std.specs.Prelude.{◌≡◌, ℕ, ◌+◌, ◌-◌, ◌*◌, ◌/◌, ◌<◌, ◌≤◌, ◌^◌, ◌↔◌, [], ◌++◌, length, take, drop, IfOk, OnOk, OnErr, Err};
 ghost use Rattle.pl_model.specs.Numbers.{first_capacity};
-ghost use Rattle.pl_segments.specs.Segments.{segment_size, segment_at, holders, live_count};
+ghost use Rattle.pl_segments.specs.Segments.{segment_size, most_spare, segment_at, holders, live_count};
 ghost use Rattle.pl_segments.specs.Slices.{AllLie, all_read};
 ghost use Rattle.pl_segments.specs.Turns.{Holds, Turns};
 ghost use Rattle.pl_segments.specs.Slots.{total, AllSolid, solid_of, drop_bytes, front_of};
@@ -104,7 +104,8 @@ impl<A: Allocator + Copy> Ring<A> {
         ensures in_use { OnOk result (segment_size * live_count store.new.held ≤ segment_size * live_count store.old.held + length bytes.now + 2 * segment_size) }
         ensures capacity { self.new.capacity ≡ self.old.capacity }
         ensures err { OnErr result (self.new ≡ self.old) }
-        ensures store_err { OnErr result (store.new ≡ record store.old { room = store.new.room }) }
+        ensures spare { store.old.room ≤ most_spare → store.new.room ≤ most_spare }
+        ensures store_err { OnErr result (store.new ≡ store.old) }
     {
         push_bytes(store, &mut self.slots, bytes)?;
         self.held += bytes.len();
@@ -131,7 +132,8 @@ impl<A: Allocator + Copy> Ring<A> {
         ensures front_parts { OnOk result (IsFront slices.now → strange (self.old.slots ++ slices.now) self.new.slots ≤ 3) }
         ensures capacity { self.new.capacity ≡ self.old.capacity }
         ensures err { OnErr result (self.new ≡ self.old) }
-        ensures store_err { OnErr result (store.new ≡ record store.old { room = store.new.room }) }
+        ensures spare { store.old.room ≤ most_spare → store.new.room ≤ most_spare }
+        ensures store_err { OnErr result (store.new ≡ store.old) }
     {
         let bytes = push_slices(store, &mut self.slots, slices.as_slice())?;
         self.held += bytes;
@@ -157,6 +159,7 @@ impl<A: Allocator + Copy> Ring<A> {
         ensures read { OnOk result (all_read (segment_at store.new) self.new.slots ≡ drop count (all_read (segment_at store.old) self.old.slots)) }
         ensures capacity { self.new.capacity ≡ self.old.capacity }
         ensures err { OnErr result (self.new ≡ self.old) }
+        ensures spare { store.old.room ≤ most_spare → store.new.room ≤ most_spare }
         ensures store_err { OnErr result (store.new ≡ store.old) }
     {
         let bytes = copy_front(self.alloc, store, &self.slots, count)?;
@@ -173,6 +176,7 @@ impl<A: Allocator + Copy> Ring<A> {
         ensures turns { Turns (segment_at store.old) self.old.slots (segment_at store.new) self.new.slots }
         ensures read { all_read (segment_at store.new) self.new.slots ≡ drop (length into.old) (all_read (segment_at store.old) self.old.slots) }
         ensures capacity { self.new.capacity ≡ self.old.capacity }
+        ensures spare { store.old.room ≤ most_spare → store.new.room ≤ most_spare }
     {
         self.held -= into.len();
         pop_into(store, &mut self.slots, into);
@@ -187,6 +191,7 @@ impl<A: Allocator + Copy> Ring<A> {
         ensures turns { Turns (segment_at store.old) self.old.slots (segment_at store.new) self.new.slots }
         ensures read { all_read (segment_at store.new) self.new.slots ≡ drop count (all_read (segment_at store.old) self.old.slots) }
         ensures capacity { self.new.capacity ≡ self.old.capacity }
+        ensures spare { store.old.room ≤ most_spare → store.new.room ≤ most_spare }
     {
         drop_front(store, &mut self.slots, count);
         self.held -= count;
@@ -197,6 +202,7 @@ impl<A: Allocator + Copy> Ring<A> {
         requires { Holds (segment_at store.old) self.old.slots }
         ensures value { self.new ≡ record { slots = []; capacity = first_capacity } }
         ensures turns { Turns (segment_at store.old) self.old.slots (segment_at store.new) [] }
+        ensures spare { store.old.room ≤ most_spare → store.new.room ≤ most_spare }
     {
         let held = self.held;
         drop_front(store, &mut self.slots, held);

@@ -10,7 +10,7 @@ use Rattle.pl_segments.specs.Segments.{segment_size, Map, Segment, at, set_at, l
 use Rattle.pl_segments.specs.Slices.{Lies, reads, longer_by, room_after}
 use Rattle.pl_segments.specs.Turns.{Turns}
 use Rattle.pl_segments.proofs.Storing.{taken-there, taken-sound, unseen-same, spare-unseen, lent-held, lent-was, lent-set, lent-live, lent-sound}
-use Rattle.pl_segments.proofs.Changing.{turns-longer, reads-longer, room-fits, length-reads}
+use Rattle.pl_segments.proofs.Changing.{set-here, turns-longer, reads-longer, room-fits, length-reads, longer-bytes}
 
 -- the segment of the last spare key is taken out
 module _ (old new : Slab Segment) (held : List (Option Segment)) (same : held_of old.slots ≡ held) (keys left : List ℕ) (popped : Option ℕ) (key : ℕ)
@@ -84,3 +84,10 @@ module _ (slots held : List (Option Segment)) (same : held_of slots ≡ held) (a
           ap (λ n. reads new (longer_by n a)) (sym len)
           ∙ reads-longer (at held) new a bytes first end is
           ∙ ap (λ bs. reads (at held) a ++ bs) copied
+
+      pub behind-long : length (filled new a.segment) ≡ length (filled (at held) a.segment) + b.len
+      behind-long =
+          let f : length (filled new a.segment) ≡ length (filled (at held) a.segment ++ bytes) =
+          ap length (ap bytes_in (set-here (at held) new a.segment _ is) ∙ longer-bytes bytes (at held a.segment) first.here) in
+          let l = length-append (filled (at held) a.segment) bytes in
+          omega (arith, f, l, len)

@@ -1,14 +1,14 @@
 -- A store before and after a change of one segment.
 use Rattle.std.proofs.Common.{◌≡◌, ◌≢◌, ℕ, ◌+◌, ◌-◌, ◌<◌, ◌≤◌, List, [], ◌∷◌, ◌++◌, Option, Some, None, Result, Ok, Err, refl, sym, ◌∙◌, ap, subst, inl, inr, length, take, drop, arith}
-use Rattle.std.specs.Prelude.{if◌then◌else◌, nat_le}
-use Rattle.std.proofs.lemmas.Bool.{eq-eqb, ne_eqb, le-leb, lt-leb}
+use Rattle.std.specs.Prelude.{if◌then◌else◌, nat_le, nat_lt}
+use Rattle.std.proofs.lemmas.Bool.{eq-eqb, ne_eqb, le-leb, lt-leb, lt-ltb, le-ltb}
 use Rattle.std.proofs.lemmas.Bool.Decides.{eqb_tells}
 use Rattle.std.proofs.lemmas.List.{append-nil, length-drop, length-append, length-take-le, take-append-le, drop-append-le, take_all}
 use Rattle.pl_segments.specs.declared.slice.Slice.{Slice}
 use Rattle.pl_segments.specs.declared.fault.AppendFault.{AppendFault}
 use Rattle.pl_segments.specs.declared.fault.AppendFault.TheVariants.{NotAtEnd, NoRoom}
 use Rattle.pl_segments.specs.Segments.{segment_size, Segment, Map, set_at, bytes_in, holders_in, filled, holders, more_held, less_held, longer}
-use Rattle.pl_segments.specs.Slices.{Lies, reads, AllLie, one_if, naming, longer_by, appended, room_after}
+use Rattle.pl_segments.specs.Slices.{Lies, reads, AllLie, one_if, naming, longer_by, appended, room_after, is_part}
 use Rattle.pl_segments.specs.Turns.{Begins, Turns}
 
 -- what a changed map has at the key, and elsewhere
@@ -207,3 +207,35 @@ appended-at_end m x n end fits =
 -- so it is with bytes for which there is room
 pub appended-fits : (m : Map) (x : Slice) (n : ℕ) → 1 ≤ n → n ≤ room_after m x → appended m x n ≡ Ok (longer_by n x)
 appended-fits m x n some fits = let f = room-fits m x n some fits in appended-at_end m x n f.0 f.1
+
+-- a segment that something else holds has its bytes still once a hold goes
+pub released-filled : (m n : Map) (x : Slice) → n ≡ set_at m x.segment (less_held (m x.segment)) → (key : ℕ) → naming (x ∷ []) key < holders m key → filled n key ≡ filled m key
+released-filled m n x is key more = elim (eqb_tells key x.segment) as (λ _. filled n key ≡ filled m key) [
+  | inl e ↦
+      let here : naming (x ∷ []) x.segment < holders m x.segment = subst (λ k. naming (x ∷ []) k < holders m k) e.1 more in
+      let one = naming-one x in
+      subst (λ k. filled n k ≡ filled m k) (sym e.1) (ap bytes_in (set-here m n x.segment _ is) ∙ less-bytes (m x.segment) (omega (arith, here, one)))
+  | inr e ↦ ap bytes_in (set-there m n x.segment _ is key e.1)
+]
+
+-- the room behind a slice to which bytes were added
+pub room-longer : (m n : Map) (x : Slice) (k : ℕ) → 1 ≤ k → k ≤ room_after m x → length (filled n x.segment) ≡ length (filled m x.segment) + k → room_after n (longer_by k x) + k ≡ room_after m x
+room-longer m n x k some fits long =
+    let f = room-fits m x k some fits in
+    let end = f.0 in
+    let most = f.1 in
+    let r = room-end m x end in
+    let s = room-end n (longer_by k x) (omega (arith, end, long)) in
+    omega (arith, r, s, most)
+
+-- whether a slice is a part of its segment, or all of it
+pub part-longer : (m n : Map) (x : Slice) (k : ℕ) → room_after n (longer_by k x) + k ≡ room_after m x → is_part n (longer_by k x) ≡ is_part m x
+part-longer m n x k after = ap (λ s. one_if (nat_lt s segment_size)) (let e : room_after n (longer_by k x) + (x.len + k) ≡ room_after m x + x.len = omega (arith, after) in e)
+
+pub part-whole : (m : Map) (x : Slice) → x.from ≡ 0 → length (filled m x.segment) ≡ x.len → x.len ≤ segment_size → is_part m x ≡ 0
+part-whole m x first whole most =
+    let r = room-end m x (omega (arith, first, whole)) in
+    ap one_if (le-ltb (room_after m x + x.len) segment_size (omega (arith, r, first, most)))
+
+pub part-short : (m : Map) (x : Slice) (k : ℕ) → room_after m x < k → x.len + k ≤ segment_size → is_part m x ≡ 1
+part-short m x k short most = ap one_if (lt-ltb (room_after m x + x.len) segment_size (omega (arith, short, most)))

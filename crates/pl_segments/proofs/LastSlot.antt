@@ -1,12 +1,12 @@
 -- The last of some slots.
-use Rattle.std.proofs.Common.{◌≡◌, ◌+◌, ◌-◌, ◌<◌, List, [], ◌∷◌, ◌++◌, Some, None, refl, sym, ◌∙◌, ap, subst, length, take, arith}
-use Rattle.std.specs.Prelude.{slice_get}
+use Rattle.std.proofs.Common.{◌≡◌, ◌+◌, ◌-◌, ◌<◌, ◌≤◌, Bool, true, false, List, [], ◌∷◌, ◌++◌, Some, None, refl, sym, ◌∙◌, ap, subst, length, take, arith}
+use Rattle.std.specs.Prelude.{slice_get, nat_lt}
 use Rattle.std.proofs.lemmas.List.{take_all, take_more}
 use Rattle.std.proofs.lemmas.Option.{get_or_from_slice_get, slice_get-get_or}
 use Rattle.pl_segments.specs.declared.slice.Slice.{Slice}
-use Rattle.pl_segments.specs.Segments.{Map}
-use Rattle.pl_segments.specs.Slices.{Lies, AllLie, room_after}
-use Rattle.pl_segments.specs.Slots.{last_len, tail_room}
+use Rattle.pl_segments.specs.Segments.{segment_size, Map}
+use Rattle.pl_segments.specs.Slices.{Lies, AllLie, one_if, room_after, is_part}
+use Rattle.pl_segments.specs.Slots.{last_len, tail_room, ends_in_part}
 use Rattle.pl_segments.proofs.Turning.{lie-right}
 use Rattle.pl_segments.proofs.SlotLemmas.{last-len, room-last}
 
@@ -31,3 +31,14 @@ last-lies m (y ∷ r) x e lie = (lie-right m (take (length (y ∷ r) - 1) (y ∷
 pub room-got : (m : Map) (xs : List Slice) (x : Slice) → slice_get xs (length xs - 1) ≡ Some x → tail_room m xs ≡ room_after m x
 room-got m [] x e = absurd (cc)
 room-got m (y ∷ r) x e = ap (tail_room m) (last-split (y ∷ r) x (omega arith) e) ∙ room-last m (take (length (y ∷ r) - 1) (y ∷ r)) x
+
+-- whether the last slot is a part of its segment, or all of it
+pub part-last : (m : Map) (front : List Slice) (x : Slice) → ends_in_part m (front ++ x ∷ []) ≡ is_part m x
+part-last m front x = λ i. one_if (nat_lt (room-last m front x i + last-len front x i) segment_size)
+
+pub part-most : (m : Map) (xs : List Slice) → ends_in_part m xs ≤ 1
+part-most m xs = by (nat_lt (tail_room m xs + last_len xs) segment_size)
+  where
+    by : (b : Bool) → one_if b ≤ 1
+    by true = omega arith
+    by false = omega arith

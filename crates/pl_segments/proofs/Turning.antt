@@ -3,10 +3,10 @@ use Rattle.std.proofs.Common.{◌≡◌, ℕ, ◌+◌, ◌≤◌, List, [], ◌�
 use Rattle.std.proofs.lemmas.Bool.{eq-eqb}
 use Rattle.std.proofs.lemmas.List.{append-nil, append_assoc}
 use Rattle.pl_segments.specs.declared.slice.Slice.{Slice}
-use Rattle.pl_segments.specs.Segments.{Map, holders}
+use Rattle.pl_segments.specs.Segments.{Map, set_at, filled, holders, less_held}
 use Rattle.pl_segments.specs.Slices.{Lies, reads, all_read, AllLie, one_if, naming}
 use Rattle.pl_segments.specs.Turns.{Begins, Holds, Turns}
-use Rattle.pl_segments.proofs.Changing.{begins-same, reads-begun, lies-begun}
+use Rattle.pl_segments.proofs.Changing.{begins-same, reads-begun, lies-begun, released-filled}
 
 -- slices after slices
 pub naming-append : (xs ys : List Slice) (key : ℕ) → naming (xs ++ ys) key ≡ naming xs key + naming ys key
@@ -132,6 +132,14 @@ module _ (m n o p : Map) (a b x : Slice) (h : Holds m (a ∷ b ∷ [])) (t : Tur
           ∙ others-read n o (a ∷ []) [] u (x ∷ []) (λ key. let f = all_held.few key in omega (arith, f)) (all_held.lie.1.1)
           ∙ append-nil (reads n x)
 
+      -- and the new segment has the bytes that it had
+      pub join-filled : o ≡ set_at n a.segment (less_held (n a.segment)) → p ≡ set_at o b.segment (less_held (o b.segment)) → filled p x.segment ≡ filled n x.segment
+      join-filled one two =
+          let own : one_if (nat_eq x.segment x.segment) ≡ 1 = ap one_if (eq-eqb x.segment x.segment refl) in
+          let all = all_held.few x.segment in
+          let both = both_held.few x.segment in
+          released-filled o p b two x.segment (omega (arith, own, both)) ∙ released-filled n o a one x.segment (omega (arith, own, all))
+
 -- a slice takes in the bytes of a second one, which is let go
 module _ (m n o : Map) (a b y : Slice) (h : Holds m (a ∷ b ∷ [])) (t : Turns m (a ∷ []) n (y ∷ [])) where
   grown : Turns m (a ∷ b ∷ []) n (y ∷ b ∷ [])
@@ -152,3 +160,10 @@ module _ (m n o : Map) (a b y : Slice) (h : Holds m (a ∷ b ∷ [])) (t : Turns
         sym (append-nil (reads o y))
         ∙ others-read n o (b ∷ []) [] u (y ∷ []) (λ key. let f = grown_held.few key in omega (arith, f)) t.lie
         ∙ append-nil (reads n y)
+
+    -- and its segment has the bytes that it had
+    pub grown-filled : o ≡ set_at n b.segment (less_held (n b.segment)) → filled o y.segment ≡ filled n y.segment
+    grown-filled is =
+        let own : one_if (nat_eq y.segment y.segment) ≡ 1 = ap one_if (eq-eqb y.segment y.segment refl) in
+        let f = grown_held.few y.segment in
+        released-filled n o b is y.segment (omega (arith, own, f))

@@ -1,5 +1,5 @@
 -- Slices of segments, what they read, and how often they name a segment.
-use Rattle.std.specs.Prelude.{◌≤◌, ℕ, ◌+◌, ◌-◌, nat_eq, nat_le, Bool, List, [], ◌∷◌, ◌++◌, length, take, drop, Result, Ok, Err, if◌then◌else◌}
+use Rattle.std.specs.Prelude.{◌≤◌, ℕ, ◌+◌, ◌-◌, nat_eq, nat_le, nat_lt, Bool, List, [], ◌∷◌, ◌++◌, length, take, drop, Result, Ok, Err, if◌then◌else◌}
 use Rattle.pl_segments.specs.declared.slice.Slice.{Slice}
 use Rattle.pl_segments.specs.declared.fault.AppendFault.{AppendFault}
 use Rattle.pl_segments.specs.declared.fault.AppendFault.TheVariants.{NotAtEnd, NoRoom}
@@ -47,3 +47,7 @@ appended m x n =
 -- how many bytes can be appended to a slice: as many as its segment has room for, where it ends at the segment's end
 abbrev pub room_after : Map → Slice → ℕ
 room_after m x = if nat_eq (x.from + x.len) (length (filled m x.segment)) then segment_size - (x.from + x.len) else 0
+
+-- 0 of a slice that is all of its segment, from the segment's front to where it is filled to, and 1 of any other
+abbrev pub is_part : Map → Slice → ℕ
+is_part m x = one_if (nat_lt (room_after m x + x.len) segment_size)

@@ -1,8 +1,8 @@
 -- Slots as bytes.
 use Rattle.std.specs.Prelude.{◌≤◌, ℕ, ◌+◌, ◌-◌, nat_eq, nat_le, nat_lt, List, [], ◌∷◌, if◌then◌else◌}
 use Rattle.pl_segments.specs.declared.slice.Slice.{Slice}
-use Rattle.pl_segments.specs.Segments.{Map}
-use Rattle.pl_segments.specs.Slices.{room_after}
+use Rattle.pl_segments.specs.Segments.{segment_size, Map}
+use Rattle.pl_segments.specs.Slices.{one_if, room_after}
 
 -- how many bytes slots have
 abbrev pub total : List Slice → ℕ
@@ -55,3 +55,7 @@ room_last m x (y ∷ ys) = room_last m y ys
 abbrev pub tail_room : Map → List Slice → ℕ
 tail_room m [] = 0
 tail_room m (x ∷ xs) = room_last m x xs
+
+-- 0 where the last slot is all of its segment, and 1 where it isn't, or there is none
+abbrev pub ends_in_part : Map → List Slice → ℕ
+ends_in_part m xs = one_if (nat_lt (tail_room m xs + last_len xs) segment_size)

@@ -1,7 +1,7 @@
 //! The store of segments.
-ghost use Rattle.std.specs.Prelude.{◌≡◌, ◌++◌, nat_eq, if◌then◌else◌, ◌+◌, ◌-◌, ◌<◌, ◌≤◌, ◌^◌, [], ◌∷◌, length, take, max, IsOk, IfOk, OnErr, OnOk, Some, None};
+ghost use Rattle.std.specs.Prelude.{◌≡◌, ◌++◌, nat_eq, if◌then◌else◌, ◌+◌, ◌-◌, ◌<◌, ◌≤◌, ◌^◌, [], ◌∷◌, length, take, min, max, IsOk, IfOk, OnErr, OnOk, Some, None};
 ghost use Rattle.pl_segments.specs.Segments.{segment_size, most_spare, segment_at, set_at, filled, holders, AreGood, live_count, more_held, less_held, longer};
-ghost use Rattle.pl_segments.specs.Slices.{Lies, reads, longer_by, appended, room_after};
+ghost use Rattle.pl_segments.specs.Slices.{Lies, reads, longer_by, appended, room_after, is_part};
 ghost use Rattle.pl_segments.specs.Turns.{Holds, Turns};
 
 use crate::block::{Block, SEGMENT_SIZE, put};
@@ -59,11 +59,42 @@ impl<A: Allocator + Copy> Store<A> {
         self.segments.len() - self.spare.len()
     }
 
-    // How many segments are spare.
-    fn room(&self) -> usize
+    /// How many segments are spare: nobody holds them, and they are kept for further ones.
+    pub fn spare(&self) -> usize
         ensures { result ≡ self.now.room }
     {
         self.spare.len()
+    }
+
+    /// Gives back the memory of spare segments, but for 256 of them. It takes no memory.
+    #[inline(always)]
+    pub fn trim(&mut self)
+        ensures room { self.new.room ≡ min most_spare self.old.room }
+        ensures kept { self.new ≡ record self.old { room = self.new.room } }
+    {
+        if MOST_SPARE < self.spare.len() {
+            self.drop_spares(MOST_SPARE);
+        }
+    }
+
+    // Gives back the memory of spare segments, until there are `count`.
+    #[inline(never)]
+    fn drop_spares(&mut self, count: usize)
+        requires { count ≤ self.old.room }
+        ensures { self.new ≡ record self.old { room = count } }
+    {
+        while count < self.spare() {
+            self.drop_spare();
+        }
+    }
+
+    // Gives back the memory of a spare segment.
+    fn drop_spare(&mut self)
+        requires { 1 ≤ self.old.room }
+        ensures { self.new ≡ record self.old { room = self.old.room - 1 } }
+    {
+        let key = self.spare.pop().unwrap();
+        let _gone = self.segments.remove(key);
     }
 
     // Makes a spare segment. An error leaves all as it was.
@@ -83,27 +114,36 @@ impl<A: Allocator + Copy> Store<A> {
         Ok(())
     }
 
-    // Makes spare segments, until there are `count`.
+    // Makes spare segments, until there are `count`. An error leaves as many as there were.
     #[inline(never)]
     fn add_spares(&mut self, count: usize) -> Result<(), NoMemory>
         ensures room { OnOk result (count ≤ self.new.room) }
         ensures grows { self.old.room ≤ self.new.room }
+        ensures most { self.new.room ≤ max count self.old.room }
         ensures kept { self.new ≡ record self.old { room = self.new.room } }
         ensures succeeds { count ≤ self.old.room → IsOk result }
+        ensures err { OnErr result (self.new ≡ self.old) }
     {
-        while self.room() < count {
-            self.add_spare()?;
+        let before = self.spare();
+        while self.spare() < count {
+            if self.add_spare().is_err() {
+                self.drop_spares(before);
+                return Err(NoMemory);
+            }
         }
         Ok(())
     }
 
-    /// Makes room for `count` more segments, so that making them takes no memory. Nothing else changes.
+    /// Makes room for `count` more segments, so that making them takes no memory. Nothing else changes: as many segments are spare
+    /// then as there were, or `count` if they were fewer. An error leaves all as it was.
     #[inline(always)]
     pub fn reserve(&mut self, count: usize) -> Result<(), NoMemory>
         ensures room { OnOk result (count ≤ self.new.room) }
         ensures grows { self.old.room ≤ self.new.room }
+        ensures most { self.new.room ≤ max count self.old.room }
         ensures kept { self.new ≡ record self.old { room = self.new.room } }
         ensures succeeds { count ≤ self.old.room → IsOk result }
+        ensures err { OnErr result (self.new ≡ self.old) }
     {
         if count <= self.spare.len() {
             return Ok(());
@@ -288,7 +328,7 @@ impl<A: Allocator + Copy> Store<A> {
         ensures in_use { OnOk result (live_count self.new.held ≡ live_count self.old.held + 1) }
         ensures turns { IfOk result (λ slice. Turns (segment_at self.old) [] (segment_at self.new) (slice ∷ [])) }
         ensures reads { IfOk result (λ slice. reads (segment_at self.new) slice ≡ bytes.now) }
-        ensures err { OnErr result (self.new ≡ record self.old { room = self.new.room }) }
+        ensures err { OnErr result (self.new ≡ self.old) }
     {
         self.reserve(1)?;
         Ok(self.make_reserved(bytes))
@@ -310,7 +350,8 @@ impl<A: Allocator + Copy> Store<A> {
     }
 
     /// Makes one slice of the bytes of two, whose holds it takes over; there is room for one more segment. Where the bytes of
-    /// the second fit behind the first they are appended to it, and else all are copied into a new segment. It takes no memory.
+    /// the second fit behind the first they are appended to it, and else all are copied into a new segment, of which the slice is all
+    /// then. So slices that become one, one after another, are copied once, as long as they fit a segment. It takes no memory.
     pub fn join_reserved(&mut self, first: Slice, second: Slice) -> Slice
         requires room { 1 ≤ self.old.room }
         requires held { Holds (segment_at self.old) (first ∷ second ∷ []) }
@@ -322,6 +363,7 @@ impl<A: Allocator + Copy> Store<A> {
         ensures in_use { live_count self.new.held ≤ live_count self.old.held + 1 }
         ensures appended_in_use { second.len ≤ room_after (segment_at self.old) first → live_count self.new.held ≤ live_count self.old.held }
         ensures room { self.old.room ≤ self.new.room + 1 }
+        ensures once { is_part (segment_at self.new) result + self.old.room ≤ self.new.room + is_part (segment_at self.old) first }
         ensures turns { Turns (segment_at self.old) (first ∷ second ∷ []) (segment_at self.new) (result ∷ []) }
         ensures reads { reads (segment_at self.new) result ≡ reads (segment_at self.old) first ++ reads (segment_at self.old) second }
     {
@@ -343,6 +385,7 @@ impl<A: Allocator + Copy> Store<A> {
         ensures value { result ≡ longer_by second.len first }
         ensures in_use { live_count self.new.held ≤ live_count self.old.held }
         ensures room { self.old.room ≤ self.new.room }
+        ensures after { room_after (segment_at self.new) result + second.len ≡ room_after (segment_at self.old) first }
         ensures turns { Turns (segment_at self.old) (first ∷ second ∷ []) (segment_at self.new) (result ∷ []) }
         ensures reads { reads (segment_at self.new) result ≡ reads (segment_at self.old) first ++ reads (segment_at self.old) second }
     {
@@ -370,6 +413,7 @@ impl<A: Allocator + Copy> Store<A> {
         ensures slice { result ≡ record { segment = result.segment; from = 0; len = first.len + second.len } }
         ensures in_use { live_count self.new.held ≡ live_count self.old.held + 1 }
         ensures room { self.new.room + 1 ≡ self.old.room }
+        ensures whole { length (filled (segment_at self.new) result.segment) ≡ result.len }
         ensures turns { Turns (segment_at self.old) [] (segment_at self.new) (result ∷ []) }
         ensures reads { reads (segment_at self.new) result ≡ reads (segment_at self.old) first ++ reads (segment_at self.old) second }
     {

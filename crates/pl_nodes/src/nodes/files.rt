@@ -3,7 +3,7 @@ ghost use Rattle.std.specs.Prelude.{◌≡◌, ◌↔◌, ◌-◌, ◌≤◌, fa
 ghost use Rattle.pl_model.specs.Numbers.{most_file_bytes};
 ghost use Rattle.pl_model.specs.Map.{set_at, change_at};
 ghost use Rattle.pl_model.specs.Nodes.{has_name};
-ghost use Rattle.pl_segments.specs.Segments.{segment_at, at};
+ghost use Rattle.pl_segments.specs.Segments.{most_spare, segment_at, at};
 ghost use Rattle.pl_segments.specs.Turns.{Holds, Turns};
 ghost use Rattle.pl_file.specs.File.{written, fitting};
 ghost use Rattle.pl_nodes.specs.Nodes.{SamePipes, Shrinks, memory_of};
@@ -18,7 +18,8 @@ use std::alloc::Allocator;
 // Lets the slots of a file go that nobody needs any more. It takes no memory.
 fn let_go<A: Allocator + Copy>(store: &mut Store<A>, file: File<A>)
     requires { Holds (segment_at store.old) file }
-    ensures { Turns (segment_at store.old) file (segment_at store.new) [] }
+    ensures turns { Turns (segment_at store.old) file (segment_at store.new) [] }
+    ensures spare { store.old.room ≤ most_spare → store.new.room ≤ most_spare }
 {
     let mut file = file;
     file.truncate(store);

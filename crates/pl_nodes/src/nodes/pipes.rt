@@ -6,7 +6,7 @@ ghost use Rattle.pl_model.specs.State.{empty_pipe};
 ghost use Rattle.pl_model.specs.Transfer.{room};
 ghost use Rattle.pl_model.specs.Map.{set_at, change_at};
 ghost use Rattle.pl_model.specs.Nodes.{has_name};
-ghost use Rattle.pl_segments.specs.Segments.{segment_size, segment_at, at};
+ghost use Rattle.pl_segments.specs.Segments.{segment_size, most_spare, segment_at, at};
 ghost use Rattle.pl_segments.specs.Turns.{Holds, Turns};
 ghost use Rattle.pl_segments.specs.Sharing.{slots_at};
 ghost use Rattle.pl_nodes.specs.Nodes.{SameFiles, Shrinks, memory_of};
@@ -22,7 +22,8 @@ use std::alloc::Allocator;
 // Lets the slots of a ring go that nobody needs any more. It takes no memory.
 fn let_go<A: Allocator + Copy>(store: &mut Store<A>, ring: Ring<A>)
     requires { Holds (segment_at store.old) ring.slots }
-    ensures { Turns (segment_at store.old) ring.slots (segment_at store.new) [] }
+    ensures turns { Turns (segment_at store.old) ring.slots (segment_at store.new) [] }
+    ensures spare { store.old.room ≤ most_spare → store.new.room ≤ most_spare }
 {
     let mut ring = ring;
     ring.reset(store);

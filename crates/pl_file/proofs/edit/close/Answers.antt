@@ -1,5 +1,5 @@
 use Rattle.std.proofs.Common.{◌∙◌, ◌++◌, ap, sym, subst}
-use Rattle.pl_segments.specs.Segments.{segment_at}
+use Rattle.pl_segments.specs.Segments.{Segments, segment_at}
 use Rattle.pl_segments.specs.Slices.{all_read}
 use Rattle.pl_segments.specs.Turns.{Turns}
 use Rattle.pl_file.proofs.Editing.{span-held, gone-turns, gone-read}
@@ -16,11 +16,13 @@ returns-clause-turns g c =
     let n = segment_at c.release_range.new.store in
     let xs = c.args.row.now.slots in
     let ps = c.args.patch.now.slots in
-    subst (Turns m (xs ++ ps) n) (sym c.replace.ensures.slots) (gone-turns m n xs ps c.args.first c.args.end c.requires.order c.requires.held c.release_range.ensures.turns)
+    subst (λ o. Turns m (xs ++ ps) o c.replace.new.self.slots) (sym (ap (λ (s : Segments). segment_at s) c.trim.ensures.kept))
+    (subst (Turns m (xs ++ ps) n) (sym c.replace.ensures.slots) (gone-turns m n xs ps c.args.first c.args.end c.requires.order c.requires.held c.release_range.ensures.turns))
 
 pub returns-clause-read : goal.returns-clause-read
 returns-clause-read g c =
     let m = segment_at c.args.store.now in
     let n = segment_at c.release_range.new.store in
-    ap (all_read n) c.replace.ensures.slots
+    ap (λ (s : Segments). all_read (segment_at s) c.replace.new.self.slots) c.trim.ensures.kept
+    ∙ ap (all_read n) c.replace.ensures.slots
     ∙ gone-read m n c.args.row.now.slots c.args.patch.now.slots c.args.first c.args.end c.requires.order c.requires.held c.release_range.ensures.turns

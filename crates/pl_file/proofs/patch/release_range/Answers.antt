@@ -23,6 +23,7 @@ pub loop-index-init : goal.loop-index-init
 loop-index-init g c = record {
   turns = turns-same (segment_at c.args.store.now) (drop c.args.first (take c.args.end c.args.row.now.slots)) c.requires.held.lie;
   in_use = omega arith;
+  spare = λ few. few;
 }
 
 pub release-requires : goal.release-requires
@@ -38,6 +39,7 @@ loop-index-preserved g c =
     record {
       turns = turns-then (segment_at c.args.store.now) m n xs (c.get.result ∷ rest) rest (turns g k) (gone-turns m n c.get.result rest (held g k) c.release.ensures.turns);
       in_use = omega (arith, c.loop-index.invariant.in_use, c.release.ensures.in_use);
+      spare = λ few. let was = c.loop-index.invariant.spare few in let now = c.release.ensures.spare in omega (arith, was, now);
     }
 
 pub returns-clause-turns : goal.returns-clause-turns

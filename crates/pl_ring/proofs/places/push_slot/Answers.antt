@@ -1,12 +1,13 @@
 use Rattle.std.proofs.Common.{◌≡◌, ◌∙◌, ◌+◌, [], ◌∷◌, ◌++◌, ap, sym, subst, length, arith}
 use Rattle.std.proofs.lemmas.List.{length_push}
 use Rattle.pl_segments.specs.Segments.{segment_at}
-use Rattle.pl_segments.specs.Slices.{all_read, one_if}
+use Rattle.pl_segments.specs.Slices.{all_read, one_if, is_part}
 use Rattle.pl_segments.specs.Turns.{Turns}
-use Rattle.pl_segments.specs.Slots.{AllSolid, last_len}
+use Rattle.pl_segments.specs.Slots.{AllSolid, last_len, ends_in_part}
 use Rattle.pl_ring.specs.Merging.{lens, AreMerged, joins, joining, merges_onto}
 use Rattle.pl_ring.specs.Parts.{strange}
 use Rattle.pl_segments.proofs.SlotLemmas.{total-append}
+use Rattle.pl_segments.proofs.LastSlot.{part-last, part-most}
 use Rattle.pl_ring.proofs.Merging.{joins-fit}
 use Rattle.pl_segments.proofs.Together.{is-last, one-solid, one-some, both-held, one-turns, one-read, all-together}
 use Rattle.pl_ring.proofs.Placing.{places-enough, push-merged, alone-plan, one-merged, one-plan}
@@ -113,3 +114,23 @@ returns-clause-plan g c =
     let s = c.args.slot in
     let apart = sym (asked g (goal.at.returns-clause-plan g c).After-joins) ∙ c.if-joins.false in
     λ rest. ap (λ zs. merges_onto zs rest + joining xs s) (λ i. (c.put_last-2.ensures i).items) ∙ alone-plan xs s apart rest
+
+pub returns-then-joins-clause-once : goal.returns-then-joins-clause-once
+returns-then-joins-clause-once g c =
+    let m = segment_at c.args.store.now in
+    let n = segment_at c.join_reserved-joined.new.self in
+    let xs = c.args.slots.now.items in
+    let front = c.take_last-last.new.slots.items in
+    let fit = sym (asked g (goal.at.returns-then-joins-clause-once g c).After-joins) ∙ c.if-joins.true in
+    let one : joining xs c.args.slot ≡ 1 = ap one_if fit in
+    let was : ends_in_part m xs ≡ is_part m c.take_last-last.result = ap (ends_in_part m) c.take_last-last.ensures.items ∙ part-last m front c.take_last-last.result in
+    let now : ends_in_part n c.put_last.new.slots.items ≡ is_part n c.join_reserved-joined.result =
+    ap (ends_in_part n) (λ i. (c.put_last.ensures i).items) ∙ part-last n front c.join_reserved-joined.result in
+    omega (arith, one, was, now, c.join_reserved-joined.ensures.once)
+
+pub returns-clause-once : goal.returns-clause-once
+returns-clause-once g c =
+    let apart = sym (asked g (goal.at.returns-clause-once g c).After-joins) ∙ c.if-joins.false in
+    let none : joining c.args.slots.now.items c.args.slot ≡ 0 = ap one_if apart in
+    let most = part-most (segment_at c.args.store.now) c.put_last-2.new.slots.items in
+    omega (arith, none, most)

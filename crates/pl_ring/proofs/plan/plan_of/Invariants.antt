@@ -10,5 +10,6 @@ invariant-loop-i l = record {
   slots : l.plan.slots + l.plan.merges + length (solid_of (drop l.i l.slices)) ≡ l.count + length (solid_of l.slices);
   bytes : l.plan.bytes + total (drop l.i l.slices) ≡ total l.slices;
   fits : l.plan.slots + l.end + 2 * total (drop l.i l.slices) ≤ l.count + l.last + 2 * total l.slices;
+  more : l.count ≤ l.plan.slots;
   least : l.plan.merges + total (drop l.i l.slices) ≤ total l.slices;
 }

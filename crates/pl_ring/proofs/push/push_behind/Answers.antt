@@ -3,6 +3,8 @@ use Rattle.std.proofs.lemmas.List.{length-take, length-drop}
 use Rattle.pl_segments.specs.Segments.{Segments, segment_at}
 use Rattle.pl_segments.specs.Slices.{AllLie}
 use Rattle.pl_segments.specs.Slots.{total}
+use Rattle.pl_segments.specs.Turns.{Turns}
+use Rattle.pl_segments.proofs.Turning.{turns-same, turns-then}
 use Rattle.pl_segments.proofs.Pushing.{total-pushed}
 use Rattle.pl_ring.proofs.push.push_behind.Goals.{then-rest-gt0+in_ok-reserve, else-rest-gt0, then-grown-ne0, else-grown-ne0}
 use Rattle.pl_ring.proofs.push.push_behind.Goals as goal
@@ -33,3 +35,25 @@ push_new-requires-clause-fits g c =
           let places : c.if-grown-ne0.slots.capacity ≡ c.args.slots.now.capacity = (λ i. (w.slots-is i).capacity) in
           omega (arith, b, lb, slots, places, c.requires.fits)
     ]
+
+pub returns-clause-turns : goal.returns-clause-turns
+returns-clause-turns g c =
+    let m = segment_at c.args.store.now in
+    let xs = c.args.slots.now.items in
+    let ys = c.push_new.new.slots.items in
+    let same : segment_at c.if-rest-gt0.store ≡ m =
+    elim c.if-rest-gt0.branch [
+      | then-rest-gt0+in_ok-reserve v ↦ ap (λ (s : Segments). segment_at s) (v.store-is ∙ v.reserve.ensures.kept)
+      | else-rest-gt0 v ↦ ap (λ (s : Segments). segment_at s) v.store-is
+    ] in
+    let grown : Turns m xs (segment_at c.if-grown-ne0.store) c.if-grown-ne0.slots.items =
+    elim c.if-grown-ne0.branch [
+      | then-grown-ne0 w ↦
+          subst (λ n. Turns m xs n c.if-grown-ne0.slots.items) (sym (ap (λ (s : Segments). segment_at s) w.store-is))
+          (subst (Turns m xs (segment_at w.grow_tail.new.store)) (sym (λ i. (w.slots-is i).items)) (subst (λ n. Turns n xs (segment_at w.grow_tail.new.store) w.grow_tail.new.slots.items) same w.grow_tail.ensures.turns))
+      | else-grown-ne0 w ↦
+          subst (λ n. Turns m xs n c.if-grown-ne0.slots.items) (sym (ap (λ (s : Segments). segment_at s) w.store-is ∙ same))
+          (subst (Turns m xs m) (sym (λ i. (w.slots-is i).items)) (turns-same m xs c.requires.held.lie))
+    ] in
+    subst (λ n. Turns m xs n ys) (sym (ap (λ (s : Segments). segment_at s) c.trim.ensures.kept))
+    (turns-then m (segment_at c.if-grown-ne0.store) (segment_at c.push_new.new.store) xs c.if-grown-ne0.slots.items ys grown c.push_new.ensures.turns)

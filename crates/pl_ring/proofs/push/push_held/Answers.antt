@@ -95,7 +95,7 @@ loop-i-preserved g c =
           let e = w.push_slot.ensures in
           let u = underway-next c.requires.held (underway-at c.args.slices.now c.loop-i.i inv.underway c.loop-i-test.true w.if-slice-ne0.true)
           (segment_at w.push_slot.new.store) w.push_slot.new.slots.items (live_count w.push_slot.new.store.held) w.push_slot.new.store.room
-          e.turns e.read e.merged e.solid e.room e.in_use e.plan e.parts in
+          e.turns e.read e.merged e.solid e.room e.once e.in_use e.plan e.parts in
           record {
             underway = underway-as c.if-slice-ne0.store w.push_slot.new.store c.if-slice-ne0.slots.items w.push_slot.new.slots.items w.store-is (λ i. (w.slots-is i).items) u;
             capacity = (λ i. (w.slots-is i).capacity) ∙ e.capacity ∙ inv.capacity;

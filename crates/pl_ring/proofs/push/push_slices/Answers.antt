@@ -1,11 +1,13 @@
-use Rattle.std.proofs.Common.{◌≡◌, ◌∙◌, ◌++◌, [], ap, subst, arith}
-use Rattle.pl_segments.specs.Segments.{Map, Segments, segment_at}
+use Rattle.std.proofs.Common.{◌≡◌, ◌∙◌, ◌++◌, [], ap, sym, subst, arith}
+use Rattle.pl_segments.specs.Segments.{Map, Segments, at, segment_at}
 use Rattle.pl_segments.specs.Slices.{all_read}
 use Rattle.pl_segments.specs.Turns.{Turns}
 use Rattle.pl_segments.proofs.Turning.{turns-then, holds-turned}
 use Rattle.pl_segments.specs.Slots.{solid_of}
 use Rattle.pl_segments.proofs.SlotLemmas.{last-total}
+use Rattle.pl_segments.proofs.LastSlot.{part-most}
 use Rattle.pl_segments.proofs.Pushing.{pushes-turns, pushes-read}
+use Rattle.pl_ring.specs.Merging.{lens, merges, merges_onto}
 use Rattle.pl_ring.proofs.Lying.{strange-first}
 use Rattle.pl_ring.proofs.push.push_slices.Given.{Over}
 use Rattle.pl_ring.proofs.push.push_slices.Goals.{After-hold_all}
@@ -14,7 +16,7 @@ use Rattle.pl_ring.proofs.push.push_slices.Goals as goal
 pub plan_of-plan-requires : goal.plan_of-plan-requires
 plan_of-plan-requires g c =
     let last = last-total c.args.slots.now.items in
-    omega (arith, last, c.len.ensures.len, c.len.ensures.within.0, c.last_len.ensures, c.requires.fits, c.requires.most)
+    omega (arith, last, c.len-count.ensures.len, c.len-count.ensures.within.0, c.last_len.ensures, c.requires.fits, c.requires.most)
 
 -- the slices are held beside the slots
 module _ (g : Over) (c : After-hold_all g) where
@@ -38,15 +40,17 @@ push_held-requires-clause-held g c =
 pub returns-clause-turns : goal.returns-clause-turns
 returns-clause-turns g c =
     let xs = c.args.slots.now.items in
-    turns-then (segment_at c.args.store.now) (segment_at c.hold_all.new.store) (segment_at c.push_held.new.store) xs (xs ++ solid_of c.args.slices.now) c.push_held.new.slots.items
-    (beside g (goal.at.returns-clause-turns g c).After-hold_all) c.push_held.ensures.turns
+    subst (λ hs. Turns (segment_at c.args.store.now) xs (at hs) c.push_held.new.slots.items) (sym (ap (λ (s : Segments). s.held) c.trim.ensures.kept))
+    (turns-then (segment_at c.args.store.now) (segment_at c.hold_all.new.store) (segment_at c.push_held.new.store) xs (xs ++ solid_of c.args.slices.now) c.push_held.new.slots.items
+    (beside g (goal.at.returns-clause-turns g c).After-hold_all) c.push_held.ensures.turns)
 
 pub returns-clause-read : goal.returns-clause-read
 returns-clause-read g c =
     let k = (goal.at.returns-clause-read g c).After-hold_all in
     let xs = c.args.slots.now.items in
     let m = segment_at c.args.store.now in
-    c.push_held.ensures.read
+    ap (λ (s : Segments). all_read (segment_at s) c.push_held.new.slots.items) c.trim.ensures.kept
+    ∙ c.push_held.ensures.read
     ∙ pushes-read m (segment_at c.hold_all.new.store) xs (solid_of c.args.slices.now) c.requires.held (held g k)
     ∙ ap (λ bs. all_read m xs ++ bs) (c.hold_all.ensures.read ∙ ap (λ (n : Map). all_read n c.args.slices.now) (same g k))
 
@@ -55,3 +59,11 @@ returns-clause-parts g c =
     let p = c.push_held.ensures.parts (c.args.slots.now.items ++ c.args.slices.now) in
     let z = strange-first c.args.slots.now.items c.args.slices.now in
     omega (arith, p, z)
+
+pub push_held-requires-clause-room : goal.push_held-requires-clause-room
+push_held-requires-clause-room g c =
+    let part = part-most (segment_at c.hold_all.new.store) c.args.slots.now.items in
+    let plan = c.plan_of-plan.ensures in
+    let merged : c.plan_of-plan.result.merges ≡ merges_onto c.args.slots.now.items (lens (solid_of c.args.slices.now)) =
+    plan.merges ∙ (λ i. merges (c.len-count.ensures.len i) (c.last_len.ensures i) (lens (solid_of c.args.slices.now))) in
+    omega (arith, part, merged, plan.slots, plan.more, c.in_ok-reserve.ensures.room, c.hold_all.ensures.room, c.len-count.ensures.len)

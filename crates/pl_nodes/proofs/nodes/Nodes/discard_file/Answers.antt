@@ -18,14 +18,14 @@ pub invariant_of-self : goal.invariant_of-self
 invariant_of-self g c =
     let k = c.self.inside in
     let there = c.remove.ensures.value ∙ ap (λ x. Some x) c.in-File.is in
-    gone-sound k c.self.invariant c.let_go.new.store c.remove.new.self c.args.key (File c.in-File.gone) there c.let_go.ensures c.remove.ensures.updates
-    (refl, sym (sym (ap file_named there) ∙ says-unnamed k c.self.invariant c.args.self.now c.self.view_is (node.File c.args.key) c.requires.unnamed))
+    gone-sound k c.self.invariant c.let_go.new.store c.remove.new.self c.args.key (File c.in-File.gone) there c.let_go.ensures.turns c.remove.ensures.updates
+    (refl, sym (sym (ap file_named there) ∙ says-unnamed k c.self.invariant c.args.self.now c.self.view_is (node.File c.args.key) c.requires.unnamed)) (c.let_go.ensures.spare c.self.invariant.spare)
 
 pub returns-clause-ok : goal.returns-clause-ok
 returns-clause-ok g c =
     let k = c.self.inside in
     gone-seen (segment_at k.store) (segment_at c.let_go.new.store) k.contents c.remove.new.self c.args.key (File c.in-File.gone) (c.remove.ensures.value ∙ ap (λ x. Some x) c.in-File.is)
-    c.self.invariant.shared c.let_go.ensures c.remove.ensures.updates files_seen
+    c.self.invariant.shared c.let_go.ensures.turns c.remove.ensures.updates files_seen
     ∙ ap (λ (v : Nodes). set_at nat_eq (at v.files) c.args.key None) c.self.view_is
 
 pub returns-clause-pipes : goal.returns-clause-pipes
@@ -34,7 +34,7 @@ returns-clause-pipes g c =
     record {
       pipes =
           gone-list (segment_at k.store) (segment_at c.let_go.new.store) k.contents c.remove.new.self c.args.key (File c.in-File.gone) (c.remove.ensures.value ∙ ap (λ x. Some x) c.in-File.is)
-          c.self.invariant.shared c.let_go.ensures c.remove.ensures.updates pipes_seen refl c.remove.ensures.slots
+          c.self.invariant.shared c.let_go.ensures.turns c.remove.ensures.updates pipes_seen refl c.remove.ensures.slots
           ∙ ap (λ (v : Nodes). v.pipes) c.self.view_is;
       names = ap (λ (v : Nodes). v.names) c.self.view_is;
       file_max = ap (λ (v : Nodes). v.file_max) c.self.view_is;
@@ -44,5 +44,5 @@ pub returns-clause-shrinks : goal.returns-clause-shrinks
 returns-clause-shrinks g c =
     let k = c.self.inside in
     let there = c.remove.ensures.value ∙ ap (λ x. Some x) c.in-File.is in
-    gone-shrinks k c.self.invariant c.let_go.new.store c.remove.new.self c.args.key (File c.in-File.gone) there c.let_go.ensures c.remove.ensures.updates
-    (none-left k.store.held c.let_go.new.store.held c.in-File.gone.file c.in_use-segments.ensures.good c.let_go.ensures) c.args.self.now c.self.view_is
+    gone-shrinks k c.self.invariant c.let_go.new.store c.remove.new.self c.args.key (File c.in-File.gone) there c.let_go.ensures.turns c.remove.ensures.updates
+    (none-left k.store.held c.let_go.new.store.held c.in-File.gone.file c.in_use-segments.ensures.good c.let_go.ensures.turns) c.args.self.now c.self.view_is

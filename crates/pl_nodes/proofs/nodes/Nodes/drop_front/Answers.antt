@@ -30,7 +30,7 @@ invariant_of-self g c =
     let node = c.in-Some.node.now in
     let there = pipe-there c.self.inside.contents.slots c.args.key c.index_mut.result.now c.in-Some.node.now c.index_mut.ensures.value c.in-Some.ensures.value in
     still-sound c.self.inside c.args.key (Pipe node) there c.self.invariant c.drop_front.new.store (Pipe (record node { ring = c.drop_front.new.self })) c.drop_front.ensures.turns
-    (omega (arith, c.slots-slots.ensures.value, c.slots-slots.ensures.bound, c.capacity-capacity.ensures.value, c.capacity-capacity.ensures.range.most)) (refl, refl)
+    (omega (arith, c.slots-slots.ensures.value, c.slots-slots.ensures.bound, c.capacity-capacity.ensures.value, c.capacity-capacity.ensures.range.most)) (refl, refl) (c.drop_front.ensures.spare c.self.invariant.spare)
 
 pub returns-clause-ok : goal.returns-clause-ok
 returns-clause-ok g c =

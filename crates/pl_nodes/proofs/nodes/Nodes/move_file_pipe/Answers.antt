@@ -37,7 +37,7 @@ invariant_of-self g c =
     let target = c.in-Some.pipe.now in
     let there = pipe-there k.contents.slots c.args.to c.index_mut.result.now target c.index_mut.ensures.value c.in-Some.ensures.value in
     refused-sound k c.args.to (Pipe target) there c.self.invariant c.push_slices.new.store (ap (λ (s : Segments). s.held) refused.store_err)
-    (Pipe (record target { ring = c.push_slices.new.self })) (λ i. Pipe (record target { ring = refused.err i }))
+    (Pipe (record target { ring = c.push_slices.new.self })) (λ i. Pipe (record target { ring = refused.err i })) (refused.spare c.self.invariant.spare)
 
 pub returns-in_err-push_slices-clause-files : goal.returns-in_err-push_slices-clause-files
 returns-in_err-push_slices-clause-files g c =
@@ -64,7 +64,7 @@ invariant_of-self-2 g c =
     let target = c.in-Some.pipe.now in
     let there = pipe-there k.contents.slots c.args.to c.index_mut.result.now target c.index_mut.ensures.value c.in-Some.ensures.value in
     still-sound k c.args.to (Pipe target) there c.self.invariant c.push_slices.new.store (Pipe (record target { ring = c.push_slices.new.self })) c.in_ok-push_slices.ensures.turns
-    (omega (arith, c.slots-slots.ensures.value, c.slots-slots.ensures.bound, c.capacity-capacity.ensures.value, c.capacity-capacity.ensures.range.most)) (refl, refl)
+    (omega (arith, c.slots-slots.ensures.value, c.slots-slots.ensures.bound, c.capacity-capacity.ensures.value, c.capacity-capacity.ensures.range.most)) (refl, refl) (c.in_ok-push_slices.ensures.spare c.self.invariant.spare)
 
 pub returns-clause-ok : goal.returns-clause-ok
 returns-clause-ok g c =

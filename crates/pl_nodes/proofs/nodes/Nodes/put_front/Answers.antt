@@ -39,7 +39,7 @@ invariant_of-self g c =
     let target = c.in-Some.file.now in
     let there = file-there k.contents.slots c.args.to c.index_mut.result.now target c.index_mut.ensures.value c.in-Some.ensures.value in
     refused-sound k c.args.to (File target) there c.self.invariant c.put_slices_at.new.store (ap (λ (s : Segments). s.held) refused.store_err)
-    (File (record target { file = c.put_slices_at.new.self })) (λ i. File (record target { file = refused.err i }))
+    (File (record target { file = c.put_slices_at.new.self })) (λ i. File (record target { file = refused.err i })) (refused.spare c.self.invariant.spare)
 
 pub returns-in_default-put_slices_at-clause-pipes : goal.returns-in_default-put_slices_at-clause-pipes
 returns-in_default-put_slices_at-clause-pipes g c =
@@ -66,7 +66,7 @@ invariant_of-self-2 g c =
     let there = file-there k.contents.slots c.args.to c.index_mut.result.now target c.index_mut.ensures.value c.in-Some.ensures.value in
     let long = solid-length c.put_slices_at.new.self c.len-end.ensures.solid in
     still-sound k c.args.to (File target) there c.self.invariant c.put_slices_at.new.store (File (record target { file = c.put_slices_at.new.self })) c.in-Ok.ensures.turns
-    (omega (arith, long, c.len-end.ensures.value, c.len-end.ensures.most)) (refl, refl)
+    (omega (arith, long, c.len-end.ensures.value, c.len-end.ensures.most)) (refl, refl) (c.in-Ok.ensures.spare c.self.invariant.spare)
 
 pub returns-clause-ok : goal.returns-clause-ok
 returns-clause-ok g c =
@@ -105,7 +105,7 @@ returns-clause-none_added g c = λ asked.
     let there = file-there k.contents.slots c.args.to c.index_mut.result.now target c.index_mut.ensures.value c.in-Some.ensures.value in
     let long = solid-length c.put_slices_at.new.self c.len-end.ensures.solid in
     let now = still-sound k c.args.to (File target) there c.self.invariant c.put_slices_at.new.store (File (record target { file = c.put_slices_at.new.self })) c.in-Ok.ensures.turns
-    (omega (arith, long, c.len-end.ensures.value, c.len-end.ensures.most)) (refl, refl) in
+    (omega (arith, long, c.len-end.ensures.value, c.len-end.ensures.most)) (refl, refl) (c.in-Ok.ensures.spare c.self.invariant.spare) in
     let within = put-within k c.self.invariant c.args.self.now c.self.view_is c.args.from c.in-Pipe.pipe source c.args.count c.in_ok-slices.slices c.in_ok-slices.ensures
     c.args.to target there c.args.place c.requires.fits asked in
     let some = put-some k c.self.invariant c.args.self.now c.self.view_is c.args.from c.in-Pipe.pipe source c.args.count c.in_ok-slices.slices c.in_ok-slices.ensures

@@ -25,7 +25,7 @@ invariant_of-self g c =
     let node = c.in-Some.node.now in
     let there = pipe-there c.self.inside.contents.slots c.args.key c.index_mut.result.now c.in-Some.node.now c.index_mut.ensures.value c.in-Some.ensures.value in
     refused-sound c.self.inside c.args.key (Pipe node) there c.self.invariant c.pop_bytes.new.store (ap (λ (s : Segments). s.held) refused.store_err)
-    (Pipe (record node { ring = c.pop_bytes.new.self })) (λ i. Pipe (record node { ring = refused.err i }))
+    (Pipe (record node { ring = c.pop_bytes.new.self })) (λ i. Pipe (record node { ring = refused.err i })) (refused.spare c.self.invariant.spare)
 
 pub returns-in_err-bytes-clause-files : goal.returns-in_err-bytes-clause-files
 returns-in_err-bytes-clause-files g c =
@@ -49,7 +49,7 @@ invariant_of-self-2 g c =
     let node = c.in-Some.node.now in
     let there = pipe-there c.self.inside.contents.slots c.args.key c.index_mut.result.now c.in-Some.node.now c.index_mut.ensures.value c.in-Some.ensures.value in
     still-sound c.self.inside c.args.key (Pipe node) there c.self.invariant c.pop_bytes.new.store (Pipe (record node { ring = c.pop_bytes.new.self })) c.in_ok-bytes.ensures.turns
-    (omega (arith, c.slots-slots.ensures.value, c.slots-slots.ensures.bound, c.in_ok-bytes.ensures.capacity, c.capacity-capacity.ensures.value, c.capacity-capacity.ensures.range.most)) (refl, refl)
+    (omega (arith, c.slots-slots.ensures.value, c.slots-slots.ensures.bound, c.in_ok-bytes.ensures.capacity, c.capacity-capacity.ensures.value, c.capacity-capacity.ensures.range.most)) (refl, refl) (c.in_ok-bytes.ensures.spare c.self.invariant.spare)
 
 pub returns-clause-few : goal.returns-clause-few
 returns-clause-few g c =

@@ -20,7 +20,7 @@ invariant_of-self g c =
     let there = pipe-there k.contents.slots c.args.key c.index_mut.result.now node c.index_mut.ensures.value c.in-Some.ensures.value in
     let none = ap (λ (r : Ring). length r.slots) c.reset.ensures.value in
     still-sound k c.args.key (Pipe node) there c.self.invariant c.reset.new.store (Pipe (record node { ring = c.reset.new.self; hung = false }))
-    (became-none (segment_at k.store) node.ring.slots (segment_at c.reset.new.store) c.reset.new.self.slots (ap (λ (r : Ring). r.slots) c.reset.ensures.value) c.reset.ensures.turns) (omega (arith, none)) (refl, refl)
+    (became-none (segment_at k.store) node.ring.slots (segment_at c.reset.new.store) c.reset.new.self.slots (ap (λ (r : Ring). r.slots) c.reset.ensures.value) c.reset.ensures.turns) (omega (arith, none)) (refl, refl) (c.reset.ensures.spare c.self.invariant.spare)
 
 pub returns-clause-ok : goal.returns-clause-ok
 returns-clause-ok g c =

@@ -43,7 +43,7 @@ invariant_of-self g c =
     let k = c.self.inside in
     let node = c.in-Some.node.now in
     still-sound k c.args.key (Pipe node) (there g at_call) c.self.invariant k.store (Pipe (record node { ring = c.set_capacity.new.self })) (turns g at_call)
-    (subst (λ (xs : List Slice). length xs ≤ most_file_bytes) (sym (same g at_call)) (slots-short k c.args.key (Pipe node) (there g at_call) c.self.invariant)) (refl, refl)
+    (subst (λ (xs : List Slice). length xs ≤ most_file_bytes) (sym (same g at_call)) (slots-short k c.args.key (Pipe node) (there g at_call) c.self.invariant)) (refl, refl) c.self.invariant.spare
 
 pub returns-clause-ok : goal.returns-clause-ok
 returns-clause-ok g c =

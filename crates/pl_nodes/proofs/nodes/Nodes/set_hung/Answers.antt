@@ -13,7 +13,7 @@ invariant_of-self g c =
     let node = c.in-Some.node.now in
     let there = pipe-there k.contents.slots c.args.key c.index_mut.result.now node c.index_mut.ensures.value c.in-Some.ensures.value in
     still-sound k c.args.key (Pipe node) there c.self.invariant k.store (Pipe (record node { hung = c.args.hung }))
-    (turns-same m node.ring.slots (held k c.args.key (Pipe node) there c.self.invariant).lie) (slots-short k c.args.key (Pipe node) there c.self.invariant) (refl, refl)
+    (turns-same m node.ring.slots (held k c.args.key (Pipe node) there c.self.invariant).lie) (slots-short k c.args.key (Pipe node) there c.self.invariant) (refl, refl) c.self.invariant.spare
 
 pub returns-clause-ok : goal.returns-clause-ok
 returns-clause-ok g c =

@@ -33,7 +33,7 @@ invariant_of-self-2 g c =
     let there = file-there k.contents.slots c.args.key c.index_mut.result.now c.in-Some.node.now c.index_mut.ensures.value c.in-Some.ensures.value in
     let long = solid-length c.write_at.new.self c.len-len.ensures.solid in
     still-sound k c.args.key (File c.in-Some.node.now) there c.self.invariant c.write_at.new.store (File (record c.in-Some.node.now { file = c.write_at.new.self })) c.in_ok-written.ensures.turns
-    (omega (arith, long, c.len-len.ensures.value, c.len-len.ensures.most)) (refl, refl)
+    (omega (arith, long, c.len-len.ensures.value, c.len-len.ensures.most)) (refl, refl) (c.in_ok-written.ensures.spare c.self.invariant.spare)
 
 pub returns-clause-ok : goal.returns-clause-ok
 returns-clause-ok g c =

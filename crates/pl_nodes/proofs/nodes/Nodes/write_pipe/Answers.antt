@@ -24,7 +24,7 @@ invariant_of-self g c =
     let node = c.in-Some.node.now in
     let there = pipe-there c.self.inside.contents.slots c.args.key c.index_mut.result.now c.in-Some.node.now c.index_mut.ensures.value c.in-Some.ensures.value in
     refused-sound c.self.inside c.args.key (Pipe node) there c.self.invariant c.push_bytes.new.store (ap (λ (s : Segments). s.held) refused.store_err)
-    (Pipe (record node { ring = c.push_bytes.new.self })) (λ i. Pipe (record node { ring = refused.err i }))
+    (Pipe (record node { ring = c.push_bytes.new.self })) (λ i. Pipe (record node { ring = refused.err i })) (refused.spare c.self.invariant.spare)
 
 pub returns-in_err-push_bytes-clause-files : goal.returns-in_err-push_bytes-clause-files
 returns-in_err-push_bytes-clause-files g c =
@@ -48,7 +48,7 @@ invariant_of-self-2 g c =
     let node = c.in-Some.node.now in
     let there = pipe-there c.self.inside.contents.slots c.args.key c.index_mut.result.now c.in-Some.node.now c.index_mut.ensures.value c.in-Some.ensures.value in
     still-sound c.self.inside c.args.key (Pipe node) there c.self.invariant c.push_bytes.new.store (Pipe (record node { ring = c.push_bytes.new.self })) c.in_ok-push_bytes.ensures.turns
-    (omega (arith, c.slots-slots.ensures.value, c.slots-slots.ensures.bound, c.capacity-capacity.ensures.value, c.capacity-capacity.ensures.range.most)) (refl, refl)
+    (omega (arith, c.slots-slots.ensures.value, c.slots-slots.ensures.bound, c.capacity-capacity.ensures.value, c.capacity-capacity.ensures.range.most)) (refl, refl) (c.in_ok-push_bytes.ensures.spare c.self.invariant.spare)
 
 pub returns-clause-ok : goal.returns-clause-ok
 returns-clause-ok g c =

@@ -3,10 +3,10 @@ use Rattle.pl_segments.specs.StoreView.{held_of, unless_spare, spare_in, IsSmall
 use Rattle.pl_segments.specs.Segments.{Segment, Segments, at, segment_at, live_count}
 use Rattle.pl_segments.specs.Slices.{Lies, reads, longer_by}
 use Rattle.pl_segments.specs.Turns.{Turns}
-use Rattle.pl_segments.proofs.Changing.{room-fits, length-reads}
+use Rattle.pl_segments.proofs.Changing.{room-fits, room-longer, length-reads}
 use Rattle.pl_segments.proofs.Storing.{held-is-there, given-sound, unseen-same, spare-unseen, spare-counted}
-use Rattle.pl_segments.proofs.Appending.{out-unheld, out-held, out-sound, behind-fits, behind-live, behind-sound, behind-turns, behind-reads}
-use Rattle.pl_segments.proofs.Turning.{grown-second, grown-turns, grown-reads}
+use Rattle.pl_segments.proofs.Appending.{out-unheld, out-held, out-sound, behind-fits, behind-live, behind-sound, behind-turns, behind-reads, behind-long}
+use Rattle.pl_segments.proofs.Turning.{grown-second, grown-turns, grown-reads, grown-filled}
 use Rattle.pl_segments.proofs.store.Store.append_slice.Given.{Over}
 use Rattle.pl_segments.proofs.store.Store.append_slice.Goals.{After-remove-scratch, After-bytes, After-filled, After-push_reserved}
 use Rattle.pl_segments.proofs.store.Store.append_slice.Goals as goal
@@ -140,3 +140,19 @@ returns-clause-reads g c =
     grown-reads (segment_at c.args.self.now) n (segment_at c.release.new.self) c.args.first c.args.second (longer_by c.args.second.len c.args.first) c.requires.held t c.release.ensures.turns
     ∙ behind-reads c.remove-scratch.new.self.slots c.args.self.now.held s c.args.first c.args.second c.index_mut-segment.result.now c.index_mut-segment.ensures.value c.filled.result.now copy
     c.requires.held.lie.0 c.requires.held.lie.1.0 c.requires.some c.requires.fits c.append.new.self c.append.ensures c.insert_reserved-key.new.self.slots show
+
+pub returns-clause-after : goal.returns-clause-after
+returns-clause-after g c =
+    let v = goal.at.returns-clause-after g c in
+    let s = shows g v.After-remove-scratch in
+    let copy = copied g v.After-filled s in
+    let show = shown g v.After-push_reserved v.After-remove-scratch (unheld g v.After-remove-scratch) in
+    let t = turned g v.After-push_reserved s copy show in
+    let m = segment_at c.args.self.now in
+    let n = at (held_of c.insert_reserved-key.new.self.slots) in
+    let o = segment_at c.release.new.self in
+    let same = grown-filled m n o c.args.first c.args.second (longer_by c.args.second.len c.args.first) c.requires.held t c.release.ensures.turns c.release.ensures.released in
+    let long =
+    behind-long c.remove-scratch.new.self.slots c.args.self.now.held s c.args.first c.args.second c.index_mut-segment.result.now c.index_mut-segment.ensures.value c.filled.result.now copy
+    c.requires.held.lie.0 c.requires.held.lie.1.0 c.requires.some c.requires.fits c.append.new.self c.append.ensures c.insert_reserved-key.new.self.slots show in
+    room-longer m o c.args.first c.args.second.len c.requires.some c.requires.fits (ap length same ∙ long)
