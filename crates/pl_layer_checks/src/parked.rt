@@ -103,7 +103,7 @@ const SESSIONS: &[(u64, &[Row])] = &[
             (NextOf(1, 0), Nothing),
         ],
     ),
-    // Any pid has calls: those of pids that are 1,024 apart are counted together.
+    // Any pid has calls of its own, also where pids are 1,024 apart.
     (
         1,
         &[

@@ -51,11 +51,6 @@ module _ {X : Type 0} where
   calls-rise low next [] r = r
   calls-rise low next (e ∷ es) r = joined-rise low next e.0 e.1 (calls_in es) r.0 (calls-rise (e.0 + 1) next es r.1)
 
-  -- there are no more calls than entries
-  pub few-calls : (es : Map ℕ (Option X)) → length (calls_in es) ≤ length es
-  few-calls [] = omega arith
-  few-calls (e ∷ es) = let rest = few-calls es in elim e.1 as (λ o. length (joined e.0 o (calls_in es)) ≤ length (e ∷ es)) [ None ↦ omega (arith, rest) | Some x ↦ omega (arith, rest) ]
-
   -- the call of a number is what its entry has
   pub get-call : (n low next : ℕ) (es : Map ℕ (Option X)) → Rise low next es → get nat_eq (calls_in es) n ≡ option_flatten (get nat_eq es n)
   get-call n low next [] r = refl

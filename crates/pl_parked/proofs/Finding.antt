@@ -1,19 +1,15 @@
 -- The first call that passes a test, and what that says of all calls.
-use Rattle.std.proofs.Common.{◌≡◌, ℕ, zero, suc, ◌+◌, ◌-◌, ◌<◌, ◌≤◌, Bool, true, false, cond, [], ◌∷◌, Option, Some, None, IfSome, IfNone, refl, sym, ◌∙◌, ap, subst, inl, inr, nat_eq, nat_lt, nat_le, length, take, drop, slice_index_or, arith, length-drop}
-use Rattle.std.specs.Prelude.{IsSomeAnd, option_map, ◌&&◌}
-use Rattle.std.specs.List.{cons_option, find}
-use Rattle.std.specs.List.Sorted.{IsPartitionPoint, IsPartitionedBy}
+use Rattle.std.proofs.Common.{◌≡◌, ℕ, ◌+◌, ◌≤◌, Bool, true, false, cond, [], ◌∷◌, Option, Some, None, IfSome, IfNone, refl, sym, ◌∙◌, subst, inl, inr, nat_eq, arith}
+use Rattle.std.specs.Prelude.{IsSomeAnd, option_map}
+use Rattle.std.specs.List.{find}
 use Rattle.std.proofs.lemmas.Bool.Decides.{eqb_tells, nat_tests}
-use Rattle.std.proofs.lemmas.List.{take_all}
 use Rattle.pl_model.specs.Map.{Map, get}
 use Rattle.pl_parked.specs.declared.call.ParkedCall.{ParkedCall}
 use Rattle.pl_parked.specs.Calls.{Rise, is_of_from}
-use Rattle.pl_parked.specs.Entries.{calls_in, is_call_of, has_call_of}
 use Rattle.pl_parked.proofs.Rising.{IfSome_by, get_first, get_later, get_high}
-use Rattle.pl_parked.proofs.Searched.{rising}
 
 module _ {X : Type 0} (test : ℕ × X → Bool) where
-  found-here : (low next : ℕ) (es : Map ℕ X) (e : ℕ × X) → Rise low next es → find test es ≡ Some e → (get nat_eq es e.0 ≡ Some e.1) × (test e ≡ true) × (low ≤ e.0)
+  pub found-here : (low next : ℕ) (es : Map ℕ X) (e : ℕ × X) → Rise low next es → find test es ≡ Some e → (get nat_eq es e.0 ≡ Some e.1) × (test e ≡ true) × (low ≤ e.0)
   found-here low next [] e r h = absurd (cc)
   found-here low next (y ∷ es) e r h = by (found-here (y.0 + 1) next es e r.1) (test y) refl h
     where
@@ -22,7 +18,7 @@ module _ {X : Type 0} (test : ℕ × X → Bool) where
       by later false t f = let rest = later f in let a = rest.2 in let b = r.0 in (get_later e.0 y es (omega arith) ∙ rest.0, rest.1, omega arith)
 
   -- the first one has the least number
-  found-least : (low next : ℕ) (es : Map ℕ X) (e : ℕ × X) → Rise low next es → find test es ≡ Some e → (m : ℕ) (x : X) → get nat_eq es m ≡ Some x → test (m, x) ≡ true → e.0 ≤ m
+  pub found-least : (low next : ℕ) (es : Map ℕ X) (e : ℕ × X) → Rise low next es → find test es ≡ Some e → (m : ℕ) (x : X) → get nat_eq es m ≡ Some x → test (m, x) ≡ true → e.0 ≤ m
   found-least low next [] e r h m x g p = absurd (cc)
   found-least low next (y ∷ es) e r h m x g p = by (λ f k. found-least (y.0 + 1) next es e r.1 f m x k p) (test y) refl h
     where
@@ -36,7 +32,7 @@ module _ {X : Type 0} (test : ℕ × X → Bool) where
         | inr s ↦ later f (sym (get_later m y es s.1) ∙ g)
       ]
 
-  found-none : (es : Map ℕ X) → find test es ≡ None → (m : ℕ) (x : X) → get nat_eq es m ≡ Some x → test (m, x) ≡ false
+  pub found-none : (es : Map ℕ X) → find test es ≡ None → (m : ℕ) (x : X) → get nat_eq es m ≡ Some x → test (m, x) ≡ false
   found-none [] h m x g = absurd (cc)
   found-none (y ∷ es) h m x g = by (λ f k. found-none es f m x k) (test y) refl h
     where
@@ -47,22 +43,15 @@ module _ {X : Type 0} (test : ℕ × X → Bool) where
         | inr s ↦ later f (sym (get_later m y es s.1) ∙ g)
       ]
 
-reached : (from n : ℕ) → nat_lt n from ≡ false → nat_le from n ≡ true
-reached from n h = grind (arith, nat_tests, h)
-
-passed_over : (from n : ℕ) (b : Bool) → nat_lt n from ≡ true → b && nat_le from n ≡ false
-passed_over from n true h = grind (arith, nat_tests, h)
-passed_over from n false h = refl
-
 -- the calls of a process from a number on
 module _ {A : Type 0} (pid from : ℕ) where
-  passes : (entry : ℕ × ParkedCall A) → is_of_from pid from entry ≡ true → (from ≤ entry.0) × (entry.1.pid ≡ pid)
+  pub passes : (entry : ℕ × ParkedCall A) → is_of_from pid from entry ≡ true → (from ≤ entry.0) × (entry.1.pid ≡ pid)
   passes entry h = grind (arith, nat_tests, h)
 
   fails : (entry : ℕ × ParkedCall A) → is_of_from pid from entry ≡ false → from ≤ entry.0 → ¬ (entry.1.pid ≡ pid)
   fails entry h l is = grind (arith, nat_tests, h)
 
-  reaches : (entry : ℕ × ParkedCall A) → from ≤ entry.0 → entry.1.pid ≡ pid → is_of_from pid from entry ≡ true
+  pub reaches : (entry : ℕ × ParkedCall A) → from ≤ entry.0 → entry.1.pid ≡ pid → is_of_from pid from entry ≡ true
   reaches entry l is = grind (arith, nat_tests)
 
   -- what it says of all that there is none
@@ -91,41 +80,3 @@ module _ {A : Type 0} (pid from : ℕ) where
         by : (f : Option (ℕ × ParkedCall A)) → find (is_of_from pid from) calls ≡ f → IfSome (option_map (λ e. e.0) f) (λ number. (other : ℕ) → from ≤ other → IfSome (get nat_eq calls other) (λ call. call.pid ≡ pid → number ≤ other))
         by None h = tt
         by (Some e) h = λ other l. IfSome_by (get nat_eq calls other) (λ call. call.pid ≡ pid → e.0 ≤ other) (λ call at own. found-least (is_of_from pid from) 0 next calls e r h other call at (reaches (other, call) l own))
-
-  -- it is the first among the entries behind those below the number
-  abbrev FindsThere : Map ℕ (Option (ParkedCall A)) → Map ℕ (Option (ParkedCall A)) → Type 0
-  FindsThere es there = option_map (λ e. e.0) (find (has_call_of pid) there) ≡ option_map (λ e. e.0) (find (is_of_from pid from) (calls_in es))
-
-  from-there : (es : Map ℕ (Option (ParkedCall A))) → ((k : ℕ) (d : ℕ × Option (ParkedCall A)) → k < length es → nat_lt (slice_index_or es k d).0 from ≡ false) → FindsThere es es
-  from-there [] h = refl
-  from-there (e ∷ es) h = by e.1 (from-there es (λ k d l. h (suc k) d (omega arith)))
-    where
-      by : (o : Option (ParkedCall A)) → FindsThere es es
-          → option_map (λ e. e.0) (cond (is_call_of pid o) (Some (e.0, o)) (find (has_call_of pid) es)) ≡ option_map (λ e. e.0) (find (is_of_from pid from) (cons_option (option_map (λ x. (e.0, x)) o) (calls_in es)))
-      by None rest = rest
-      by (Some call) rest = elim (nat_eq call.pid pid) as (λ b. option_map (λ e. e.0) (cond b (Some (e.0, Some call)) (find (has_call_of pid) es)) ≡ option_map (λ e. e.0) (cond (b && nat_le from e.0) (Some (e.0, call)) (find (is_of_from pid from) (calls_in es)))) [
-        | true ↦ ap (λ b. option_map (λ e. e.0) (cond b (Some (e.0, call)) (find (is_of_from pid from) (calls_in es)))) (sym (reached from e.0 (h 0 e (omega arith))))
-        | false ↦ rest
-      ]
-
-  find-from : (start : ℕ) (es : Map ℕ (Option (ParkedCall A))) → IsPartitionPoint (λ e. nat_lt e.0 from ≡ true) (λ e. nat_lt e.0 from ≡ false) es start → FindsThere es (drop start es)
-  find-from zero es p = from-there es (λ k d l. p.1 k d (omega arith) l)
-  find-from (suc start) [] p = refl
-  find-from (suc start) (e ∷ es) p = find-from start es rest ∙ by e.1
-    where
-      rest : IsPartitionPoint (λ e. nat_lt e.0 from ≡ true) (λ e. nat_lt e.0 from ≡ false) es start
-      rest = (λ k d l m. p.0 (suc k) d (omega arith) (omega arith), λ k d l m. p.1 (suc k) d (omega arith) (omega arith))
-
-      by : (o : Option (ParkedCall A)) → option_map (λ e. e.0) (find (is_of_from pid from) (calls_in es)) ≡ option_map (λ e. e.0) (find (is_of_from pid from) (cons_option (option_map (λ x. (e.0, x)) o) (calls_in es)))
-      by None = refl
-      by (Some call) = ap (λ b. option_map (λ e. e.0) (cond b (Some (e.0, call)) (find (is_of_from pid from) (calls_in es)))) (sym (passed_over from e.0 (nat_eq call.pid pid) (p.0 0 e (omega arith) (omega arith))))
-
-  -- the slice from the place on where the numbers reach this one
-  pub finds-from : (start : ℕ) (es : Map ℕ (Option (ParkedCall A))) → IsPartitionPoint (λ e. nat_lt e.0 from ≡ true) (λ e. nat_lt e.0 from ≡ false) es start → FindsThere es (take (length es - start) (drop start es))
-  finds-from start es p =
-      let all : length (drop start es) ≤ length es - start = omega (arith, length-drop start es) in
-      ap (λ there. option_map (λ e. e.0) (find (has_call_of pid) there)) (take_all (length es - start) (drop start es) all) ∙ find-from start es p
-
-  -- rising numbers are parted by a number
-  pub parted : (next : ℕ) (es : Map ℕ (Option (ParkedCall A))) → Rise 0 next es → IsPartitionedBy (λ e. nat_lt e.0 from) es
-  parted next es r i j d le l h = let up = rising 0 next i j es d r le l in grind (arith, nat_tests, h, up)

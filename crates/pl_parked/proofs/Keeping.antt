@@ -1,5 +1,5 @@
 -- What each change of the fields leaves.
-use Rattle.std.proofs.Common.{◌≡◌, ℕ, ◌+◌, ◌-◌, ◌<◌, ◌≤◌, true, not, cond, List, [], ◌∷◌, ◌++◌, Option, Some, None, IfSome, IfNone, IsSome, refl, sym, ◌∙◌, ap, subst, nat_eq, length, slice_set, slice_index_or, arith}
+use Rattle.std.proofs.Common.{◌≡◌, ℕ, ◌+◌, true, not, cond, [], ◌∷◌, ◌++◌, Option, Some, None, IfSome, IfNone, IsSome, refl, sym, ◌∙◌, ap, subst, nat_eq, slice_set, slice_index_or, arith}
 use Rattle.std.specs.Prelude.{◌&&◌, ◌||◌, is_some}
 use Rattle.std.specs.BTreeSet.{BTreeSet}
 use Rattle.std.specs.Option.{option_flatten}
@@ -7,51 +7,60 @@ use Rattle.std.proofs.lemmas.List.{set-get_or}
 use Rattle.pl_model.specs.Map.{Map, get, put, without}
 use Rattle.pl_parked.specs.declared.call.ParkedCall.{ParkedCall}
 use Rattle.pl_parked.specs.declared.opens.WaitingOpen.{WaitingOpen}
+use Rattle.pl_parked.specs.declared.owners.OwnCall.{OwnCall}
 use Rattle.pl_parked.specs.declared.parked.Parked.TheInside.{Inside}
 use Rattle.pl_parked.specs.Calls.{Calls, Rise, number_at}
 use Rattle.pl_parked.specs.CallsView.{view_of, IsSound}
-use Rattle.pl_parked.specs.Counted.{place_of, count_at, calls_at, Counts}
 use Rattle.pl_parked.specs.Entries.{calls_in, is_empty}
+use Rattle.pl_parked.specs.Owned.{owns, is_own, ListsAll}
 use Rattle.pl_parked.specs.Waiting.{is_in, is_named, waiting_open, Lists}
-use Rattle.pl_parked.proofs.CountLemmas.{HasOneMore, counted-more, counted-fewer, some-counted, counts-few, push-more, without-fewer, put-counted}
-use Rattle.pl_parked.proofs.EntryLemmas.{calls-rise, no-entry, few-calls, get-call, call-at, emptied-calls, changed-calls, empties-set, empties-push, calls-push, full, full-calls, full-rise, full-empties}
-use Rattle.pl_parked.proofs.Listed.{get-push, get-push-other, get-next, get-without, get-without-other, get-put, get-put-other, lists-more, lists-same, lists-fewer}
+use Rattle.pl_parked.proofs.EntryLemmas.{calls-rise, no-entry, get-call, call-at, emptied-calls, changed-calls, empties-set, empties-push, calls-push, full, full-calls, full-rise, full-empties}
+use Rattle.pl_parked.proofs.Listed.{opens-more, opens-same, opens-fewer}
+use Rattle.pl_parked.proofs.Owned.{own-more, own-same, own-fewer}
+use Rattle.pl_parked.proofs.Replacing.{replaces-push, replaces-pop, replaces-without, replaces-put}
 use Rattle.pl_parked.proofs.Rising.{Rise-push, Rise-pop, Rise-set, at-within, number_here, last_number, get-last}
 
 module _ {A : Type 0} where
-  pub keeps-full : (es : Map ℕ (Option (ParkedCall A))) (empty next : ℕ) (list : List ℕ) (set : BTreeSet WaitingOpen) → IsSound es empty list set next → IsSound (full es) 0 list set next
-  keeps-full es empty next list set s = record {
-    rise = full-rise 0 next es s.rise;
-    empty_ones = sym (full-empties es);
-    counted = subst (λ (calls : Map ℕ (ParkedCall A)). Counts list calls) (sym (full-calls es)) s.counted;
-    listed = subst (λ (calls : Map ℕ (ParkedCall A)). Lists set calls) (sym (full-calls es)) s.listed;
-  }
+  module _ (es : Map ℕ (Option (ParkedCall A))) (empty next : ℕ) (owners : BTreeSet OwnCall) (opens : BTreeSet WaitingOpen) (s : IsSound es empty owners opens next) where
+    pub keeps-full : IsSound (full es) 0 owners opens next
+    keeps-full = record {
+      rise = full-rise 0 next es s.rise;
+      empty_ones = sym (full-empties es);
+      owned = subst (λ (calls : Map ℕ (ParkedCall A)). ListsAll owners calls) (sym (full-calls es)) s.owned;
+      listed = subst (λ (calls : Map ℕ (ParkedCall A)). Lists opens calls) (sym (full-calls es)) s.listed;
+    }
 
-  pub keeps-push : (es : Map ℕ (Option (ParkedCall A))) (empty next : ℕ) (list : List ℕ) (set new : BTreeSet WaitingOpen) (x : ParkedCall A) → IsSound es empty list set next → place_of x.pid < length list
-      → ((key : WaitingOpen) → is_in new key ≡ (is_named (waiting_open next x) key || is_in set key))
-      → IsSound (es ++ (next, Some x) ∷ []) empty (slice_set list (place_of x.pid) (count_at list (place_of x.pid) + 1)) new (next + 1)
-  keeps-push es empty next list set new x s l more =
-      let rise = calls-rise 0 next es s.rise in
-      let lists = lists-more next (is_in set) (is_in new) (get nat_eq (calls_in es)) (get nat_eq (calls_in es ++ (next, x) ∷ [])) s.listed (λ m other. get-push-other next m (calls_in es) x other) x
-      (get-next next 0 (calls_in es) rise) (get-push next 0 (calls_in es) x rise) more in
-      record {
+    -- another set with the same calls
+    pub keeps-own : (same : BTreeSet OwnCall) → ((key : OwnCall) → owns same key ≡ owns owners key) → IsSound es empty same opens next
+    keeps-own same is = record { rise = s.rise; empty_ones = s.empty_ones; owned = λ key. is key ∙ s.owned key; listed = s.listed }
+
+    -- a call that is added to the set
+    module _ (x : ParkedCall A) (more : BTreeSet OwnCall) (own : (key : OwnCall) → owns more key ≡ (is_own x.pid next key || owns owners key)) where
+      rises : Rise 0 next (calls_in es)
+      rises = calls-rise 0 next es s.rise
+
+      owns-it : ListsAll more (calls_in es ++ (next, x) ∷ [])
+      owns-it = own-more next (calls_in es) (calls_in es ++ (next, x) ∷ []) x owners s.owned (replaces-push next (calls_in es) x rises) more own
+
+      pub keeps-push : (new : BTreeSet WaitingOpen) → ((key : WaitingOpen) → is_in new key ≡ (is_named (waiting_open next x) key || is_in opens key))
+          → IsSound (es ++ (next, Some x) ∷ []) empty more new (next + 1)
+      keeps-push new listed = record {
         rise = Rise-push 0 next es (Some x) s.rise;
         empty_ones = (let h = empties-push es (next, Some x) in let e = s.empty_ones in omega arith);
-        counted = subst (λ (calls : Map ℕ (ParkedCall A)). Counts (slice_set list (place_of x.pid) (count_at list (place_of x.pid) + 1)) calls) (sym (calls-push es next x))
-            (counted-more list x.pid (calls_in es) (calls_in es ++ (next, x) ∷ []) (push-more (calls_in es) next x) s.counted l);
-        listed = subst (λ (calls : Map ℕ (ParkedCall A)). Lists new calls) (sym (calls-push es next x)) lists;
+        owned = subst (λ (calls : Map ℕ (ParkedCall A)). ListsAll more calls) (sym (calls-push es next x)) owns-it;
+        listed = subst (λ (calls : Map ℕ (ParkedCall A)). Lists new calls) (sym (calls-push es next x))
+            (opens-more next (calls_in es) (calls_in es ++ (next, x) ∷ []) x opens s.listed (replaces-push next (calls_in es) x rises) new listed);
       }
 
-  -- another list with the same counts, and another set with the same keys
-  pub keeps-counts : (es : Map ℕ (Option (ParkedCall A))) (empty next : ℕ) (list more : List ℕ) (set : BTreeSet WaitingOpen) → count_at more ≡ count_at list → IsSound es empty list set next → IsSound es empty more set next
-  keeps-counts es empty next list more set same s = record { rise = s.rise; empty_ones = s.empty_ones; counted = λ place. (λ i. same i place) ∙ s.counted place; listed = s.listed }
-
-  pub keeps-keys : (es : Map ℕ (Option (ParkedCall A))) (empty next : ℕ) (list : List ℕ) (set new : BTreeSet WaitingOpen) → ((key : WaitingOpen) → is_in new key ≡ is_in set key) → IsSound es empty list set next → IsSound es empty list new next
-  keeps-keys es empty next list set new same s = record { rise = s.rise; empty_ones = s.empty_ones; counted = s.counted; listed = λ key. same key ∙ s.listed key }
-
-  -- no count is greater than the entries are many
-  pub few-counted : (es : Map ℕ (Option (ParkedCall A))) (empty next : ℕ) (list : List ℕ) (set : BTreeSet WaitingOpen) (place : ℕ) → IsSound es empty list set next → count_at list place ≤ length es
-  few-counted es empty next list set place s = let a = counts-few list place (calls_in es) s.counted in let b = few-calls es in omega (arith, a, b)
+      -- it is removed again, and the other set has what it had
+      pub keeps-undone : (back : BTreeSet OwnCall) (new : BTreeSet WaitingOpen) → ((key : OwnCall) → owns back key ≡ (not (is_own x.pid next key) && owns more key)) → ((key : WaitingOpen) → is_in new key ≡ is_in opens key)
+          → IsSound es empty back new next
+      keeps-undone back new fewer same = record {
+        rise = s.rise;
+        empty_ones = s.empty_ones;
+        owned = own-fewer next (calls_in es ++ (next, x) ∷ []) (calls_in es) x more owns-it (replaces-pop next (calls_in es) x rises) back fewer;
+        listed = λ key. same key ∙ s.listed key;
+      }
 
   -- what a search in a slice of the entries says of the entries
   pub seen-here : (es now : Map ℕ (Option (ParkedCall A))) (n next k : ℕ) → now ≡ es → Rise 0 next es → ((next : ℕ) → Rise 0 next now → number_at now k ≡ Some n) → number_at es k ≡ Some n
@@ -66,7 +75,7 @@ module _ {A : Type 0} where
   seen-some es now n next (Some k) is r h has = refl
 
 -- a search for the number of a call
-module _ {A : Type 0} (p : Inside A) (sound : IsSound p.entries.items p.empty p.counts.list.items p.opens.set p.next) (n : ℕ) (now : Map ℕ (Option (ParkedCall A))) (is : now ≡ p.entries.items) (o : Option ℕ) where
+module _ {A : Type 0} (p : Inside A) (sound : IsSound p.entries.items p.empty p.owners.set p.opens.set p.next) (n : ℕ) (now : Map ℕ (Option (ParkedCall A))) (is : now ≡ p.entries.items) (o : Option ℕ) where
   pub has-place : (v : Calls A) → view_of p ≡ v → ((next : ℕ) → Rise 0 next now → IfNone o (get nat_eq now n ≡ None)) → IsSome (get nat_eq v.calls n) → IsSome o
   has-place v seen none has = seen-some p.entries.items now n p.next o is sound.rise none (subst (λ (v : Calls A). IsSome (get nat_eq v.calls n)) (sym seen) has)
 
@@ -78,23 +87,23 @@ pub record Found (A : Type 0) : Type 0 where
   pub entries : Map ℕ (Option (ParkedCall A))
   pub empty : ℕ
   pub next : ℕ
-  pub list : List ℕ
-  pub set : BTreeSet WaitingOpen
+  pub owners : BTreeSet OwnCall
+  pub opens : BTreeSet WaitingOpen
   pub number : ℕ
   pub place : ℕ
   pub entry : ℕ × Option (ParkedCall A)
-  pub sound : IsSound entries empty list set next
+  pub sound : IsSound entries empty owners opens next
   pub at : number_at entries place ≡ Some number
   pub is : entry ≡ slice_index_or entries place entry
 
-abbrev pub found-in : {A : Type 0} (p : Inside A) → IsSound p.entries.items p.empty p.counts.list.items p.opens.set p.next → (number place : ℕ) (entry : ℕ × Option (ParkedCall A))
+abbrev pub found-in : {A : Type 0} (p : Inside A) → IsSound p.entries.items p.empty p.owners.set p.opens.set p.next → (number place : ℕ) (entry : ℕ × Option (ParkedCall A))
     → number_at p.entries.items place ≡ Some number → entry ≡ slice_index_or p.entries.items place entry → Found A
 found-in p sound number place entry at is = record {
   entries = p.entries.items;
   empty = p.empty;
   next = p.next;
-  list = p.counts.list.items;
-  set = p.opens.set;
+  owners = p.owners.set;
+  opens = p.opens.set;
   number = number;
   place = place;
   entry = entry;
@@ -104,7 +113,7 @@ found-in p sound number place entry at is = record {
 }
 
 module _ {A : Type 0} (f : Found A) where
-  open f use {entries, empty, next, list, set, number, place, entry, sound, at, is}
+  open f use {entries, empty, next, owners, opens, number, place, entry, sound, at, is}
 
   numbered : entry.0 ≡ number
   numbered = let a = number_here entries place entry (at-within number place entries at) in let b : (slice_index_or entries place entry).0 ≡ number = cc in ap (λ (z : ℕ × Option (ParkedCall A)). z.0) is ∙ b
@@ -123,54 +132,46 @@ module _ {A : Type 0} (f : Found A) where
     was_full : ◌≡◌ {A = ℕ} (cond (is_empty (slice_index_or entries place entry)) 1 0) 0
     was_full = ap (λ (o : Option (ParkedCall A)). cond (not (is_some o)) 1 0) (sym (call-at number 0 next place entries entry sound.rise at) ∙ has)
 
-    one-more : HasOneMore x.pid (without nat_eq (calls_in entries) number) (calls_in entries)
-    one-more = without-fewer number 0 next (calls_in entries) x (calls-rise 0 next entries sound.rise) has
-
-    pub is-counted : 0 < count_at list (place_of x.pid)
-    is-counted = some-counted list x.pid (without nat_eq (calls_in entries) number) (calls_in entries) one-more sound.counted
-
     -- its call leaves
     pub leaves : calls_in (slice_set entries place (entry.0, None)) ≡ without nat_eq (calls_in entries) number
     leaves = ap (λ m. calls_in (slice_set entries place (m, None))) numbered ∙ emptied-calls number 0 next place entries sound.rise at
 
-    pub keeps-emptied : (new : BTreeSet WaitingOpen) → ((key : WaitingOpen) → is_in new key ≡ (not (is_named (waiting_open number x) key) && is_in set key))
-        → IsSound (slice_set entries place (entry.0, None)) (empty + 1) (slice_set list (place_of x.pid) (count_at list (place_of x.pid) - 1)) new next
-    keeps-emptied new fewer = record {
+    pub keeps-emptied : (fewer : BTreeSet OwnCall) (new : BTreeSet WaitingOpen) → ((key : OwnCall) → owns fewer key ≡ (not (is_own x.pid number key) && owns owners key))
+        → ((key : WaitingOpen) → is_in new key ≡ (not (is_named (waiting_open number x) key) && is_in opens key))
+        → IsSound (slice_set entries place (entry.0, None)) (empty + 1) fewer new next
+    keeps-emptied fewer new own listed = record {
       rise = subst (λ m. Rise 0 next (slice_set entries place (m, None))) (sym numbered) (Rise-set number 0 next place entries None sound.rise at);
       empty_ones = (let h = empties-set place entries (entry.0, None) entry (at-within number place entries at) in let z = was_full in let c = sound.empty_ones in omega arith);
-      counted = subst (λ (calls : Map ℕ (ParkedCall A)). Counts (slice_set list (place_of x.pid) (count_at list (place_of x.pid) - 1)) calls) (sym leaves)
-          (counted-fewer list x.pid (without nat_eq (calls_in entries) number) (calls_in entries) one-more sound.counted);
+      owned = subst (λ (calls : Map ℕ (ParkedCall A)). ListsAll fewer calls) (sym leaves)
+          (own-fewer number (calls_in entries) (without nat_eq (calls_in entries) number) x owners sound.owned (replaces-without number (calls_in entries) x has) fewer own);
       listed = subst (λ (calls : Map ℕ (ParkedCall A)). Lists new calls) (sym leaves)
-          (lists-fewer number (is_in set) (is_in new) (get nat_eq (calls_in entries)) (get nat_eq (without nat_eq (calls_in entries) number)) sound.listed (λ m other. get-without-other number m (calls_in entries) other) x
-          None has (get-without number (calls_in entries)) (λ key. refl) fewer);
+          (opens-fewer number (calls_in entries) (without nat_eq (calls_in entries) number) x opens sound.listed None (replaces-without number (calls_in entries) x has) (λ key. refl) new listed);
     }
 
     -- it gets another call
     pub changes : (y : ParkedCall A) → calls_in (slice_set entries place (entry.0, Some y)) ≡ put nat_eq (calls_in entries) number y
     changes y = ap (λ m. calls_in (slice_set entries place (m, Some y))) numbered ∙ changed-calls number 0 next place entries x y sound.rise at has
 
-    keeps-changed : (y : ParkedCall A) (new : BTreeSet WaitingOpen) → y.pid ≡ x.pid → Lists new (put nat_eq (calls_in entries) number y) → IsSound (slice_set entries place (entry.0, Some y)) empty list new next
+    keeps-changed : (y : ParkedCall A) (new : BTreeSet WaitingOpen) → y.pid ≡ x.pid → Lists new (put nat_eq (calls_in entries) number y) → IsSound (slice_set entries place (entry.0, Some y)) empty owners new next
     keeps-changed y new same lists = record {
       rise = subst (λ m. Rise 0 next (slice_set entries place (m, Some y))) (sym numbered) (Rise-set number 0 next place entries (Some y) sound.rise at);
       empty_ones = (let h = empties-set place entries (entry.0, Some y) entry (at-within number place entries at) in let z = was_full in let c = sound.empty_ones in omega arith);
-      counted = λ p. sound.counted p ∙ sym (put-counted number (calls_in entries) x y has same p) ∙ ap (λ (calls : Map ℕ (ParkedCall A)). calls_at calls p) (sym (changes y));
+      owned = subst (λ (calls : Map ℕ (ParkedCall A)). ListsAll owners calls) (sym (changes y))
+          (own-same number (calls_in entries) (put nat_eq (calls_in entries) number y) x owners sound.owned y (replaces-put number (calls_in entries) x y has) same);
       listed = subst (λ (calls : Map ℕ (ParkedCall A)). Lists new calls) (sym (changes y)) lists;
     }
 
     -- one that is listed as it was
-    pub keeps-listed : (y : ParkedCall A) → y.pid ≡ x.pid → ((number : ℕ) → waiting_open number x ≡ waiting_open number y) → IsSound (slice_set entries place (entry.0, Some y)) empty list set next
+    pub keeps-listed : (y : ParkedCall A) → y.pid ≡ x.pid → ((number : ℕ) → waiting_open number x ≡ waiting_open number y) → IsSound (slice_set entries place (entry.0, Some y)) empty owners opens next
     keeps-listed y pid same =
-        keeps-changed y set pid
-        (lists-same number (is_in set) (is_in set) (get nat_eq (calls_in entries)) (get nat_eq (put nat_eq (calls_in entries) number y)) sound.listed (λ m other. get-put-other number m (calls_in entries) y other) x
-        y has (get-put number (calls_in entries) y) (same number))
+        keeps-changed y opens pid (opens-same number (calls_in entries) (put nat_eq (calls_in entries) number y) x opens sound.listed y (replaces-put number (calls_in entries) x y has) same)
 
     -- one that is met
-    pub keeps-marked : (new : BTreeSet WaitingOpen) → ((key : WaitingOpen) → is_in new key ≡ (not (is_named (waiting_open number x) key) && is_in set key))
-        → IsSound (slice_set entries place (entry.0, Some (record x { met = true }))) empty list new next
+    pub keeps-marked : (new : BTreeSet WaitingOpen) → ((key : WaitingOpen) → is_in new key ≡ (not (is_named (waiting_open number x) key) && is_in opens key))
+        → IsSound (slice_set entries place (entry.0, Some (record x { met = true }))) empty owners new next
     keeps-marked new fewer = (let y = record x { met = true } in
         keeps-changed y new refl
-        (lists-fewer number (is_in set) (is_in new) (get nat_eq (calls_in entries)) (get nat_eq (put nat_eq (calls_in entries) number y)) sound.listed (λ m other. get-put-other number m (calls_in entries) y other) x
-        (Some y) has (get-put number (calls_in entries) y) (λ key. refl) fewer))
+        (opens-fewer number (calls_in entries) (put nat_eq (calls_in entries) number y) x opens sound.listed (Some y) (replaces-put number (calls_in entries) x y has) (λ key. refl) new fewer))
 
   -- the same of what is seen of them
   module _ (v : Calls A) (seen : record { calls = calls_in entries; next = next } ≡ v) where
@@ -192,21 +193,21 @@ pub record Ended (A : Type 0) : Type 0 where
   pub entries : Map ℕ (Option (ParkedCall A))
   pub empty : ℕ
   pub next : ℕ
-  pub list : List ℕ
-  pub set : BTreeSet WaitingOpen
+  pub owners : BTreeSet OwnCall
+  pub opens : BTreeSet WaitingOpen
   pub number : ℕ
   pub before : Map ℕ (Option (ParkedCall A))
   pub entry : ℕ × Option (ParkedCall A)
-  pub sound : IsSound entries empty list set next
+  pub sound : IsSound entries empty owners opens next
   pub is : entries ≡ before ++ entry ∷ []
   pub last : number + 1 ≡ next
   pub here : IsSome (get nat_eq (calls_in entries) number)
 
 module _ {A : Type 0} (f : Ended A) where
-  open f use {entries, empty, next, list, set, number, before, entry, sound, is, last, here}
+  open f use {entries, empty, next, owners, opens, number, before, entry, sound, is, last, here}
 
-  ends : IsSound (before ++ entry ∷ []) empty list set next
-  ends = subst (λ (z : Map ℕ (Option (ParkedCall A))). IsSound z empty list set next) is sound
+  ends : IsSound (before ++ entry ∷ []) empty owners opens next
+  ends = subst (λ (z : Map ℕ (Option (ParkedCall A))). IsSound z empty owners opens next) is sound
 
   found : IsSome (option_flatten (get nat_eq (before ++ entry ∷ []) number))
   found = subst (λ o. IsSome o) (get-call number 0 next (before ++ entry ∷ []) ends.rise) (subst (λ (z : Map ℕ (Option (ParkedCall A))). IsSome (get nat_eq (calls_in z) number)) is here)
@@ -228,22 +229,15 @@ module _ {A : Type 0} (f : Ended A) where
     pub last-call : calls_in entries ≡ calls_in before ++ (number, x) ∷ []
     last-call = ap calls_in ends-there ∙ calls-push before number x
 
-    counts-it : Counts list (calls_in before ++ (number, x) ∷ [])
-    counts-it = subst (λ (calls : Map ℕ (ParkedCall A)). Counts list calls) last-call sound.counted
-
-    pub last-counted : 0 < count_at list (place_of x.pid)
-    last-counted = some-counted list x.pid (calls_in before) (calls_in before ++ (number, x) ∷ []) (push-more (calls_in before) number x) counts-it
-
-    pub keeps-popped : (new : BTreeSet WaitingOpen) → ((key : WaitingOpen) → is_in new key ≡ (not (is_named (waiting_open number x) key) && is_in set key))
-        → IsSound before empty (slice_set list (place_of x.pid) (count_at list (place_of x.pid) - 1)) new number
-    keeps-popped new fewer =
-        let there = subst (λ (z : Map ℕ (Option (ParkedCall A))). IsSound z empty list set next) ends-there sound in
+    pub keeps-popped : (fewer : BTreeSet OwnCall) (new : BTreeSet WaitingOpen) → ((key : OwnCall) → owns fewer key ≡ (not (is_own x.pid number key) && owns owners key))
+        → ((key : WaitingOpen) → is_in new key ≡ (not (is_named (waiting_open number x) key) && is_in opens key)) → IsSound before empty fewer new number
+    keeps-popped fewer new own listed =
+        let there = subst (λ (z : Map ℕ (Option (ParkedCall A))). IsSound z empty owners opens next) ends-there sound in
         let fewer-rise = Rise-pop 0 next before (number, Some x) there.rise in
-        let rise = calls-rise 0 number before fewer-rise in
+        let gone = replaces-pop number (calls_in before) x (calls-rise 0 number before fewer-rise) in
         record {
           rise = fewer-rise;
           empty_ones = (let h = empties-push before (number, Some x) in let c = there.empty_ones in omega arith);
-          counted = counted-fewer list x.pid (calls_in before) (calls_in before ++ (number, x) ∷ []) (push-more (calls_in before) number x) counts-it;
-          listed = lists-fewer number (is_in set) (is_in new) (get nat_eq (calls_in before ++ (number, x) ∷ [])) (get nat_eq (calls_in before)) (subst (λ (calls : Map ℕ (ParkedCall A)). Lists set calls) last-call sound.listed)
-              (λ m other. sym (get-push-other number m (calls_in before) x other)) x None (get-push number 0 (calls_in before) x rise) (get-next number 0 (calls_in before) rise) (λ key. refl) fewer;
+          owned = own-fewer number (calls_in before ++ (number, x) ∷ []) (calls_in before) x owners (subst (λ (calls : Map ℕ (ParkedCall A)). ListsAll owners calls) last-call sound.owned) gone fewer own;
+          listed = opens-fewer number (calls_in before ++ (number, x) ∷ []) (calls_in before) x opens (subst (λ (calls : Map ℕ (ParkedCall A)). Lists opens calls) last-call sound.listed) None gone (λ key. refl) new listed;
         }

@@ -1,9 +1,10 @@
-pub mod CountLemmas
 pub mod EntryLemmas
 pub mod Finding
 pub mod Keeping
 pub mod Listed
 pub mod Meeting
+pub mod Owned
+pub mod Replacing
 pub mod Rising
 pub mod Searched
 pub mod Waiting

@@ -23,7 +23,7 @@ module _ {X : Type 0} where
   all_high low next zero (e ∷ es) d r l = r.0
   all_high low next (suc j) (e ∷ es) d r l = all_high low next j es d (Rise-lower low (e.0 + 1) next es (let a = r.0 in omega arith) r.1) (omega arith)
 
-  pub rising : (low next i j : ℕ) (es : Map ℕ X) (d : ℕ × X) → Rise low next es → i ≤ j → j < length es → (slice_index_or es i d).0 ≤ (slice_index_or es j d).0
+  rising : (low next i j : ℕ) (es : Map ℕ X) (d : ℕ × X) → Rise low next es → i ≤ j → j < length es → (slice_index_or es i d).0 ≤ (slice_index_or es j d).0
   rising low next i j [] d r le l = absurd (omega arith)
   rising low next zero j (e ∷ es) d r le l = all_high e.0 next j (e ∷ es) d (let a : e.0 ≤ e.0 = omega arith in (a, r.1)) l
   rising low next (suc i) zero (e ∷ es) d r le l = absurd (omega arith)

@@ -1,9 +1,7 @@
 -- The entries in which calls stand: an entry is empty once its call ended.
-use Rattle.std.specs.Prelude.{ℕ, Bool, false, Option, option_map, is_some, not, nat_eq}
-use Rattle.std.specs.declared.option.Option.TheVariants.{None, Some}
+use Rattle.std.specs.Prelude.{ℕ, Bool, Option, option_map, is_some, not}
 use Rattle.std.specs.List.{filter_map, count_by}
 use Rattle.pl_model.specs.Map.{Map}
-use Rattle.pl_parked.specs.declared.call.ParkedCall.{ParkedCall}
 
 -- the calls of the entries that have one
 abbrev pub calls_in : {X : Type 0} → Map ℕ (Option X) → Map ℕ X
@@ -16,12 +14,3 @@ is_empty e = not (is_some e.1)
 -- how many entries are empty
 abbrev pub empties : {X : Type 0} → Map ℕ (Option X) → ℕ
 empties entries = count_by is_empty entries
-
--- what is there is a call of the process
-abbrev pub is_call_of : {A : Type 0} → ℕ → Option (ParkedCall A) → Bool
-is_call_of pid None = false
-is_call_of pid (Some call) = nat_eq call.pid pid
-
--- the entry has a call of the process
-abbrev pub has_call_of : {A : Type 0} → ℕ → ℕ × Option (ParkedCall A) → Bool
-has_call_of pid e = is_call_of pid e.1

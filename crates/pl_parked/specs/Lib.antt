@@ -1,6 +1,6 @@
 pub mod Calls
 pub mod CallsView
-pub mod Counted
 pub mod Entries
 pub mod Meeting
+pub mod Owned
 pub mod Waiting

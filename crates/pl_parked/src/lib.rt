@@ -4,10 +4,10 @@
 #![tactic(auto)]
 
 mod call;
-mod counts;
 mod entries;
 mod fault;
 mod opens;
+mod owners;
 mod parked;
 
 pub use call::ParkedCall;

@@ -8,10 +8,10 @@ ghost use Rattle.pl_parked.specs.Calls.{Rise, is_of_from};
 ghost use Rattle.pl_parked.specs.Meeting.{meets, all_marked};
 
 use crate::call::ParkedCall;
-use crate::counts::Counts;
-use crate::entries::{Entry, next_of, place_of};
+use crate::entries::{Entry, place_of};
 use crate::fault::ParkFault;
 use crate::opens::Opens;
+use crate::owners::Owners;
 use pl_model::numbers::LAST_CALL;
 use pl_model::{KeyList, Mode};
 use std::alloc::{Allocator, Global};
@@ -24,7 +24,8 @@ pub struct Parked<A: Allocator = Global> {
     entries: Vec<Entry<A>, A>,
     /// How many entries are empty.
     empty: usize,
-    counts: Counts<A>,
+    /// All calls, by their processes.
+    owners: Owners<A>,
     /// The calls that are opens of FIFOs which wait and weren't met.
     opens: Opens<A>,
     next: u64,
@@ -39,7 +40,7 @@ impl<A: Allocator> Model for Parked<A> {
 
     ghost view = { view_of };
 
-    ghost invariant = { λ p. IsSound p.entries.items p.empty p.counts.list.items p.opens.set p.next };
+    ghost invariant = { λ p. IsSound p.entries.items p.empty p.owners.set p.opens.set p.next };
 }
 
 impl<A: Allocator + Copy> Parked<A> {
@@ -50,7 +51,7 @@ impl<A: Allocator + Copy> Parked<A> {
         Parked {
             entries: Vec::new(alloc),
             empty: 0,
-            counts: Counts::new(alloc),
+            owners: Owners::new(alloc),
             opens: Opens::new(alloc),
             next: first,
         }
@@ -73,13 +74,13 @@ impl<A: Allocator + Copy> Parked<A> {
             return Err(ParkFault::CallsSpent);
         }
         let number = self.next;
-        if self.counts.reserve(call.pid).is_err()
-            || self.entries.try_reserve(1).is_err()
-            || self.opens.list(&call, number).is_err()
-        {
+        if self.entries.try_reserve(1).is_err() || self.owners.add(call.pid, number).is_err() {
             return Err(ParkFault::NoMemory);
         }
-        self.counts.add(call.pid);
+        if self.opens.list(&call, number).is_err() {
+            self.owners.remove(call.pid, number);
+            return Err(ParkFault::NoMemory);
+        }
         self.entries.push_reserved((number, Some(call)));
         self.next = number + 1;
         Ok(number)
@@ -112,7 +113,7 @@ impl<A: Allocator> Parked<A> {
         let (_, entry) = self.entries.pop().unwrap();
         let call = entry.unwrap();
         self.opens.unlist(&call, number);
-        self.counts.remove(call.pid);
+        self.owners.remove(call.pid, number);
         self.next = number;
         call
     }
@@ -133,24 +134,21 @@ impl<A: Allocator> Parked<A> {
         let place = place_of(&self.entries, number)?;
         let call = self.entries[place].1.take()?;
         self.opens.unlist(&call, number);
-        self.counts.remove(call.pid);
+        self.owners.remove(call.pid, number);
         self.empty += 1;
         self.close_gaps();
         Some(call)
     }
 
-    /// The least number, `from` or above, of the calls of a process, if it has one there. It goes over the calls from `from`
-    /// on, and over none where the process has none at all.
+    /// The least number, `from` or above, of the calls of a process, if it has one there. It costs at most the logarithm of how
+    /// many calls wait.
     pub fn next_of_process(&self, pid: u32, from: u64) -> Option<u64>
         ensures value { result ≡ option_map (λ entry. entry.0) (find (is_of_from pid from) self.now.calls) }
         ensures parked { IfSome result (λ number. (from ≤ number) × IsSomeAnd (get nat_eq self.now.calls number) (λ call. call.pid ≡ pid)) }
         ensures least { IfSome result (λ number. (other : ℕ) → from ≤ other → IfSome (get nat_eq self.now.calls other) (λ call. call.pid ≡ pid → number ≤ other)) }
         ensures none { IfNone result ((number : ℕ) → from ≤ number → IfSome (get nat_eq self.now.calls number) (λ call. ¬ (call.pid ≡ pid))) }
     {
-        if self.counts.of(pid) == 0 {
-            return None;
-        }
-        next_of(&self.entries, pid, from)
+        self.owners.first_from(pid, from)
     }
 
     /// Says how many bytes the write of a number took so far. It takes no memory.

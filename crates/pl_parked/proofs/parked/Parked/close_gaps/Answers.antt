@@ -10,7 +10,7 @@ use Rattle.pl_parked.proofs.parked.Parked.close_gaps.Goals as goal
 pub invariant_of-self : goal.invariant_of-self
 invariant_of-self g c =
     let kept = filter_same _ _ _ (λ x b f' k. search rules) _ _ c.retain.ensures.filtered in
-    subst (λ es. IsSound es 0 c.self.inside.counts.list.items c.self.inside.opens.set c.self.inside.next) (sym kept) (keeps-full c.self.inside.entries.items c.self.inside.empty c.self.inside.next c.self.inside.counts.list.items c.self.inside.opens.set c.self.invariant)
+    subst (λ es. IsSound es 0 c.self.inside.owners.set c.self.inside.opens.set c.self.inside.next) (sym kept) (keeps-full c.self.inside.entries.items c.self.inside.empty c.self.inside.next c.self.inside.owners.set c.self.inside.opens.set c.self.invariant)
 
 pub returns-then-self-len : goal.returns-then-self-len
 returns-then-self-len g c =

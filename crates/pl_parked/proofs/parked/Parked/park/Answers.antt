@@ -3,47 +3,41 @@ use Rattle.std.proofs.lemmas.Bool.Decides.{nat_tests}
 use Rattle.pl_model.specs.Numbers.{last_call}
 use Rattle.pl_parked.specs.Calls.{Calls}
 use Rattle.pl_parked.specs.CallsView.{IsSound}
-use Rattle.pl_parked.specs.Counted.{place_of}
 use Rattle.pl_parked.specs.Entries.{calls_in}
 use Rattle.pl_parked.proofs.EntryLemmas.{calls-push}
 use Rattle.pl_parked.proofs.Waiting.{OnOk_by, OnErr_by}
-use Rattle.pl_parked.proofs.Keeping.{keeps-counts, keeps-keys, keeps-push, few-counted}
+use Rattle.pl_parked.proofs.Keeping.{keeps-own, keeps-push, keeps-undone}
 use Rattle.pl_parked.proofs.parked.Parked.park.Given.{Over}
-use Rattle.pl_parked.proofs.parked.Parked.park.Goals.{After-reserve, then-is_err-via-then-is_err, then-is_err-via-else-is_err+then-is_err-2, then-is_err-via-else-is_err+else-is_err-2+then-is_err-3}
+use Rattle.pl_parked.proofs.parked.Parked.park.Goals.{After-try_reserve, then-is_err-via-then-is_err, then-is_err-via-else-is_err+then-is_err-2}
 use Rattle.pl_parked.proofs.parked.Parked.park.Goals as goal
 
--- the list that grew counts as it did
-module _ (g : Over) (c : After-reserve g) where
-  grown : IsSound c.self.inside.entries.items c.self.inside.empty c.reserve.new.self.list.items c.self.inside.opens.set c.self.inside.next
-  grown = keeps-counts c.self.inside.entries.items c.self.inside.empty c.self.inside.next c.self.inside.counts.list.items c.reserve.new.self.list.items c.self.inside.opens.set c.reserve.ensures.kept c.self.invariant
+-- the entries stay as they are
+module _ (g : Over) (c : After-try_reserve g) where
+  roomy : IsSound c.try_reserve.new.self.items c.self.inside.empty c.self.inside.owners.set c.self.inside.opens.set c.self.inside.next
+  roomy = rw c.try_reserve.ensures.items c.self.invariant
 
 pub invariant_of-self : goal.invariant_of-self
-invariant_of-self g c = grown g (goal.at.invariant_of-self g c).After-reserve
+invariant_of-self g c = roomy g (goal.at.invariant_of-self g c).After-try_reserve
 
 pub invariant_of-self-then-is_err-2 : goal.invariant_of-self-then-is_err-2
-invariant_of-self-then-is_err-2 g c = rw c.try_reserve.ensures.items (grown g (goal.at.invariant_of-self-then-is_err-2 g c).After-reserve)
-
-pub add-requires-clause-room : goal.add-requires-clause-room
-add-requires-clause-room g c =
-    let es = c.self.inside.entries in
-    let few = few-counted es.items c.self.inside.empty c.self.inside.next c.reserve.new.self.list.items c.self.inside.opens.set (place_of c.args.call.pid) (grown g (goal.at.add-requires-clause-room g c).After-reserve) in
-    omega (arith, few, es.ok.0, es.ok.1, es.small)
+invariant_of-self-then-is_err-2 g c =
+    keeps-own c.try_reserve.new.self.items c.self.inside.empty c.self.inside.next c.self.inside.owners.set c.self.inside.opens.set (roomy g (goal.at.invariant_of-self-then-is_err-2 g c).After-try_reserve)
+    c.add.new.self.set (OnErr_by _ c.add.result c.if-is_err-2.ensures.value c.add.ensures.err)
 
 pub invariant_of-self-then-is_err-3 : goal.invariant_of-self-then-is_err-3
-invariant_of-self-then-is_err-3 g c = keeps-keys c.try_reserve.new.self.items c.self.inside.empty c.self.inside.next c.reserve.new.self.list.items c.self.inside.opens.set c.list.new.self.set (OnErr_by _ c.list.result c.if-is_err-3.ensures.value c.list.ensures.err) (rw c.try_reserve.ensures.items (grown g (goal.at.invariant_of-self-then-is_err-3 g c).After-reserve))
+invariant_of-self-then-is_err-3 g c =
+    keeps-undone c.try_reserve.new.self.items c.self.inside.empty c.self.inside.next c.self.inside.owners.set c.self.inside.opens.set (roomy g (goal.at.invariant_of-self-then-is_err-3 g c).After-try_reserve)
+    c.args.call c.add.new.self.set (OnOk_by _ c.add.result c.if-is_err-2.ensures.value c.add.ensures.ok)
+    c.remove.new.self.set c.list.new.self.set c.remove.ensures (OnErr_by _ c.list.result c.if-is_err-3.ensures.value c.list.ensures.err)
 
 pub returns-then-is_err-clause-err : goal.returns-then-is_err-clause-err
 returns-then-is_err-clause-err g c = elim c.then-is_err.branch [
-  | then-is_err-via-then-is_err w ↦ w.self-is ∙ c.self.view_is
-  | then-is_err-via-else-is_err+then-is_err-2 w ↦ w.self-is ∙ ap (λ es. record { calls = calls_in es; next = c.self.inside.next }) w.try_reserve.ensures.items ∙ c.self.view_is
-  | then-is_err-via-else-is_err+else-is_err-2+then-is_err-3 w ↦ w.self-is ∙ ap (λ es. record { calls = calls_in es; next = c.self.inside.next }) w.try_reserve.ensures.items ∙ c.self.view_is
+  | then-is_err-via-then-is_err w ↦ w.self-is ∙ ap (λ es. record { calls = calls_in es; next = c.self.inside.next }) c.try_reserve.ensures.items ∙ c.self.view_is
+  | then-is_err-via-else-is_err+then-is_err-2 w ↦ w.self-is ∙ ap (λ es. record { calls = calls_in es; next = c.self.inside.next }) c.try_reserve.ensures.items ∙ c.self.view_is
 ]
 
-pub add-requires-clause-place : goal.add-requires-clause-place
-add-requires-clause-place g c = OnOk_by _ c.reserve.result c.if-is_err.ensures.value c.reserve.ensures.ok
-
 pub push_reserved-requires : goal.push_reserved-requires
-push_reserved-requires g c = let d = OnOk_by _ c.try_reserve.result c.if-is_err-2.ensures.value c.try_reserve.ensures.ok in omega (arith, d)
+push_reserved-requires g c = let d = OnOk_by _ c.try_reserve.result c.if-is_err.ensures.value c.try_reserve.ensures.ok in omega (arith, d)
 
 -- a number that isn't the last one fits
 room : (n : ℕ) → n < 2 ^ 64 → false ≡ (n == last_call) → Fits w64 (n + 1)
@@ -54,10 +48,10 @@ overflow_add-self g c = room c.self.inside.next (omega (arith, c.self.ranges)) (
 
 pub invariant_of-self-2 : goal.invariant_of-self-2
 invariant_of-self-2 g c =
-    let place = OnOk_by _ c.reserve.result c.if-is_err.ensures.value c.reserve.ensures.ok in
-    let more = OnOk_by _ c.list.result c.if-is_err-3.ensures.value c.list.ensures.ok in
-    rw (c.push_reserved.ensures.items, c.try_reserve.ensures.items, c.add.ensures)
-    (keeps-push c.self.inside.entries.items c.self.inside.empty c.self.inside.next c.reserve.new.self.list.items c.self.inside.opens.set c.list.new.self.set c.args.call (grown g (goal.at.invariant_of-self-2 g c).After-reserve) place more)
+    rw c.push_reserved.ensures.items
+    (keeps-push c.try_reserve.new.self.items c.self.inside.empty c.self.inside.next c.self.inside.owners.set c.self.inside.opens.set (roomy g (goal.at.invariant_of-self-2 g c).After-try_reserve)
+    c.args.call c.add.new.self.set (OnOk_by _ c.add.result c.if-is_err-2.ensures.value c.add.ensures.ok)
+    c.list.new.self.set (OnOk_by _ c.list.result c.if-is_err-3.ensures.value c.list.ensures.ok))
 
 pub returns-clause-ok : goal.returns-clause-ok
 returns-clause-ok g c =

@@ -4,7 +4,7 @@ use Rattle.pl_parked.specs.declared.call.ParkedCall.{ParkedCall}
 use Rattle.pl_parked.specs.Calls.{Calls}
 use Rattle.pl_parked.specs.CallsView.{IsSound}
 use Rattle.pl_parked.specs.Entries.{calls_in}
-use Rattle.pl_parked.proofs.Keeping.{Found, found-in, seen-here, seen-none, had, still-empty, is-counted, leaves, keeps-emptied}
+use Rattle.pl_parked.proofs.Keeping.{Found, found-in, seen-here, seen-none, had, still-empty, leaves, keeps-emptied}
 use Rattle.pl_parked.proofs.Rising.{at-within, without-absent}
 use Rattle.pl_parked.proofs.parked.Parked.take.Given.{Over}
 use Rattle.pl_parked.proofs.parked.Parked.take.Goals.{In_err-place, After-take}
@@ -53,7 +53,7 @@ module _ (g : Over) (c : After-take g) where
 pub invariant_of-self : goal.invariant_of-self
 invariant_of-self g c =
     let w = (goal.at.invariant_of-self g c).After-take in
-    rw c.take.ensures.after (subst (λ es. IsSound es c.self.inside.empty c.self.inside.counts.list.items c.self.inside.opens.set c.self.inside.next) (sym (stays g w (sym c.in_err-call.ensures.value))) c.self.invariant)
+    rw c.take.ensures.after (subst (λ es. IsSound es c.self.inside.empty c.self.inside.owners.set c.self.inside.opens.set c.self.inside.next) (sym (stays g w (sym c.in_err-call.ensures.value))) c.self.invariant)
 
 pub returns-in_err-call-clause-call : goal.returns-in_err-call-clause-call
 returns-in_err-call-clause-call g c =
@@ -69,13 +69,10 @@ returns-in_err-call-clause-rest g c =
     ∙ c.self.view_is
     ∙ sym (ap (λ calls. record c.args.self.now { calls = calls }) (absent g w none))
 
-pub remove-requires : goal.remove-requires
-remove-requires g c = is-counted (found g (goal.at.remove-requires g c).After-take) c.in_ok-call.call (sym c.in_ok-call.ensures.value)
-
 pub invariant_of-self-2 : goal.invariant_of-self-2
 invariant_of-self-2 g c =
     let w = (goal.at.invariant_of-self-2 g c).After-take in
-    rw (c.take.ensures.after, c.remove.ensures) (keeps-emptied (found g w) c.in_ok-call.call (sym c.in_ok-call.ensures.value) c.unlist.new.self.set c.unlist.ensures)
+    rw c.take.ensures.after (keeps-emptied (found g w) c.in_ok-call.call (sym c.in_ok-call.ensures.value) c.remove.new.self.set c.unlist.new.self.set c.remove.ensures c.unlist.ensures)
 
 pub returns-clause-call : goal.returns-clause-call
 returns-clause-call g c = let w = (goal.at.returns-clause-call g c).After-take in c.in_ok-call.ensures.value ∙ sym (is-had g w)

@@ -2,7 +2,7 @@ use Rattle.std.proofs.Common.{◌++◌, IsSome, ap, sym, ◌∙◌, subst, nat_e
 use Rattle.std.specs.Option.{option_to_list}
 use Rattle.pl_model.specs.Map.{get}
 use Rattle.pl_parked.specs.Calls.{Calls}
-use Rattle.pl_parked.proofs.Keeping.{Ended, last-full, last-call, last-counted, keeps-popped}
+use Rattle.pl_parked.proofs.Keeping.{Ended, last-full, last-call, keeps-popped}
 use Rattle.pl_parked.proofs.parked.Parked.unpark.Given.{Over}
 use Rattle.pl_parked.proofs.parked.Parked.unpark.Goals.{After-unwrap-entry}
 use Rattle.pl_parked.proofs.parked.Parked.unpark.Goals as goal
@@ -14,8 +14,8 @@ module _ (g : Over) (c : After-unwrap-entry g) where
     entries = c.self.inside.entries.items;
     empty = c.self.inside.empty;
     next = c.self.inside.next;
-    list = c.self.inside.counts.list.items;
-    set = c.self.inside.opens.set;
+    owners = c.self.inside.owners.set;
+    opens = c.self.inside.opens.set;
     number = c.args.number;
     before = c.pop.new.self.items;
     entry = c.unwrap-entry.result;
@@ -28,11 +28,9 @@ module _ (g : Over) (c : After-unwrap-entry g) where
 pub unwrap-call-requires : goal.unwrap-call-requires
 unwrap-call-requires g c = last-full (ended g c)
 
-pub remove-requires : goal.remove-requires
-remove-requires g c = last-counted (ended g (goal.at.remove-requires g c).After-unwrap-entry) c.unwrap-call.result c.unwrap-call.ensures
-
 pub invariant_of-self : goal.invariant_of-self
-invariant_of-self g c = rw c.remove.ensures (keeps-popped (ended g (goal.at.invariant_of-self g c).After-unwrap-entry) c.unwrap-call.result c.unwrap-call.ensures c.unlist.new.self.set c.unlist.ensures)
+invariant_of-self g c =
+    keeps-popped (ended g (goal.at.invariant_of-self g c).After-unwrap-entry) c.unwrap-call.result c.unwrap-call.ensures c.remove.new.self.set c.unlist.new.self.set c.remove.ensures c.unlist.ensures
 
 pub returns-clause-calls : goal.returns-clause-calls
 returns-clause-calls g c =
