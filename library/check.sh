@@ -150,7 +150,23 @@ try_piperun() {
     check "piperun on no file" piperun_answers 1 /dev/null 'piperun: cannot read' "$work/no_such_file"
     check "piperun with an unknown option" piperun_answers 2 /dev/null 'piperun: bad command line' --last-call 7
     check "piperun with no number" piperun_answers 2 /dev/null 'piperun: bad command line' --first-call seven
+    check "piperun with a word that is no text" piperun_answers 2 /dev/null 'piperun: bad command line' "$(printf '\377')"
     check "the help text of piperun" piperun_answers 0 "$work/help" '' --help
+    printf 'start\n1 pipe\n1 read 0 1\nresume 0\n' > "$work/first.script"
+    printf 'pid 1\nfds 0 1\nparked 0\nparked 0\n' > "$work/first.out"
+    check "piperun from call 0 on" piperun_answers 0 "$work/first.out" '' --first-call 0 "$work/first.script"
+    printf 'pid 1\nfds 0 1\ncalls spent\nno call\n' > "$work/last.out"
+    check "piperun where no number is left" piperun_answers 0 "$work/last.out" '' --first-call 18446744073709551615 "$work/first.script"
+    check "piperun with too large a number" piperun_answers 2 /dev/null 'piperun: bad command line' --first-call 18446744073709551616
+    head -c 16000000 /dev/zero | tr '\0' '#' > "$work/long.script"
+    cat "$work/long.script" "$work/long.script" > "$work/longer.script"
+    check "piperun on a script that is too long" piperun_answers 3 /dev/null 'piperun: script longer than 16777216 bytes' \
+        "$work/longer.script"
+    # 12,000 KiB are too few for 16,000,000 bytes
+    printf '#!/bin/sh\nulimit -v 12000\nexec "%s" "$@"\n' "$piperun" > "$work/piperun_with_little_memory"
+    chmod +x "$work/piperun_with_little_memory"
+    piperun=$work/piperun_with_little_memory
+    check "piperun without memory for the script" piperun_answers 4 /dev/null 'piperun: no memory' "$work/long.script"
 }
 
 # shellcheck disable=SC2317
@@ -180,6 +196,10 @@ for name in processes pipes descriptors files fifos splices polls waiting sizes;
     build "$name" && run "$name"
 done
 build memory "$counted" && run memory
+if build growth "$counted"; then
+    plainly growth 65536 && sed 's/^/growth: /' "$work/log"
+    under_valgrind growth 600
+fi
 for name in one_lock two_kernels; do
     build "$name" "$counted" -pthread && run "$name" && without_races "$name"
 done
