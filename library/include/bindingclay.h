@@ -9,12 +9,16 @@
  * or asks anything of the system but for memory.
  *
  * Waiting. A call that would wait answers BINDINGCLAY_PARKED: that is an answer, and its value is the call's number. Keep the number,
- * and try the call again by bindingclay_resume, or bindingclay_resume_poll, after any call that could help it. What brings bytes (write,
- * splice, tee, a write that is resumed) helps who reads, what makes room (read, splice, set_pipe_sz) who writes, an open the open of the
- * other end, what closes an end (close, dup2, exit, interrupt, the end of another parked call) all of them, and each of these a poll.
- * Nothing tells you which. Where it still waits it answers its number again, and that costs little. bindingclay_interrupt ends it. A call
- * that is parked keeps what it found open, until it is answered, is interrupted, or its process exits; an open of a FIFO keeps the end
- * that it makes, which counts as one from then on.
+ * and try the call again by bindingclay_resume, or bindingclay_resume_poll, after any call that could help it: nothing tells you which did.
+ * What brings bytes into a pipe (write, splice, tee) helps who takes bytes from it. What makes room in it (read, splice, set_pipe_sz) helps
+ * who puts bytes into it. What closes an end of it (close, dup2, exit, interrupt, the end of another parked call) helps both. Each of these
+ * helps a poll of the pipe too, and an open helps the open of a FIFO's other end. A splice from a file into a full pipe answers 0 once the
+ * file has no bytes behind its offset: after an open with O_TRUNC, or, if it was given no offset, after an lseek, read, write or splice that
+ * moved that of its description. A call helps in the same way when it is resumed. The rule that is always right: after any call that isn't
+ * refused try all calls that wait, round after round, until two rounds in a row answer none: a write that still waits may have put bytes.
+ * Where a call still waits it answers its number again, and that costs little. bindingclay_interrupt ends it. A call that is parked keeps
+ * what it found open, until it is answered, is interrupted, or its process exits; an open of a FIFO keeps the end that it makes, which
+ * counts as one from then on.
  *
  * Memory. It comes from malloc and realloc, and goes by free, all three of one allocator, which aligns as C demands. A call that finds none
  * answers BINDINGCLAY_NO_MEMORY and has changed nothing, neither the kernel nor what its pointers point to: make it again once there is
@@ -44,7 +48,7 @@ extern "C" {
 #endif
 
 #define BINDINGCLAY_VERSION_MAJOR 0
-#define BINDINGCLAY_VERSION_MINOR 1
+#define BINDINGCLAY_VERSION_MINOR 2
 #define BINDINGCLAY_VERSION_PATCH 0
 #define BINDINGCLAY_VERSION \
     (BINDINGCLAY_VERSION_MAJOR * 1000000 + BINDINGCLAY_VERSION_MINOR * 1000 + BINDINGCLAY_VERSION_PATCH)
@@ -145,6 +149,10 @@ bindingclay_answer bindingclay_resume_poll(bindingclay clay, uint64_t number, bi
 /* Ends a call that waits, as a signal does: EINTR, or for a write that took bytes their count (read; write; open; poll). No call of this
  * number BINDINGCLAY_NO_CALL. Asks for no memory. */
 bindingclay_answer bindingclay_interrupt(bindingclay clay, uint64_t number);
+
+/* Tells whose call waits under a number. Value: the pid of the process that began it. No call of this number BINDINGCLAY_NO_CALL. Asks
+ * for no memory. */
+bindingclay_answer bindingclay_owner(bindingclay clay, uint64_t number);
 
 /* ---- Pipes and names ---- */
 
@@ -332,6 +340,39 @@ static inline bindingclay_answer bindingclay_c_poll(
 #define bindingclay_read bindingclay_c_read
 #define bindingclay_write bindingclay_c_write
 #define bindingclay_poll bindingclay_c_poll
+
+/* ---- Calls that wait, of one process alone ----
+ * As the functions without _of, for a host that passes on a number that a guest gave it: where no call of this number waits, or process pid
+ * didn't begin it, they answer BINDINGCLAY_NO_CALL, and nothing changed. */
+
+static inline bool bindingclay_c_is_of(bindingclay clay, uint32_t pid, uint64_t number)
+{
+    bindingclay_answer owner = bindingclay_owner(clay, number);
+    return owner.kind == BINDINGCLAY_DONE && owner.value == pid;
+}
+
+static inline bindingclay_answer bindingclay_c_no_call(void)
+{
+    bindingclay_answer none = { 0, 0, BINDINGCLAY_NO_CALL, false };
+    return none;
+}
+
+static inline bindingclay_answer bindingclay_resume_of(
+    bindingclay clay, uint32_t pid, uint64_t number, uint8_t *into, size_t size)
+{
+    return bindingclay_c_is_of(clay, pid, number) ? bindingclay_resume(clay, number, into, size) : bindingclay_c_no_call();
+}
+
+static inline bindingclay_answer bindingclay_resume_poll_of(
+    bindingclay clay, uint32_t pid, uint64_t number, bindingclay_pollfd *entries, size_t count)
+{
+    return bindingclay_c_is_of(clay, pid, number) ? bindingclay_resume_poll(clay, number, entries, count) : bindingclay_c_no_call();
+}
+
+static inline bindingclay_answer bindingclay_interrupt_of(bindingclay clay, uint32_t pid, uint64_t number)
+{
+    return bindingclay_c_is_of(clay, pid, number) ? bindingclay_interrupt(clay, number) : bindingclay_c_no_call();
+}
 
 #ifdef __cplusplus
 }

@@ -79,7 +79,7 @@ pub struct Done {
 pub enum NotDone {
     /// It failed, with a number of errno.h on Linux. With EPIPE a process would get SIGPIPE.
     Fault(i32),
-    /// It waits: try again by `resume` or `resume_poll`, or give up by `interrupt`.
+    /// It waits: try again by `resume` or `resume_poll` after any call that isn't refused, or give up by `interrupt`.
     Parked(CallNumber),
     /// There is no process of this pid.
     NoProcess,
@@ -138,6 +138,7 @@ unsafe extern "C" {
     fn bindingclay_resume(clay: Handle, number: u64, into: *mut u8, size: usize) -> Answer;
     fn bindingclay_resume_poll(clay: Handle, number: u64, entries: *mut PollEntry, count: usize) -> Answer;
     fn bindingclay_interrupt(clay: Handle, number: u64) -> Answer;
+    fn bindingclay_owner(clay: Handle, number: u64) -> Answer;
     fn bindingclay_pipe(clay: Handle, pid: u32, nonblock: bool, ends: *mut Ends) -> Answer;
     fn bindingclay_mkfifo(clay: Handle, pid: u32, name: *const u8, size: usize) -> Answer;
     fn bindingclay_open_name(clay: Handle, pid: u32, name: *const u8, size: usize, flags: u32) -> Answer;
@@ -208,7 +209,7 @@ impl Answer {
 }
 
 /// The version that this wrapper is of, as `version`.
-pub const VERSION: u32 = 1_000;
+pub const VERSION: u32 = 2_000;
 
 /// The version of the library: 1,000,000 times the first number, 1,000 times the second, and the third.
 pub fn version() -> u32 {
@@ -266,6 +267,34 @@ impl Clay {
 
     pub fn interrupt(&mut self, number: CallNumber) -> Result<Done> {
         unsafe { bindingclay_interrupt(self.0, number) }.done()
+    }
+
+    /// The process that began the call that waits under a number.
+    pub fn owner(&self, number: CallNumber) -> Result<Pid> {
+        unsafe { bindingclay_owner(self.0, number) }.number()
+    }
+
+    /// `resume` of a call of one process, for a host that passes on a number that a guest gave it: any other process's call is
+    /// `NoCall`, and nothing changed.
+    pub fn resume_of(&mut self, pid: Pid, number: CallNumber, into: &mut [u8]) -> Result<Done> {
+        self.is_of(pid, number)?;
+        self.resume(number, into)
+    }
+
+    /// `resume_poll` of a call of one process, as `resume_of`.
+    pub fn resume_poll_of(&mut self, pid: Pid, number: CallNumber, entries: &mut [PollEntry]) -> Result<Done> {
+        self.is_of(pid, number)?;
+        self.resume_poll(number, entries)
+    }
+
+    /// `interrupt` of a call of one process, as `resume_of`.
+    pub fn interrupt_of(&mut self, pid: Pid, number: CallNumber) -> Result<Done> {
+        self.is_of(pid, number)?;
+        self.interrupt(number)
+    }
+
+    fn is_of(&self, pid: Pid, number: CallNumber) -> Result<()> {
+        if self.owner(number)? == pid { Ok(()) } else { Err(NotDone::NoCall) }
     }
 
     pub fn pipe(&mut self, pid: Pid, nonblock: bool) -> Result<Ends> {

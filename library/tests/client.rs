@@ -38,9 +38,14 @@ fn pipes(checks: &mut Checks) {
     let mut into = [0xa5; 16];
     checks.is(clay.pipe(1, false), Ok(Ends { read_end: 0, write_end: 1 }));
     checks.is(clay.read(1, 0, &mut into), Err(NotDone::Parked(1)));
+    checks.is(clay.owner(1), Ok(1));
+    checks.is(clay.owner(2), Err(NotDone::NoCall));
     checks.is(clay.write(1, 1, b"from rust"), Ok(9));
+    checks.is(clay.resume_of(2, 1, &mut into), Err(NotDone::NoCall));
+    checks.is(clay.interrupt_of(2, 1), Err(NotDone::NoCall));
+    checks.is(clay.resume_poll_of(2, 1, &mut []), Err(NotDone::NoCall));
     checks.is(clay.resume(1, &mut into[..15]), Err(NotDone::Short(16)));
-    checks.is(clay.resume(1, &mut into), Ok(Done { value: 9, sigpipe: false }));
+    checks.is(clay.resume_of(1, 1, &mut into), Ok(Done { value: 9, sigpipe: false }));
     checks.is(&into, b"from rust\xa5\xa5\xa5\xa5\xa5\xa5\xa5");
     checks.is(clay.resume(1, &mut into), Err(NotDone::NoCall));
     checks.is(clay.write(1, 1, &[]), Ok(0));
@@ -48,7 +53,7 @@ fn pipes(checks: &mut Checks) {
     checks.is(clay.write(2, 1, b"a"), Err(NotDone::NoProcess));
     checks.is(clay.write(1, 1, &[7; 70_000]), Err(NotDone::Parked(2)));
     checks.is(clay.write(1, 1, b"a"), Err(NotDone::Parked(3)));
-    checks.is(clay.interrupt(3), Err(NotDone::Fault(EINTR)));
+    checks.is(clay.interrupt_of(1, 3), Err(NotDone::Fault(EINTR)));
     checks.is(clay.fork(1), Ok(2));
     checks.is(clay.close(1, 0), Ok(()));
     checks.is(clay.exit(2), Ok(()));

@@ -2,6 +2,7 @@
 #ifndef COUNTED_H
 #define COUNTED_H
 
+#include <malloc.h>
 #include <stdatomic.h>
 #include <stdbool.h>
 #include <stddef.h>
@@ -12,6 +13,10 @@ void __real_free(void *block);
 
 /* Blocks that were given and not given back. */
 static atomic_long blocks_left;
+
+/* The bytes of these blocks, as the allocator rounds them, and the most that they ever were. */
+static atomic_long bytes_left;
+static atomic_long most_bytes;
 
 /* How many requests are granted before the refused ones; below 0, all are granted. */
 static long granted_before = -1;
@@ -47,26 +52,44 @@ static inline void refuse_none(void)
     granted_before = -1;
 }
 
+static inline void count_bytes(long more)
+{
+    long now = atomic_fetch_add(&bytes_left, more) + more;
+    long most = atomic_load(&most_bytes);
+    while (most < now && !atomic_compare_exchange_weak(&most_bytes, &most, now))
+        ;
+}
+
 void *__wrap_malloc(size_t size)
 {
     void *block = is_refused() ? NULL : __real_malloc(size);
-    if (block != NULL)
+    if (block != NULL) {
         atomic_fetch_add(&blocks_left, 1);
+        count_bytes((long)malloc_usable_size(block));
+    }
     return block;
 }
 
 void *__wrap_realloc(void *block, size_t size)
 {
-    void *moved = is_refused() ? NULL : __real_realloc(block, size);
-    if (block == NULL && moved != NULL)
+    if (is_refused())
+        return NULL;
+    long before = (long)malloc_usable_size(block);
+    void *moved = __real_realloc(block, size);
+    if (moved == NULL)
+        return NULL;
+    if (block == NULL)
         atomic_fetch_add(&blocks_left, 1);
+    count_bytes((long)malloc_usable_size(moved) - before);
     return moved;
 }
 
 void __wrap_free(void *block)
 {
-    if (block != NULL)
+    if (block != NULL) {
         atomic_fetch_sub(&blocks_left, 1);
+        count_bytes(-(long)malloc_usable_size(block));
+    }
     __real_free(block);
 }
 

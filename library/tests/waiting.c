@@ -12,6 +12,10 @@ static void no_calls(void)
         OTHER(again(clay, NUMBERS[i]), BINDINGCLAY_NO_CALL);
         OTHER(bindingclay_interrupt(clay, NUMBERS[i]), BINDINGCLAY_NO_CALL);
         OTHER(bindingclay_resume_poll(clay, NUMBERS[i], &entry, 1), BINDINGCLAY_NO_CALL);
+        OTHER(bindingclay_owner(clay, NUMBERS[i]), BINDINGCLAY_NO_CALL);
+        OTHER(bindingclay_resume_of(clay, 0, NUMBERS[i], NULL, 0), BINDINGCLAY_NO_CALL);
+        OTHER(bindingclay_interrupt_of(clay, 1, NUMBERS[i]), BINDINGCLAY_NO_CALL);
+        OTHER(bindingclay_resume_poll_of(clay, 1, NUMBERS[i], &entry, 1), BINDINGCLAY_NO_CALL);
         HOLDS(entry.revents == 77);
     }
     bindingclay_free(clay);
@@ -134,6 +138,36 @@ static void interrupted(void)
     bindingclay_free(clay);
 }
 
+/* Of a call that waits the process is told, and it alone gets what was meant for it. */
+static void whose_call(void)
+{
+    bindingclay clay = kernel_with_process();
+    NEW_PIPE(clay, 1, false);
+    DONE(bindingclay_fork(clay, 1), 2);
+    PARKED(take(clay, 2, 0, 5), 1);
+    bindingclay_pollfd entry = { .fd = 0, .events = 1, .revents = 77 };
+    PARKED(bindingclay_poll(clay, 1, &entry, 1, true), 2);
+    DONE(bindingclay_owner(clay, 1), 2);
+    DONE(bindingclay_owner(clay, 2), 1);
+    DONE(put(clay, 1, 1, "hello"), 5);
+    uint8_t into[5] = { 0 };
+    OTHER(bindingclay_resume_of(clay, 1, 1, into, sizeof into), BINDINGCLAY_NO_CALL);
+    OTHER(bindingclay_interrupt_of(clay, 1, 1), BINDINGCLAY_NO_CALL);
+    OTHER(bindingclay_resume_of(clay, 3, 1, into, sizeof into), BINDINGCLAY_NO_CALL);
+    OTHER(bindingclay_resume_poll_of(clay, 2, 2, &entry, 1), BINDINGCLAY_NO_CALL);
+    HOLDS(into[0] == 0 && entry.revents == 77);
+    /* all is as it was */
+    DONE(bindingclay_resume_poll_of(clay, 1, 2, &entry, 1), 1);
+    HOLDS(entry.revents == 1);
+    DONE(bindingclay_resume_of(clay, 2, 1, into, sizeof into), 5);
+    HOLDS(memcmp(into, "hello", 5) == 0);
+    OTHER(bindingclay_owner(clay, 1), BINDINGCLAY_NO_CALL);
+    PARKED(take(clay, 2, 0, 1), 3);
+    FAULT(bindingclay_interrupt_of(clay, 2, 3), EINTR);
+    OTHER(bindingclay_owner(clay, 3), BINDINGCLAY_NO_CALL);
+    bindingclay_free(clay);
+}
+
 /* A pointer to no bytes may be null. */
 static void null_pointers(void)
 {
@@ -162,5 +196,6 @@ int main(void)
     room_of_a_read();
     kept_ends();
     interrupted();
+    whose_call();
     return end();
 }

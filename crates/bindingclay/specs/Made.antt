@@ -14,6 +14,7 @@ use Rattle.pl_state.specs.Makes.{Stands, WantsMemory}
 use Rattle.pl_state.specs.Parking.{ReadWaits}
 use Rattle.pl_kernel.specs.declared.kernel.buffers.Resumed.{Resumed as KernelResumed}
 use Rattle.pl_kernel.specs.declared.kernel.buffers.Resumed.TheVariants as kernel
+use Rattle.pl_kernel.specs.Taken.{owner_by}
 use Rattle.pl_numbers.specs.declared.answer.Answer.{Answer}
 use Rattle.pl_polls.specs.declared.entries.PollEntry.{PollEntry}
 use Rattle.pl_transfers.specs.declared.reading.ReadReply.{ReadReply}
@@ -98,6 +99,15 @@ resumed_answer (Err error) = plain 0 no_memory
 abbrev pub resumed_entries : {E : Type 0} → List PollEntry → Result (KernelResumed Global) E → List PollEntry
 resumed_entries old (Ok (kernel.Other reply)) = entries_after old reply
 resumed_entries old other = old
+
+-- the answer that tells whose a parked call is: the pid, or that there is none
+abbrev pub owner_answer : Option ℕ → Answer
+owner_answer None = plain 0 4
+owner_answer (Some pid) = plain pid 0
+
+-- so it is for each state for which the kernel stands
+abbrev pub Owns : Contents Global → ℕ → Answer → Type 0
+Owns k number a = (s : State Global) → Stands k s → a ≡ owner_answer (owner_by s number)
 
 -- Bytes were copied to the front of the caller's; or there is too little room for them, and the answer says how many they are.
 abbrev pub Copies : (is_short : Bool) → List ℕ → Answer → (old new : List ℕ) → Type 0

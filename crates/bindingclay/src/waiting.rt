@@ -1,7 +1,7 @@
 //! Calls that wait.
 ghost use Rattle.std.specs.Prelude.{◌≡◌, ◌<◌, length};
 ghost use Rattle.pl_numbers.specs.Answers.{said};
-ghost use Rattle.bindingclay.specs.Made.{Says, Wants, Resumed, Gathers, Notes};
+ghost use Rattle.bindingclay.specs.Made.{Says, Wants, Resumed, Gathers, Notes, Owns};
 
 use crate::handle::Handle;
 use pl_kernel::PollEntry;
@@ -37,6 +37,17 @@ pub extern "C" fn bindingclay_resume_poll(
 {
     let mut layer = handle.into_box();
     let answer = layer.resume_poll(number, entries);
+    let _kept = Box::into_raw(layer);
+    answer
+}
+
+/// Tells which process began the parked call of a number: the value is its pid.
+#[unsafe(no_mangle)]
+pub extern "C" fn bindingclay_owner(handle: Handle, number: u64) -> Answer
+    ensures { Owns handle.layer.kernel number result }
+{
+    let layer = handle.into_box();
+    let answer = layer.owner(number);
     let _kept = Box::into_raw(layer);
     answer
 }

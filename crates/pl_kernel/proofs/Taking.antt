@@ -1,35 +1,44 @@
--- What a parked call has taken, whatever keys the machine has for what it keeps.
+-- What is told of a parked call, whatever keys the machine has for what it keeps.
 use Rattle.std.proofs.Common.{◌≡◌, ℕ, Option, Some, None, refl, sym, ◌∙◌, ap, nat_eq}
 use Rattle.std.specs.Prelude.{option_map}
 use Rattle.pl_model.specs.Map.{get}
-use Rattle.pl_model.specs.Numbered.{numbers}
+use Rattle.pl_model.specs.Numbered.{State, numbers}
 use Rattle.pl_model.specs.State.{Core, Waiting}
 use Rattle.pl_model.specs.Renaming.{rename_waiting}
 use Rattle.pl_parked.specs.declared.call.ParkedCall.{ParkedCall}
 use Rattle.pl_state.specs.Contents.{Contents, core_of, waiting_of}
+use Rattle.pl_state.specs.Makes.{Stands}
 use Rattle.pl_state.specs.Sound.{IsSound}
 use Rattle.pl_state.proofs.by_call.Resumed.{parked-is}
 use Rattle.pl_state.proofs.waiting.Calls.{get-each}
-use Rattle.pl_kernel.specs.Taken.{TellsTaken}
+use Rattle.pl_kernel.specs.Taken.{TellsTaken, TellsOwner}
 
--- what it has taken, if it is there
-abbrev taken_of : {A : Type 0} → Option (Waiting A numbers) → Option ℕ
-taken_of o = option_map (λ w. w.taken) o
+-- a field that a change leaves, of a call that may be there
+same-field : {A : Type 0} (field : Waiting A numbers → ℕ) (f : Waiting A numbers → Waiting A numbers) → ((w : Waiting A numbers) → field (f w) ≡ field w)
+    → (o : Option (Waiting A numbers)) → option_map field (option_map f o) ≡ option_map field o
+same-field field f same None = refl
+same-field field f same (Some w) = ap (λ n. Some n) (same w)
 
-same_taken : {A : Type 0} (f : Waiting A numbers → Waiting A numbers) → ((w : Waiting A numbers) → (f w).taken ≡ w.taken) → (o : Option (Waiting A numbers)) → taken_of (option_map f o) ≡ taken_of o
-same_taken f same None = refl
-same_taken f same (Some w) = ap (λ n. Some n) (same w)
+own-field : {A : Type 0} (field : Waiting A numbers → ℕ) (own : ParkedCall A → ℕ) → ((w : ParkedCall A) → field (waiting_of w) ≡ own w)
+    → (o : Option (ParkedCall A)) → option_map field (option_map waiting_of o) ≡ option_map own o
+own-field field own is None = refl
+own-field field own is (Some w) = ap (λ n. Some n) (is w)
 
-pub tells_taken : {A : Type 0} (k : Contents A) (sound : IsSound A k) (number : ℕ) (call : Option (ParkedCall A)) → get nat_eq k.calls.calls number ≡ call → TellsTaken k number (option_map (λ w. w.taken) call)
-tells_taken {A} k sound number call here = λ s. λ stands.
-    let c = core_of k in
-    sym (
-    ap (λ (z : Core A numbers). taken_of (get nat_eq z.parked number)) (sym stands.renamed)
-    ∙ ap taken_of (get-each (rename_waiting stands.numbered) c.parked number)
-    ∙ same_taken (rename_waiting stands.numbered) (λ w. refl) (get nat_eq c.parked number)
-    ∙ ap taken_of (parked-is k sound number call here)
-    ∙ of_call call)
-  where
-    of_call : (o : Option (ParkedCall A)) → taken_of (option_map waiting_of o) ≡ option_map (λ w. w.taken) o
-    of_call None = refl
-    of_call (Some w) = refl
+-- the field of the machine's call is that of the kernel's
+module _ {A : Type 0} (k : Contents A) (sound : IsSound A k) (number : ℕ) (call : Option (ParkedCall A)) (here : get nat_eq k.calls.calls number ≡ call) where
+  field-told : (field : Waiting A numbers → ℕ) (own : ParkedCall A → ℕ) → ((w : ParkedCall A) → field (waiting_of w) ≡ own w) → (s : State A) (stands : Stands k s)
+      → ((w : Waiting A numbers) → field (rename_waiting stands.numbered w) ≡ field w) → option_map own call ≡ option_map field (get nat_eq s.core.parked number)
+  field-told field own is s stands same =
+      let c = core_of k in
+      sym (
+      ap (λ (z : Core A numbers). option_map field (get nat_eq z.parked number)) (sym stands.renamed)
+      ∙ ap (option_map field) (get-each (rename_waiting stands.numbered) c.parked number)
+      ∙ same-field field (rename_waiting stands.numbered) same (get nat_eq c.parked number)
+      ∙ ap (option_map field) (parked-is k sound number call here)
+      ∙ own-field field own is call)
+
+  pub tells_taken : TellsTaken k number (option_map (λ w. w.taken) call)
+  tells_taken = λ s. λ stands. field-told (λ w. w.taken) (λ w. w.taken) (λ w. refl) s stands (λ w. refl)
+
+  pub tells_owner : TellsOwner k number (option_map (λ w. w.pid) call)
+  tells_owner = λ s. λ stands. field-told (λ w. w.pid) (λ w. w.pid) (λ w. refl) s stands (λ w. refl)

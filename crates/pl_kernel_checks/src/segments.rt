@@ -19,6 +19,8 @@ const WITHOUT: &[SpliceFlags] = &[];
 enum Seen {
     /// So many segments.
     Segments(u64),
+    /// So many segments that are kept for further bytes.
+    Spare(u64),
     /// At most so many segments more than before the step.
     MoreSegments(u64),
     /// The pipe of a descriptor of a process has so many slots; `None` where that isn't open on a pipe.
@@ -48,7 +50,11 @@ const COURSES: &[Course] = &[
             (Write(1, 1, Text("c")), Count(1), &[Seen::Segments(1)]),
             (Write(1, 3, Text("d")), Count(1), &[Seen::Segments(2)]),
             (Read(1, 0, 9), Bytes(Text("abc")), &[]),
-            (Read(1, 2, 9), Bytes(Text("abd")), &[Seen::Segments(0)]),
+            (
+                Read(1, 2, 9),
+                Bytes(Text("abd")),
+                &[Seen::Segments(0), Seen::Spare(2)],
+            ),
         ],
         names: &[],
     },
@@ -94,7 +100,11 @@ const COURSES: &[Course] = &[
                 ],
             ),
             (Read(1, 0, 1_048_576), Bytes(Part(0, 1_048_576)), &[]),
-            (Read(1, 2, 1_048_576), Bytes(Part(0, 1_048_576)), &[]),
+            (
+                Read(1, 2, 1_048_576),
+                Bytes(Part(0, 1_048_576)),
+                &[Seen::Segments(0), Seen::Spare(256)],
+            ),
         ],
         names: &[],
     },
@@ -154,6 +164,8 @@ const COURSES: &[Course] = &[
 fn is_seen(bench: &Bench, ask: Ask, before: u64, seen: Seen) -> Result<(), Fail> {
     match seen {
         Seen::Segments(count) => bench.has_segments(ask, count),
+        Seen::Spare(count) if bench.spare() == count => Ok(()),
+        Seen::Spare(_) => Err(bench.fault(ask, "keeps another number of segments")),
         Seen::MoreSegments(most) if bench.segments() <= before.saturating_add(most) => Ok(()),
         Seen::MoreSegments(_) => Err(bench.fault(ask, "leaves too many segments")),
         Seen::Slots(pid, fd, slots) => bench.has_slots(ask, pid, fd, slots),

@@ -277,5 +277,8 @@ fn a_want_of_memory_changes_nothing(rt: HostRuntime) {
         let open = Open(7, Mode::Read, false);
         meets(&rt, rt.alloc(), 1, Trial::SomeAreRefused(open, request));
     }
+    // The first listing of an open is taken back where there is no memory for the second.
+    let open = Open(7, Mode::Read, false);
+    meets(&rt, rt.alloc(), 1, Trial::SomeAreRefused(open, 3));
     meets(&rt, rt.alloc(), 1, Trial::AreTakenWithoutMemory);
 }

@@ -184,6 +184,11 @@ impl<A: Allocator + Copy> Bench<A> {
         self.kernel.stats().segments
     }
 
+    /// How many segments are kept for further bytes.
+    pub fn spare(&self) -> u64 {
+        self.kernel.stats().spare
+    }
+
     /// Fails where bytes are kept in another number of segments, after the step that was asked last.
     pub fn has_segments(&self, ask: Ask, want: u64) -> Result<(), Fail> {
         if self.segments() == want {

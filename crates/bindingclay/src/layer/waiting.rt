@@ -1,6 +1,6 @@
 //! Parked calls, tried again.
 ghost use Rattle.std.specs.Prelude.{◌≡◌, length};
-ghost use Rattle.bindingclay.specs.Made.{Gathers, Notes, Resumes, Wants, resumed_answer, resumed_entries};
+ghost use Rattle.bindingclay.specs.Made.{Gathers, Notes, Owns, Resumes, Wants, resumed_answer, resumed_entries};
 
 use super::transfers::answer_of_read;
 use super::{Layer, no_memory};
@@ -32,6 +32,16 @@ fn mark_resumed(resumed: &Result<Resumed<Global>, NoMemory>, entries: &mut [Poll
 }
 
 impl Layer {
+    /// Tells which process began the parked call of a number: the value is its pid.
+    pub fn owner(&self, number: u64) -> Answer
+        ensures { Owns self.now.kernel number result }
+    {
+        match self.kernel.owner(number) {
+            Some(pid) => Answer::done(pid as u64),
+            None => Answer::of_kind(kind::NO_CALL, 0),
+        }
+    }
+
     /// Tries the parked call of a number again; a read gives its bytes into the caller's. Where it asks for more bytes than these, the
     /// answer says how many, and nothing changed.
     pub fn resume(&mut self, number: u64, into: &mut [u8]) -> Answer

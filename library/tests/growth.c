@@ -1,0 +1,132 @@
+/* What calls cost as a kernel fills up. growth N: beside N slots, or N calls that wait. Memory is counted by malloc's own sizes; time is
+ * compared with that of a sixteenth of N, with a wide margin, if N is large enough to tell. */
+#define _GNU_SOURCE
+#include "check.h"
+#include "counted.h"
+
+#include <fcntl.h>
+#include <time.h>
+
+enum { SEGMENT = 4096, MOST_SPARE = 256, MOST_CAPACITY = 1048576 };
+
+/* From here on a time tells something. */
+enum { LARGE = 16384 };
+
+static double seconds(void)
+{
+    struct timespec now;
+    clock_gettime(CLOCK_MONOTONIC, &now);
+    return (double)now.tv_sec + (double)now.tv_nsec / 1e9;
+}
+
+/* Bytes of many slots: each of so many splices moves one byte from a pipe to the end of file f, descriptor 2. */
+static void fill_by_bytes(bindingclay clay, long count)
+{
+    NEW_PIPE(clay, 1, false);
+    DONE(open_text(clay, 1, "f", O_RDWR | O_CREAT), 2);
+    for (long i = 0; i < count; i++) {
+        if (i % SEGMENT == 0)
+            DONE(put_many(clay, 1, 1, SEGMENT), SEGMENT);
+        DONE(bindingclay_splice(clay, 1, 0, NULL, 2, NULL, 1, 0), 1);
+    }
+}
+
+/* A splice of a file of many slots takes the memory of what comes out, and gives back what it doesn't use: a pipe has at most 512 slots, each
+ * is copied once at most, and the slices of the file are listed meanwhile. */
+static void a_splice_of_many_slots(long count)
+{
+    bindingclay clay = kernel_with_process();
+    fill_by_bytes(clay, count);
+    bindingclay_ends ends = NEW_PIPE(clay, 1, false);
+    DONE(bindingclay_set_pipe_sz(clay, 1, ends.write_end, MOST_CAPACITY), MOST_CAPACITY);
+    const uint64_t first = 0;
+    long moved = count < MOST_CAPACITY ? count : MOST_CAPACITY;
+    long before = bytes_left;
+    most_bytes = before;
+    DONE(bindingclay_splice(clay, 1, 2, &first, ends.write_end, NULL, MOST_CAPACITY, 0), moved);
+    HOLDS(most_bytes - before <= 64 * count + (512 + 2) * (SEGMENT + 128));
+    /* all that it made is a segment for each 4,096 bytes, and what is spare */
+    HOLDS(bytes_left - before <= (moved / SEGMENT + 2 + MOST_SPARE) * (SEGMENT + 128));
+    OTHER(bindingclay_exit(clay, 1), BINDINGCLAY_DONE);
+    DONE(bindingclay_start(clay), 1);
+    OTHER(unlink_text(clay, 1, "f"), BINDINGCLAY_DONE);
+    OTHER(bindingclay_exit(clay, 1), BINDINGCLAY_DONE);
+    HOLDS(bytes_left <= (MOST_SPARE + 8) * (SEGMENT + 128));
+    bindingclay_free(clay);
+    HOLDS(bytes_left == 0);
+}
+
+/* The same without memory for all of it: the splice leaves what it found. */
+static void a_splice_without_memory(long count)
+{
+    bindingclay clay = kernel_with_process();
+    fill_by_bytes(clay, count);
+    bindingclay_ends ends = NEW_PIPE(clay, 1, false);
+    /* two slots, behind which the slots of the file are copied */
+    DONE(put(clay, 1, ends.write_end, "a"), 1);
+    const uint64_t first = 0;
+    for (long granted = 0;; granted++) {
+        long blocks = blocks_left;
+        refuse(granted, 1);
+        bindingclay_answer got = bindingclay_splice(clay, 1, 2, &first, ends.write_end, NULL, 1000, 0);
+        refuse_none();
+        if (got.kind != BINDINGCLAY_NO_MEMORY) {
+            DONE(got, count < 1000 ? count : 1000);
+            break;
+        }
+        HOLDS(blocks_left == blocks);
+    }
+    bindingclay_free(clay);
+}
+
+/* The seconds of one round: a fork, a read of the child that waits, and the child's exit. */
+static double seconds_of_an_exit(bindingclay clay, int32_t read_end)
+{
+    enum { ROUNDS = 2000 };
+    double least = 1e9;
+    for (int run = 0; run < 5; run++) {
+        double begun = seconds();
+        for (int i = 0; i < ROUNDS; i++) {
+            uint32_t child = (uint32_t)bindingclay_fork(clay, 1).value;
+            bindingclay_answer waits = take(clay, child, read_end, 1);
+            if (waits.kind != BINDINGCLAY_PARKED || bindingclay_exit(clay, child).kind != BINDINGCLAY_DONE)
+                HOLDS(false);
+        }
+        double taken = (seconds() - begun) / ROUNDS;
+        least = taken < least ? taken : least;
+    }
+    return least;
+}
+
+/* An exit costs what its process has, however many calls of others wait. */
+static void an_exit_beside_calls_that_wait(long count)
+{
+    bindingclay clay = kernel_with_process();
+    bindingclay_ends ends = NEW_PIPE(clay, 1, false);
+    double few = 0;
+    for (long i = 0; i < count; i++) {
+        if (i == count / 16)
+            few = seconds_of_an_exit(clay, ends.read_end);
+        if (take(clay, 1, ends.read_end, 1).kind != BINDINGCLAY_PARKED)
+            HOLDS(false);
+    }
+    double many = seconds_of_an_exit(clay, ends.read_end);
+    if (count >= LARGE)
+        HOLDS(many < 4 * few);
+    printf("an exit beside %ld calls that wait %.0f ns, beside %ld %.0f ns\n", count / 16, few * 1e9, count, many * 1e9);
+    OTHER(bindingclay_exit(clay, 1), BINDINGCLAY_DONE);
+    bindingclay_free(clay);
+}
+
+int main(int words, char **word)
+{
+    if (words != 2 || atol(word[1]) < 16) {
+        fprintf(stderr, "growth N: N is 16 or more\n");
+        return 2;
+    }
+    long count = atol(word[1]);
+    a_splice_of_many_slots(count);
+    a_splice_without_memory(count);
+    an_exit_beside_calls_that_wait(count);
+    return end();
+}
