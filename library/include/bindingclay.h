@@ -80,7 +80,7 @@ enum bindingclay_kind {
     BINDINGCLAY_CALLS_SPENT = 5,
     /* There is no memory. Nothing changed. */
     BINDINGCLAY_NO_MEMORY = 6,
-    /* A read that waits asks for more bytes than there is room for, or a file has more; value: how many. Nothing changed. */
+    /* A read that is resumed would give more bytes than there is room for, or a file has more; value: how many. Nothing changed. */
     BINDINGCLAY_SHORT = 7
 };
 
@@ -134,9 +134,9 @@ bindingclay_answer bindingclay_exit(bindingclay clay, uint32_t pid);
 
 /* Tries again the call of a number that waits. It answers what the call would have, or BINDINGCLAY_PARKED with the same number where it
  * still waits; a fault ends it too, as EMFILE does an open that has met and finds no descriptor free. A read puts its bytes into the first
- * of the size bytes at into, which are as many as it asked for at least: where they are fewer, BINDINGCLAY_SHORT tells how many, and the
- * read waits on. The bytes behind what it read stay as they are. A read that is resumed asks for no memory. Other calls leave all the bytes
- * alone, and size may be 0. Of a poll this tells no revents: it is resumed by bindingclay_resume_poll. No call of this number
+ * of the size bytes at into: as many as it asked for of those that the pipe holds, so 1,048,576 are always enough. If size is less,
+ * BINDINGCLAY_SHORT tells how many they are, and the read waits on. The bytes behind what it read stay as they are. A read that is resumed
+ * asks for no memory. Other calls leave all the bytes alone, and size may be 0. Of a poll this tells no revents: it is resumed by bindingclay_resume_poll. No call of this number
  * BINDINGCLAY_NO_CALL. */
 bindingclay_answer bindingclay_resume(bindingclay clay, uint64_t number, uint8_t *into, size_t size);
 

@@ -89,7 +89,7 @@ pub enum NotDone {
     CallsSpent,
     /// There is no memory, and nothing changed.
     NoMemory,
-    /// The read that was resumed asks for so many bytes, and waits on.
+    /// The read that was resumed would give so many bytes, for which there is too little room, and waits on.
     Short(u64),
 }
 
@@ -104,7 +104,7 @@ impl fmt::Display for NotDone {
             NotDone::NoCall => write!(out, "no such call"),
             NotDone::CallsSpent => write!(out, "no number is left for a call that waits"),
             NotDone::NoMemory => write!(out, "no memory"),
-            NotDone::Short(bytes) => write!(out, "asks for {bytes} bytes"),
+            NotDone::Short(bytes) => write!(out, "wants room for {bytes} bytes"),
         }
     }
 }

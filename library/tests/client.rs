@@ -44,7 +44,7 @@ fn pipes(checks: &mut Checks) {
     checks.is(clay.resume_of(2, 1, &mut into), Err(NotDone::NoCall));
     checks.is(clay.interrupt_of(2, 1), Err(NotDone::NoCall));
     checks.is(clay.resume_poll_of(2, 1, &mut []), Err(NotDone::NoCall));
-    checks.is(clay.resume(1, &mut into[..15]), Err(NotDone::Short(16)));
+    checks.is(clay.resume(1, &mut into[..8]), Err(NotDone::Short(9)));
     checks.is(clay.resume_of(1, 1, &mut into), Ok(Done { value: 9, sigpipe: false }));
     checks.is(&into, b"from rust\xa5\xa5\xa5\xa5\xa5\xa5\xa5");
     checks.is(clay.resume(1, &mut into), Err(NotDone::NoCall));

@@ -190,7 +190,7 @@ static void masks_that_are_lost(void)
     bindingclay_free(clay);
 }
 
-/* Calls of other kinds are resumed as well: a write is done, and a read that asks for bytes is short of room. */
+/* Calls of other kinds are resumed as well: a write is done, and a read waits on until there are bytes, for which it is short of room. */
 static void other_calls(void)
 {
     bindingclay clay = kernel_with_process();
@@ -201,7 +201,9 @@ static void other_calls(void)
     DONE(bindingclay_resume_poll(clay, 1, &entry, 1), 65537);
     DONE(take(clay, 1, 0, 65536), 65528);
     PARKED(take(clay, 1, 0, 9), 2);
-    SHORT(bindingclay_resume_poll(clay, 2, &entry, 1), 9);
+    PARKED(bindingclay_resume_poll(clay, 2, &entry, 1), 2);
+    DONE(put(clay, 1, 1, "abc"), 3);
+    SHORT(bindingclay_resume_poll(clay, 2, &entry, 1), 3);
     HOLDS(entry.revents == UNWRITTEN);
     bindingclay_free(clay);
 }

@@ -68,8 +68,10 @@ static void room_of_a_read(void)
     PARKED(take(clay, 1, 0, 5), 1);
     uint8_t into[5];
     memset(into, UNTOUCHED, sizeof into);
-    /* too little room: it isn't tried, whether there is something to read or not */
-    SHORT(bindingclay_resume(clay, 1, into, 4), 5);
+    /* where there is nothing to read it waits on, however little room there is */
+    PARKED(bindingclay_resume(clay, 1, into, 4), 1);
+    PARKED(bindingclay_resume(clay, 1, NULL, 0), 1);
+    /* too little room for what there is: it isn't tried */
     DONE(put(clay, 1, 1, "hello"), 5);
     SHORT(bindingclay_resume(clay, 1, into, 4), 5);
     SHORT(bindingclay_resume(clay, 1, into, 0), 5);
@@ -88,6 +90,14 @@ static void room_of_a_read(void)
     PARKED(bindingclay_resume(clay, 3, into, sizeof into), 3);
     HOLDS(into[0] == UNTOUCHED);
     FAULT(bindingclay_interrupt(clay, 3), EINTR);
+    /* of what it asked for the room has to hold no more than there is, and at the end of the file nothing */
+    PARKED(take(clay, 1, 0, 4096), 4);
+    DONE(put(clay, 1, 1, "abc"), 3);
+    SHORT(bindingclay_resume(clay, 4, into, 2), 3);
+    RESUMES(clay, 4, 3, "abc");
+    PARKED(take(clay, 1, 0, 4096), 5);
+    DONE(bindingclay_close(clay, 1, 1), 0);
+    DONE(bindingclay_resume(clay, 5, NULL, 0), 0);
     bindingclay_free(clay);
 }
 

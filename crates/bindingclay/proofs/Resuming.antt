@@ -7,6 +7,7 @@ use Rattle.pl_state.specs.Contents.{Contents}
 use Rattle.pl_state.specs.Makes.{WantsMemory}
 use Rattle.pl_state.specs.Parking.{ReadWaits}
 use Rattle.pl_transfers.specs.ReadInto.{told}
+use Rattle.pl_transfers.specs.Readable.{gives_again}
 use Rattle.pl_transfers.specs.declared.reading.ReadReply.{ReadReply}
 use Rattle.pl_transfers.specs.declared.reading.ReadReply.TheVariants as Reading
 use Rattle.pl_kernel.specs.declared.kernel.buffers.Resumed.{Resumed as KernelResumed}
@@ -59,7 +60,7 @@ module _ {E : Type 0} (old new : Contents Global) (number : ℕ) (before after :
   wants_of (Err error) wanted = λ e. wanted
 
   pub gathers_of : (z : Result (KernelResumed Global) E) → IfOk z (λ r. ResumedByKernel old number (length before) r after new) →
-      OfReads old number (λ n. length before < n → z ≡ Ok (Short n)) → OfReads old number (λ n. n ≤ length before → IfOk z IsRead) → OfReads old number (λ n. IfOk z IsOfRead) →
+      OfReads old number (λ n. length before < gives_again old number → z ≡ Ok (Short (gives_again old number))) → OfReads old number (λ n. gives_again old number ≤ length before → IfOk z IsRead) → OfReads old number (λ n. IfOk z IsOfRead) →
       (((key n : ℕ) → ¬ ReadWaits {A = Global} old number key n) → IfOk z IsOfOther) → IfOk z (λ r. resumed_count r ≤ length after) →
       IfOk z (λ r. drop (resumed_count r) after ≡ drop (resumed_count r) before) → OnErr z (after ≡ before) → OfReads old number (λ n. IsOk z) → Gathers old number before (resumed_answer z) after
   gathers_of (Ok (Read r)) made wide fits reads others few rest unread frugal =
@@ -104,7 +105,7 @@ module _ {E : Type 0} (old new : Contents Global) (number : ℕ) (before after :
       }
 
   pub notes_of : (z : Result (KernelResumed Global) E) (entries : List PollEntry) → IfOk z (λ r. ResumedByKernel old number (length before) r after new) →
-      OfReads old number (λ n. length before < n → z ≡ Ok (Short n)) → (((key n : ℕ) → ¬ ReadWaits {A = Global} old number key n) → IfOk z IsOfOther) → length before ≡ 0 →
+      OfReads old number (λ n. length before < gives_again old number → z ≡ Ok (Short (gives_again old number))) → (((key n : ℕ) → ¬ ReadWaits {A = Global} old number key n) → IfOk z IsOfOther) → length before ≡ 0 →
       Notes old number entries (resumed_answer z) (resumed_entries entries z)
   notes_of (Ok (Read r)) entries made wide others none =
       record {

@@ -19,6 +19,7 @@ use Rattle.pl_numbers.specs.declared.answer.Answer.{Answer}
 use Rattle.pl_polls.specs.declared.entries.PollEntry.{PollEntry}
 use Rattle.pl_transfers.specs.declared.reading.ReadReply.{ReadReply}
 use Rattle.pl_transfers.specs.declared.reading.ReadReply.TheVariants as read
+use Rattle.pl_transfers.specs.Readable.{gives_again}
 use Rattle.pl_numbers.specs.Answers.{said, plain, faulty, no_memory, short}
 use Rattle.pl_polls.specs.Entries.{entries_after}
 
@@ -45,7 +46,7 @@ abbrev pub bytes_after : List ℕ → Reply Global → List ℕ
 bytes_after old (Bytes bytes) = bytes ++ drop (length bytes) old
 bytes_after old other = old
 
--- A parked call is tried again, unless no memory was found, or it is a read and the caller's room too small for it: then this holds of
+-- A parked call is tried again, unless no memory was found, or it is a read and the caller's room too small for its bytes: then this holds of
 -- the machine's reply.
 abbrev pub Resumed : Contents Global → ℕ → Answer → (Reply Global → Type 0) → Type 0
 Resumed old number a P = ((a.kind ≡ no_memory) → ⊥) → ((a.kind ≡ short) → ⊥) → (s : State Global) → Stands old s → P (step s (Resume number)).reply
@@ -57,21 +58,21 @@ pub record Resumes (old : Contents Global) (number room : ℕ) (a : Answer) (new
   pub wider : a.kind ≡ short → (room < a.value) × (new ≡ old)
   pub unmade : a.kind ≡ no_memory → new ≡ old
 
--- What it leaves in that room. A read that fits gives its bytes, and wants no memory; one that doesn't fit tells how many bytes it asks
--- for; nothing else changes any, and nothing else is too wide.
+-- What it leaves in that room. A read whose bytes fit gives them, and wants no memory; one whose bytes don't fit tells how many they are;
+-- nothing else changes any, and nothing else is too wide.
 pub record Gathers (old : Contents Global) (number : ℕ) (before : List ℕ) (a : Answer) (after : List ℕ) : Type 0 where
   pub bytes : (key n : ℕ) → ReadWaits {A = Global} old number key n → Resumed old number a (λ reply. after ≡ bytes_after before reply)
-  pub narrow : (key n : ℕ) → ReadWaits {A = Global} old number key n → length before < n → a ≡ plain n short
-  pub fits : (key n : ℕ) → ReadWaits {A = Global} old number key n → n ≤ length before → a.kind ≡ short → ⊥
+  pub narrow : (key n : ℕ) → ReadWaits {A = Global} old number key n → length before < gives_again old number → a ≡ plain (gives_again old number) short
+  pub fits : (key n : ℕ) → ReadWaits {A = Global} old number key n → gives_again old number ≤ length before → a.kind ≡ short → ⊥
   pub frugal : (key n : ℕ) → ReadWaits {A = Global} old number key n → a.kind ≡ no_memory → ⊥
   pub others : ((key n : ℕ) → ¬ ReadWaits {A = Global} old number key n) → (after ≡ before) × (a.kind ≡ short → ⊥)
   pub unread : a.kind ≡ no_memory → after ≡ before
   pub kept : a.kind ≡ short → after ≡ before
 
--- What it leaves in the entries of a poll. A read is told to have too little room.
+-- What it leaves in the entries of a poll. A read that gives bytes is told to have too little room.
 pub record Notes (old : Contents Global) (number : ℕ) (before : List PollEntry) (a : Answer) (after : List PollEntry) : Type 0 where
   pub entries : Resumed old number a (λ reply. after ≡ entries_after before reply)
-  pub reads : (key n : ℕ) → ReadWaits {A = Global} old number key n → 0 < n → a ≡ plain n short
+  pub reads : (key n : ℕ) → ReadWaits {A = Global} old number key n → 0 < gives_again old number → a ≡ plain (gives_again old number) short
   pub others : ((key n : ℕ) → ¬ ReadWaits {A = Global} old number key n) → a.kind ≡ short → ⊥
   pub unmarked : a.kind ≡ no_memory → after ≡ before
   pub kept : a.kind ≡ short → after ≡ before

@@ -8,8 +8,8 @@ use pl_kernel::PollEntry;
 use pl_model::Step;
 use pl_numbers::Answer;
 
-/// Tries the parked call of a number again, where a read gives its bytes into the caller's. Where it asks for more than these, the answer
-/// says how many, and nothing changed.
+/// Tries the parked call of a number again, where a read gives its bytes into the caller's. Where it would give more than
+/// these, the answer says how many, and nothing changed.
 #[unsafe(no_mangle)]
 pub extern "C" fn bindingclay_resume(handle: Handle, number: u64, into: &mut [u8]) -> Answer
     ensures says { Resumed handle.layer.kernel number result (λ reply. result ≡ said reply) }
@@ -23,8 +23,8 @@ pub extern "C" fn bindingclay_resume(handle: Handle, number: u64, into: &mut [u8
     answer
 }
 
-/// Tries the parked call of a number again, where a poll notes in each entry what was found. Where the call is a read, the answer says how
-/// many bytes it asks for, and nothing changed.
+/// Tries the parked call of a number again, where a poll notes in each entry what was found. Where the call is a read that
+/// would give bytes, the answer says how many, and nothing changed.
 #[unsafe(no_mangle)]
 pub extern "C" fn bindingclay_resume_poll(
     handle: Handle,

@@ -35,7 +35,7 @@ module _ {A : Type 0} where
   IsOfOther (Other reply) = ⊤
   IsOfOther of_read = ⊥
 
-  -- The resumption of a call came to this, with so much room for bytes: it is the step, or a read that asks for more.
+  -- The resumption of a call came to this, with so much room for bytes: it is the step, or a read that gives more.
   abbrev pub Resumes : Contents A → ℕ → (room : ℕ) → Resumed A → List ℕ → Contents A → Type 0
   Resumes old number room (Read reply) bytes new = Makes old (Resume number) (told reply bytes) new
   Resumes old number room (Short n) bytes new = (new ≡ old) × (room < n)

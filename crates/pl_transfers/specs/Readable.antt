@@ -1,5 +1,5 @@
 -- How many bytes a read gives, told before it is made.
-use Rattle.std.specs.Prelude.{ℕ, min, length, drop, Option}
+use Rattle.std.specs.Prelude.{ℕ, min, length, drop, nat_eq, Option}
 use Rattle.std.specs.declared.option.Option.TheVariants.{None, Some}
 use Rattle.pl_model.specs.declared.calls.Call.{Call}
 use Rattle.pl_model.specs.Keys.{Keys, Node, PipeNode, FileNode}
@@ -7,6 +7,8 @@ use Rattle.pl_model.specs.State.{Core, Description, Open, Waiting}
 use Rattle.pl_model.specs.Step.{kept_at}
 use Rattle.pl_model.specs.Transfer.{file_at}
 use Rattle.pl_model.specs.Trial.{pipe_at}
+use Rattle.pl_model.specs.Map.{get}
+use Rattle.pl_state.specs.Contents.{Contents, core_of}
 
 module _ {A : Type 0} {K : Keys} where
   -- POSIX.1-2017, read: how many bytes are there to be read, all that a pipe holds, and those of a file from the offset on
@@ -28,3 +30,7 @@ module _ {A : Type 0} {K : Keys} where
   abbrev pub bytes_again : Core A K → Option (Waiting A K) → ℕ
   bytes_again s None = 0
   bytes_again s (Some w) = bytes_of_try s w w.call
+
+-- the same of the parked call of a number, in the kernel
+abbrev pub gives_again : {A : Type 0} → Contents A → ℕ → ℕ
+gives_again {A} k number = bytes_again (core_of {A = A} k) (get nat_eq (core_of {A = A} k).parked number)

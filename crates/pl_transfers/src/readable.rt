@@ -1,11 +1,10 @@
 //! How many bytes a read gives, told before it is made. Nothing here takes memory.
-ghost use Rattle.std.specs.Prelude.{◌≡◌, min, nat_eq, IsSome, IfSome};
+ghost use Rattle.std.specs.Prelude.{◌≡◌, ◌<◌, ◌^◌, min, IsSome, IfSome};
 ghost use Rattle.pl_model.specs.Begin.{open_for};
-ghost use Rattle.pl_model.specs.Map.{get};
 ghost use Rattle.pl_model.specs.Modes.{reads};
 ghost use Rattle.pl_desc.specs.Rows.{at};
 ghost use Rattle.pl_state.specs.Contents.{core_of, description_of, node_of, waiting_of};
-ghost use Rattle.pl_transfers.specs.Readable.{readable as machine_readable, readable_on, bytes_again};
+ghost use Rattle.pl_transfers.specs.Readable.{readable as machine_readable, readable_on, gives_again};
 
 use crate::transfers::open_for;
 use crate::waiting::waiting_read;
@@ -45,7 +44,8 @@ pub fn bytes_to_read<A: Allocator + Copy>(
 /// How many bytes the parked call of a number gives where it is tried again now: none where it waits on, or is no read, or isn't
 /// there.
 pub fn bytes_to_resume<A: Allocator + Copy>(kernel: &KernelState<A>, number: u64) -> usize
-    ensures { result ≡ bytes_again (core_of {A = A} kernel.now) (get nat_eq (core_of {A = A} kernel.now).parked number) }
+    ensures value { result ≡ gives_again {A = A} kernel.now number }
+    ensures few { result < 2 ^ 32 }
 {
     // A proof learns here what holds of the kernel.
     let _ = &kernel.descs;

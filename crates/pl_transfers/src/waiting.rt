@@ -10,6 +10,7 @@ ghost use Rattle.pl_state.specs.Sound.{IsPipe, KeepsOne, MayKeep, MayWait, OnNod
 ghost use Rattle.pl_state.specs.Parking.{written, refusal, call_on, with_call, Adds, OpenWaits, ReadWaits, WriteWaits};
 ghost use Rattle.pl_state.specs.Makes.{MakesAtKeys, MayWantAtKeys};
 ghost use Rattle.pl_transfers.specs.ReadInto.{read_count, told};
+ghost use Rattle.pl_transfers.specs.Readable.{gives_again};
 
 use crate::parking::park_call;
 use crate::reading::ReadReply;
@@ -199,7 +200,7 @@ pub fn waiting_read<A: Allocator + Copy>(
     })
 }
 
-/// Tries a parked read again, into the caller's bytes, which are as many as it asks for, or more. It takes no memory.
+/// Tries a parked read again, into the caller's bytes, which are as many as it gives, or more. It takes no memory.
 pub fn resume_read_into<A: Allocator + Copy>(
     kernel: &mut KernelState<A>,
     number: u64,
@@ -208,7 +209,7 @@ pub fn resume_read_into<A: Allocator + Copy>(
     into: &mut [u8],
 ) -> ReadReply
     requires waits { ReadWaits kernel.old number key n }
-    requires room { n ≤ length into.old }
+    requires room { gives_again {A = A} kernel.old number ≤ length into.old }
     ensures done { MakesAtKeys {A = A} kernel.old (Step.Resume number) (told result into.new) kernel.new }
     ensures within { read_count result ≤ length into.new }
     ensures rest { drop (read_count result) into.new ≡ drop (read_count result) into.old }

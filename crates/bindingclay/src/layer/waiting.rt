@@ -42,8 +42,8 @@ impl Layer {
         }
     }
 
-    /// Tries the parked call of a number again; a read gives its bytes into the caller's. Where it asks for more bytes than these, the
-    /// answer says how many, and nothing changed.
+    /// Tries the parked call of a number again; a read gives its bytes into the caller's. Where it would give more bytes than
+    /// these, the answer says how many, and nothing changed.
     pub fn resume(&mut self, number: u64, into: &mut [u8]) -> Answer
         ensures made { Resumes self.old.kernel number (length into.old) result self.new.kernel }
         ensures wants { Wants self.old.kernel (Step.Resume number) result }
@@ -53,8 +53,8 @@ impl Layer {
         answer_of_resumed(&resumed)
     }
 
-    /// Tries the parked call of a number again; a poll notes in each entry what was found. Where the call is a read, the answer says
-    /// how many bytes it asks for, and nothing changed.
+    /// Tries the parked call of a number again; a poll notes in each entry what was found. Where the call is a read
+    /// that would give bytes, the answer says how many, and nothing changed.
     pub fn resume_poll(&mut self, number: u64, entries: &mut [PollEntry]) -> Answer
         ensures made { Resumes self.old.kernel number 0 result self.new.kernel }
         ensures wants { Wants self.old.kernel (Step.Resume number) result }

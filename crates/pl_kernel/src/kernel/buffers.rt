@@ -4,6 +4,7 @@ ghost use Rattle.pl_model.specs.Numbers.{most_bytes};
 ghost use Rattle.pl_state.specs.Makes.{Makes, LeavesByReply, WantsMemory};
 ghost use Rattle.pl_state.specs.Parking.{ReadWaits};
 ghost use Rattle.pl_transfers.specs.ReadInto.{told, read_count};
+ghost use Rattle.pl_transfers.specs.Readable.{gives_again};
 ghost use Rattle.pl_transfers.specs.Waits.{reply_of};
 ghost use Rattle.pl_polls.specs.Entries.{asked, entries_after};
 ghost use Rattle.pl_polls.specs.Into.{told as poll_told};
@@ -14,7 +15,7 @@ use crate::steps::{begin_poll_into, begin_read_into, begin_write_from, try_again
 use pl_model::{Call, Reply, Step};
 use pl_polls::{PollEntry, PollReply};
 use pl_state::NoMemory;
-use pl_transfers::{ReadReply, WriteReply, resume_read_into, waiting_read};
+use pl_transfers::{ReadReply, WriteReply, bytes_to_resume, resume_read_into, waiting_read};
 use std::alloc::{Allocator, Global};
 
 /// What the resumption of a call answers, where a read gives its bytes into the caller's.
@@ -22,7 +23,7 @@ use std::alloc::{Allocator, Global};
 pub enum Resumed<A: Allocator = Global> {
     /// The parked call is a read, and this is its answer.
     Read(ReadReply),
-    /// It is a read of so many bytes, and the caller's are fewer. Nothing changed.
+    /// It is a read that gives so many bytes now, and the caller's are fewer. Nothing changed.
     Short(u32),
     /// It is another call, and this is its reply; or there is no call of the number.
     Other(Reply<A>),
@@ -97,8 +98,8 @@ impl<A: Allocator + Copy> Kernel<A> {
     }
 
     /// Makes the step that tries the parked call of a number again, where a read gives its bytes into the first of the caller's; the
-    /// others stay as they are. What `step` promises of that step holds. A read that asks for more bytes than the caller's are isn't
-    /// tried, and nothing changes.
+    /// others stay as they are. What `step` promises of that step holds. A read that gives more bytes than the caller's are isn't
+    /// tried, and nothing changes. It gives as many as it asks for of those that its pipe holds, so 1,048,576 are always enough.
     ///
     /// # Errors
     ///
@@ -106,8 +107,8 @@ impl<A: Allocator + Copy> Kernel<A> {
     pub fn resume_into(&mut self, number: u64, into: &mut [u8]) -> Result<Resumed<A>, NoMemory>
         ensures made { IfOk result (λ resumed. Resumes {A = A} self.old number (length into.old) resumed into.new self.new) }
         ensures refused { IfOk result (λ resumed. ResumesByReply {A = A} self.old number resumed into.new self.new) }
-        ensures short { (key n : ℕ) → ReadWaits {A = A} self.old number key n → length into.old < n → result ≡ Ok (Resumed.Short n) }
-        ensures fits { (key n : ℕ) → ReadWaits {A = A} self.old number key n → n ≤ length into.old → IfOk result IsRead }
+        ensures short { (key n : ℕ) → ReadWaits {A = A} self.old number key n → length into.old < gives_again {A = A} self.old number → result ≡ Ok (Resumed.Short (gives_again {A = A} self.old number)) }
+        ensures fits { (key n : ℕ) → ReadWaits {A = A} self.old number key n → gives_again {A = A} self.old number ≤ length into.old → IfOk result IsRead }
         ensures reads { (key n : ℕ) → ReadWaits {A = A} self.old number key n → IfOk result IsOfRead }
         ensures others { ((key n : ℕ) → ¬ ReadWaits {A = A} self.old number key n) → IfOk result IsOfOther }
         ensures within { IfOk result (λ resumed. resumed_count resumed ≤ length into.new) }
@@ -123,8 +124,9 @@ impl<A: Allocator + Copy> Kernel<A> {
         let Some(read) = waiting_read(state, number) else {
             return Ok(Resumed::Other(try_again(&mut self.state, number)?));
         };
-        if into.len() < read.n as usize {
-            return Ok(Resumed::Short(read.n));
+        let count = bytes_to_resume(state, number);
+        if into.len() < count {
+            return Ok(Resumed::Short(count as u32));
         }
         Ok(Resumed::Read(resume_read_into(&mut self.state, number, read.key, read.n, into)))
     }

@@ -29,7 +29,7 @@ returns-in-Resume-clause-value g c =
     let n = c.in-Resume.number in
     let x : Step g.row.A.Denot = Resume n in
     subst (λ z. TellsSizes k z (record { bytes = c.bytes_to_resume.result; masks = c.masks_to_resume.result })) (sym c.in-Resume.is)
-    (tells k x _ (λ i. record { bytes = sym c.bytes_to_resume.ensures i; masks = sym c.masks_to_resume.ensures i }))
+    (tells k x _ (λ i. record { bytes = sym c.bytes_to_resume.ensures.value i; masks = sym c.masks_to_resume.ensures i }))
 
 pub returns-in-Start-clause-value : goal.returns-in-Start-clause-value
 returns-in-Start-clause-value g c = subst (λ z. TellsSizes c.args.kernel.now z no_list) (sym c.in-Start.is) (tells c.args.kernel.now Start no_list refl)

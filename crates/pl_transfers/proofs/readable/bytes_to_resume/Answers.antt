@@ -27,14 +27,14 @@ readable-requires g c =
     let v = (goal.at.readable-requires g c).In-Some in
     subst (λ (z : Contents g.row.A.Denot). IsSome (at z.opened c.in-Some.read.key)) c.kernel.view_is (kept g v)
 
-pub returns-in-Some : goal.returns-in-Some
-returns-in-Some g c =
-    let v = (goal.at.returns-in-Some g c).In-Some in
+pub returns-in-Some-clause-value : goal.returns-in-Some-clause-value
+returns-in-Some-clause-value g c =
+    let v = (goal.at.returns-in-Some-clause-value g c).In-Some in
     let o = there (at (k g v).opened c.in-Some.read.key) (kept g v) in
     let told = subst (λ (z : Contents g.row.A.Denot). AreReadable z c.in-Some.read.key c.readable.result) (sym c.kernel.view_is) c.readable.ensures in
     rw (← c.kernel.view_is) (c.min.ensures ∙ readable-kept (k g v) c.kernel.invariant.0 c.args.number c.in-Some.read.key c.in-Some.read.n (waits g v) o.0 o.1 c.readable.result told)
 
-pub returns-in-None : goal.returns-in-None
-returns-in-None g c =
+pub returns-in-None-clause-value : goal.returns-in-None-clause-value
+returns-in-None-clause-value g c =
     let k = view_of c.kernel.inside in
     rw (← c.kernel.view_is) (none-readable k c.kernel.invariant.0 c.args.number (λ key n w. c.in-None.ensures.none key n (subst (λ z. ReadWaits z c.args.number key n) c.kernel.view_is w)))

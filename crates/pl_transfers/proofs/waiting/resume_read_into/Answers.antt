@@ -1,5 +1,5 @@
-use Rattle.std.proofs.Common.{◌≡◌, ◌++◌, [], refl, sym, ap, subst, ◌∙◌, take, drop, length, IfSome, IsSome, arith}
-use Rattle.std.proofs.lemmas.List.{length-take-le, take_at}
+use Rattle.std.proofs.Common.{◌≡◌, ◌≤◌, ℕ, ◌++◌, [], refl, sym, ap, subst, ◌∙◌, take, drop, length, IfSome, IsSome, arith}
+use Rattle.std.proofs.lemmas.List.{length-take-le, length-append, length-drop, take_at}
 use Rattle.pl_model.specs.Map.{change_at}
 use Rattle.pl_model.specs.declared.node.Node.TheVariants as node
 use Rattle.pl_model.specs.declared.calls.Step.TheVariants.{Resume}
@@ -7,6 +7,7 @@ use Rattle.pl_model.specs.declared.replies.Reply.TheVariants.{Bytes}
 use Rattle.pl_model.specs.Settle.{settle}
 use Rattle.pl_model.specs.Step.{without_call}
 use Rattle.pl_model.specs.Transfer.{read_case}
+use Rattle.pl_model.specs.declared.cases.ReadCase.TheVariants.{Gives}
 use Rattle.pl_state.specs.KernelView.{view_of}
 use Rattle.pl_state.specs.Opens.{OpenOn}
 use Rattle.pl_desc.specs.Rows.{at}
@@ -19,7 +20,9 @@ use Rattle.pl_state.proofs.by_call.Begun.{pipe_there}
 use Rattle.pl_state.proofs.holders.OnNodes.{is-pipe, kept-one}
 use Rattle.pl_state.proofs.waiting.Ending.{kept_there}
 use Rattle.pl_state.proofs.by_call.Moving.{changed_sound}
+use Rattle.pl_transfers.specs.Readable.{gives_again}
 use Rattle.pl_transfers.proofs.by_call.Giving.{gives-few, gives-held}
+use Rattle.pl_transfers.proofs.by_call.Measuring.{readable-pipe, readable-kept}
 use Rattle.pl_transfers.proofs.by_call.Resuming.{resume-read-gives, resume-read-end, resume-read-waits}
 use Rattle.pl_state.proofs.Known.{parts_of, known, CallOnPipe, moved_view}
 use Rattle.pl_transfers.proofs.waiting.resume_read_into.Given.{Over}
@@ -51,6 +54,19 @@ module _ (g : Over) (c : After-case_of_read g) where
       let told = subst (λ z. IfSome (at z.nodes.pipes o.pipe) (λ x. c.case_of_read.result ≡ read_case c.args.n (length x.bytes) (has_writer z.opened o.pipe))) (sym c.kernel.view_is) c.case_of_read.ensures in
       sym (subst (λ z. IfSome z (λ x. c.case_of_read.result ≡ read_case c.args.n (length x.bytes) (has_writer k.opened o.pipe))) o.there told)
 
+  -- what it gives fits the caller's bytes
+  fits : (m : ℕ) → read_case c.args.n (length o.held.bytes) (has_writer k.opened o.pipe) ≡ Gives m → m ≤ length c.args.into.now
+  fits m row =
+      let held = length o.held.bytes in
+      let told =
+      readable-pipe k c.kernel.invariant.0.whole c.args.key on.opened on.here c.pipe_of-pipe.result on.node held
+      (subst (λ h. IfSome h (λ x. held ≡ length x.bytes)) (sym o.there) refl) in
+      let again = readable-kept k c.kernel.invariant.0 c.args.number c.args.key c.args.n w on.opened on.here held told in
+      let room : gives_again k c.args.number ≤ length c.args.into.now = subst (λ (z : Contents g.row.A.Denot). gives_again z c.args.number ≤ length c.args.into.now) (sym c.kernel.view_is) c.requires.room in
+      let few = gives-few c.args.n held (has_writer k.opened o.pipe) m row in
+      let there = gives-held c.args.n held (has_writer k.opened o.pipe) m row in
+      omega (arith, again, room, few, there)
+
 pub pipe_of-pipe-requires-clause-here : goal.pipe_of-pipe-requires-clause-here
 pipe_of-pipe-requires-clause-here g c =
     let w = waits g c in
@@ -68,8 +84,7 @@ invariant_of-kernel g c =
     let v = (goal.at.invariant_of-kernel g c).After-case_of_read in
     let o = o g v in
     let m = c.in-Gives.count in
-    let few = gives-few c.args.n (length o.held.bytes) (has_writer (k g v).opened o.pipe) m (comes_to g v ∙ c.in-Gives.is) in
-    let size : length (take m c.args.into.now) ≡ m = length-take-le m c.args.into.now (omega (arith, few, c.requires.room)) in
+    let size : length (take m c.args.into.now) ≡ m = length-take-le m c.args.into.now (fits g v m (comes_to g v ∙ c.in-Gives.is)) in
     let changed = subst (λ z. at c.read_pipe_into.new.self.pipes ≡ change_at o.pipe (λ x. record x { bytes = drop z x.bytes }) (at c.kernel.inside.nodes.pipes)) size c.read_pipe_into.ensures.ok in
     (subst (IsSound g.row.A.Denot) (moved_view c.kernel.inside c.read_pipe_into.new.self c.read_pipe_into.ensures.files) (changed_sound (view_of c.kernel.inside) o.sound o.key o.pipe o.on o.held o.there (drop m o.held.bytes) (nodes_of c.read_pipe_into.new.self) (λ x. record x { bytes = drop m x.bytes }) refl changed), c.kernel.invariant.1)
 
@@ -79,8 +94,7 @@ returns-in-Gives-clause-done g c =
     let o = o g v in
     let m = c.in-Gives.count in
     let row = comes_to g v ∙ c.in-Gives.is in
-    let few = gives-few c.args.n (length o.held.bytes) (has_writer (k g v).opened o.pipe) m row in
-    let size : length (take m c.args.into.now) ≡ m = length-take-le m c.args.into.now (omega (arith, few, c.requires.room)) in
+    let size : length (take m c.args.into.now) ≡ m = length-take-le m c.args.into.now (fits g v m row) in
     let changed = subst (λ z. at c.read_pipe_into.new.self.pipes ≡ change_at o.pipe (λ x. record x { bytes = drop z x.bytes }) (at c.kernel.inside.nodes.pipes)) size c.read_pipe_into.ensures.ok in
     let read = c.read_pipe_into.new.into in
     let came : read ≡ take m o.held.bytes = subst (λ z. read ≡ take z o.held.bytes) size (subst (λ h. IfSome h (λ x. read ≡ take (length (take m c.args.into.now)) x.bytes)) o.there c.read_pipe_into.ensures.bytes) in
@@ -104,3 +118,23 @@ returns-in-Waits-clause-done g c =
     let waiting : IsWaiting A (w g v).call = subst (λ o. IfSome o (IsWaiting A)) (w g v).here (c.kernel.invariant.0.waiting c.args.number) in
     let none : (w g v).call.taken ≡ 0 = subst (λ z. MayWait z (w g v).call.taken) (w g v).asked waiting.may in
     rw (← c.kernel.view_is) (resume-read-waits (k g v) (o g v) (w g v).fd c.args.n (w g v).asked (comes_to g v ∙ c.in-Waits.is) none)
+
+-- it is no more than the caller's bytes
+small : (g : Over) (c : After-case_of_read g) (m : ℕ) → c.case_of_read.result ≡ Gives m → m ≤ length c.args.into.now
+small g c m is = fits g c m (comes_to g c ∙ is)
+
+pub slice_bounds-read_pipe_into-end : goal.slice_bounds-read_pipe_into-end
+slice_bounds-read_pipe_into-end g c = small g (goal.at.slice_bounds-read_pipe_into-end g c).After-case_of_read c.in-Gives.count c.in-Gives.is
+
+pub slice_bounds-read_pipe_into-end-in-Gives : goal.slice_bounds-read_pipe_into-end-in-Gives
+slice_bounds-read_pipe_into-end-in-Gives g c =
+    sym (length-take-le c.in-Gives.count c.args.into.now (small g (goal.at.slice_bounds-read_pipe_into-end-in-Gives g c).After-case_of_read c.in-Gives.count c.in-Gives.is))
+
+pub returns-in-Gives-clause-within : goal.returns-in-Gives-clause-within
+returns-in-Gives-clause-within g c =
+    let m = c.in-Gives.count in
+    let few = small g (goal.at.returns-in-Gives-clause-within g c).After-case_of_read m c.in-Gives.is in
+    let all = length-append c.read_pipe_into.new.into (drop m c.args.into.now) in
+    let rest = length-drop m c.args.into.now in
+    let read = c.read_pipe_into.ensures in
+    omega (arith, few, all, rest)
