@@ -112,7 +112,7 @@ static void an_exit_beside_calls_that_wait(long count)
     }
     double many = seconds_of_an_exit(clay, ends.read_end);
     if (count >= LARGE)
-        HOLDS(many < 4 * few);
+        HOLDS(many < 8 * few);
     printf("an exit beside %ld calls that wait %.0f ns, beside %ld %.0f ns\n", count / 16, few * 1e9, count, many * 1e9);
     OTHER(bindingclay_exit(clay, 1), BINDINGCLAY_DONE);
     bindingclay_free(clay);
