@@ -183,7 +183,7 @@ example_prints_what_it_should() {
 }
 
 if [ -z "${ARCHIVE:-}" ]; then
-    echo "building the archive: behind rt ci in a few minutes; else that proves all that it stands on, in about half an hour"
+    echo "building the archive: behind rt ci in a few minutes; else that proves all that it stands on, in under half an hour"
     check "building the archive" build_archive || end
     ARCHIVE=$here/../crates/bindingclay/out/libbindingclay.a
 fi

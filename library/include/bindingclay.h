@@ -12,11 +12,11 @@
  * and try the call again by bindingclay_resume, or bindingclay_resume_poll, after any call that could help it: nothing tells you which did.
  * What brings bytes into a pipe (write, splice, tee) helps who takes bytes from it. What makes room in it (read, splice, set_pipe_sz) helps
  * who puts bytes into it. What closes an end of it (close, dup2, exit, interrupt, the end of another parked call) helps both. Each of these
- * helps a poll of the pipe too, and an open helps the open of a FIFO's other end. A splice from a file into a full pipe answers 0 once the
- * file has no bytes behind its offset: after an open with O_TRUNC, or, if it was given no offset, after an lseek, read, write or splice that
- * moved that of its description. A call helps in the same way when it is resumed. The rule that is always right: after any call that isn't
- * refused try all calls that wait, round after round, until two rounds in a row answer none: a write that still waits may have put bytes.
- * Where a call still waits it answers its number again, and that costs little. bindingclay_interrupt ends it. A call that is parked keeps
+ * helps a poll of the pipe too. An open helps the open of a FIFO's other end. A splice from a file into a full pipe answers 0 once the file
+ * has no bytes behind its offset: after an open with O_TRUNC, or, if the splice was given no offset, after a call that moved the offset of
+ * its description (lseek, read, write, splice). A call helps in the same way when it is resumed. One rule is always right. After any call
+ * that isn't refused, try all calls that wait, round after round, until every try of two rounds in a row answers BINDINGCLAY_PARKED. One
+ * round isn't enough, since a write that still waits may have put some of its bytes. Where a call still waits it answers its number again, and that costs little. bindingclay_interrupt ends it. A call that is parked keeps
  * what it found open, until it is answered, is interrupted, or its process exits; an open of a FIFO keeps the end that it makes, which
  * counts as one from then on.
  *
@@ -133,11 +133,11 @@ bindingclay_answer bindingclay_exit(bindingclay clay, uint32_t pid);
 /* ---- Calls that wait ---- */
 
 /* Tries again the call of a number that waits. It answers what the call would have, or BINDINGCLAY_PARKED with the same number where it
- * still waits; a fault ends it too, as EMFILE does an open that has met and finds no descriptor free. A read puts its bytes into the first
- * of the size bytes at into: as many as it asked for of those that the pipe holds, so 1,048,576 are always enough. If size is less,
- * BINDINGCLAY_SHORT tells how many they are, and the read waits on. The bytes behind what it read stay as they are. A read that is resumed
- * asks for no memory. Other calls leave all the bytes alone, and size may be 0. Of a poll this tells no revents: it is resumed by bindingclay_resume_poll. No call of this number
- * BINDINGCLAY_NO_CALL. */
+ * still waits; a fault ends it too, as EMFILE does an open that has met and finds no descriptor free. A read gives what its pipe holds, and
+ * no more than it asked for, into the first of the size bytes at into. Room for 1,048,576 bytes is always enough. If size is less than what
+ * it gives, BINDINGCLAY_SHORT tells how many bytes that is, and the read waits on. The bytes behind what it read stay as they are. A read
+ * that is resumed asks for no memory. Other calls leave all the bytes alone, and size may be 0. Of a poll this tells no revents: it is
+ * resumed by bindingclay_resume_poll. No call of this number BINDINGCLAY_NO_CALL. */
 bindingclay_answer bindingclay_resume(bindingclay clay, uint64_t number, uint8_t *into, size_t size);
 
 /* Tries again the poll of a number that waits. It answers as bindingclay_poll does, or BINDINGCLAY_PARKED with the same number, of what the

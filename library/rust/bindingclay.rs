@@ -89,7 +89,7 @@ pub enum NotDone {
     CallsSpent,
     /// There is no memory, and nothing changed.
     NoMemory,
-    /// The read that was resumed would give so many bytes, for which there is too little room, and waits on.
+    /// There is too little room for the bytes that the resumed read would give, which are so many. It waits on.
     Short(u64),
 }
 

@@ -62,10 +62,11 @@ static void a_splice_without_memory(long count)
     bindingclay clay = kernel_with_process();
     fill_by_bytes(clay, count);
     bindingclay_ends ends = NEW_PIPE(clay, 1, false);
-    /* two slots, behind which the slots of the file are copied */
+    /* a slot, so that the second slice of the file on becomes one with what stands before it */
     DONE(put(clay, 1, ends.write_end, "a"), 1);
     const uint64_t first = 0;
-    for (long granted = 0;; granted++) {
+    long granted = 0;
+    for (;; granted++) {
         long blocks = blocks_left;
         refuse(granted, 1);
         bindingclay_answer got = bindingclay_splice(clay, 1, 2, &first, ends.write_end, NULL, 1000, 0);
@@ -76,6 +77,24 @@ static void a_splice_without_memory(long count)
         }
         HOLDS(blocks_left == blocks);
     }
+    HOLDS(granted >= 8);
+    bindingclay_free(clay);
+    HOLDS(bytes_left == 0);
+}
+
+/* A file that is emptied gives back all but what is spare. */
+static void an_emptied_file(long count)
+{
+    bindingclay clay = kernel_with_process();
+    fill_by_bytes(clay, 1);
+    long before = bytes_left;
+    OTHER(bindingclay_exit(clay, 1), BINDINGCLAY_DONE);
+    bindingclay_free(clay);
+    clay = kernel_with_process();
+    fill_by_bytes(clay, count);
+    HOLDS(bytes_left - before >= 24 * count);
+    DONE(open_text(clay, 1, "f", O_RDWR | O_TRUNC), 3);
+    HOLDS(bytes_left - before <= (count / SEGMENT + 2 + MOST_SPARE) * 128 + MOST_SPARE * SEGMENT);
     bindingclay_free(clay);
 }
 
@@ -127,6 +146,7 @@ int main(int words, char **word)
     long count = atol(word[1]);
     a_splice_of_many_slots(count);
     a_splice_without_memory(count);
+    an_emptied_file(count);
     an_exit_beside_calls_that_wait(count);
     return end();
 }

@@ -165,6 +165,7 @@ static void with_no_memory(void)
     DONE(bindingclay_get_fl(clay, 1, 0), O_RDONLY | O_NONBLOCK);
     DONE(bindingclay_set_fl(clay, 1, 1, O_NONBLOCK), 0);
     DONE(bindingclay_get_pipe_sz(clay, 1, 0), 65536);
+    DONE(bindingclay_owner(clay, 2), 1);
     FAULT(bindingclay_interrupt(clay, 1), EINTR);
     PARKED(bindingclay_resume(clay, 2, into, 2), 2);
     /* a read that doesn't wait takes none either */

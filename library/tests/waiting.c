@@ -98,6 +98,14 @@ static void room_of_a_read(void)
     PARKED(take(clay, 1, 0, 4096), 5);
     DONE(bindingclay_close(clay, 1, 1), 0);
     DONE(bindingclay_resume(clay, 5, NULL, 0), 0);
+    /* room for the greatest capacity is always enough */
+    static uint8_t most[1048576];
+    bindingclay_ends ends = NEW_PIPE(clay, 1, false);
+    DONE(bindingclay_set_pipe_sz(clay, 1, ends.write_end, sizeof most), sizeof most);
+    PARKED(take(clay, 1, ends.read_end, 16777216), 6);
+    DONE(put_many(clay, 1, ends.write_end, sizeof most), sizeof most);
+    SHORT(bindingclay_resume(clay, 6, most, sizeof most - 1), sizeof most);
+    DONE(bindingclay_resume(clay, 6, most, sizeof most), sizeof most);
     bindingclay_free(clay);
 }
 
@@ -175,6 +183,16 @@ static void whose_call(void)
     PARKED(take(clay, 2, 0, 1), 3);
     FAULT(bindingclay_interrupt_of(clay, 2, 3), EINTR);
     OTHER(bindingclay_owner(clay, 3), BINDINGCLAY_NO_CALL);
+    /* an exit takes the calls of a process along, so that who gets its pid has none of them */
+    PARKED(take(clay, 2, 0, 1), 4);
+    PARKED(bindingclay_resume_of(clay, 2, 4, NULL, 0), 4);
+    OTHER(bindingclay_exit(clay, 2), BINDINGCLAY_DONE);
+    DONE(bindingclay_fork(clay, 1), 2);
+    OTHER(bindingclay_owner(clay, 4), BINDINGCLAY_NO_CALL);
+    OTHER(bindingclay_resume_of(clay, 2, 4, NULL, 0), BINDINGCLAY_NO_CALL);
+    OTHER(bindingclay_interrupt_of(clay, 2, 4), BINDINGCLAY_NO_CALL);
+    PARKED(bindingclay_poll(clay, 2, NULL, 0, true), 5);
+    PARKED(bindingclay_resume_poll_of(clay, 2, 5, NULL, 0), 5);
     bindingclay_free(clay);
 }
 

@@ -3,6 +3,7 @@ use Rattle.std.proofs.Common.{◌≡◌, ◌≤◌, ◌<◌, ℕ, List, drop, le
 use Rattle.std.specs.Prelude.{Result, Ok, Err, IfOk, OnErr, IsOk}
 use Rattle.std.specs.Global.{Global}
 use Rattle.pl_model.specs.declared.calls.Step.TheVariants.{Resume}
+use Rattle.pl_model.specs.Numbers.{most_capacity}
 use Rattle.pl_state.specs.Contents.{Contents}
 use Rattle.pl_state.specs.Makes.{WantsMemory}
 use Rattle.pl_state.specs.Parking.{ReadWaits}
@@ -60,44 +61,48 @@ module _ {E : Type 0} (old new : Contents Global) (number : ℕ) (before after :
   wants_of (Err error) wanted = λ e. wanted
 
   pub gathers_of : (z : Result (KernelResumed Global) E) → IfOk z (λ r. ResumedByKernel old number (length before) r after new) →
-      OfReads old number (λ n. length before < gives_again old number → z ≡ Ok (Short (gives_again old number))) → OfReads old number (λ n. gives_again old number ≤ length before → IfOk z IsRead) → OfReads old number (λ n. IfOk z IsOfRead) →
+      OfReads old number (λ n. length before < gives_again old number → z ≡ Ok (Short (gives_again old number))) → OfReads old number (λ n. gives_again old number ≤ length before → IfOk z IsRead) → OfReads old number (λ n. most_capacity ≤ length before → IfOk z IsRead) → OfReads old number (λ n. IfOk z IsOfRead) →
       (((key n : ℕ) → ¬ ReadWaits {A = Global} old number key n) → IfOk z IsOfOther) → IfOk z (λ r. resumed_count r ≤ length after) →
       IfOk z (λ r. drop (resumed_count r) after ≡ drop (resumed_count r) before) → OnErr z (after ≡ before) → OfReads old number (λ n. IsOk z) → Gathers old number before (resumed_answer z) after
-  gathers_of (Ok (Read r)) made wide fits reads others few rest unread frugal =
+  gathers_of (Ok (Read r)) made wide fits enough reads others few rest unread frugal =
       record {
         bytes = λ key n waits. again_of old new number (length before) (read_answer r) (told r after) made (λ reply. after ≡ bytes_after before reply) (read_leaves r before after few rest);
         narrow = λ key n waits less. absurd (let e = wide key n waits less in cc);
         fits = λ key n waits few. read_has_room r;
+        enough = λ key n waits few. read_has_room r;
         frugal = λ key n waits. read_has_memory r;
         others = λ none. absurd (others none);
         unread = λ e. absurd (read_has_memory r e);
         kept = λ e. absurd (read_has_room r e);
       }
-  gathers_of (Ok (Short m)) made wide fits reads others few rest unread frugal =
+  gathers_of (Ok (Short m)) made wide fits enough reads others few rest unread frugal =
       record {
         bytes = λ key n waits some room. absurd (room refl);
         narrow = λ key n waits less. ap (λ k. plain k short) (let e = wide key n waits less in cc);
         fits = λ key n waits few e. fits key n waits few;
+        enough = λ key n waits few e. enough key n waits few;
         frugal = λ key n waits e. (omega arith);
         others = λ none. absurd (others none);
         unread = λ e. rest;
         kept = λ e. rest;
       }
-  gathers_of (Ok (Other reply)) made wide fits reads others few rest unread frugal =
+  gathers_of (Ok (Other reply)) made wide fits enough reads others few rest unread frugal =
       record {
         bytes = λ key n waits. absurd (reads key n waits);
         narrow = λ key n waits less. absurd (reads key n waits);
         fits = λ key n waits few e. reads key n waits;
+        enough = λ key n waits few e. reads key n waits;
         frugal = λ key n waits e. reads key n waits;
         others = λ none. (rest, has_room (said reply) reply refl);
         unread = λ e. rest;
         kept = λ e. rest;
       }
-  gathers_of (Err error) made wide fits reads others few rest unread frugal =
+  gathers_of (Err error) made wide fits enough reads others few rest unread frugal =
       record {
         bytes = λ key n waits some. absurd (some refl);
         narrow = λ key n waits less. absurd (let e = wide key n waits less in cc);
         fits = λ key n waits few e. (omega arith);
+        enough = λ key n waits few e. (omega arith);
         frugal = λ key n waits e. (let found = frugal key n waits in cc);
         others = λ none. (unread, λ e. (omega arith));
         unread = λ e. unread;
@@ -105,36 +110,40 @@ module _ {E : Type 0} (old new : Contents Global) (number : ℕ) (before after :
       }
 
   pub notes_of : (z : Result (KernelResumed Global) E) (entries : List PollEntry) → IfOk z (λ r. ResumedByKernel old number (length before) r after new) →
-      OfReads old number (λ n. length before < gives_again old number → z ≡ Ok (Short (gives_again old number))) → (((key n : ℕ) → ¬ ReadWaits {A = Global} old number key n) → IfOk z IsOfOther) → length before ≡ 0 →
+      OfReads old number (λ n. length before < gives_again old number → z ≡ Ok (Short (gives_again old number))) → OfReads old number (λ n. gives_again old number ≤ length before → IfOk z IsRead) → (((key n : ℕ) → ¬ ReadWaits {A = Global} old number key n) → IfOk z IsOfOther) → length before ≡ 0 →
       Notes old number entries (resumed_answer z) (resumed_entries entries z)
-  notes_of (Ok (Read r)) entries made wide others none =
+  notes_of (Ok (Read r)) entries made wide fits others none =
       record {
         entries = again_of old new number (length before) (read_answer r) (told r after) made (λ reply. entries ≡ entries_after entries reply) (read_marks_none entries r after);
         reads = λ key n waits some. absurd (let e = wide key n waits (omega arith) in cc);
+        fits = λ key n waits no. read_has_room r;
         others = λ none. absurd (others none);
         unmarked = λ e. refl;
         kept = λ e. refl;
       }
-  notes_of (Ok (Short m)) entries made wide others none =
+  notes_of (Ok (Short m)) entries made wide fits others none =
       record {
         entries = λ some room. absurd (room refl);
         reads = λ key n waits some. ap (λ k. plain k short) (let e = wide key n waits (omega arith) in cc);
+        fits = λ key n waits no e. fits key n waits (omega arith);
         others = λ none. absurd (others none);
         unmarked = λ e. refl;
         kept = λ e. refl;
       }
-  notes_of (Ok (Other reply)) entries made wide others none =
+  notes_of (Ok (Other reply)) entries made wide fits others none =
       record {
         entries = again_of old new number (length before) (said reply) reply made (λ r. entries_after entries reply ≡ entries_after entries r) refl;
         reads = λ key n waits some. absurd (let e = wide key n waits (omega arith) in cc);
+        fits = λ key n waits no. has_room (said reply) reply refl;
         others = λ none. has_room (said reply) reply refl;
         unmarked = λ e. absurd (has_memory (said reply) reply refl e);
         kept = λ e. absurd (has_room (said reply) reply refl e);
       }
-  notes_of (Err error) entries made wide others none =
+  notes_of (Err error) entries made wide fits others none =
       record {
         entries = λ some. absurd (some refl);
         reads = λ key n waits some. absurd (let e = wide key n waits (omega arith) in cc);
+        fits = λ key n waits no e. (omega arith);
         others = λ none e. (omega arith);
         unmarked = λ e. refl;
         kept = λ e. refl;

@@ -129,7 +129,7 @@ module _ (old new : Contents Global) (number room : ℕ) (a : Answer) where
           unmade = λ e. absurd (has_memory a r says e);
         }
 
-  -- a read that asks for more bytes
+  -- a read that gives more bytes than there is room for
   pub too_short : (n : ℕ) → a ≡ plain n short → new ≡ old → room < n → Resumes old number room a new
   too_short n is same less =
       record {

@@ -6,6 +6,7 @@ use Rattle.std.specs.Global.{Global}
 use Rattle.pl_model.specs.declared.calls.Step.{Step}
 use Rattle.pl_model.specs.declared.calls.Step.TheVariants.{Resume}
 use Rattle.pl_model.specs.declared.replies.Errno.TheVariants.{ENOENT}
+use Rattle.pl_model.specs.Numbers.{most_capacity}
 use Rattle.pl_model.specs.declared.replies.Reply.{Reply}
 use Rattle.pl_model.specs.declared.replies.Reply.TheVariants.{Bytes}
 use Rattle.pl_model.specs.Numbered.{State, step}
@@ -64,6 +65,7 @@ pub record Gathers (old : Contents Global) (number : ℕ) (before : List ℕ) (a
   pub bytes : (key n : ℕ) → ReadWaits {A = Global} old number key n → Resumed old number a (λ reply. after ≡ bytes_after before reply)
   pub narrow : (key n : ℕ) → ReadWaits {A = Global} old number key n → length before < gives_again old number → a ≡ plain (gives_again old number) short
   pub fits : (key n : ℕ) → ReadWaits {A = Global} old number key n → gives_again old number ≤ length before → a.kind ≡ short → ⊥
+  pub enough : (key n : ℕ) → ReadWaits {A = Global} old number key n → most_capacity ≤ length before → a.kind ≡ short → ⊥
   pub frugal : (key n : ℕ) → ReadWaits {A = Global} old number key n → a.kind ≡ no_memory → ⊥
   pub others : ((key n : ℕ) → ¬ ReadWaits {A = Global} old number key n) → (after ≡ before) × (a.kind ≡ short → ⊥)
   pub unread : a.kind ≡ no_memory → after ≡ before
@@ -73,6 +75,7 @@ pub record Gathers (old : Contents Global) (number : ℕ) (before : List ℕ) (a
 pub record Notes (old : Contents Global) (number : ℕ) (before : List PollEntry) (a : Answer) (after : List PollEntry) : Type 0 where
   pub entries : Resumed old number a (λ reply. after ≡ entries_after before reply)
   pub reads : (key n : ℕ) → ReadWaits {A = Global} old number key n → 0 < gives_again old number → a ≡ plain (gives_again old number) short
+  pub fits : (key n : ℕ) → ReadWaits {A = Global} old number key n → gives_again old number ≡ 0 → a.kind ≡ short → ⊥
   pub others : ((key n : ℕ) → ¬ ReadWaits {A = Global} old number key n) → a.kind ≡ short → ⊥
   pub unmarked : a.kind ≡ no_memory → after ≡ before
   pub kept : a.kind ≡ short → after ≡ before

@@ -190,12 +190,14 @@ impl<A: Allocator> Row<A> {
         self.end = last;
     }
 
-    /// Forgets all slots.
+    /// Forgets all slots, and gives back the memory of their list. It takes no memory.
     pub(crate) fn clear(&mut self)
         ensures slots { self.new.slots ≡ [] }
         ensures base { self.new.base ≡ self.old.base }
+        ensures capacity { self.new.capacity ≡ 0 }
     {
         self.entries.clear();
+        self.entries.shrink_to_fit();
         self.end = self.base;
     }
 }

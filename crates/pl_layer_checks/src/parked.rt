@@ -186,7 +186,7 @@ fn some_are_refused<A: Allocator + Copy>(
     request: u64,
 ) {
     let first = is_refused(rt, bench, 1, kind, request);
-    is(rt, "the first call needs memory twice", first, true);
+    is(rt, "the first call is refused memory", first, true);
     for pid in 2..20u32 {
         is_refused(rt, bench, pid, kind, request);
     }

@@ -193,7 +193,7 @@ fn hold_all<A: Allocator + Copy>(store: &mut Store<A>, slices: &[Slice])
 }
 
 /// Pushes slices that are held, but those of no bytes. There is room for those that become one with what stands before them: one
-/// segment for each, or for each slot that comes and two more, since a slot is copied once at most. `many` is how many slots there
+/// segment for each, or two more than the slots by which the ring grows, since a slot is copied once at most. `many` is how many slots there
 /// are then. It takes no memory.
 fn push_held<A: Allocator + Copy>(
     store: &mut Store<A>,

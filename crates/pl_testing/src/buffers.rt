@@ -6,7 +6,7 @@ use pl_model::{Bytes8, Call, MaskList, PollList, PollMask, Reply, Step};
 use std::alloc::{Allocator, Global};
 use std::test::Fail;
 
-/// The length of the greatest buffer, in bytes. A read that asks for more is made as a step.
+/// The length of the greatest buffer, in bytes. A read that asks for more, or is resumed and gives more, is made as a step.
 const MOST: usize = 65_536;
 
 /// What every byte of a buffer is before a read.

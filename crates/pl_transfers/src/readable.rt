@@ -1,5 +1,6 @@
 //! How many bytes a read gives, told before it is made. Nothing here takes memory.
-ghost use Rattle.std.specs.Prelude.{◌≡◌, ◌<◌, ◌^◌, min, IsSome, IfSome};
+ghost use Rattle.std.specs.Prelude.{◌≡◌, ◌≤◌, min, IsSome, IfSome};
+ghost use Rattle.pl_model.specs.Numbers.{most_capacity};
 ghost use Rattle.pl_model.specs.Begin.{open_for};
 ghost use Rattle.pl_model.specs.Modes.{reads};
 ghost use Rattle.pl_desc.specs.Rows.{at};
@@ -7,7 +8,7 @@ ghost use Rattle.pl_state.specs.Contents.{core_of, description_of, node_of, wait
 ghost use Rattle.pl_transfers.specs.Readable.{readable as machine_readable, readable_on, gives_again};
 
 use crate::transfers::open_for;
-use crate::waiting::waiting_read;
+use crate::waiting::{pipe_of, waiting_read};
 use pl_model::Node;
 use pl_state::{Access, KernelState};
 use std::alloc::Allocator;
@@ -45,12 +46,15 @@ pub fn bytes_to_read<A: Allocator + Copy>(
 /// there.
 pub fn bytes_to_resume<A: Allocator + Copy>(kernel: &KernelState<A>, number: u64) -> usize
     ensures value { result ≡ gives_again {A = A} kernel.now number }
-    ensures few { result < 2 ^ 32 }
+    ensures few { result ≤ most_capacity }
 {
     // A proof learns here what holds of the kernel.
     let _ = &kernel.descs;
     match waiting_read(kernel, number) {
-        Some(read) => (read.n as usize).min(readable(kernel, read.key)),
+        Some(read) => {
+            let pipe = pipe_of(kernel, read.key);
+            (read.n as usize).min(kernel.nodes.held(pipe))
+        }
         None => 0,
     }
 }

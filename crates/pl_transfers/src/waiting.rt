@@ -136,7 +136,7 @@ pub(crate) fn park_write<A: Allocator + Copy>(
 }
 
 // The pipe that a description is open on.
-fn pipe_of<A: Allocator + Copy>(kernel: &KernelState<A>, key: usize) -> usize
+pub(crate) fn pipe_of<A: Allocator + Copy>(kernel: &KernelState<A>, key: usize) -> usize
     requires here { IsSome (at kernel.now.opened key) }
     requires pipe { IfSome (at kernel.now.opened key) (λ o. IsPipe o.node) }
     ensures { OpenOn kernel.now key (Node.Pipe result) }

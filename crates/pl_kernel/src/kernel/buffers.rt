@@ -1,6 +1,6 @@
 //! Steps on the caller's own bytes and entries.
 ghost use Rattle.std.specs.Prelude.{◌≡◌, ◌≤◌, ◌<◌, ◌^◌, ℕ, length, drop, IfOk, OnErr, IsOk, Ok};
-ghost use Rattle.pl_model.specs.Numbers.{most_bytes};
+ghost use Rattle.pl_model.specs.Numbers.{most_bytes, most_capacity};
 ghost use Rattle.pl_state.specs.Makes.{Makes, LeavesByReply, WantsMemory};
 ghost use Rattle.pl_state.specs.Parking.{ReadWaits};
 ghost use Rattle.pl_transfers.specs.ReadInto.{told, read_count};
@@ -98,8 +98,9 @@ impl<A: Allocator + Copy> Kernel<A> {
     }
 
     /// Makes the step that tries the parked call of a number again, where a read gives its bytes into the first of the caller's; the
-    /// others stay as they are. What `step` promises of that step holds. A read that gives more bytes than the caller's are isn't
-    /// tried, and nothing changes. It gives as many as it asks for of those that its pipe holds, so 1,048,576 are always enough.
+    /// others stay as they are. What `step` promises of that step holds. A read that would give more bytes than
+    /// the caller has room for isn't tried, and nothing changes. It gives what its pipe holds, and no more than it asked for, so room for
+    /// 1,048,576 is always enough.
     ///
     /// # Errors
     ///
@@ -109,6 +110,7 @@ impl<A: Allocator + Copy> Kernel<A> {
         ensures refused { IfOk result (λ resumed. ResumesByReply {A = A} self.old number resumed into.new self.new) }
         ensures short { (key n : ℕ) → ReadWaits {A = A} self.old number key n → length into.old < gives_again {A = A} self.old number → result ≡ Ok (Resumed.Short (gives_again {A = A} self.old number)) }
         ensures fits { (key n : ℕ) → ReadWaits {A = A} self.old number key n → gives_again {A = A} self.old number ≤ length into.old → IfOk result IsRead }
+        ensures enough { (key n : ℕ) → ReadWaits {A = A} self.old number key n → most_capacity ≤ length into.old → IfOk result IsRead }
         ensures reads { (key n : ℕ) → ReadWaits {A = A} self.old number key n → IfOk result IsOfRead }
         ensures others { ((key n : ℕ) → ¬ ReadWaits {A = A} self.old number key n) → IfOk result IsOfOther }
         ensures within { IfOk result (λ resumed. resumed_count resumed ≤ length into.new) }

@@ -1,12 +1,15 @@
-use Rattle.std.proofs.Common.{IsSome, sym, subst, ◌∙◌}
+use Rattle.std.proofs.Common.{IsSome, IfSome, sym, subst, ◌∙◌}
+use Rattle.pl_model.specs.declared.node.Node.TheVariants as node
 use Rattle.pl_desc.specs.Rows.{at}
 use Rattle.pl_state.specs.Contents.{Contents}
 use Rattle.pl_state.specs.KernelView.{view_of}
+use Rattle.pl_state.specs.Opens.{OpenOn}
 use Rattle.pl_state.specs.Parking.{ReadWaits}
+use Rattle.pl_state.specs.Sound.{IsPipe, MayKeepFile, KeepsNodes}
 use Rattle.pl_state.proofs.Known.{known, parts_of}
-use Rattle.pl_state.proofs.by_call.Begun.{there}
+use Rattle.pl_state.proofs.holders.OnNodes.{is-pipe, kept-one}
 use Rattle.pl_state.proofs.waiting.Ending.{kept_there}
-use Rattle.pl_transfers.proofs.by_call.Measuring.{AreReadable, readable-kept, none-readable}
+use Rattle.pl_transfers.proofs.by_call.Measuring.{readable-pipe, readable-kept, none-readable}
 use Rattle.pl_transfers.proofs.readable.bytes_to_resume.Given.{Over}
 use Rattle.pl_transfers.proofs.readable.bytes_to_resume.Goals.{In-Some}
 use Rattle.pl_transfers.proofs.readable.bytes_to_resume.Goals as goal
@@ -22,17 +25,28 @@ module _ (g : Over) (c : In-Some g) where
   kept : IsSome (at k.opened c.in-Some.read.key)
   kept = kept_there (parts_of (known c.kernel.inside c.kernel.invariant)) c.args.number waits.call waits.here c.in-Some.read.key waits.kept
 
-pub readable-requires : goal.readable-requires
-readable-requires g c =
-    let v = (goal.at.readable-requires g c).In-Some in
+  on_pipe : IfSome (at k.opened c.in-Some.read.key) (λ o. IsPipe o.node)
+  on_pipe =
+      let keeps : KeepsNodes (at k.opened) waits.call = subst (λ o. IfSome o (KeepsNodes (at k.opened))) waits.here (c.kernel.invariant.0.on_nodes c.args.number) in
+      is-pipe waits.call (subst (λ z. MayKeepFile z) waits.asked) (at k.opened c.in-Some.read.key) (kept-one (at k.opened) waits.call c.in-Some.read.key waits.kept keeps)
+
+pub pipe_of-pipe-requires-clause-here : goal.pipe_of-pipe-requires-clause-here
+pipe_of-pipe-requires-clause-here g c =
+    let v = (goal.at.pipe_of-pipe-requires-clause-here g c).In-Some in
     subst (λ (z : Contents g.row.A.Denot). IsSome (at z.opened c.in-Some.read.key)) c.kernel.view_is (kept g v)
+
+pub pipe_of-pipe-requires-clause-pipe : goal.pipe_of-pipe-requires-clause-pipe
+pipe_of-pipe-requires-clause-pipe g c =
+    let v = (goal.at.pipe_of-pipe-requires-clause-pipe g c).In-Some in
+    subst (λ (z : Contents g.row.A.Denot). IfSome (at z.opened c.in-Some.read.key) (λ o. IsPipe o.node)) c.kernel.view_is (on_pipe g v)
 
 pub returns-in-Some-clause-value : goal.returns-in-Some-clause-value
 returns-in-Some-clause-value g c =
     let v = (goal.at.returns-in-Some-clause-value g c).In-Some in
-    let o = there (at (k g v).opened c.in-Some.read.key) (kept g v) in
-    let told = subst (λ (z : Contents g.row.A.Denot). AreReadable z c.in-Some.read.key c.readable.result) (sym c.kernel.view_is) c.readable.ensures in
-    rw (← c.kernel.view_is) (c.min.ensures ∙ readable-kept (k g v) c.kernel.invariant.0 c.args.number c.in-Some.read.key c.in-Some.read.n (waits g v) o.0 o.1 c.readable.result told)
+    let key = c.in-Some.read.key in
+    let on : OpenOn (k g v) key (node.Pipe c.pipe_of-pipe.result) = subst (λ z. OpenOn z key (node.Pipe c.pipe_of-pipe.result)) (sym c.kernel.view_is) c.pipe_of-pipe.ensures in
+    let told = readable-pipe (k g v) c.kernel.invariant.0.whole key on.opened on.here c.pipe_of-pipe.result on.node c.held.result c.held.ensures.value in
+    rw (← c.kernel.view_is) (c.min.ensures ∙ readable-kept (k g v) c.kernel.invariant.0 c.args.number key c.in-Some.read.n (waits g v) on.opened on.here c.held.result told)
 
 pub returns-in-None-clause-value : goal.returns-in-None-clause-value
 returns-in-None-clause-value g c =

@@ -20,5 +20,5 @@ pub returns-clause-bytes : goal.returns-clause-bytes
 returns-clause-bytes c =
     let z = c.resume_into-resumed in
     subst (λ a. Gathers c.args.self.now.kernel c.args.number c.args.into.now a z.new.into) (sym c.answer_of_resumed.ensures)
-    (gathers_of c.args.self.now.kernel z.new.self c.args.number c.args.into.now z.new.into z.result z.ensures.made z.ensures.short z.ensures.fits z.ensures.reads z.ensures.others z.ensures.within z.ensures.rest
+    (gathers_of c.args.self.now.kernel z.new.self c.args.number c.args.into.now z.new.into z.result z.ensures.made z.ensures.short z.ensures.fits z.ensures.enough z.ensures.reads z.ensures.others z.ensures.within z.ensures.rest
     z.ensures.unread z.ensures.frugal)

@@ -22,4 +22,4 @@ returns-clause-entries c =
     let old = c.args.self.now.kernel in
     subst (λ es. Notes old c.args.number c.args.entries.now c.answer_of_resumed.result es) (sym c.mark_resumed.ensures)
     (subst (λ a. Notes old c.args.number c.args.entries.now a (resumed_entries c.args.entries.now z.result)) (sym c.answer_of_resumed.ensures)
-    (notes_of old z.new.self c.args.number [] z.new.into z.result c.args.entries.now z.ensures.made z.ensures.short z.ensures.others refl))
+    (notes_of old z.new.self c.args.number [] z.new.into z.result c.args.entries.now z.ensures.made z.ensures.short z.ensures.fits z.ensures.others refl))

@@ -35,6 +35,9 @@ returns-in_default-clause-refused g c =
 pub returns-in_default-clause-fits : goal.returns-in_default-clause-fits
 returns-in_default-clause-fits g c = rw (← c.self.view_is) (λ key n waits few. absurd (c.in_default.ensures.none key n waits))
 
+pub returns-in_default-clause-enough : goal.returns-in_default-clause-enough
+returns-in_default-clause-enough g c = rw (← c.self.view_is) (λ key n waits few. absurd (c.in_default.ensures.none key n waits))
+
 pub returns-in_default-clause-reads : goal.returns-in_default-clause-reads
 returns-in_default-clause-reads g c = rw (← c.self.view_is) (λ key n waits. c.in_default.ensures.none key n waits)
 
