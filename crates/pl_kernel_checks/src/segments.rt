@@ -53,7 +53,8 @@ const COURSES: &[Course] = &[
             (
                 Read(1, 2, 9),
                 Bytes(Text("abd")),
-                &[Seen::Segments(0), Seen::Spare(2)],
+                // two that were held, and one that the last write reserved and didn't use
+                &[Seen::Segments(0), Seen::Spare(3)],
             ),
         ],
         names: &[],
