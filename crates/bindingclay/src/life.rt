@@ -39,6 +39,7 @@ pub extern "C" fn bindingclay_open(
     let limits = Limits {
         first_call,
         file_max,
+        ..Limits::DEFAULT
     };
     match Box::new(alloc, Layer::new(alloc, limits)) {
         Ok(layer) => {

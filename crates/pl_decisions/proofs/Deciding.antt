@@ -49,9 +49,9 @@ module _ {A : Type 0} {K : Keys} where
       by (Some n) = past n (nat_lt greatest_offset n)
 
   -- the last checks of a size
-  pub set_capacity-is : (size held : ℕ) (next : ℕ → Begins A K) →
-      refuse_if (nat_lt most_capacity size) EPERM (refuse_if (nat_lt (rounded_capacity size) held) EBUSY (next (rounded_capacity size))) ≡ or_refused (capacity_set size held) next
-  set_capacity-is size held next = by (nat_lt most_capacity size) (nat_lt (rounded_capacity size) held)
+  pub set_capacity-is : (size held limit : ℕ) (next : ℕ → Begins A K) →
+      refuse_if (nat_lt most_capacity size || nat_lt limit (rounded_capacity size)) EPERM (refuse_if (nat_lt (rounded_capacity size) held) EBUSY (next (rounded_capacity size))) ≡ or_refused (capacity_set size held limit) next
+  set_capacity-is size held limit next = by (nat_lt most_capacity size || nat_lt limit (rounded_capacity size)) (nat_lt (rounded_capacity size) held)
     where
       by : (large busy : Bool) → refuse_if large EPERM (refuse_if busy EBUSY (next (rounded_capacity size))) ≡ or_refused (cond large (Err EPERM) (cond busy (Err EBUSY) (Ok (rounded_capacity size)))) next
       by true busy = refl

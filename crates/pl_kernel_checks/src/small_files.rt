@@ -10,14 +10,14 @@ use std::test::Fail;
 
 /// A file has at most 5 bytes.
 const FIVE_BYTES: Limits = Limits {
-    first_call: 1,
     file_max: 5,
+    ..Limits::DEFAULT
 };
 
 /// Every file is empty.
 const NO_BYTES: Limits = Limits {
-    first_call: 1,
     file_max: 0,
+    ..Limits::DEFAULT
 };
 
 const F: Data = Text("f");

@@ -66,6 +66,7 @@ fn errno_text(errno: Errno) -> &'static str
         Errno::ENAMETOOLONG => "ENAMETOOLONG",
         Errno::ENFILE => "ENFILE",
         Errno::ENOENT => "ENOENT",
+        Errno::ENOSPC => "ENOSPC",
         Errno::ENXIO => "ENXIO",
         Errno::EOVERFLOW => "EOVERFLOW",
         Errno::EPERM => "EPERM",

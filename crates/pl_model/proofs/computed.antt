@@ -16,3 +16,5 @@ pub mod SpliceExamples
 pub mod SpliceLineExamples
 -- The small examples of polls, computed from the definitions.
 pub mod PollExamples
+-- The small examples of limits, computed from the definitions.
+pub mod LimitExamples

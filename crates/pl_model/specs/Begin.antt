@@ -9,12 +9,12 @@ use Rattle.pl_model.specs.declared.flags.OpenFlags.{OpenFlags}
 use Rattle.pl_model.specs.declared.flags.SpliceFlags.{SpliceFlags}
 use Rattle.pl_model.specs.declared.flags.PollMask.{PollMask}
 use Rattle.pl_model.specs.declared.replies.Reply.TheVariants.{Pid, Fd, Fds, Bytes, Offset, Flags, Size, Unit}
-use Rattle.pl_model.specs.declared.replies.Errno.TheVariants.{EAGAIN, EBADF, EBUSY, EEXIST, EINVAL, EMFILE, ENAMETOOLONG, ENFILE, ENOENT, ENXIO, EOVERFLOW, EPERM, ESPIPE}
+use Rattle.pl_model.specs.declared.replies.Errno.TheVariants.{EAGAIN, EBADF, EBUSY, EEXIST, EINVAL, EMFILE, ENAMETOOLONG, ENFILE, ENOENT, ENOSPC, ENXIO, EOVERFLOW, EPERM, ESPIPE}
 use Rattle.pl_model.specs.Numbers.{last_call, open_max, most_descriptions, most_name_bytes, most_capacity, greatest_offset}
 use Rattle.pl_model.specs.Modes.{reads, writes, for_reading, for_writing}
 use Rattle.pl_model.specs.Flags.{has, creat, excl, trunc, append, nonblock, splice_nonblock, nonblock_if, status_flags}
 use Rattle.pl_model.specs.Keys.{Keys, Node, NewKeys, Draws, PipeNode, FileNode}
-use Rattle.pl_model.specs.State.{Core, Description, Open, described, named, row, set_file, set_pipe, set_description, empty_pipe}
+use Rattle.pl_model.specs.State.{Core, Description, Open, described, named, can_name, can_wait, row, set_file, set_pipe, set_description, empty_pipe}
 use Rattle.pl_model.specs.Live.{live_count}
 use Rattle.pl_model.specs.Trial.{Begins, Begun, Answered, Tried, pipe_at, answered, tried, refuse_if, found}
 use Rattle.pl_model.specs.Transfer.{count, file_at, moved_to}
@@ -126,18 +126,19 @@ module _ {A : Type 0} {K : Keys} where
   abbrev pub open_at : Core A K → K.Description → ℕ → ℕ → Node K → Mode → OpenFlags → Begun A K
   open_at s d pid fd node mode flags = Answered (install (describe s d node mode (status_flags flags)) pid fd d) (Fd (pos fd))
 
-  -- POSIX.1-2017, mkfifo: EEXIST.
+  -- POSIX.1-2017, mkfifo: EEXIST, ENOSPC.
   unfoldable pub begin_mkfifo : Core A K → List ℕ → Begins A K
   begin_mkfifo s name =
       check_name name
       (refuse_if (is_some (named s name)) EEXIST
-      (Draws (λ new. Answered (create_fifo s name new.pipe) Unit)))
+      (refuse_if (not (can_name s)) ENOSPC
+      (Draws (λ new. Answered (create_fifo s name new.pipe) Unit))))
 
   -- The call waits, with the description that it opens, which counts as an end (our own). It meets the opens that wait for that end;
-  -- where no number is left for it, it meets none.
+  -- where no number is left for it, or too many calls wait, it meets none.
   abbrev pub await_other_end : Core A K → K.Pipe → Mode → OpenFlags → Begins A K
   await_other_end s p mode flags =
-      if s.next_call == last_call then tried s [] false true
+      if s.next_call == last_call || not (can_wait s) then tried s [] false true
       else Draws (λ new. Tried (describe (meet s p mode) new.description (PipeNode p) mode (status_flags flags)) (new.description ∷ []) false true)
 
   -- POSIX.1-2017, open: a FIFO without the other end that this open needs is waited for, or ENXIO with O_NONBLOCK.
@@ -146,10 +147,11 @@ module _ {A : Type 0} {K : Keys} where
       if can_open s p mode flags then Draws (λ new. open_at (meet s p mode) new.description pid fd (PipeNode p) mode flags)
       else refuse_if (has flags.0 nonblock) ENXIO (await_other_end s p mode flags)
 
-  -- What a name stands for is opened, or made where it stands for nothing.
+  -- What a name stands for is opened, or made where it stands for nothing (POSIX.1-2017, open, ENOSPC).
   abbrev pub open_named : Core A K → ℕ → ℕ → List ℕ → Option (Node K) → Mode → OpenFlags → Begins A K
   open_named s pid fd name None mode flags =
-      Draws (λ new. open_at (create_file s name new.file) new.description pid fd (FileNode new.file) mode flags)
+      refuse_if (not (can_name s)) ENOSPC
+      (Draws (λ new. open_at (create_file s name new.file) new.description pid fd (FileNode new.file) mode flags))
   open_named s pid fd name (Some (FileNode f)) mode flags =
       Draws (λ new. open_at (truncated s f mode flags) new.description pid fd (FileNode f) mode flags)
   open_named s pid fd name (Some (PipeNode p)) mode flags = open_fifo s pid fd p mode flags
@@ -285,12 +287,12 @@ module _ {A : Type 0} {K : Keys} where
       answered s (Size (pipe_at s p).capacity)))
 
   -- fcntl(2), F_SETPIPE_SZ: EBADF, EPERM above the greatest capacity, EBUSY where more bytes are held. That it is EBADF of what is
-  -- no pipe too is our own choice.
+  -- no pipe too, and that the limit is on what the size is rounded to, is our own choice.
   unfoldable pub begin_set_pipe_sz : Core A K → ℕ → ℤ → ℕ → Begins A K
   begin_set_pipe_sz s pid fd size =
       found (open_fd s pid fd) EBADF (λ o.
       found (pipe_of o.description.node) EBADF (λ p.
-      refuse_if (nat_lt most_capacity size) EPERM
+      refuse_if (nat_lt most_capacity size || nat_lt s.limits.capacity_max (rounded_capacity size)) EPERM
       (refuse_if (nat_lt (rounded_capacity size) (length (pipe_at s p).bytes)) EBUSY
       (answered (set_capacity s p (rounded_capacity size)) (Size (rounded_capacity size))))))
 

@@ -58,6 +58,10 @@ most_reads = most_script_bytes + 1
 abbrev pub last_call : ℕ
 last_call = 18446744073709551615
 
+-- Our own: a limit that is never reached, the greatest number of 64 bits.
+abbrev pub no_limit : ℕ
+no_limit = 18446744073709551615
+
 -- the first of the n numbers from k on that passes the test
 unfoldable pub first_from : (ℕ → Bool) → ℕ → ℕ → Option ℕ
 first_from test zero k = None

@@ -6,7 +6,7 @@ use Rattle.pl_model.specs.declared.calls.Mode.{Mode}
 use Rattle.pl_model.specs.declared.flags.OpenFlags.{OpenFlags}
 use Rattle.pl_model.specs.declared.flags.PollMask.{PollMask}
 use Rattle.pl_model.specs.declared.replies.Errno.{Errno}
-use Rattle.pl_model.specs.declared.replies.Errno.TheVariants.{EAGAIN, EBADF, EBUSY, EEXIST, EFBIG, EINTR, EINVAL, EMFILE, ENAMETOOLONG, ENFILE, ENOENT, ENXIO, EOVERFLOW, EPERM, EPIPE, ESPIPE}
+use Rattle.pl_model.specs.declared.replies.Errno.TheVariants.{EAGAIN, EBADF, EBUSY, EEXIST, EFBIG, EINTR, EINVAL, EMFILE, ENAMETOOLONG, ENFILE, ENOENT, ENOSPC, ENXIO, EOVERFLOW, EPERM, EPIPE, ESPIPE}
 use Rattle.pl_model.specs.declared.replies.Reply.{Reply}
 use Rattle.pl_model.specs.declared.replies.Reply.TheVariants.{Pid, Fd, Fds, Count, Bytes, Offset, Flags, Size, Masks, Unit, Fault, Parked, NoProcess, NoCall, CallsSpent}
 use Rattle.pl_model.specs.declared.replies.Outcome.{Outcome}
@@ -44,6 +44,7 @@ errno_text EMFILE = codes "EMFILE"
 errno_text ENAMETOOLONG = codes "ENAMETOOLONG"
 errno_text ENFILE = codes "ENFILE"
 errno_text ENOENT = codes "ENOENT"
+errno_text ENOSPC = codes "ENOSPC"
 errno_text ENXIO = codes "ENXIO"
 errno_text EOVERFLOW = codes "EOVERFLOW"
 errno_text EPERM = codes "EPERM"

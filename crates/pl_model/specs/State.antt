@@ -1,5 +1,5 @@
 -- What the machine holds.
-use Rattle.std.specs.Prelude.{ℕ, ℤ, pos, negsuc, Bool, false, List, [], nat_eq, nat_lt, ◌&&◌, Option, option_map, if◌then◌else◌}
+use Rattle.std.specs.Prelude.{ℕ, ℤ, pos, negsuc, Bool, false, List, [], length, nat_eq, nat_lt, ◌&&◌, Option, option_map, if◌then◌else◌}
 use Rattle.std.specs.Cmp.Lexicographic.{pointwise}
 use Rattle.std.specs.declared.option.Option.TheVariants.{None, Some}
 use Rattle.pl_model.specs.declared.calls.Mode.{Mode}
@@ -83,6 +83,14 @@ module _ {A : Type 0} {K : Keys} where
   -- what the name stands for
   abbrev pub named : Core A K → List ℕ → Option (Node K)
   named s name = get (pointwise nat_eq) s.names name
+
+  -- Our own: there are fewer names than the limit.
+  abbrev pub can_name : Core A K → Bool
+  can_name s = nat_lt (length s.names) s.limits.names_max
+
+  -- Our own: fewer calls wait than the limit.
+  abbrev pub can_wait : Core A K → Bool
+  can_wait s = nat_lt (length s.parked) s.limits.waiting_max
 
   abbrev pub bytes_on : Core A K → Option (Node K) → Option (List ℕ)
   bytes_on s None = None

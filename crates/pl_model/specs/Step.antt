@@ -1,5 +1,5 @@
 -- One step of the machine.
-use Rattle.std.specs.Prelude.{ℕ, pos, ◌+◌, Bool, true, false, ◌==◌, nat_eq, nat_lt, List, [], ◌∷◌, ◌++◌, Option, slice_get, option_and_then, if◌then◌else◌}
+use Rattle.std.specs.Prelude.{ℕ, pos, ◌+◌, Bool, true, false, ◌&&◌, ◌==◌, nat_eq, nat_lt, List, [], ◌∷◌, ◌++◌, Option, slice_get, option_and_then, if◌then◌else◌}
 use Rattle.std.specs.declared.option.Option.TheVariants.{None, Some}
 use Rattle.pl_model.specs.declared.calls.Call.{Call}
 use Rattle.pl_model.specs.declared.calls.Step.{Step}
@@ -10,7 +10,7 @@ use Rattle.pl_model.specs.declared.replies.Errno.TheVariants.{EAGAIN, EBADF, EIN
 use Rattle.pl_model.specs.Numbers.{last_call}
 use Rattle.pl_model.specs.Map.{get, put, without}
 use Rattle.pl_model.specs.Keys.{Keys, Drawing, Plain, drawing_map}
-use Rattle.pl_model.specs.State.{Core, Open, described, Waiting}
+use Rattle.pl_model.specs.State.{Core, Open, described, can_wait, Waiting}
 use Rattle.pl_model.specs.Settle.{settle}
 use Rattle.pl_model.specs.Tables.{lowest, lowest_pid, install, start, exit}
 use Rattle.pl_model.specs.Trial.{Trial, Flow, Done, Wait, still, flowed, Begun, Refused, Answered, Tried, Begins, answered}
@@ -100,11 +100,12 @@ module _ {A : Type 0} {K : Keys} where
   abbrev pub waiting : ℕ → Call A → List K.Description → Bool → Waiting A K
   waiting pid call kept met = record { pid = pid; call = call; kept = kept; taken = 0; met = met }
 
+  -- That a call which would wait is refused too where the limit of waiting calls is reached is our own.
   abbrev pub begun : Core A K → ℕ → Call A → Begun A K → Stepped A K
   begun before pid call (Refused errno) = stepped before (Fault errno)
   begun before pid call (Answered s reply) = stepped s reply
   begun before pid call (Tried s kept met may_wait) =
-      first_tried before (waiting pid call kept met) may_wait (try s (waiting pid call kept met) call may_wait)
+      first_tried before (waiting pid call kept met) (may_wait && can_wait before) (try s (waiting pid call kept met) call may_wait)
 
   abbrev pub without_call : Core A K → ℕ → Core A K
   without_call s c = record s { parked = without nat_eq s.parked c }

@@ -10,7 +10,7 @@ use Rattle.pl_model.specs.declared.cases.WriteCase.{WriteCase}
 use Rattle.pl_model.specs.declared.replies.Reply.{Reply}
 use Rattle.pl_model.specs.declared.replies.Reply.TheVariants.{Pid, Fd, Fds, Count, Bytes, Flags, Unit, Fault, Parked, NoProcess, NoCall, CallsSpent}
 use Rattle.pl_model.specs.declared.replies.Errno.TheVariants.{EAGAIN, EBADF, EINTR, EINVAL, EMFILE, EPIPE}
-use Rattle.pl_model.specs.Numbers.{numbers_from}
+use Rattle.pl_model.specs.Numbers.{most_capacity, no_limit, numbers_from}
 use Rattle.pl_model.specs.Flags.{append, nonblock, trunc, no_flags}
 use Rattle.pl_model.specs.Transfer.{write_case}
 use Rattle.pl_model.specs.Numbered.{opening}
@@ -59,9 +59,14 @@ module _ {A : Type 0} where
   abbrev pub no_bytes : Reply A
   no_bytes = Bytes []
 
+-- limits that nothing reaches but these two
+abbrev pub usual : (first_call file_max : ℕ) → Limits
+usual first_call file_max =
+    record { first_call = first_call; file_max = file_max; names_max = no_limit; waiting_max = no_limit; capacity_max = most_capacity }
+
 -- after a new kernel's first step, which starts the process of pid 1, these steps have these replies
 abbrev pub Answers : (A : Type 0) → List (Step A) → List (Reply A) → Type 0
-Answers A steps wanted = (limits : Limits) → replies (opening {A = A} limits) (Start ∷ steps) ≡ Pid 1 ∷ wanted
+Answers A steps wanted = (limits : Limits) → replies (opening {A = A} (usual limits.first_call limits.file_max)) (Start ∷ steps) ≡ Pid 1 ∷ wanted
 
 abbrev pub BytesBeforeEndOfFile : Type 0 → Type 0
 BytesBeforeEndOfFile A =
@@ -99,7 +104,7 @@ LastWriterCloses A =
 -- the same, where the first parked call has the number n
 abbrev pub AnswersFrom : (A : Type 0) → ℕ → List (Step A) → List (Reply A) → Type 0
 AnswersFrom A n steps wanted =
-    (file_max : ℕ) → replies (opening {A = A} (record { first_call = n; file_max = file_max })) (Start ∷ steps) ≡ Pid 1 ∷ wanted
+    (file_max : ℕ) → replies (opening {A = A} (usual n file_max)) (Start ∷ steps) ≡ Pid 1 ∷ wanted
 
 -- a write of at most 4,096 bytes waits until all of it goes in
 abbrev pub SmallWriteAtItsBoundary : Type 0 → Type 0
@@ -203,7 +208,7 @@ text ls = flat_map (λ l. l ++ 10 ∷ []) ls
 
 -- a script, and what it prints where no step wants for memory
 abbrev pub Prints : (A : Type 0) → List ℕ → ℕ → List (List ℕ) → Type 0
-Prints A script steps wanted = (limits : Limits) → output A script limits (replicate steps false) ≡ text wanted
+Prints A script steps wanted = (limits : Limits) → output A script (usual limits.first_call limits.file_max) (replicate steps false) ≡ text wanted
 
 abbrev pub ScriptOfBytesBeforeEndOfFile : Type 0 → Type 0
 ScriptOfBytesBeforeEndOfFile A =

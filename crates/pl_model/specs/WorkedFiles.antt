@@ -15,7 +15,7 @@ use Rattle.pl_model.specs.Numbered.{opening}
 use Rattle.pl_model.specs.Run.{replies}
 use Rattle.pl_model.specs.Words.{name_of}
 use Rattle.pl_model.specs.Script.{output}
-use Rattle.pl_model.specs.Worked.{pipe, read, write, close, dup, get_fl, set_fl, no_bytes, text}
+use Rattle.pl_model.specs.Worked.{usual, pipe, read, write, close, dup, get_fl, set_fl, no_bytes, text}
 
 module _ {A : Type 0} where
   -- what the process of pid 1 does
@@ -31,7 +31,7 @@ module _ {A : Type 0} where
 -- after a new kernel's first step, where a file has at most this many bytes, these steps have these replies
 abbrev pub AnswersWithin : (A : Type 0) → ℕ → List (Step A) → List (Reply A) → Type 0
 AnswersWithin A most steps wanted =
-    (first_call : ℕ) → replies (opening {A = A} (record { first_call = first_call; file_max = most })) (Start ∷ steps) ≡ Pid 1 ∷ wanted
+    (first_call : ℕ) → replies (opening {A = A} (usual first_call most)) (Start ∷ steps) ≡ Pid 1 ∷ wanted
 
 -- the last bytes that a file may have, and what lies beyond
 abbrev pub EndOfAFile : Type 0 → Type 0
@@ -115,7 +115,7 @@ PipesHaveNoOffset A =
 -- a script, and what it prints where no step wants for memory and a file has at most this many bytes
 abbrev pub PrintsWithin : (A : Type 0) → ℕ → List ℕ → ℕ → List (List ℕ) → Type 0
 PrintsWithin A most script steps wanted =
-    (first_call : ℕ) → output A script (record { first_call = first_call; file_max = most }) (replicate steps false) ≡ text wanted
+    (first_call : ℕ) → output A script (usual first_call most) (replicate steps false) ≡ text wanted
 
 abbrev pub ScriptOfFiles : Type 0 → Type 0
 ScriptOfFiles A =

@@ -13,7 +13,7 @@ use Rattle.pl_model.specs.Numbered.{opening}
 use Rattle.pl_model.specs.Chunks.{OfCall, AtPlace, chunks, outs}
 use Rattle.pl_model.specs.Fates.{Answered, fate_begun}
 use Rattle.pl_model.specs.Run.{after}
-use Rattle.pl_model.specs.Worked.{pipe, read, write, close, Answers, AnswersFrom}
+use Rattle.pl_model.specs.Worked.{usual, pipe, read, write, close, Answers, AnswersFrom}
 use Rattle.pl_model.specs.WorkedFiles.{open_name, lseek, AnswersWithin}
 use Rattle.pl_model.specs.WorkedStream.{first_state}
 
@@ -35,7 +35,7 @@ module _ {A : Type 0} where
 -- after these steps, where a file has at most this many bytes, the file of the name has these
 abbrev pub LeavesFile : (A : Type 0) → ℕ → List (Step A) → List ℕ → List ℕ → Type 0
 LeavesFile A most steps name bytes =
-    (first_call : ℕ) → file_bytes (after (opening {A = A} (record { first_call = first_call; file_max = most })) (unmarked (Start ∷ steps))).core name ≡ Some bytes
+    (first_call : ℕ) → file_bytes (after (opening {A = A} (usual first_call most)) (unmarked (Start ∷ steps))).core name ≡ Some bytes
 
 -- two pipes share the bytes that were copied, and then each has its own
 abbrev pub SharedTail : Type 0 → Type 0

@@ -8,11 +8,11 @@ use Rattle.pl_model.specs.Numbered.{State, opening}
 use Rattle.pl_model.specs.Chunks.{OfCall, AtPlace, ForgottenAt, chunks, outs}
 use Rattle.pl_model.specs.Fates.{Answered, fate_begun}
 use Rattle.pl_model.specs.Run.{after}
-use Rattle.pl_model.specs.Worked.{pipe, fork, read, write, close}
+use Rattle.pl_model.specs.Worked.{usual, pipe, fork, read, write, close}
 
 module _ {A : Type 0} where
   abbrev pub first_state : ℕ → State A
-  first_state file_max = opening (record { first_call = 1; file_max = file_max })
+  first_state file_max = opening (usual 1 file_max)
 
   -- Process 2 writes 1,000 bytes between the turns of the 70,000 of process 1; a read that finds no memory is passed over.
   abbrev pub before_the_large_write : List (Step A × Bool)

@@ -5,6 +5,7 @@ ghost use Rattle.pl_model.specs.Carried.{IsSpliceOrTee};
 use crate::bytes::Bytes8;
 use crate::flags::{OpenFlags, SpliceFlags};
 use crate::name::Name;
+use crate::numbers::{MAX_CAPACITY, MAX_FILE_BYTES, NO_LIMIT};
 use crate::polls::PollList;
 use std::alloc::{AllocError, Allocator, Global};
 
@@ -30,13 +31,32 @@ pub enum Whence {
     End,
 }
 
-/// The two limits that are chosen when a kernel is made.
+/// The limits that are chosen when a kernel is made. `Limits::DEFAULT` has those where nobody chooses.
 #[derive(Clone, Copy, Debug, PartialEq, Eq)]
 pub struct Limits {
     /// The number of the first parked call.
     pub first_call: u64,
     /// The most bytes of a regular file, at most 16,777,216.
     pub file_max: u32,
+    /// The most names of files and FIFOs at one time. A name more is refused (POSIX.1-2017, open and mkfifo, ENOSPC).
+    pub names_max: u64,
+    /// The most calls that wait at one time. A call that would wait above it is refused, with nothing taken (EAGAIN).
+    pub waiting_max: u64,
+    /// The most bytes that a pipe can be made to hold, at most 1,048,576 (fcntl(2), F_SETPIPE_SZ, EPERM). A new pipe can hold
+    /// 65,536, whatever this is.
+    pub capacity_max: u32,
+}
+
+impl Limits {
+    /// Calls are numbered from 1, a file has at most 16,777,216 bytes, a pipe at most 1,048,576; names and waiting calls have
+    /// no limit but memory.
+    pub const DEFAULT: Limits = Limits {
+        first_call: 1,
+        file_max: MAX_FILE_BYTES,
+        names_max: NO_LIMIT,
+        waiting_max: NO_LIMIT,
+        capacity_max: MAX_CAPACITY,
+    };
 }
 
 /// A call of a process. A descriptor is any `i32`; one outside 0 to 255 isn't open.

@@ -1,6 +1,6 @@
 //! The numbers of the layer, for code. Contracts cite those of the definitions (`specs/Numbers.antt`), which these are.
 ghost use Rattle.std.specs.Prelude.{◌≡◌};
-ghost use Rattle.pl_model.specs.Numbers.{pipe_buf, first_capacity, least_capacity, most_capacity, open_max, most_descriptions, most_processes, most_bytes, most_file_bytes, most_name_bytes, greatest_offset, most_script_bytes, most_reads, last_call};
+ghost use Rattle.pl_model.specs.Numbers.{pipe_buf, first_capacity, least_capacity, most_capacity, open_max, most_descriptions, most_processes, most_bytes, most_file_bytes, most_name_bytes, greatest_offset, most_script_bytes, most_reads, last_call, no_limit};
 
 /// The most bytes of a write that goes in whole or not at all (POSIX.1-2017, limits.h; pipe(7), PIPE_BUF).
 pub const PIPE_BUF: usize = 4_096;
@@ -44,6 +44,9 @@ pub const MAX_READS: u32 = 16_777_217;
 /// The number that no parked call gets, above all that they get.
 pub const LAST_CALL: u64 = u64::MAX;
 
+/// A limit on names or on waiting calls that is never reached.
+pub const NO_LIMIT: u64 = u64::MAX;
+
 /// Each constant is the number of the definitions. It does nothing: its contract is what it is for.
 pub fn are_those_of_the_definitions()
     ensures pipe_buf { PIPE_BUF ≡ pipe_buf }
@@ -60,4 +63,5 @@ pub fn are_those_of_the_definitions()
     ensures most_script_bytes { MAX_SCRIPT_BYTES ≡ most_script_bytes }
     ensures most_reads { MAX_READS ≡ most_reads }
     ensures last_call { LAST_CALL ≡ last_call }
+    ensures no_limit { NO_LIMIT ≡ no_limit }
 {}

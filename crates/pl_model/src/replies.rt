@@ -21,6 +21,7 @@ pub enum Errno {
     ENAMETOOLONG,
     ENFILE,
     ENOENT,
+    ENOSPC,
     ENXIO,
     EOVERFLOW,
     EPERM,

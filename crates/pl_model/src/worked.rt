@@ -3,6 +3,7 @@ ghost use Rattle.pl_model.specs.Worked.{BytesBeforeEndOfFile, PartialAndWholeNot
 ghost use Rattle.pl_model.specs.WorkedFiles.{EndOfAFile, BadNames, RefusalsOfAnOpen, FlagsOfAnOpen, AppendingAndSeeking, UnlinkedFileLivesOn, NamesKeepTheirFiles, PipesHaveNoOffset, ScriptOfFiles, NamesInWords};
 ghost use Rattle.pl_model.specs.WorkedCapacity.{SizesAreRoundedUp, OnlyPipesHaveACapacity, CapacityIsRoom, WaitingWriteGetsRoom, ScriptOfCapacities, LinesOfCapacities};
 ghost use Rattle.pl_model.specs.WorkedFifo.{UnusedFifoForgets, OpensWithoutTheOtherEnd, ReadersWaitForAWriter, InterruptedOpen, MetThoughClosed, LastOpenThatWaits, LinesOfFifos};
+ghost use Rattle.pl_model.specs.WorkedLimits.{NamesUpToTheLimit, WaitingCallsUpToTheLimit, NoCallMayWait, CapacitiesUpToTheLimit};
 ghost use Rattle.pl_model.specs.WorkedPoll.{PollsOfAPipe, EndsThatLeave, HangingUpAFifo, FilesAndBothEnds, PollsThatDontWait, PollsKeepTheirEnds, PollWithoutANumber, ScriptOfPolls, LinesOfPolls};
 ghost use Rattle.pl_model.specs.WorkedSpliceLines.{LinesOfSplices};
 ghost use Rattle.pl_model.specs.WorkedStream.{RunsInPieces};
@@ -88,6 +89,14 @@ pub fn polls<A: Allocator>()
     ensures polls_that_dont_wait { PollsThatDontWait A }
     ensures polls_keep_their_ends { PollsKeepTheirEnds A }
     ensures poll_without_a_number { PollWithoutANumber A }
+{}
+
+/// Calls at the limits that are chosen when a kernel is made.
+pub fn limits<A: Allocator>()
+    ensures names_up_to_the_limit { NamesUpToTheLimit A }
+    ensures waiting_calls_up_to_the_limit { WaitingCallsUpToTheLimit A }
+    ensures no_call_may_wait { NoCallMayWait A }
+    ensures capacities_up_to_the_limit { CapacitiesUpToTheLimit A }
 {}
 
 /// The pieces in which the bytes of small runs go through a pipe, and what becomes of a write.

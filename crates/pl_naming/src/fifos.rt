@@ -26,7 +26,8 @@ use std::alloc::Allocator;
 /// Makes a FIFO: an empty pipe that the name stands for (POSIX.1-2017, mkfifo), for a process that is there.
 ///
 /// The reply is `Unit`, or, in this order: `ENOENT` of an empty name, `ENAMETOOLONG` of one above 255 bytes, `EINVAL` of one with a slash
-/// or a NUL; `EEXIST` where the name stands for something. The only error is want of memory. All of these leave all as it was.
+/// or a NUL; `EEXIST` where the name stands for something; `ENOSPC` where there are as many names as may be. The only error is want of
+/// memory. All of these leave all as it was.
 pub fn mkfifo<A: Allocator + Copy>(
     kernel: &mut KernelState<A>,
     pid: u32,
@@ -45,6 +46,9 @@ pub fn mkfifo<A: Allocator + Copy>(
     }
     if kernel.nodes.look_up(bytes).is_some() {
         return Ok(Reply::Fault(Errno::EEXIST));
+    }
+    if !kernel.can_name() {
+        return Ok(Reply::Fault(Errno::ENOSPC));
     }
     let kept = Vec::from_slice(kernel.alloc, bytes)?;
     let Ok(_) = kernel.nodes.make_fifo(kept) else {
@@ -144,6 +148,9 @@ fn await_other_end<A: Allocator + Copy>(
     ensures undone { OnErr result (kernel.new ≡ kernel.old) }
     ensures wanted { OnErr result (MayWantAtKeys {A = A} kernel.old (Step.Begin pid (Call.OpenName name end.mode end.flags))) }
 {
+    if !kernel.can_wait() {
+        return Ok(Reply::Fault(Errno::EAGAIN));
+    }
     if kernel.parked.spent() {
         return Ok(Reply::CallsSpent);
     }

@@ -51,9 +51,10 @@ fn empty_if<A: Allocator + Copy>(nodes: &mut Nodes<A>, file: usize, is_emptied: 
 ///
 /// The reply is the least free descriptor, or, in this order: `ENOENT` of an empty name, `ENAMETOOLONG` of one above 255 bytes, `EINVAL` of
 /// one with a slash or a NUL; `EEXIST` under `CREAT` and `EXCL` where the name stands for something; `ENOENT` without `CREAT` where it
-/// stands for nothing; `EMFILE` where no descriptor is free; `ENFILE` at 4,096 descriptions. A FIFO without the other end that this open
-/// needs is waited for, and the reply is `Parked`; but `ENXIO` of an open for writing with `NONBLOCK`, and `CallsSpent` where no number is
-/// left for a call that waits (fifo(7)). The only error is want of memory. But for `Parked`, all of these leave all as it was.
+/// stands for nothing; `EMFILE` where no descriptor is free; `ENFILE` at 4,096 descriptions; `ENOSPC` of a file that is to be made, where
+/// there are as many names as may be. A FIFO without the other end that this open needs is waited for, and the reply is `Parked`; but
+/// `ENXIO` of an open for writing with `NONBLOCK`, `EAGAIN` where as many calls wait as may, and `CallsSpent` where no number is left for
+/// a call that waits (fifo(7)). The only error is want of memory. But for `Parked`, all of these leave all as it was.
 pub fn open_name<A: Allocator + Copy>(
     kernel: &mut KernelState<A>,
     pid: u32,
@@ -134,7 +135,7 @@ fn open_file<A: Allocator + Copy>(
     Ok(Reply::Fd(fd as i32))
 }
 
-// Makes an empty file of a name that stands for nothing, and opens it.
+// Makes an empty file of a name that stands for nothing, and opens it, or answers `ENOSPC`.
 fn create_file<A: Allocator + Copy>(
     kernel: &mut KernelState<A>,
     pid: u32,
@@ -149,6 +150,9 @@ fn create_file<A: Allocator + Copy>(
     ensures undone { OnErr result (kernel.new ≡ kernel.old) }
     ensures wanted { OnErr result (MayWantAtKeys {A = A} kernel.old (Step.Begin pid (Call.OpenName name.now mode flags))) }
 {
+    if !kernel.can_name() {
+        return Ok(Reply::Fault(Errno::ENOSPC));
+    }
     let node = Node::File(kernel.nodes.next_key());
     let kept = Vec::from_slice(kernel.alloc, name)?;
     kernel.descs.reserve(node, 1)?;

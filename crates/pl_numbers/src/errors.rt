@@ -21,6 +21,7 @@ pub fn error_number(errno: Errno) -> i32
         Errno::ENFILE => 23,
         Errno::EMFILE => 24,
         Errno::EFBIG => 27,
+        Errno::ENOSPC => 28,
         Errno::ESPIPE => 29,
         Errno::EPIPE => 32,
         Errno::ENAMETOOLONG => 36,

@@ -90,6 +90,16 @@ module _ {X : Type 0} where
         ap (joined e.0 e.1) (changed-calls (e.0 + 1) next k es x y r.1 at (sym (other-get e.0 n (calls_in es) other e.1) ∙ has))
         ∙ sym (other-put e.0 n (calls_in es) other e.1 y)
 
+  -- each entry has a call, or is empty
+  pub length-calls : (es : Map ℕ (Option X)) → length (calls_in es) + empties es ≡ length es
+  length-calls [] = refl
+  length-calls (e ∷ es) =
+      let rest = length-calls es in
+      elim e.1 as (λ o. length (joined e.0 o (calls_in es)) + empties ((e.0, o) ∷ es) ≡ length (e ∷ es)) [
+        | None ↦ (let one = sum_by-cons (λ (z : ℕ × Option X). cond (is_empty z) 1 0) (e.0, None) es in omega (arith, one, rest))
+        | Some x ↦ (let one = sum_by-cons (λ (z : ℕ × Option X). cond (is_empty z) 1 0) (e.0, Some x) es in omega (arith, one, rest))
+      ]
+
   -- how many entries are empty, once one is replaced
   pub empties-set : (k : ℕ) (es : Map ℕ (Option X)) (e d : ℕ × Option X) → k < length es → empties (slice_set es k e) + cond (is_empty (slice_index_or es k d)) 1 0 ≡ empties es + cond (is_empty e) 1 0
   empties-set k es e d l = sum_by-set (λ z. cond (is_empty z) 1 0) es k e d l

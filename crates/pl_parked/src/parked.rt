@@ -95,6 +95,13 @@ impl<A: Allocator> Parked<A> {
         self.next == LAST_CALL
     }
 
+    /// How many calls wait.
+    pub fn len(&self) -> usize
+        ensures { result ≡ length self.now.calls }
+    {
+        self.entries.len() - self.empty
+    }
+
     /// The number that the next call gets, if one is left. It is above those of all calls that wait.
     pub fn next_number(&self) -> u64
         ensures value { result ≡ self.now.next }

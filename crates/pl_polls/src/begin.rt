@@ -69,8 +69,8 @@ pub(crate) fn park_poll<A: Allocator + Copy>(
 /// bytes.
 ///
 /// The reply is how many masks aren't empty, and all masks; or with `wait`, and where all are empty, a number under which the call
-/// waits; or, in this order: `EINVAL` of more than 256 entries; `CallsSpent` where it would wait and no number is left. The only error
-/// is want of memory. All but a call that is parked leave all as it was.
+/// waits; or, in this order: `EINVAL` of more than 256 entries; where it would wait, `EAGAIN` if as many calls wait as may, and
+/// `CallsSpent` if no number is left. The only error is want of memory. All but a call that is parked leave all as it was.
 pub fn poll<A: Allocator + Copy>(
     kernel: &mut KernelState<A>,
     pid: u32,
@@ -94,6 +94,9 @@ pub fn poll<A: Allocator + Copy>(
     };
     if !wait || is_ready(kernel, named, asked) {
         return masks_reply(kernel, named, asked);
+    }
+    if !kernel.can_wait() {
+        return Ok(Reply::Fault(Errno::EAGAIN));
     }
     if kernel.parked.spent() {
         return Ok(Reply::CallsSpent);

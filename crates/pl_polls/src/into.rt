@@ -107,6 +107,9 @@ pub fn poll_into<A: Allocator + Copy>(
         let ready = note_masks(kernel, named, entries);
         return Ok(PollReply::Ready(ready));
     }
+    if !kernel.can_wait() {
+        return Ok(PollReply::Fault(Errno::EAGAIN));
+    }
     if kernel.parked.spent() {
         return Ok(PollReply::CallsSpent);
     }

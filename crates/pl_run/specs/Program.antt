@@ -3,7 +3,7 @@ use Rattle.std.specs.Prelude.{◌≡◌, ℕ, List, Result, Ok, Err}
 use Rattle.std.specs.Global.{Global}
 use Rattle.pl_model.specs.declared.calls.Limits.{Limits}
 use Rattle.pl_model.specs.declared.script.Totals.{Totals}
-use Rattle.pl_model.specs.Numbers.{most_file_bytes}
+use Rattle.pl_model.specs.Numbers.{most_file_bytes, most_capacity, no_limit}
 use Rattle.pl_script.specs.declared.fault.ScriptFault.{ScriptFault}
 use Rattle.pl_script.specs.Running.{IsRun}
 use Rattle.pl_run.specs.declared.fault.Fault.{Fault}
@@ -11,7 +11,8 @@ use Rattle.pl_run.specs.Fault.{fault_of, status_of}
 
 -- the limits of a run: the number of the first call is given, and a file may be as long as any limit lets it
 abbrev pub limits_from : ℕ → Limits
-limits_from first_call = record { first_call = first_call; file_max = most_file_bytes }
+limits_from first_call =
+    record { first_call = first_call; file_max = most_file_bytes; names_max = no_limit; waiting_max = no_limit; capacity_max = most_capacity }
 
 abbrev pub as_fault : Result Totals ScriptFault → Result (Unit {0}) Fault
 as_fault (Ok counted) = Ok tt

@@ -13,9 +13,6 @@ pub use help::HELP;
 use pl_model::Limits;
 pub use program::{end, run, run_program};
 
-/// The limits of a run: calls are numbered from 1, unless the command line says otherwise, and a file has at most 16,777,216
-/// bytes.
-pub const LIMITS: Limits = Limits {
-    first_call: 1,
-    file_max: 16_777_216,
-};
+/// The limits of a run: calls are numbered from 1, unless the command line says otherwise, a file has at most 16,777,216 bytes, and
+/// nothing else has a limit of its own.
+pub const LIMITS: Limits = Limits::DEFAULT;

@@ -1,5 +1,5 @@
 -- What a kernel holds, and the machine's state that it is.
-use Rattle.std.specs.Prelude.{ℕ, Bool, List, Option, IsSome, IsTrue, option_map, map}
+use Rattle.std.specs.Prelude.{ℕ, Bool, List, length, nat_lt, Option, IsSome, IsTrue, option_map, map}
 use Rattle.pl_model.specs.declared.calls.Limits.{Limits}
 use Rattle.pl_model.specs.declared.calls.Mode.{Mode}
 use Rattle.pl_model.specs.declared.node.Node.{Node}
@@ -49,6 +49,14 @@ pub record Contents (A : Type 0) : Type 0 where
 -- the same of its parts
 abbrev pub contents : {A : Type 0} → Descs → Nodes → Calls A → Limits → Contents A
 contents descs nodes calls limits = record { tables = descs.tables; opened = descs.opened; nodes = nodes; calls = calls; limits = limits }
+
+-- fewer calls wait than the limit
+abbrev pub lets_wait : {A : Type 0} → Contents A → Bool
+lets_wait k = nat_lt (length k.calls.calls) k.limits.waiting_max
+
+-- there are fewer names than the limit
+abbrev pub lets_name : {A : Type 0} → Contents A → Bool
+lets_name k = nat_lt (length k.nodes.names) k.limits.names_max
 
 -- with the pipes of other nodes, kept as they are there
 abbrev pub with_pipes : {A : Type 0} → Contents A → Nodes → Contents A

@@ -1,5 +1,5 @@
 -- Calls that wait, in the kernel.
-use Rattle.std.specs.Prelude.{◌≡◌, ℕ, ℤ, ◌+◌, ◌==◌, Bool, false, if◌then◌else◌, List, [], ◌∷◌, ◌++◌, length, nat_eq, Option, Some, None}
+use Rattle.std.specs.Prelude.{◌≡◌, ℕ, ℤ, ◌+◌, ◌==◌, ◌||◌, not, Bool, false, if◌then◌else◌, List, [], ◌∷◌, ◌++◌, length, nat_eq, Option, Some, None}
 use Rattle.pl_model.specs.declared.calls.Call.{Call}
 use Rattle.pl_model.specs.declared.calls.Call.TheVariants as variant
 use Rattle.pl_model.specs.declared.calls.Mode.{Mode}
@@ -11,7 +11,7 @@ use Rattle.pl_model.specs.Numbers.{last_call}
 use Rattle.pl_model.specs.Map.{get, change_at}
 use Rattle.pl_parked.specs.declared.call.ParkedCall.{ParkedCall}
 use Rattle.pl_desc.specs.Rows.{at}
-use Rattle.pl_state.specs.Contents.{Contents, with_pipes}
+use Rattle.pl_state.specs.Contents.{Contents, lets_wait, with_pipes}
 
 module _ {A : Type 0} where
   -- the bytes of a write, and none of another call
@@ -23,6 +23,10 @@ module _ {A : Type 0} where
   -- is our own.
   abbrev pub refusal : (nonblock : Bool) → (next : ℕ) → Option (Reply A)
   refusal nonblock next = if nonblock then Some (Fault EAGAIN) else if next == last_call then Some CallsSpent else None
+
+  -- the same in a kernel, where a call that would wait above the limit is refused as one that may not wait
+  abbrev pub refusal_in : Contents A → (nonblock : Bool) → Option (Reply A)
+  refusal_in k nonblock = refusal (nonblock || not (lets_wait k)) k.calls.next
 
   -- a call of the process that waits on one description
   abbrev pub call_on : (key pid : ℕ) → Call A → (taken : ℕ) → ParkedCall A

@@ -50,3 +50,29 @@ impl<A: Allocator + Copy> KernelState<A> {
         }
     }
 }
+
+impl<A: Allocator + Copy> KernelState<A> {
+    ghost use Rattle.std.specs.Prelude.{◌≡◌, ◌||◌, not};
+    ghost use Rattle.pl_state.specs.Contents.{lets_wait, lets_name};
+
+    /// Whether fewer calls wait than the limit.
+    pub fn can_wait(&self) -> bool
+        ensures { result ≡ lets_wait self.now }
+    {
+        (self.parked.len() as u64) < self.limits.waiting_max
+    }
+
+    /// Whether there are fewer names than the limit.
+    pub fn can_name(&self) -> bool
+        ensures { result ≡ lets_name self.now }
+    {
+        (self.nodes.name_count() as u64) < self.limits.names_max
+    }
+
+    /// Whether a call that would wait answers `EAGAIN`: it may not wait, or as many calls wait as may.
+    pub fn refuses_to_wait(&self, nonblock: bool) -> bool
+        ensures { result ≡ (nonblock || not (lets_wait self.now)) }
+    {
+        nonblock || !self.can_wait()
+    }
+}

@@ -13,11 +13,8 @@ use std::process::ExitCode;
 use std::sync::Wait;
 use std::thread::{Threads, join};
 
-/// Calls are numbered from 1, and a file has at most 16,777,216 bytes.
-const LIMITS: Limits = Limits {
-    first_call: 1,
-    file_max: 16_777_216,
-};
+/// The limits of the layer: those where nobody chooses.
+const LIMITS: Limits = Limits::DEFAULT;
 
 /// What one caller's call of process 1 answers, if it is answered; and the caller.
 fn call<N: Layer, R: Wait>(

@@ -11,8 +11,5 @@ pub mod wanting;
 
 use pl_model::Limits;
 
-/// The limits of most tests: calls are numbered from 1, and a file has as many bytes as any can.
-pub const LIMITS: Limits = Limits {
-    first_call: 1,
-    file_max: 16_777_216,
-};
+/// The limits of most tests: those where nobody chooses.
+pub const LIMITS: Limits = Limits::DEFAULT;

@@ -14,7 +14,7 @@ use Rattle.pl_state.specs.Contents.{Contents}
 use Rattle.pl_state.specs.LastHold.{has_reader}
 use Rattle.pl_state.specs.Makes.{MakesAtKeys}
 use Rattle.pl_state.specs.Opens.{Opens, of_end}
-use Rattle.pl_state.specs.Parking.{refusal}
+use Rattle.pl_state.specs.Parking.{refusal_in}
 use Rattle.pl_transfers.specs.declared.transfers.WriteReply.{WriteReply}
 use Rattle.pl_transfers.specs.declared.transfers.WriteReply.TheVariants.{Wrote, Fault, Parked, NoProcess, CallsSpent}
 use Rattle.pl_transfers.specs.declared.transfers.WriteTry.{WriteTry}
@@ -36,7 +36,7 @@ module _ {A : Type 0} (k : Contents A) (pid : ℕ) (fd : ℤ) (bytes : List ℕ)
     pub from : ℕ
     pub comes : IfSome (at k.nodes.pipes end.pipe) (λ x. WriteCase.Waits from to ≡ write_case (length bytes) 0 (room x) (has_reader k.opened end.pipe) (not end.nonblock))
     pub fits : IfSome (at k.nodes.pipes end.pipe) (λ x. FitsRoom (WriteCase.Waits from to) (length bytes) 0 (room x))
-    pub left : refusal {A = A} end.nonblock k.calls.next ≡ None
+    pub left : refusal_in {A = A} k end.nonblock ≡ None
 
   -- what a write comes to before it is parked
   abbrev pub WriteTried : WriteTry → Contents A → Type 0

@@ -111,7 +111,7 @@ fn try_read_pipe<A: Allocator + Copy>(
         ReadCase::Gives(count) => Ok(ReadTry::Takes { end, count }),
         ReadCase::EndOfFile => Ok(ReadTry::Answered(ReadReply::Read(0))),
         ReadCase::Waits => {
-            if end.nonblock {
+            if kernel.refuses_to_wait(end.nonblock) {
                 return Ok(ReadTry::Answered(ReadReply::Fault(Errno::EAGAIN)));
             }
             if kernel.parked.spent() {

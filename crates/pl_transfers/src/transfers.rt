@@ -297,7 +297,7 @@ fn try_write_pipe<A: Allocator + Copy>(
             Ok(WriteTry::Wrote(to as u32))
         }
         WriteCase::Waits { to, .. } => {
-            if end.nonblock {
+            if kernel.refuses_to_wait(end.nonblock) {
                 return Ok(WriteTry::Answered(WriteReply::Fault(Errno::EAGAIN)));
             }
             if kernel.parked.spent() {

@@ -7,7 +7,7 @@ ghost use Rattle.pl_desc.specs.Rows.{at};
 ghost use Rattle.pl_state.specs.Contents.{IsProcess};
 ghost use Rattle.pl_state.specs.Opens.{OpenOn};
 ghost use Rattle.pl_state.specs.Sound.{IsPipe, KeepsOne, MayKeep, MayWait, OnNode};
-ghost use Rattle.pl_state.specs.Parking.{written, refusal, call_on, with_call, Adds, OpenWaits, ReadWaits, WriteWaits};
+ghost use Rattle.pl_state.specs.Parking.{written, refusal_in, call_on, with_call, Adds, OpenWaits, ReadWaits, WriteWaits};
 ghost use Rattle.pl_state.specs.Makes.{MakesAtKeys, MayWantAtKeys};
 ghost use Rattle.pl_transfers.specs.ReadInto.{read_count, told};
 ghost use Rattle.pl_transfers.specs.Readable.{gives_again};
@@ -30,16 +30,16 @@ fn bytes_of<A: Allocator>(call: &Call<A>) -> &[u8]
     }
 }
 
-/// Why a call that would wait doesn't, if it doesn't: `EAGAIN` where it may not, `CallsSpent` where no number is left. This is tested
-/// before any memory is asked for.
+/// Why a call that would wait doesn't, if it doesn't: `EAGAIN` where it may not, or as many calls wait as may; `CallsSpent` where no
+/// number is left. This is tested before any memory is asked for.
 #[inline(never)]
 pub fn refusal_to_wait<A: Allocator + Copy>(
     kernel: &KernelState<A>,
     nonblock: bool,
 ) -> Option<Reply<A>>
-    ensures { result ≡ refusal nonblock kernel.now.calls.next }
+    ensures { result ≡ refusal_in kernel.now nonblock }
 {
-    if nonblock {
+    if kernel.refuses_to_wait(nonblock) {
         return Some(Reply::Fault(Errno::EAGAIN));
     }
     if kernel.parked.spent() {

@@ -1,7 +1,7 @@
 -- A step that is refused leaves a settled state as it was.
 use Rattle.std.proofs.Common.{ap, sym, subst, ◌∙◌, ℕ, ℤ, Bool, true, false, cond, Option, List, [], ◌∷◌, ◌≡◌, refl, nat_eq}
 use Rattle.std.specs.declared.option.Option.TheVariants.{None, Some}
-use Rattle.std.specs.Prelude.{◌==◌, nat_lt, length, is_some}
+use Rattle.std.specs.Prelude.{◌==◌, nat_lt, length, is_some, ◌&&◌, ◌||◌, not}
 use Rattle.pl_model.specs.declared.calls.Call.{Call}
 use Rattle.pl_model.specs.declared.calls.Mode.{Mode}
 use Rattle.pl_model.specs.declared.calls.Step.{Step}
@@ -13,13 +13,13 @@ use Rattle.pl_model.specs.declared.flags.OpenFlags.{OpenFlags}
 use Rattle.pl_model.specs.declared.flags.PollMask.{PollMask}
 use Rattle.pl_model.specs.declared.replies.Reply.{Reply}
 use Rattle.pl_model.specs.declared.replies.Reply.TheVariants.{Fault, NoProcess, NoCall, CallsSpent, Parked}
-use Rattle.pl_model.specs.declared.replies.Errno.TheVariants.{EEXIST, EINTR}
+use Rattle.pl_model.specs.declared.replies.Errno.TheVariants.{EAGAIN, EEXIST, EINTR, ENOSPC}
 use Rattle.pl_model.specs.declared.replies.Errno.{Errno}
 use Rattle.pl_model.specs.Numbers.{last_call}
 use Rattle.pl_model.specs.Map.{get}
 use Rattle.pl_model.specs.Memory.{is_refusal}
 use Rattle.pl_model.specs.Keys.{Keys, Node, NewKeys, Drawing, PipeNode, FileNode, Plain, Draws, drawn, drawing_map}
-use Rattle.pl_model.specs.State.{Core, Pipe, Description, Open, Waiting, named}
+use Rattle.pl_model.specs.State.{Core, Pipe, Description, Open, Waiting, named, can_name, can_wait}
 use Rattle.pl_model.specs.Settle.{settle}
 use Rattle.pl_model.specs.Trial.{Trial, Done, Wait, Flow, still, flowed, pipe_at, Begun, Begins, Refused, Answered, Tried, found, refuse_if}
 use Rattle.pl_model.specs.Transfer.{count, read_row, write_row, read_case, write_case, read_pipe, write_pipe, read_file, write_file, read_node, write_node}
@@ -223,7 +223,7 @@ module _ {A : Type 0} {K : Keys} where
   begun-unchanged before pid call (Refused errno) plain r = (refl, refl)
   begun-unchanged before pid call (Answered u reply) plain r = (let e : true ≡ false = sym r ∙ begin-refused pid call reply ∙ plain in absurd (cc))
   begun-unchanged before pid call (Tried u kept met may_wait) plain r =
-      first_tried-unchanged before pid call (waiting pid call kept met) may_wait _ plain r
+      first_tried-unchanged before pid call (waiting pid call kept met) (may_wait && can_wait before) _ plain r
 
   resumed-unchanged : (s : Core A K) (c : ℕ) (w : Option (Waiting A K)) → NoChange s (Resume c) (resumed s c w)
   resumed-unchanged s c None r = (refl, refl)
@@ -307,20 +307,32 @@ module _ {A : Type 0} {K : Keys} where
 
   ruleset firsts = (first_found, first_if, first_past, first_plain, first_draws)
 
-  -- a call that waits is parked where a number is left for it
-  parked-first : (s u : Core A K) (pid : ℕ) (call : Call A) (w : Waiting A K) (taken : ℕ) → (s.next_call == last_call) ≡ false → is_refused (Begin pid call) (first_tried s w true (Wait u still taken)).reply ≡ false
-  parked-first s u pid call w taken e =
-      ap (λ (b : Bool). is_refused (Begin pid call) (cond b (stepped s CallsSpent) (record { state = parked (flowed u still) (record w { taken = taken }); reply = Parked s.next_call; flow = still })).reply) e
+  -- a call that waits is parked where a number is left for it, and fewer calls wait than may
+  parked-first : (s u : Core A K) (pid : ℕ) (call : Call A) (w : Waiting A K) (taken : ℕ) → (s.next_call == last_call || not (can_wait s)) ≡ false → is_refused (Begin pid call) (first_tried s w (can_wait s) (Wait u still taken)).reply ≡ false
+  parked-first s u pid call w taken e = at (can_wait s) e where
+    spent : (b : Bool) → (b || false) ≡ false → is_refused (Begin pid call) (cond b (stepped s CallsSpent) (record { state = parked (flowed u still) (record w { taken = taken }); reply = Parked s.next_call; flow = still })).reply ≡ false
+    spent true e = absurd (cc)
+    spent false e = refl
+
+    crowded : (b : Bool) → (b || true) ≡ false → ⊥
+    crowded true e = cc
+    crowded false e = cc
+
+    at : (can : Bool) → (s.next_call == last_call || not can) ≡ false → is_refused (Begin pid call) (first_tried s w can (Wait u still taken)).reply ≡ false
+    at true e = spent (s.next_call == last_call) e
+    at false e = absurd (crowded (s.next_call == last_call) e)
 
   await-first : (s : Core A K) (pid : ℕ) (name : List ℕ) (p : K.Pipe) (mode : Mode) (flags : OpenFlags) → RefusesFirst s pid (Call.OpenName name mode flags) (await_other_end s p mode flags)
   unfolding try
   await-first s pid name p mode flags =
       let call = Call.OpenName name mode flags in
-      first_if s pid call (s.next_call == last_call) _ _ (λ e. first_plain s pid call _)
+      first_if s pid call (s.next_call == last_call || not (can_wait s)) _ _ (λ e. first_plain s pid call _)
       (λ e. first_draws s pid call _ (λ new. parked-first s (describe (meet s p mode) new.description (PipeNode p) mode (status_flags flags)) pid call (waiting pid call (new.description ∷ []) false) 0 e))
 
   open_named-first : (s : Core A K) (pid fd : ℕ) (name : List ℕ) (node : Option (Node K)) (mode : Mode) (flags : OpenFlags) → RefusesFirst s pid (Call.OpenName name mode flags) (open_named s pid fd name node mode flags)
-  open_named-first s pid fd name None mode flags = search firsts
+  open_named-first s pid fd name None mode flags =
+      let call = Call.OpenName name mode flags in
+      first_past s pid call (not (can_name s)) ENOSPC _ (first_draws s pid call _ (λ new. refl))
   open_named-first s pid fd name (Some (FileNode f)) mode flags = search firsts
   open_named-first s pid fd name (Some (PipeNode p)) mode flags = search (firsts, await-first) depth 14
 
@@ -332,7 +344,8 @@ module _ {A : Type 0} {K : Keys} where
   mkfifo-first s pid name =
       let call = Call.Mkfifo name in
       let made = first_draws s pid call (λ new. Answered (create_fifo s name new.pipe) Reply.Unit) (λ new. refl) in
-      first_checked s pid call name (refuse_if (is_some (named s name)) EEXIST (Draws (λ new. Answered (create_fifo s name new.pipe) Reply.Unit))) (first_past s pid call (is_some (named s name)) EEXIST _ made)
+      let named_new = first_past s pid call (not (can_name s)) ENOSPC _ made in
+      first_checked s pid call name (refuse_if (is_some (named s name)) EEXIST (refuse_if (not (can_name s)) ENOSPC (Draws (λ new. Answered (create_fifo s name new.pipe) Reply.Unit)))) (first_past s pid call (is_some (named s name)) EEXIST _ named_new)
 
   begin-first : (s : Core A K) (pid : ℕ) (call : Call A) → RefusesFirst s pid call (begin s pid call)
   unfolding begin begin_pipe begin_mkfifo begin_open_name begin_read begin_write begin_splice begin_tee begin_poll begin_dup begin_dup2 begin_dup_fd begin_close begin_lseek begin_get_fl begin_set_fl begin_get_pipe_sz begin_set_pipe_sz begin_unlink begin_fork

@@ -1,6 +1,6 @@
 -- A call that begins in a run.
 use Rattle.std.proofs.Common.{◌≡◌, ◌≢◌, ◌⊎◌, inl, inr, ℕ, ℤ, ◌+◌, ◌<◌, ◌≤◌, Bool, true, false, cond, Option, List, [], ◌∷◌, ◌++◌, length, refl, sym, ◌∙◌, ap, subst, nat_eq, append-nil, arith}
-use Rattle.std.specs.Prelude.{◌==◌, IfSome, All, option_map}
+use Rattle.std.specs.Prelude.{◌==◌, IfSome, All, option_map, ◌&&◌}
 use Rattle.std.specs.declared.option.Option.TheVariants.{None, Some}
 use Rattle.std.proofs.lemmas.Bool.{eqb-true}
 use Rattle.std.proofs.lemmas.List.Elements.{All-cons}
@@ -15,7 +15,7 @@ use Rattle.pl_model.specs.Numbers.{last_call}
 use Rattle.pl_model.specs.Modes.{reads, writes}
 use Rattle.pl_model.specs.Map.{get}
 use Rattle.pl_model.specs.Keys.{Node, PipeNode, Plain, drawn, drawing_map}
-use Rattle.pl_model.specs.State.{Core, Description, Open, Waiting, described}
+use Rattle.pl_model.specs.State.{Core, Description, Open, Waiting, described, can_wait}
 use Rattle.pl_model.specs.Trial.{Trial, Done, Wait, flowed, found, answered, tried as tried_with, Answered as Answers_now, Tried}
 use Rattle.pl_model.specs.Transfer.{count}
 use Rattle.pl_model.specs.Begin.{open_fd, open_for, allowed, may_block, begin_read, begin_write}
@@ -214,10 +214,10 @@ module _ {A : Type 0} (p q : ℕ) (place : ℕ) (s : State A) (xs : List (Step A
     abbrev WriteFirst : Bool → List (List ℕ) → List (List ℕ) → Fate A → Type 0
     WriteFirst may ins outs end = Adds may bytes 0 ins end
 
-    first_write : (w : Waiting A numbers) (may : Bool) (t : Trial A numbers) → w.call ≡ call → w.taken ≡ 0 → Keeps s.core w.kept 0 (PipeNode q) → WriteTry may bytes 0 q t →
-        FirstSays p q place s xs pid call (WriteFirst may) (IsWrite p q fd bytes) (WriteSays p q fd bytes) (write_course p q fd bytes) w may t
-    first_write w may (Done u flow reply) is none on says = says
-    first_write w may (Wait u flow to) is none on says = ((is, (says.2, says.3), on), (λ ins outs end rest. adds_more may bytes 0 to (into_pipe numbers flow.into q) ins end (λ h. refl) says rest))
+    first_write : (w : Waiting A numbers) (may parks : Bool) (t : Trial A numbers) → w.call ≡ call → w.taken ≡ 0 → Keeps s.core w.kept 0 (PipeNode q) → WriteTry may bytes 0 q t →
+        FirstSays p q place s xs pid call (WriteFirst may) (IsWrite p q fd bytes) (WriteSays p q fd bytes) (write_course p q fd bytes) w parks t
+    first_write w may parks (Done u flow reply) is none on says = says
+    first_write w may parks (Wait u flow to) is none on says = ((is, (says.2, says.3), on), (λ ins outs end rest. adds_more may bytes 0 to (into_pipe numbers flow.into q) ins end (λ h. refl) says rest))
 
     no_write : (may : Bool) (reply : Reply A) → taken_with 0 reply ≡ 0 → ((n : ℕ) → Answered reply ≢ Answered (count n)) → answers_count (Answered reply) (length bytes) ≡ false → WriteFirst may [] [] (record { ending = Answered reply; taken = taken_with 0 reply })
     no_write may reply none other not = adds_no may bytes 0 (taken_with 0 reply) (Answered reply) (omega arith) none not other
@@ -227,18 +227,18 @@ module _ {A : Type 0} (p q : ℕ) (place : ℕ) (s : State A) (xs : List (Step A
     begun_write on = process (s.core.processes pid) (begin_to call)
       where
         tried : (o : Open numbers) → open_for writes s.core pid fd ≡ Some o → o.description.node ≡ PipeNode q →
-            StepTo s (Begin pid call) (first_tried s.core (waiting pid call (o.key ∷ []) false) (may_block o.description) (try s.core (waiting pid call (o.key ∷ []) false) call (may_block o.description))) →
+            StepTo s (Begin pid call) (first_tried s.core (waiting pid call (o.key ∷ []) false) (may_block o.description && can_wait s.core) (try s.core (waiting pid call (o.key ∷ []) false) call (may_block o.description))) →
             BegunWhole p q place s xs pid call (WriteFirst (may_block o.description))
         tried o e is to =
             let w : Waiting A numbers = waiting pid call (o.key ∷ []) false in
             let node : node_of s.core o.key ≡ Some o.description.node = open_node s.core pid fd o (opened writes (open_fd s.core pid fd) o e) in
             let keeps : Keeps s.core (o.key ∷ []) 0 (PipeNode q) = there s.core o.key o.description.node (PipeNode q) node is in
-            first_says p q place s xs pid call (WriteFirst (may_block o.description)) (IsWrite p q fd bytes) (WriteSays p q fd bytes) (write_course p q fd bytes) w (may_block o.description)
+            first_says p q place s xs pid call (WriteFirst (may_block o.description)) (IsWrite p q fd bytes) (WriteSays p q fd bytes) (write_course p q fd bytes) w (may_block o.description && can_wait s.core)
             (try s.core w call (may_block o.description)) below order
             (fresh o.key s.next_description o.description.node node (omega arith)) (fresh o.key (s.next_description + 1) o.description.node node (omega arith))
             (try-keeps (among_changes (next_numbers s) s.core) s.core w call (may_block o.description) (among_same s.core order.once))
             (try_fine s.core w call (may_block o.description) (omega arith, λ h. refl) (λ h. refl))
-            (first_write w (may_block o.description) (try s.core w call (may_block o.description)) refl refl keeps
+            (first_write w (may_block o.description) (may_block o.description && can_wait s.core) (try s.core w call (may_block o.description)) refl refl keeps
             (write_try s.core w fd bytes (may_block o.description) q (omega arith, λ h. refl) (λ h. refl) keeps))
             (no_write (may_block o.description) (Fault EAGAIN) refl (λ n e. cc) refl) (no_write (may_block o.description) CallsSpent refl (λ n e. cc) refl)
             to
@@ -288,18 +288,18 @@ module _ {A : Type 0} (p q : ℕ) (place : ℕ) (s : State A) (xs : List (Step A
     begun_read on = process (s.core.processes pid) (begin_to read)
       where
         tried : (o : Open numbers) → open_for reads s.core pid fd ≡ Some o → o.description.node ≡ PipeNode p →
-            StepTo s (Begin pid read) (first_tried s.core (waiting pid read (o.key ∷ []) false) (may_block o.description) (try s.core (waiting pid read (o.key ∷ []) false) read (may_block o.description))) →
+            StepTo s (Begin pid read) (first_tried s.core (waiting pid read (o.key ∷ []) false) (may_block o.description && can_wait s.core) (try s.core (waiting pid read (o.key ∷ []) false) read (may_block o.description))) →
             BegunWhole p q place s xs pid read ReadFirst
         tried o e is to =
             let w : Waiting A numbers = waiting pid read (o.key ∷ []) false in
             let node : node_of s.core o.key ≡ Some o.description.node = open_node s.core pid fd o (opened reads (open_fd s.core pid fd) o e) in
             let keeps : Keeps s.core (o.key ∷ []) 0 (PipeNode p) = there s.core o.key o.description.node (PipeNode p) node is in
-            first_says p q place s xs pid read ReadFirst (IsRead p q fd k) (ReadSays p q fd k) (read_course p q fd k) w (may_block o.description)
+            first_says p q place s xs pid read ReadFirst (IsRead p q fd k) (ReadSays p q fd k) (read_course p q fd k) w (may_block o.description && can_wait s.core)
             (try s.core w read (may_block o.description)) below order
             (fresh o.key s.next_description o.description.node node (omega arith)) (fresh o.key (s.next_description + 1) o.description.node node (omega arith))
             (try-keeps (among_changes (next_numbers s) s.core) s.core w read (may_block o.description) (among_same s.core order.once))
             (try_fine s.core w read (may_block o.description) tt (λ h. refl))
-            (first_read w (may_block o.description) (try s.core w read (may_block o.description)) refl keeps (read_try p q fd k s.core w (may_block o.description) keeps))
+            (first_read w (may_block o.description && can_wait s.core) (try s.core w read (may_block o.description)) refl keeps (read_try p q fd k s.core w (may_block o.description) keeps))
             refl refl to
 
         opens : (o : Option (Open numbers)) → open_for reads s.core pid fd ≡ o → IfSome o (λ o. o.description.node ≡ PipeNode p) →

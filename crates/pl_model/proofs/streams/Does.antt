@@ -1,7 +1,7 @@
 -- What one step does to the parked calls, and whose bytes it moves.
 use Rattle.std.proofs.lemmas.Bool.{eqb-true}
 use Rattle.std.proofs.Common.{◌≡◌, ℕ, ℤ, ◌+◌, Bool, true, false, cond, Option, List, [], ◌∷◌, ◌++◌, length, refl, sym, ◌∙◌, ap, subst, nat_eq, arith}
-use Rattle.std.specs.Prelude.{◌==◌, nat_lt, not, map}
+use Rattle.std.specs.Prelude.{◌==◌, nat_lt, not, map, ◌&&◌}
 use Rattle.std.specs.declared.option.Option.TheVariants.{None, Some}
 use Rattle.std.specs.List.{filter}
 use Rattle.pl_model.specs.declared.calls.Call.{Call}
@@ -16,7 +16,7 @@ use Rattle.pl_model.specs.declared.replies.Reply.TheVariants.{NoProcess, CallsSp
 use Rattle.pl_model.specs.Numbers.{last_call}
 use Rattle.pl_model.specs.Map.{Map, get, put, EachOnce}
 use Rattle.pl_model.specs.Keys.{Node, NewKeys, Plain, Draws, PipeNode, FileNode, drawn, drawing_map}
-use Rattle.pl_model.specs.State.{Core, Description, Open, Waiting}
+use Rattle.pl_model.specs.State.{Core, Description, Open, Waiting, can_wait}
 use Rattle.pl_model.specs.Live.{readers}
 use Rattle.pl_model.specs.Trial.{Trial, Done, Wait, Flow, still, flowed, lost, gained, pipe_at, Begun, Begins, Refused, Answered, Tried}
 use Rattle.pl_model.specs.Transfer.{room, read_case, read_row, read_pipe, read_file, write_case, write_row, write_pipe, write_file, write_node, read_node}
@@ -250,7 +250,7 @@ module _ {A : Type 0} (new : NewKeys numbers) (s : Core A numbers) (order : AreI
   begun_does pid call (Refused errno) k = Quiet (among_same s order.once) refl
   begun_does pid call (Answered u reply) k = Quiet k refl
   begun_does pid call (Tried u kept met may_wait) k =
-      first_does pid call (waiting pid call kept met) may_wait _ refl (try-keeps (among_changes new s) u (waiting pid call kept met) call may_wait k)
+      first_does pid call (waiting pid call kept met) (may_wait && can_wait s) _ refl (try-keeps (among_changes new s) u (waiting pid call kept met) call may_wait k)
       (try_fine u (waiting pid call kept met) call may_wait (has_none call) (λ e. refl))
 
   again_does : (c : ℕ) (w : Waiting A numbers) (t : Trial A numbers) → get nat_eq s.parked c ≡ Some w → TrialAll (Among s) t → TrialFine w.call t → Does s (Resume c) (tried_again c w t)

@@ -1,6 +1,6 @@
 -- A splice or a tee adds the bytes that its source holds at the moment.
 use Rattle.std.proofs.Common.{◌≡◌, ◌≢◌, ◌⊎◌, inl, inr, ℕ, ◌+◌, ◌<◌, ◌≤◌, Bool, true, false, cond, Option, List, [], ◌∷◌, ◌++◌, length, refl, sym, ◌∙◌, ap, subst, nat_eq, length-append, arith}
-use Rattle.std.specs.Prelude.{◌==◌, IfSome, All}
+use Rattle.std.specs.Prelude.{◌==◌, IfSome, All, ◌&&◌}
 use Rattle.std.specs.declared.option.Option.TheVariants.{None, Some}
 use Rattle.std.proofs.lemmas.Bool.Decides.{eqb_tells}
 use Rattle.pl_model.specs.declared.calls.Call.{Call}
@@ -11,7 +11,7 @@ use Rattle.pl_model.specs.declared.replies.Reply.TheVariants.{Parked, NoProcess,
 use Rattle.pl_model.specs.Numbers.{last_call}
 use Rattle.pl_model.specs.Map.{get}
 use Rattle.pl_model.specs.Keys.{PipeNode, Plain, Draws, drawn, drawing_map}
-use Rattle.pl_model.specs.State.{Core, Waiting}
+use Rattle.pl_model.specs.State.{Core, Waiting, can_wait}
 use Rattle.pl_model.specs.Trial.{Trial, Done, Wait, flowed, Begun, Begins, Refused, Answered as Answers_now, Tried}
 use Rattle.pl_model.specs.Step.{Stepped, try, begin, begun, happen, first_tried, parked, stepped, waiting}
 use Rattle.pl_model.specs.Numbered.{numbers, State, next_numbers, step}
@@ -222,7 +222,7 @@ module _ {A : Type 0} (p q : ℕ) where
     begun_goes (Answers_now u reply) k = inl (λ place. ap (tag_answered place) k.1)
     begun_goes (Tried u kept met may_wait) k =
         subst (λ v. Goes (begun s.core pid call (Tried v kept met may_wait))) (sym k.0)
-        (first_goes (waiting pid call kept met) may_wait (try s.core (waiting pid call kept met) call may_wait) (is, k.1) k.2 k.3
+        (first_goes (waiting pid call kept met) (may_wait && can_wait s.core) (try s.core (waiting pid call kept met) call may_wait) (is, k.1) k.2 k.3
         (try-keeps (among_changes (next_numbers s) s.core) s.core (waiting pid call kept met) call may_wait (among_same s.core order.once))
         (try_fine s.core (waiting pid call kept met) call may_wait (has_none call) (λ h. refl)))
 

@@ -1,6 +1,6 @@
 -- Polls over a run: they move no byte.
 use Rattle.std.proofs.Common.{◌≡◌, ◌≢◌, ℕ, ℤ, ◌+◌, ◌≤◌, Bool, true, false, cond, Option, List, [], ◌++◌, length, refl, sym, ◌∙◌, ap, subst, nat_eq, arith}
-use Rattle.std.specs.Prelude.{◌||◌, not, nat_lt, map, is_none, All, IsSome, option_map}
+use Rattle.std.specs.Prelude.{◌||◌, not, nat_lt, map, is_none, All, IsSome, option_map, ◌&&◌}
 use Rattle.std.specs.List.{list_any}
 use Rattle.std.specs.declared.option.Option.TheVariants.{None, Some}
 use Rattle.std.proofs.lemmas.List.Elements.{All-weaker}
@@ -14,7 +14,7 @@ use Rattle.pl_model.specs.declared.replies.Errno.TheVariants.{EINVAL}
 use Rattle.pl_model.specs.Numbers.{open_max}
 use Rattle.pl_model.specs.Map.{get}
 use Rattle.pl_model.specs.Keys.{Plain, drawn, drawing_map}
-use Rattle.pl_model.specs.State.{Core, Description, Open, Waiting, described}
+use Rattle.pl_model.specs.State.{Core, Description, Open, Waiting, described, can_wait}
 use Rattle.pl_model.specs.Trial.{Trial, Done, Wait, Flow, still, answered, tried as tried_with, refuse_if}
 use Rattle.pl_model.specs.Poll.{masks, masks_reply, is_ready, try_poll}
 use Rattle.pl_model.specs.Begin.{named_by, begin_poll}
@@ -102,9 +102,9 @@ module _ {A : Type 0} (p q : ℕ) (entries : List (ℤ × PollMask)) (wait : Boo
     abbrev reply : Reply A
     reply = masks_reply (found_now s.core pid entries)
 
-    first : (w : Waiting A numbers) (t : Trial A numbers) → w.call ≡ poll → PollTry t → FirstSays p q place s xs pid poll PollFirst IsPoll PollSays poll_course w wait t
-    first w (Done u flow answer) is e = (no_ins p q flow e, no_outs p q (held s.core p) flow e)
-    first w (Wait u flow t) is e = (is, (λ ins outs end rest. then_nothing p q (held s.core p) flow ins outs e rest))
+    first : (w : Waiting A numbers) (may : Bool) (t : Trial A numbers) → w.call ≡ poll → PollTry t → FirstSays p q place s xs pid poll PollFirst IsPoll PollSays poll_course w may t
+    first w may (Done u flow answer) is e = (no_ins p q flow e, no_outs p q (held s.core p) flow e)
+    first w may (Wait u flow t) is e = (is, (λ ins outs end rest. then_nothing p q (held s.core p) flow ins outs e rest))
 
     -- what is kept has no number above all that were given
     old : (n : ℕ) → s.next_description ≤ n → All (λ d. d ≢ n) kept
@@ -119,14 +119,14 @@ module _ {A : Type 0} (p q : ℕ) (entries : List (ℤ × PollMask)) (wait : Boo
     unfolding begin begin_poll
     begun_poll = process (s.core.processes pid) (begin_to p q place s xs pid below order poll)
       where
-        tried : StepTo s (Begin pid poll) (first_tried s.core (waiting pid poll kept false) wait (try s.core (waiting pid poll kept false) poll wait)) → BegunWhole p q place s xs pid poll PollFirst
+        tried : StepTo s (Begin pid poll) (first_tried s.core (waiting pid poll kept false) (wait && can_wait s.core) (try s.core (waiting pid poll kept false) poll wait)) → BegunWhole p q place s xs pid poll PollFirst
         tried to =
             let w : Waiting A numbers = waiting pid poll kept false in
-            first_says p q place s xs pid poll PollFirst IsPoll PollSays poll_course w wait (try s.core w poll wait) below order
+            first_says p q place s xs pid poll PollFirst IsPoll PollSays poll_course w (wait && can_wait s.core) (try s.core w poll wait) below order
             (old s.next_description (omega arith)) (old (s.next_description + 1) (omega arith))
             (try-keeps (among_changes (next_numbers s) s.core) s.core w poll wait (among_same s.core order.once))
             (try_fine s.core w poll wait tt (λ h. refl))
-            (first w (try s.core w poll wait) refl (poll_try s.core w wait))
+            (first w (wait && can_wait s.core) (try s.core w poll wait) refl (poll_try s.core w wait))
             (refl, refl) (refl, refl) to
 
         named : (b : Bool) → StepTo s (Begin pid poll) (drawn (next_numbers s) (drawing_map (begun s.core pid poll) (cond b (answered s.core reply) (tried_with s.core kept false wait)))) → BegunWhole p q place s xs pid poll PollFirst

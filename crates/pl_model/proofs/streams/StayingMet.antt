@@ -1,7 +1,7 @@
 -- A parked call that met its other end has met it for good.
 use Rattle.std.proofs.lemmas.Bool.{eqb-true}
 use Rattle.std.proofs.Common.{◌≡◌, ◌≢◌, ℕ, ◌<◌, Bool, true, false, not, cond, Option, List, [], ◌∷◌, inl, inr, refl, sym, ◌∙◌, ap, nat_eq, arith}
-use Rattle.std.specs.Prelude.{◌==◌, option_map}
+use Rattle.std.specs.Prelude.{◌==◌, option_map, ◌&&◌}
 use Rattle.std.specs.declared.option.Option.TheVariants.{None, Some}
 use Rattle.std.specs.List.{filter}
 use Rattle.std.proofs.lemmas.Bool.Decides.{eqb_tells}
@@ -13,7 +13,7 @@ use Rattle.pl_model.specs.declared.replies.Reply.TheVariants.{NoProcess, CallsSp
 use Rattle.pl_model.specs.Numbers.{last_call}
 use Rattle.pl_model.specs.Map.{Map, get, put, EachOnce}
 use Rattle.pl_model.specs.Keys.{NewKeys, Plain, Draws, drawn, drawing_map}
-use Rattle.pl_model.specs.State.{Core, Waiting}
+use Rattle.pl_model.specs.State.{Core, Waiting, can_wait}
 use Rattle.pl_model.specs.Trial.{Trial, Flow, Done, Wait, Begun, Begins, Refused, Answered, Tried, flowed}
 use Rattle.pl_model.specs.Tables.{lowest_pid}
 use Rattle.pl_model.specs.Fifo.{meet, meets}
@@ -96,7 +96,7 @@ module _ {A : Type 0} (n : ℕ) where
     begun_met : (pid : ℕ) (call : Call A) (b : Begun A numbers) → BegunAll Met b → MetIn (begun s pid call b).state.parked
     begun_met pid call (Refused errno) k = before
     begun_met pid call (Answered u reply) k = k.1
-    begun_met pid call (Tried u kept met may_wait) k = first_met (waiting pid call kept met) may_wait _ (try-keeps met_changes u (waiting pid call kept met) call may_wait k)
+    begun_met pid call (Tried u kept met may_wait) k = first_met (waiting pid call kept met) (may_wait && can_wait s) _ (try-keeps met_changes u (waiting pid call kept met) call may_wait k)
 
     again_met : (c : ℕ) (w : Waiting A numbers) (t : Trial A numbers) → get nat_eq s.parked c ≡ Some w → TrialAll Met t → MetIn (tried_again c w t).state.parked
     again_met c w (Done u flow reply) here k v g = filtered (λ e. not (nat_eq c e.0)) (flowed u flow).parked (among_flowed s u flow k.0).once (flows u flow k.1) v g

@@ -1,5 +1,5 @@
 -- What a file that is made leaves at the kernel's keys.
-use Rattle.std.proofs.Common.{◌≡◌, ℕ, List, [], ◌∷◌, Option, Some, None, IfSome, IsSome, refl, sym, ◌∙◌, ap, subst, nat_eq, suc, zero, arith, slice_index_or}
+use Rattle.std.proofs.Common.{◌≡◌, ℕ, true, List, [], ◌∷◌, Option, Some, None, IfSome, IsSome, refl, sym, ◌∙◌, ap, subst, nat_eq, suc, zero, arith, slice_index_or}
 use Rattle.std.specs.Prelude.{All, pos, option_map}
 use Rattle.std.specs.declared.cmp.Ordering.{Ordering}
 use Rattle.std.specs.declared.cmp.Ordering.TheVariants.{Less, Equal, Greater}
@@ -25,14 +25,14 @@ use Rattle.pl_model.proofs.settling.FromSettled.{at_key}
 use Rattle.pl_desc.specs.Rows.{at, is_pid, row_at, with_row}
 use Rattle.pl_desc.specs.Descs.{Opened, Descs, fresh}
 use Rattle.pl_desc.proofs.RowLemmas.{pid_in}
-use Rattle.pl_state.specs.Contents.{Contents, Nodes, IsThere, contents, node_of, core_of}
+use Rattle.pl_state.specs.Contents.{Contents, Nodes, IsThere, contents, node_of, core_of, lets_name}
 use Rattle.pl_state.specs.Sound.{IsSound, AreThere}
 use Rattle.pl_state.specs.Makes.{MakesAtKeys}
 use Rattle.pl_naming.specs.Openings.{MayOpen}
 use Rattle.pl_state.proofs.Known.{Caller}
 use Rattle.pl_state.proofs.holders.There.{set_some}
 use Rattle.pl_naming.proofs.by_call.OpenedNode.{free, left, opened_sound, opened_makes}
-use Rattle.pl_naming.proofs.by_call.Opening.{made}
+use Rattle.pl_naming.proofs.by_call.Opening.{made, new-begun}
 use Rattle.pl_naming.proofs.by_call.Unused.{unused}
 use Rattle.pl_naming.proofs.by_call.Unlinking.{keyed, get-keyed}
 
@@ -72,7 +72,7 @@ module _ {A : Type 0} (m : Caller A) (name : List ℕ) (mode : Mode) (flags : Op
   abbrev c : Core A numbers
   c = core_of k
 
-  module _ (may : MayOpen k pid name mode flags fd None) (f d : ℕ) (vacant_file : at nodes.files f ≡ None) (vacant : at descs.opened d ≡ None)
+  module _ (may : MayOpen k pid name mode flags fd None) (can : lets_name k ≡ true) (f d : ℕ) (vacant_file : at nodes.files f ≡ None) (vacant : at descs.opened d ≡ None)
       (descs' : Descs) (nodes' : Nodes) (pids : is_pid descs'.tables ≡ is_pid descs.tables) (rows : row_at descs'.tables ≡ with_row (row_at descs.tables) pid fd (Some d))
       (opened : at descs'.opened ≡ set_at nat_eq (at descs.opened) d (Some (fresh (node.File f) mode (status_flags flags)))) (pipes_are : at nodes'.pipes ≡ at nodes.pipes)
       (files_are : at nodes'.files ≡ set_at nat_eq (at nodes.files) f (Some [])) (names_are : nodes'.names ≡ put nodes.names name (node.File f)) (file_max_is : nodes'.file_max ≡ nodes.file_max) where
@@ -124,5 +124,5 @@ module _ {A : Type 0} (m : Caller A) (name : List ℕ) (mode : Mode) (flags : Op
     created = (
       opened_sound m calls sound are fd may.lowest (node.File f) d vacant mode (status_flags flags) descs' nodes' pids rows opened file_max_is end settles there here once,
       opened_makes m calls sound are fd may.lowest (node.File f) d vacant mode (status_flags flags) descs' nodes' pids rows opened file_max_is end settles there here once
-          (Call.OpenName name mode flags) f vacant_file (made m name mode flags fd) may.begun refl,
+          (Call.OpenName name mode flags) f vacant_file (made m name mode flags fd) (new-begun m name mode flags fd may true can) refl,
     )

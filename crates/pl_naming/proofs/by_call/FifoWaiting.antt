@@ -1,6 +1,6 @@
 -- What an open of a FIFO that waits leaves at the kernel's keys.
 use Rattle.std.proofs.Common.{◌≡◌, ◌≢◌, ℕ, ◌+◌, ◌==◌, Bool, true, false, cond, List, [], ◌∷◌, ◌++◌, length, Option, Some, IfSome, IsSome, refl, sym, ◌∙◌, ap, subst, nat_eq, arith}
-use Rattle.std.specs.Prelude.{IsTrue, option_map, ◌&&◌}
+use Rattle.std.specs.Prelude.{IsTrue, option_map, ◌&&◌, ◌||◌, not}
 use Rattle.std.specs.Option.{option_eq}
 use Rattle.std.specs.Cmp.Lexicographic.{pointwise}
 use Rattle.std.proofs.lemmas.Bool.{eq-eqb, ne_eqb}
@@ -10,7 +10,8 @@ use Rattle.pl_model.specs.declared.calls.Mode.TheVariants as mode
 use Rattle.pl_model.specs.declared.calls.Step.TheVariants.{Begin}
 use Rattle.pl_model.specs.declared.flags.OpenFlags.{OpenFlags}
 use Rattle.pl_model.specs.declared.node.Node.TheVariants as node
-use Rattle.pl_model.specs.declared.replies.Reply.TheVariants.{Parked, CallsSpent}
+use Rattle.pl_model.specs.declared.replies.Reply.TheVariants.{Fault, Parked, CallsSpent}
+use Rattle.pl_model.specs.declared.replies.Errno.TheVariants.{EAGAIN}
 use Rattle.pl_model.specs.Numbers.{last_call}
 use Rattle.pl_model.specs.Flags.{status_flags}
 use Rattle.pl_model.specs.Modes.{lacks_end_of}
@@ -22,7 +23,7 @@ use Rattle.pl_model.specs.Tables.{describe}
 use Rattle.pl_model.specs.Trial.{Begun, Begins, Tried, Wait, still as moves_none, flowed, tried}
 use Rattle.pl_model.specs.Fifo.{meet}
 use Rattle.pl_model.specs.Memory.{is_refusal}
-use Rattle.pl_model.specs.Step.{Stepped, begin, begun, ended, stepped, parked, try, waiting}
+use Rattle.pl_model.specs.Step.{Stepped, begin, begun, core_step, ended, first_tried, stepped, parked, try, waiting}
 use Rattle.pl_model.specs.Numbered.{numbers}
 use Rattle.pl_model.specs.StandsFor.{Comes}
 use Rattle.pl_model.proofs.settling.Meeting.{wait_fifo-settled}
@@ -33,7 +34,7 @@ use Rattle.pl_parked.proofs.Rising.{Rise-push}
 use Rattle.pl_desc.specs.Rows.{at, is_pid, row_at, count_at}
 use Rattle.pl_desc.specs.Descs.{Opened, Descs, fresh}
 use Rattle.pl_nodes.proofs.Keyed.{change_at-is}
-use Rattle.pl_state.specs.Contents.{Contents, Nodes, contents, description_of, waiting_of, core_of}
+use Rattle.pl_state.specs.Contents.{Contents, Nodes, contents, description_of, waiting_of, core_of, lets_wait}
 use Rattle.pl_state.specs.Sound.{IsSound, IsWaiting, AreCounted, AreThere, MayKeep, OnNode, KeepsNodes, WaitOnNodes, times}
 use Rattle.pl_state.specs.Makes.{MakesAtKeys, MayWantAtKeys}
 use Rattle.pl_state.proofs.Known.{Caller}
@@ -41,7 +42,7 @@ use Rattle.pl_state.proofs.holders.There.{settled_after, there-added, there-stil
 use Rattle.pl_state.proofs.holders.Belonging.{belong-same}
 use Rattle.pl_state.proofs.holders.Holding.{keeping_more, held_once}
 use Rattle.pl_state.proofs.holders.OnNodes.{keeps-one, wait-beside}
-use Rattle.pl_state.proofs.by_call.Begun.{does_same, step-draws, step-tried}
+use Rattle.pl_state.proofs.by_call.Begun.{does_same, step-draws, step-tried, can_wait-is}
 use Rattle.pl_state.proofs.by_call.Piping.{none_kept, past_end}
 use Rattle.pl_state.proofs.waiting.Calls.{get_more, more-each, more-parked}
 use Rattle.pl_state.proofs.waiting.Marking.{marked-is}
@@ -76,23 +77,45 @@ module _ {A : Type 0} (m : Caller A) (name : List ℕ) (mode : Mode) (flags : Op
   abbrev begins : NewKeys numbers → Begun A numbers
   begins new = Tried (described_by new.description) (new.description ∷ []) false true
 
+  -- whether it is refused, as no number is left for it or too many calls wait
   abbrev awaits_if : Bool → Begins A numbers
-  awaits_if spent = cond spent (tried c [] false true) (Draws begins)
+  awaits_if refused = cond refused (tried c [] false true) (Draws begins)
 
-  spent-is : (spent : Bool) → (calls.next == last_call) ≡ spent → begin c pid call ≡ awaits_if spent
+  refused-is : (spent can : Bool) → (calls.next == last_call) ≡ spent → lets_wait k ≡ can → begin c pid call ≡ awaits_if (spent || not can)
   unfolding core_of
-  spent-is spent is = waits.begun ∙ ap awaits_if is
+  refused-is spent can is may = waits.begun ∙ (λ i. awaits_if (is i || not ((can_wait-is k ∙ may) i)))
+
+  or_true : (b : Bool) → (b || true) ≡ true
+  or_true true = refl
+  or_true false = refl
+
+  -- what becomes of it where it is refused
+  abbrev tried_if : Bool → Stepped A numbers
+  tried_if can = first_tried c (waiting pid call [] false) can (Wait c moves_none 0)
+
+  tries_none : (spent can : Bool) → (spent || not can) ≡ true → (calls.next == last_call) ≡ spent → lets_wait k ≡ can → core_step c (Begin pid call) ≡ Plain (ended c (tried_if can))
+  unfolding try
+  tries_none spent can refused is may =
+      step-tried k pid call process [] false true (Wait c moves_none 0) (refused-is spent can is may ∙ ap awaits_if refused) refl
+      ∙ ap (λ b. Plain (ended c (tried_if b))) (can_wait-is k ∙ may)
+
+  -- too many calls wait
+  pub wait-crowded : lets_wait k ≡ false → MakesAtKeys k (Begin pid call) (Fault EAGAIN) k
+  wait-crowded full = does_same k sound (Begin pid call) _ (Fault EAGAIN) (tries_none (calls.next == last_call) false (or_true (calls.next == last_call)) refl full) refl refl
 
   -- no number is left for it
-  pub wait-spent : calls.next ≡ last_call → MakesAtKeys k (Begin pid call) CallsSpent k
-  unfolding try core_of
-  wait-spent last =
+  pub wait-spent : lets_wait k ≡ true → calls.next ≡ last_call → MakesAtKeys k (Begin pid call) CallsSpent k
+  unfolding core_of
+  wait-spent can last =
       let is : (calls.next == last_call) ≡ true = eq-eqb calls.next last_call last in
-      does_same k sound (Begin pid call) _ CallsSpent (step-tried k pid call process [] false true (Wait c moves_none 0) (spent-is true is) refl ∙ ap (λ b. Plain (ended c (cond b (stepped c CallsSpent) (record { state = parked (flowed c moves_none) (waiting pid call [] false); reply = Parked calls.next; flow = moves_none })))) is) refl refl
+      does_same k sound (Begin pid call) _ CallsSpent (tries_none true true refl is can ∙ ap (λ b. Plain (ended c (cond b (stepped c CallsSpent) (record { state = parked (flowed c moves_none) (waiting pid call [] false); reply = Parked calls.next; flow = moves_none })))) is) refl refl
 
-  module _ (left : calls.next ≢ last_call) where
+  module _ (can : lets_wait k ≡ true) (left : calls.next ≢ last_call) where
     one_left : (calls.next == last_call) ≡ false
     one_left = ne_eqb calls.next last_call left
+
+    not_refused : begin c pid call ≡ Draws begins
+    not_refused = refused-is false true one_left can
 
     -- what the first try of it comes to
     abbrev comes : ℕ → Stepped A numbers
@@ -100,10 +123,12 @@ module _ {A : Type 0} (m : Caller A) (name : List ℕ) (mode : Mode) (flags : Op
 
     tries : (d : ℕ) → begun c pid call (begins (record { description = d; other_description = d; pipe = d; file = d })) ≡ comes d
     unfolding try flowed core_of
-    tries d = ap (λ b. cond b (stepped c CallsSpent) (comes d)) one_left
+    tries d =
+        ap (λ b. first_tried c (waiting pid call (d ∷ []) false) b (Wait (described_by d) moves_none 0)) (can_wait-is k ∙ can)
+        ∙ ap (λ b. cond b (stepped c CallsSpent) (comes d)) one_left
 
     pub wait-wants : MayWantAtKeys k (Begin pid call)
-    wait-wants = λ new. ap (λ (a : Drawing numbers (Stepped A numbers)). is_refusal (drawn {X = Stepped A numbers} new a).reply) (step-draws k pid call process begins (spent-is false one_left)) ∙ ap (λ (h : Stepped A numbers). is_refusal h.reply) (tries new.description)
+    wait-wants = λ new. ap (λ (a : Drawing numbers (Stepped A numbers)). is_refusal (drawn {X = Stepped A numbers} new a).reply) (step-draws k pid call process begins not_refused) ∙ ap (λ (h : Stepped A numbers). is_refusal h.reply) (tries new.description)
 
     -- it is parked, with a description of its own
     module _ (x : Pipe) (was : at nodes.pipes p ≡ Some x) (d : ℕ) (descs' : Descs) (calls' : Calls A) (nodes' : Nodes)
@@ -193,7 +218,7 @@ module _ {A : Type 0} (m : Caller A) (name : List ℕ) (mode : Mode) (flags : Op
 
       waits_makes : MakesAtKeys k (Begin pid call) (Parked calls.next) new
       waits_makes =
-          subst (λ a. Comes c a (Parked calls.next) (core_of new)) (sym (step-draws k pid call process begins (spent-is false one_left))) (
+          subst (λ a. Comes c a (Parked calls.next) (core_of new)) (sym (step-draws k pid call process begins not_refused)) (
             keys m d (length nodes.pipes) (length nodes.files),
             are_unused m d (length nodes.pipes) (length nodes.files) awaits.vacant (past_end nodes.pipes) (past_end nodes.files),
             sym (ap (λ (h : Stepped A numbers). h.reply) (tries d)),

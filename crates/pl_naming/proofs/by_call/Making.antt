@@ -1,6 +1,6 @@
 -- What a FIFO that is made leaves at the kernel's keys.
 use Rattle.std.proofs.Common.{◌≡◌, ℕ, Bool, true, false, List, length, Option, Some, None, IfSome, IsSome, refl, sym, ◌∙◌, ap, subst, nat_eq, slice_index_or}
-use Rattle.std.specs.Prelude.{All, option_map, is_some}
+use Rattle.std.specs.Prelude.{All, option_map, is_some, not}
 use Rattle.std.specs.Cmp.Lexicographic.{pointwise}
 use Rattle.pl_model.specs.declared.calls.Call.{Call}
 use Rattle.pl_model.specs.declared.calls.Step.{Step}
@@ -10,10 +10,10 @@ use Rattle.pl_model.specs.declared.node.Node.TheVariants as node
 use Rattle.pl_model.specs.declared.replies.Reply.TheVariants as reply
 use Rattle.pl_model.specs.declared.replies.Reply.TheVariants.{Fault}
 use Rattle.pl_model.specs.declared.replies.Errno.{Errno}
-use Rattle.pl_model.specs.declared.replies.Errno.TheVariants.{EEXIST}
+use Rattle.pl_model.specs.declared.replies.Errno.TheVariants.{EEXIST, ENOSPC}
 use Rattle.pl_model.specs.Map.{EachOnce, get, set_at}
 use Rattle.pl_model.specs.Keys.{NewKeys, Drawing, Draws, drawn}
-use Rattle.pl_model.specs.State.{Core, Pipe, empty_pipe, named}
+use Rattle.pl_model.specs.State.{Core, Pipe, empty_pipe, named, can_name}
 use Rattle.pl_model.specs.Settle.{settle}
 use Rattle.pl_model.specs.Trial.{Begins, Answered, refuse_if}
 use Rattle.pl_model.specs.Fifo.{create_fifo}
@@ -29,12 +29,12 @@ use Rattle.pl_desc.specs.Rows.{at}
 use Rattle.pl_desc.specs.Descs.{Opened}
 use Rattle.pl_decisions.specs.Names.{fault_of_name, unless_fault}
 use Rattle.pl_decisions.proofs.Deciding.{check_name-is}
-use Rattle.pl_state.specs.Contents.{Contents, Nodes, IsThere, contents, node_of, core_of}
+use Rattle.pl_state.specs.Contents.{Contents, Nodes, IsThere, contents, node_of, core_of, lets_name}
 use Rattle.pl_state.specs.Sound.{IsSound, AreThere}
 use Rattle.pl_state.specs.Makes.{MakesAtKeys, MayWantAtKeys}
 use Rattle.pl_state.proofs.Known.{Caller}
 use Rattle.pl_state.proofs.holders.There.{settled_after, set_some}
-use Rattle.pl_state.proofs.by_call.Begun.{does_same, step-refused, step-draws}
+use Rattle.pl_state.proofs.by_call.Begun.{does_same, step-refused, step-draws, can_name-is}
 use Rattle.pl_state.proofs.by_call.Piping.{past_end}
 use Rattle.pl_naming.proofs.by_call.Unused.{keys, are_unused}
 use Rattle.pl_naming.proofs.by_call.Unlinking.{keyed, get-keyed}
@@ -59,33 +59,37 @@ module _ {A : Type 0} (m : Caller A) (name : List ℕ) where
   abbrev made : NewKeys numbers → Core A numbers
   made new = create_fifo c name new.pipe
 
-  abbrev makes : Bool → Begins A numbers
-  makes there = refuse_if there EEXIST (Draws (λ new. Answered (made new) reply.Unit))
+  abbrev makes : Bool → Bool → Begins A numbers
+  makes can there = refuse_if there EEXIST (refuse_if (not can) ENOSPC (Draws (λ new. Answered (made new) reply.Unit)))
 
-  begun : begin c pid call ≡ unless_fault (fault_of_name name) (makes (is_some (named c name)))
+  begun : begin c pid call ≡ unless_fault (fault_of_name name) (makes (can_name c) (is_some (named c name)))
   unfolding begin begin_mkfifo
-  begun = check_name-is name (makes (is_some (named c name)))
+  begun = check_name-is name (makes (can_name c) (is_some (named c name)))
 
   -- one that is refused changes nothing
-  refused : (errno : Errno) → begin c pid call ≡ unless_fault (Some errno) (makes false) → MakesAtKeys k x (Fault errno) k
+  refused : (errno : Errno) → begin c pid call ≡ unless_fault (Some errno) (makes true false) → MakesAtKeys k x (Fault errno) k
   refused errno is = does_same k sound x (stepped c (Fault errno)) (Fault errno) (step-refused k pid call process errno is) refl refl
 
   pub mkfifo-fault : (errno : Errno) → fault_of_name name ≡ Some errno → MakesAtKeys k x (Fault errno) k
-  mkfifo-fault errno is = refused errno (begun ∙ ap (λ f. unless_fault f (makes (is_some (named c name)))) is)
+  mkfifo-fault errno is = refused errno (begun ∙ ap (λ f. unless_fault f (makes (can_name c) (is_some (named c name)))) is)
 
   module _ (good : fault_of_name name ≡ None) where
-    checked : (o : Option Node) → get (pointwise nat_eq) nodes.names name ≡ o → begin c pid call ≡ makes (is_some o)
+    checked : (o : Option Node) → get (pointwise nat_eq) nodes.names name ≡ o → begin c pid call ≡ makes (lets_name k) (is_some o)
     unfolding core_of
     checked o stands =
-        begun ∙ ap (λ f. unless_fault f (makes (is_some (named c name)))) good
-        ∙ ap (λ z. makes (is_some z)) (get-keyed nodes.names name ∙ ap (option_map node_of) stands) ∙ ap makes (some-is o)
+        begun ∙ ap (λ f. unless_fault f (makes (can_name c) (is_some (named c name)))) good
+        ∙ ap (λ b. makes b (is_some (named c name))) (can_name-is k)
+        ∙ ap (λ z. makes (lets_name k) (is_some z)) (get-keyed nodes.names name ∙ ap (option_map node_of) stands) ∙ ap (makes (lets_name k)) (some-is o)
 
     pub mkfifo-there : (o : Option Node) → get (pointwise nat_eq) nodes.names name ≡ o → is_some o ≡ true → MakesAtKeys k x (Fault EEXIST) k
-    mkfifo-there o stands there = refused EEXIST (checked o stands ∙ ap makes there)
+    mkfifo-there o stands there = refused EEXIST (checked o stands ∙ ap (makes (lets_name k)) there)
 
-    module _ (none : get (pointwise nat_eq) nodes.names name ≡ None) where
+    pub mkfifo-full : get (pointwise nat_eq) nodes.names name ≡ None → lets_name k ≡ false → MakesAtKeys k x (Fault ENOSPC) k
+    mkfifo-full none full = refused ENOSPC (checked None none ∙ ap (λ b. makes b false) full)
+
+    module _ (none : get (pointwise nat_eq) nodes.names name ≡ None) (can : lets_name k ≡ true) where
       draws : begin c pid call ≡ Draws (λ new. Answered (made new) reply.Unit)
-      draws = checked None none
+      draws = checked None none ∙ ap (λ b. makes b false) can
 
       pub mkfifo-wants : MayWantAtKeys k x
       mkfifo-wants =

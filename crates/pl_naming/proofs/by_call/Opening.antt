@@ -10,7 +10,7 @@ use Rattle.pl_model.specs.declared.node.Node.{Node}
 use Rattle.pl_model.specs.declared.node.Node.TheVariants as node
 use Rattle.pl_model.specs.declared.replies.Reply.TheVariants.{Fd, Fault}
 use Rattle.pl_model.specs.declared.replies.Errno.{Errno}
-use Rattle.pl_model.specs.declared.replies.Errno.TheVariants.{EEXIST, EMFILE, ENFILE, ENOENT}
+use Rattle.pl_model.specs.declared.replies.Errno.TheVariants.{EEXIST, EMFILE, ENFILE, ENOENT, ENOSPC}
 use Rattle.pl_model.specs.Numbers.{most_descriptions}
 use Rattle.pl_model.specs.Flags.{has, creat, excl, status_flags}
 use Rattle.pl_model.specs.Map.{get}
@@ -28,11 +28,11 @@ use Rattle.pl_desc.specs.Rows.{lowest_of}
 use Rattle.pl_desc.specs.Descs.{live_count as opened_count}
 use Rattle.pl_decisions.specs.Names.{fault_of_name, fault_of_open, unless_fault}
 use Rattle.pl_decisions.proofs.Deciding.{check_name-is, check_open-is}
-use Rattle.pl_state.specs.Contents.{Contents, contents, node_of, core_of}
+use Rattle.pl_state.specs.Contents.{Contents, contents, node_of, core_of, lets_name}
 use Rattle.pl_state.specs.Makes.{MakesAtKeys, MayWantAtKeys}
 use Rattle.pl_naming.specs.Openings.{IsRefused, MayOpen}
 use Rattle.pl_state.proofs.Known.{Caller}
-use Rattle.pl_state.proofs.by_call.Begun.{does_same, step-refused, step-draws}
+use Rattle.pl_state.proofs.by_call.Begun.{does_same, step-refused, step-draws, can_name-is}
 use Rattle.pl_naming.proofs.by_call.Unlinking.{get-keyed}
 
 pub some-is : (o : Option Node) → is_some (option_map node_of o) ≡ is_some o
@@ -137,5 +137,15 @@ module _ {A : Type 0} (m : Caller A) (name : List ℕ) (mode : Mode) (flags : Op
   pub file-wants : (fd f : ℕ) → MayOpen now pid name mode flags fd (Some (node.File f)) → MayWantAtKeys now (Begin pid (Call.OpenName name mode flags))
   file-wants fd f may = drawn-wants fd (reopened fd f) may.begun
 
-  pub new-wants : (fd : ℕ) → MayOpen now pid name mode flags fd None → MayWantAtKeys now (Begin pid (Call.OpenName name mode flags))
-  new-wants fd may = drawn-wants fd (made fd) may.begun
+  -- a file that is made, where there may be one name more
+  abbrev makes_if : ℕ → Bool → Begins A numbers
+  makes_if fd can = refuse_if (not can) ENOSPC (Draws (λ new. Answered (made fd new) (Fd (pos fd))))
+
+  pub new-begun : (fd : ℕ) → MayOpen now pid name mode flags fd None → (can : Bool) → lets_name now ≡ can → begin core pid (Call.OpenName name mode flags) ≡ makes_if fd can
+  new-begun fd may can is = may.begun ∙ ap (makes_if fd) (can_name-is now ∙ is)
+
+  pub new-refused : (fd : ℕ) → MayOpen now pid name mode flags fd None → lets_name now ≡ false → MakesAtKeys now (Begin pid (Call.OpenName name mode flags)) (Fault ENOSPC) now
+  new-refused fd may full = refused-makes ENOSPC (new-begun fd may false full)
+
+  pub new-wants : (fd : ℕ) → MayOpen now pid name mode flags fd None → lets_name now ≡ true → MayWantAtKeys now (Begin pid (Call.OpenName name mode flags))
+  new-wants fd may can = drawn-wants fd (made fd) (new-begun fd may true can)

@@ -1,5 +1,5 @@
 //! Names of what is under a key, looked up by their bytes.
-ghost use Rattle.std.specs.Prelude.{◌≡◌, ◌↔◌, ℕ, [], IfOk, OnErr, IsErr, IsSome, Some, None, Err, nat_eq};
+ghost use Rattle.std.specs.Prelude.{◌≡◌, ◌↔◌, ℕ, [], IfOk, OnErr, IsErr, IsSome, Some, None, Err, nat_eq, length};
 ghost use Rattle.std.specs.Ordering.{nat_cmp};
 ghost use Rattle.std.specs.Cmp.Lexicographic.{slice_cmp, pointwise};
 ghost use Rattle.pl_model.specs.Map.{set_at, get, without, put_in_order};
@@ -58,6 +58,13 @@ impl<A: Allocator + Copy> Nodes<A> {
         ensures { result ≡ get (pointwise nat_eq) self.now.names name.now }
     {
         self.names.get(name).copied()
+    }
+
+    /// How many names there are.
+    pub fn name_count(&self) -> usize
+        ensures { result ≡ length self.now.names }
+    {
+        self.names.len()
     }
 
     /// Whether a name stands for a pipe or a file, however many names there are. Of what isn't there no name does.

@@ -10,27 +10,27 @@ use Rattle.pl_model.specs.declared.calls.Step.TheVariants.{Begin}
 use Rattle.pl_model.specs.declared.flags.PollMask.{PollMask}
 use Rattle.pl_model.specs.declared.node.Node.{Node}
 use Rattle.pl_model.specs.declared.node.Node.TheVariants as node
-use Rattle.pl_model.specs.declared.replies.Errno.TheVariants.{EINVAL}
+use Rattle.pl_model.specs.declared.replies.Errno.TheVariants.{EAGAIN, EINVAL}
 use Rattle.pl_model.specs.declared.replies.Reply.TheVariants.{Fault, Parked, CallsSpent}
 use Rattle.pl_model.specs.Numbers.{last_call, open_max}
 use Rattle.pl_model.specs.Keys.{Plain}
 use Rattle.pl_model.specs.State.{Core, Waiting}
 use Rattle.pl_model.specs.Settle.{settle}
-use Rattle.pl_model.specs.Trial.{still, flowed}
+use Rattle.pl_model.specs.Trial.{Wait, still, flowed}
 use Rattle.pl_model.specs.Poll.{masks_reply, is_ready}
-use Rattle.pl_model.specs.Step.{Stepped, core_step, ended, stepped, waiting, parked}
+use Rattle.pl_model.specs.Step.{Stepped, core_step, ended, first_tried, stepped, waiting, parked}
 use Rattle.pl_model.specs.Numbered.{numbers}
 use Rattle.pl_model.proofs.by_call.Polls.{found_now, kept_now, few-kept, poll-refused, poll-answered}
 use Rattle.pl_model.proofs.by_call.Polls.{poll-waits as machine-waits}
 use Rattle.pl_parked.specs.declared.call.ParkedCall.{ParkedCall}
 use Rattle.pl_desc.specs.Rows.{at}
 use Rattle.pl_desc.specs.Descs.{Opened}
-use Rattle.pl_state.specs.Contents.{Contents, contents, core_of}
+use Rattle.pl_state.specs.Contents.{Contents, contents, core_of, lets_wait}
 use Rattle.pl_state.specs.Sound.{IsWaiting, IsAt, MayKeepFile, MayGo, GoApart, KeepsNodes, MayKeep}
 use Rattle.pl_state.specs.Parking.{with_call}
 use Rattle.pl_state.specs.Makes.{MakesAtKeys, MayWantAtKeys, ParksAtKeys}
 use Rattle.pl_state.proofs.Known.{Caller}
-use Rattle.pl_state.proofs.by_call.Begun.{does_plain, does_same, wants_plain, parks_plain}
+use Rattle.pl_state.proofs.by_call.Begun.{does_plain, does_same, wants_plain, parks_plain, can_wait-is}
 use Rattle.pl_state.proofs.by_call.Moving.{flowed-still}
 use Rattle.pl_state.proofs.waiting.ParkedCalls.{call_settles}
 use Rattle.pl_polls.specs.Waiting.{poll_of}
@@ -118,24 +118,34 @@ module _ {A : Type 0} (m : Caller A) (entries : List (ℤ × PollMask)) where
       abbrev becomes : Core A numbers → Bool → Stepped A numbers
       becomes s spent = if spent then stepped c CallsSpent else record { state = parked s w; reply = Parked k.calls.next; flow = still }
 
-      waits : (spent : Bool) → (k.calls.next == last_call) ≡ spent → core_step c x ≡ Plain (ended c (becomes c spent))
+      -- what becomes of it, where one call more may wait or not
+      abbrev tried_if : Bool → Stepped A numbers
+      tried_if can = first_tried c w can (Wait c still 0)
+
+      tries : (can : Bool) → lets_wait k ≡ can → core_step c x ≡ Plain (ended c (tried_if can))
+      tries can is = machine-waits c pid entries true there not_over none refl ∙ ap (λ b. Plain (ended c (tried_if b))) (can_wait-is k ∙ is)
+
+      pub poll-crowded : lets_wait k ≡ false → MakesAtKeys k x (Fault EAGAIN) k
+      poll-crowded full = does_same k sound x (stepped c (Fault EAGAIN)) (Fault EAGAIN) (tries false full) refl refl
+
+      waits : lets_wait k ≡ true → (spent : Bool) → (k.calls.next == last_call) ≡ spent → core_step c x ≡ Plain (ended c (becomes c spent))
       unfolding core_of
-      waits spent is =
-          machine-waits c pid entries true there not_over none refl
+      waits can spent is =
+          tries true can
           ∙ ap (λ b. Plain (ended c (becomes (flowed c still) b))) is ∙ ap (λ s. Plain (ended c (becomes s spent))) (flowed-still k)
 
-      pub poll-spent : (k.calls.next == last_call) ≡ true → MakesAtKeys k x CallsSpent k
-      poll-spent spent = does_same k sound x (stepped c CallsSpent) CallsSpent (waits true spent) refl refl
+      pub poll-spent : lets_wait k ≡ true → (k.calls.next == last_call) ≡ true → MakesAtKeys k x CallsSpent k
+      poll-spent can spent = does_same k sound x (stepped c CallsSpent) CallsSpent (waits can true spent) refl refl
 
-      module _ (left : (k.calls.next == last_call) ≡ false) where
+      module _ (can : lets_wait k ≡ true) (left : (k.calls.next == last_call) ≡ false) where
         pub poll-waits-wants : MayWantAtKeys k x
-        poll-waits-wants = wants_plain k k x _ (waits false left) refl
+        poll-waits-wants = wants_plain k k x _ (waits can false left) refl
 
         pub poll-waits-parks : ParksAtKeys k x
-        poll-waits-parks = parks_plain k k x _ (waits false left) refl
+        poll-waits-parks = parks_plain k k x _ (waits can false left) refl
 
         pub poll-parks : MakesAtKeys k x (Parked k.calls.next) (with_call k kept)
-        poll-parks = does_plain k (with_call k kept) x _ (Parked k.calls.next) (waits false left) refl
+        poll-parks = does_plain k (with_call k kept) x _ (Parked k.calls.next) (waits can false left) refl
             (call_settles k sound kept poll_may_wait (keys-open kernel pid entries) not_last (keeps_any (at k.opened) kept entries true refl) process
             ∙ ap (λ ds. settle c (parked c (waiting pid (Poll entries true) ds false))) (sym (keys-is kernel pid entries)))
           where

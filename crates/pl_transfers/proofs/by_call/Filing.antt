@@ -1,6 +1,6 @@
 -- What a read and a write of a regular file come to at the kernel's keys.
 use Rattle.std.proofs.Common.{◌≡◌, ◌≤◌, ◌<◌, ◌^◌, arith, ℕ, ◌+◌, ◌-◌, Bool, true, false, cond, List, [], ◌∷◌, ◌++◌, replicate, inl, inr, Some, IfSome, refl, sym, ◌∙◌, ap, subst, length, take, drop}
-use Rattle.std.specs.Prelude.{if◌then◌else◌, ◌==◌, nat_le, ℤ, option_map, unwrap_or}
+use Rattle.std.specs.Prelude.{if◌then◌else◌, ◌==◌, nat_le, ℤ, option_map, unwrap_or, ◌&&◌}
 use Rattle.std.proofs.lemmas.Bool.Decides.{nat_tests, leb_tells}
 use Rattle.std.proofs.lemmas.List.{length-take, length-drop, append_assoc}
 use Rattle.pl_model.specs.Numbers.{most_file_bytes}
@@ -13,7 +13,7 @@ use Rattle.pl_model.specs.declared.replies.Reply.TheVariants.{Bytes, Count, Faul
 use Rattle.pl_model.specs.declared.replies.Errno.TheVariants.{EFBIG}
 use Rattle.pl_model.specs.Modes.{reads, writes}
 use Rattle.pl_model.specs.Keys.{Plain}
-use Rattle.pl_model.specs.State.{Core, Description, Waiting, set_file}
+use Rattle.pl_model.specs.State.{Core, Description, Waiting, set_file, can_wait}
 use Rattle.pl_model.specs.Map.{change_at}
 use Rattle.pl_model.specs.Trial.{Trial, Done, answered, tried, still, flowed}
 use Rattle.pl_model.specs.Transfer.{count, moved_to, put_bytes, file_at, read_file, read_node, write_file, write_node}
@@ -166,7 +166,7 @@ module _ {A : Type 0} (m : Caller A) (fd : ℤ) (e : OpenNode) (f : ℕ) (is_fil
         write-file-tries k e.key f (on_file opens) held there (waiting pid (Call.Write fd bytes) (e.key ∷ []) false) refl fd bytes (may_block (description_of p))
         ∙ ap row_of (is_held k e.key f (on_file opens) held there (waiting pid (Call.Write fd bytes) (e.key ∷ []) false) refl)
 
-    came_to : (full : Bool) → nat_le m.limits.file_max start ≡ full → core_step core write_step ≡ Plain (ended core (first_tried core (waiting pid (Call.Write fd bytes) (e.key ∷ []) false) (may_block (description_of p)) (row full)))
+    came_to : (full : Bool) → nat_le m.limits.file_max start ≡ full → core_step core write_step ≡ Plain (ended core (first_tried core (waiting pid (Call.Write fd bytes) (e.key ∷ []) false) (may_block (description_of p) && can_wait core) (row full)))
     came_to full is =
         step-tried k pid (Call.Write fd bytes) process (e.key ∷ []) false (may_block (description_of p)) (row full)
         (at_written m fd bytes e opens ∙ ap (λ b. cond b (answered core (count 0)) (tried core (e.key ∷ []) false (may_block (description_of p)))) some)

@@ -1,17 +1,18 @@
 -- A call that waits at its first try is refused, or parked.
-use Rattle.std.proofs.Common.{◌≡◌, ◌≢◌, ℕ, Bool, true, false, Option, Some, None, refl, ap, cond}
-use Rattle.std.specs.Prelude.{if◌then◌else◌, not, ◌==◌}
+use Rattle.std.proofs.Common.{◌≡◌, ◌≢◌, ℕ, Bool, true, false, Option, Some, None, refl, ◌∙◌, ap, cond}
+use Rattle.std.specs.Prelude.{if◌then◌else◌, not, ◌==◌, ◌&&◌, ◌||◌}
 use Rattle.std.proofs.lemmas.Bool.{eq-eqb}
 use Rattle.pl_model.specs.declared.replies.Reply.{Reply}
 use Rattle.pl_model.specs.declared.replies.Reply.TheVariants.{Fault, Parked, CallsSpent}
 use Rattle.pl_model.specs.declared.replies.Errno.TheVariants.{EAGAIN}
 use Rattle.pl_model.specs.Numbers.{last_call}
-use Rattle.pl_model.specs.State.{Core, Waiting}
+use Rattle.pl_model.specs.State.{Core, Waiting, can_wait}
 use Rattle.pl_model.specs.Trial.{Wait, Flow, flowed}
 use Rattle.pl_model.specs.Step.{Stepped, first_tried, stepped, parked}
 use Rattle.pl_model.specs.Numbered.{numbers}
-use Rattle.pl_state.specs.Contents.{Contents, core_of}
-use Rattle.pl_state.specs.Parking.{refusal}
+use Rattle.pl_state.specs.Contents.{Contents, core_of, lets_wait}
+use Rattle.pl_state.specs.Parking.{refusal, refusal_in}
+use Rattle.pl_state.proofs.by_call.Begun.{may_wait-is}
 
 module _ {A : Type 0} (k : Contents A) (w : Waiting A numbers) (nonblock : Bool) (s : Core A numbers) (flow : Flow numbers) (taken : ℕ) where
   abbrev c : Core A numbers
@@ -26,9 +27,12 @@ module _ {A : Type 0} (k : Contents A) (w : Waiting A numbers) (nonblock : Bool)
   abbrev waits : Bool → Stepped A numbers
   waits spent = cond spent (stepped c CallsSpent) as_parked
 
-  pub refused : (reply : Reply A) → refusal nonblock k.calls.next ≡ Some reply → first_tried c w (not nonblock) (Wait s flow taken) ≡ stepped c reply
+  abbrev refuses : Bool
+  refuses = nonblock || not (lets_wait k)
+
+  pub refused : (reply : Reply A) → refusal_in k nonblock ≡ Some reply → first_tried c w (not nonblock && can_wait c) (Wait s flow taken) ≡ stepped c reply
   unfolding core_of
-  refused reply h = by nonblock h
+  refused reply h = ap (λ b. first_tried c w b (Wait s flow taken)) (may_wait-is k nonblock) ∙ by refuses h
     where
       at_last : (spent : Bool) → why false spent ≡ Some reply → waits spent ≡ stepped c reply
       at_last true h = (let is : CallsSpent ≡ reply = cc in ap (stepped c) is)
@@ -38,9 +42,9 @@ module _ {A : Type 0} (k : Contents A) (w : Waiting A numbers) (nonblock : Bool)
       by true h = (let is : Fault EAGAIN ≡ reply = cc in ap (stepped c) is)
       by false h = at_last (k.calls.next == last_call) h
 
-  pub parks : refusal {A = A} nonblock k.calls.next ≡ None → first_tried c w (not nonblock) (Wait s flow taken) ≡ as_parked
+  pub parks : refusal_in {A = A} k nonblock ≡ None → first_tried c w (not nonblock && can_wait c) (Wait s flow taken) ≡ as_parked
   unfolding core_of
-  parks h = by nonblock h
+  parks h = ap (λ b. first_tried c w b (Wait s flow taken)) (may_wait-is k nonblock) ∙ by refuses h
     where
       at_last : (spent : Bool) → why false spent ≡ None → waits spent ≡ as_parked
       at_last true h = absurd (cc)
@@ -51,8 +55,8 @@ module _ {A : Type 0} (k : Contents A) (w : Waiting A numbers) (nonblock : Bool)
       by false h = at_last (k.calls.next == last_call) h
 
 -- where it isn't refused, a number is left
-pub is_left : {A : Type 0} (nonblock : Bool) (next : ℕ) → refusal {A = A} nonblock next ≡ None → next ≢ last_call
-is_left {A} nonblock next h e = by nonblock (next == last_call) (eq-eqb next last_call e) h
+pub is_left : {A : Type 0} (k : Contents A) (nonblock : Bool) → refusal_in {A = A} k nonblock ≡ None → k.calls.next ≢ last_call
+is_left {A} k nonblock h e = by (nonblock || not (lets_wait k)) (k.calls.next == last_call) (eq-eqb k.calls.next last_call e) h
   where
     by : (b spent : Bool) → spent ≡ true → ◌≡◌ {A = Option (Reply A)} (if b then Some (Fault EAGAIN) else if spent then Some CallsSpent else None) None → ⊥
     by true spent s h = cc

@@ -1,6 +1,6 @@
 -- What a write comes to at the kernel's keys.
 use Rattle.std.proofs.Common.{◌≡◌, ℕ, ◌-◌, true, false, cond, List, [], ◌∷◌, ◌++◌, Option, Some, None, refl, ◌∙◌, ap, length, take, arith, subst, sym}
-use Rattle.std.specs.Prelude.{if◌then◌else◌, not, ◌==◌, ℤ, slice_range}
+use Rattle.std.specs.Prelude.{if◌then◌else◌, not, ◌==◌, ℤ, slice_range, ◌&&◌}
 use Rattle.pl_model.specs.Map.{change_at}
 use Rattle.pl_model.specs.declared.calls.Call.{Call}
 use Rattle.pl_model.specs.declared.calls.Step.{Step}
@@ -11,7 +11,7 @@ use Rattle.pl_model.specs.declared.replies.Reply.TheVariants.{Count, Fault, Park
 use Rattle.pl_model.specs.declared.replies.Errno.TheVariants.{EBADF, EPIPE}
 use Rattle.pl_model.specs.Modes.{writes}
 use Rattle.pl_model.specs.Keys.{Plain}
-use Rattle.pl_model.specs.State.{Core, Open, Pipe, Waiting, set_pipe}
+use Rattle.pl_model.specs.State.{Core, Open, Pipe, Waiting, set_pipe, can_wait}
 use Rattle.pl_model.specs.Trial.{Begins, found, answered, tried, gains}
 use Rattle.pl_model.specs.Transfer.{room, count, write_row, write_case}
 use Rattle.pl_model.specs.Begin.{open_for, may_block, begin_write}
@@ -23,7 +23,7 @@ use Rattle.pl_desc.specs.Rows.{at}
 use Rattle.pl_state.specs.Contents.{Contents, Nodes, with_pipes, contents, description_of, core_of}
 use Rattle.pl_state.specs.Opens.{Opens, of_end}
 use Rattle.pl_state.specs.LastHold.{has_reader}
-use Rattle.pl_state.specs.Parking.{refusal, call_on, with_call, Adds}
+use Rattle.pl_state.specs.Parking.{refusal_in, call_on, with_call, Adds}
 use Rattle.pl_state.specs.Sound.{MayWait, MayKeep}
 use Rattle.pl_state.specs.Makes.{MakesAtKeys, MayWantAtKeys}
 use Rattle.pl_state.proofs.Known.{Caller}
@@ -79,13 +79,13 @@ module _ {A : Type 0} (m : Caller A) (fd : ℤ) (bytes : List ℕ) where
       abbrev pub Comes_to : WriteCase → Type 0
       Comes_to row = write_case (length bytes) 0 (room p) (has_reader k.opened o.pipe) (not o.nonblock) ≡ row
 
-      came : (row : WriteCase) → Comes_to row → core_step c x ≡ Plain (ended c (first_tried c w (not o.nonblock) (write_row c o.pipe bytes 0 row)))
+      came : (row : WriteCase) → Comes_to row → core_step c x ≡ Plain (ended c (first_tried c w (not o.nonblock && can_wait c) (write_row c o.pipe bytes 0 row)))
       came row r =
           step-tried k pid call process (o.key ∷ []) false (may_block (description_of opens.on.opened)) (write_row c o.pipe bytes 0 (write_case (length bytes) 0 (room p) (has_reader k.opened o.pipe) (may_block (description_of opens.on.opened))))
           (at_end ∙ ap (λ b. cond b (answered c (count 0)) (tried c (o.key ∷ []) false (may_block (description_of opens.on.opened)))) some)
           (write-tries k sound o.key o.pipe opens.on p is w refl fd bytes (may_block (description_of opens.on.opened)))
-          ∙ ap (λ b. Plain (ended c (first_tried c w b (write_row c o.pipe bytes 0 (write_case (length bytes) 0 (room p) (has_reader k.opened o.pipe) b))))) (may_block-is k writes pid fd (of_end o) opens)
-          ∙ ap (λ z. Plain (ended c (first_tried c w (not o.nonblock) (write_row c o.pipe bytes 0 z)))) r
+          ∙ ap (λ b. Plain (ended c (first_tried c w (b && can_wait c) (write_row c o.pipe bytes 0 (write_case (length bytes) 0 (room p) (has_reader k.opened o.pipe) b))))) (may_block-is k writes pid fd (of_end o) opens)
+          ∙ ap (λ z. Plain (ended c (first_tried c w (not o.nonblock && can_wait c) (write_row c o.pipe bytes 0 z)))) r
 
       pub write-broken : Comes_to WriteCase.Broken → MakesAtKeys k x (Fault EPIPE) k
       write-broken r = does_same k sound x _ (Fault EPIPE) (came WriteCase.Broken r) refl (flowed-still k)
@@ -94,17 +94,17 @@ module _ {A : Type 0} (m : Caller A) (fd : ℤ) (bytes : List ℕ) where
         abbrev part : List ℕ
         part = slice_range bytes from to
 
-        pub write-refused : (reply : Reply A) → refusal o.nonblock k.calls.next ≡ Some reply → MakesAtKeys k x reply k
+        pub write-refused : (reply : Reply A) → refusal_in k o.nonblock ≡ Some reply → MakesAtKeys k x reply k
         write-refused reply h = does_same k sound x (stepped c reply) reply (came (WriteCase.Waits from to) r ∙ ap (λ z. Plain (ended c z)) (refused k w o.nonblock c (gains o.pipe part) to reply h)) refl refl
 
-        module _ (left : refusal {A = A} o.nonblock k.calls.next ≡ None) where
+        module _ (left : refusal_in {A = A} k o.nonblock ≡ None) where
           waits : core_step c x ≡ Plain (ended c (record { state = parked (set_pipe c o.pipe (record p { bytes = p.bytes ++ part })) (record w { taken = to }); reply = Parked k.calls.next; flow = gains o.pipe part }))
           waits =
               came (WriteCase.Waits from to) r
               ∙ ap (λ z. Plain (ended c z)) (parks k w o.nonblock c (gains o.pipe part) to left ∙ ap (λ z. record { state = parked z (record w { taken = to }); reply = Parked k.calls.next; flow = gains o.pipe part }) (flowed-in k o.pipe p is part))
 
           pub write-waits : (new : Contents A) → MayWait {A = A} (Call.Write fd bytes) to → Adds (with_call k (call_on o.key pid call to)) o.pipe part new → MakesAtKeys k x (Parked k.calls.next) new
-          write-waits new within adds = does_plain k new x _ (Parked k.calls.next) waits refl (park_moves k sound o.key opens.on.opened opens.on.here (is_left o.nonblock k.calls.next left) pid call to tt within process (subst (MayKeep (call_on o.key pid call to)) (sym opens.on.node) tt) o.pipe opens.on p is part new adds)
+          write-waits new within adds = does_plain k new x _ (Parked k.calls.next) waits refl (park_moves k sound o.key opens.on.opened opens.on.here (is_left k o.nonblock left) pid call to tt within process (subst (MayKeep (call_on o.key pid call to)) (sym opens.on.node) tt) o.pipe opens.on p is part new adds)
 
           pub write-waits-wants : MayWantAtKeys k x
           write-waits-wants = wants_plain k k x _ waits refl

@@ -4,12 +4,13 @@ use Rattle.std.specs.List.{list_any}
 use Rattle.pl_model.specs.declared.calls.Call.TheVariants.{Poll}
 use Rattle.pl_model.specs.declared.calls.Step.TheVariants.{Begin}
 use Rattle.pl_model.specs.declared.flags.PollMask.{PollMask}
-use Rattle.pl_model.specs.declared.replies.Reply.TheVariants.{Parked, CallsSpent}
+use Rattle.pl_model.specs.declared.replies.Reply.TheVariants.{Fault, Parked, CallsSpent}
+use Rattle.pl_model.specs.declared.replies.Errno.TheVariants.{EAGAIN}
 use Rattle.pl_model.specs.Numbers.{open_max}
 use Rattle.pl_model.specs.Poll.{is_ready, masks_reply}
 use Rattle.pl_model.proofs.by_call.Polls.{found_now}
 use Rattle.pl_model.proofs.settling.Members.{or_right}
-use Rattle.pl_state.specs.Contents.{Contents, core_of}
+use Rattle.pl_state.specs.Contents.{Contents, core_of, lets_wait}
 use Rattle.pl_state.specs.KernelView.{view_of}
 use Rattle.pl_state.specs.Makes.{MakesAtKeys, MayWantAtKeys}
 use Rattle.pl_state.specs.Parking.{with_call}
@@ -18,7 +19,7 @@ use Rattle.pl_nodes.proofs.Keyed.{on_err, if_ok}
 use Rattle.pl_polls.specs.declared.masks.Descriptions.TheVariants.{Named}
 use Rattle.pl_polls.specs.Masks.{masks_of}
 use Rattle.pl_polls.specs.Waiting.{poll_of}
-use Rattle.pl_polls.proofs.by_call.Begins.{poll-many, poll-answers, poll-answers-wants, poll-spent, poll-parks, poll-waits-wants}
+use Rattle.pl_polls.proofs.by_call.Begins.{poll-many, poll-answers, poll-answers-wants, poll-crowded, poll-spent, poll-parks, poll-waits-wants}
 use Rattle.pl_polls.proofs.begin.poll.Given.{Over}
 use Rattle.pl_polls.proofs.begin.poll.Goals.{After-as_slice-asked, then-not-wait-via-then-not-wait, then-not-wait-via-else-not-wait+then-is_ready}
 use Rattle.pl_polls.proofs.begin.poll.Goals as goal
@@ -73,13 +74,21 @@ returns-then-not-wait-clause-wanted g c =
     ] in
     on_err c.masks_reply.result _ (rw (← c.kernel.view_is) (poll-answers-wants (calls_on g v) c.args.entries (few g v c.if-asked-gt-OPEN_MAX.false) c.args.wait ends))
 
+pub returns-then-not-can_wait-clause-done : goal.returns-then-not-can_wait-clause-done
+returns-then-not-can_wait-clause-done g c =
+    let v = (goal.at.returns-then-not-can_wait-clause-done g c).After-as_slice-asked in
+    let none = found_is g v c.is_ready.result false c.is_ready.ensures c.if-is_ready.false in
+    subst (λ b. MakesAtKeys c.args.kernel.now (Begin c.args.pid (Poll c.args.entries b)) (Fault EAGAIN) c.args.kernel.now) (sym c.if-not-wait.false)
+    (subst (λ (z : Contents g.row.A.Denot). MakesAtKeys z (Begin c.args.pid (Poll c.args.entries true)) (Fault EAGAIN) z) c.kernel.view_is
+    (poll-crowded (calls_on g v) c.args.entries (few g v c.if-asked-gt-OPEN_MAX.false) none (ap lets_wait c.kernel.view_is ∙ sym c.can_wait.ensures ∙ c.if-not-can_wait.true)))
+
 pub returns-then-spent-clause-done : goal.returns-then-spent-clause-done
 returns-then-spent-clause-done g c =
     let v = (goal.at.returns-then-spent-clause-done g c).After-as_slice-asked in
     let none = found_is g v c.is_ready.result false c.is_ready.ensures c.if-is_ready.false in
     subst (λ b. MakesAtKeys c.args.kernel.now (Begin c.args.pid (Poll c.args.entries b)) CallsSpent c.args.kernel.now) (sym c.if-not-wait.false)
     (subst (λ (z : Contents g.row.A.Denot). MakesAtKeys z (Begin c.args.pid (Poll c.args.entries true)) CallsSpent z) c.kernel.view_is
-    (poll-spent (calls_on g v) c.args.entries (few g v c.if-asked-gt-OPEN_MAX.false) none (sym c.spent.ensures ∙ c.if-spent.true)))
+    (poll-spent (calls_on g v) c.args.entries (few g v c.if-asked-gt-OPEN_MAX.false) none (ap lets_wait c.kernel.view_is ∙ sym c.can_wait.ensures ∙ c.if-not-can_wait.false) (sym c.spent.ensures ∙ c.if-spent.true)))
 
 pub returns-in_err-number-clause-wanted : goal.returns-in_err-number-clause-wanted
 returns-in_err-number-clause-wanted g c =
@@ -89,7 +98,7 @@ returns-in_err-number-clause-wanted g c =
     on_err c.from_residual.result _
     (subst (λ b. MayWantAtKeys {A = A} c.args.kernel.now (Begin c.args.pid (Poll c.args.entries b))) (sym c.if-not-wait.false)
     (subst (λ (z : Contents A). MayWantAtKeys z (Begin c.args.pid (Poll c.args.entries true))) c.kernel.view_is
-    (poll-waits-wants (calls_on g v) c.args.entries (few g v c.if-asked-gt-OPEN_MAX.false) none (sym c.spent.ensures ∙ c.if-spent.false))))
+    (poll-waits-wants (calls_on g v) c.args.entries (few g v c.if-asked-gt-OPEN_MAX.false) none (ap lets_wait c.kernel.view_is ∙ sym c.can_wait.ensures ∙ c.if-not-can_wait.false) (sym c.spent.ensures ∙ c.if-spent.false))))
 
 pub returns-clause-done : goal.returns-clause-done
 returns-clause-done g c =
@@ -98,7 +107,7 @@ returns-clause-done g c =
     let none = found_is g v c.is_ready.result false c.is_ready.ensures c.if-is_ready.false in
     let x = Begin c.args.pid (Poll c.args.entries true) in
     let new = c.park_poll.new.kernel in
-    let made = poll-parks (calls_on g v) c.args.entries (few g v c.if-asked-gt-OPEN_MAX.false) none (sym c.spent.ensures ∙ c.if-spent.false) in
+    let made = poll-parks (calls_on g v) c.args.entries (few g v c.if-asked-gt-OPEN_MAX.false) none (ap lets_wait c.kernel.view_is ∙ sym c.can_wait.ensures ∙ c.if-not-can_wait.false) (sym c.spent.ensures ∙ c.if-spent.false) in
     subst (λ b. MakesAtKeys c.args.kernel.now (Begin c.args.pid (Poll c.args.entries b)) (Parked c.in_ok-number.number) new) (sym c.if-not-wait.false)
     (subst (λ n. MakesAtKeys c.args.kernel.now x (Parked n) new) (sym c.in_ok-number.ensures.number)
     (subst (λ (z : Contents A). MakesAtKeys c.args.kernel.now x (Parked c.args.kernel.now.calls.next) z) (sym c.in_ok-number.ensures.ok)

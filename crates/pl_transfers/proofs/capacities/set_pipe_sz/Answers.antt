@@ -33,10 +33,10 @@ module _ (g : Over) (c : After-capacity_for g) where
   abbrev there : (y : Pipe) × (at (view_of c.kernel.inside).nodes.pipes c.in-Some.pipe ≡ Some y)
   there = pipe_held.1
 
-  set_to : capacity_set c.args.size (length there.0.bytes) ≡ c.capacity_for.result
+  set_to : capacity_set c.args.size (length there.0.bytes) c.kernel.inside.limits.capacity_max ≡ c.capacity_for.result
   set_to =
       let held : c.held.result ≡ length there.0.bytes = subst (λ z. IfSome z (λ x. c.held.result ≡ length x.bytes)) there.1 c.held.ensures.value in
-      sym (c.capacity_for.ensures.value ∙ ap (capacity_set c.args.size) held)
+      sym (c.capacity_for.ensures.value ∙ ap (λ n. capacity_set c.args.size n c.kernel.inside.limits.capacity_max) held)
 
 pub returns-in_default-clause-done : goal.returns-in_default-clause-done
 returns-in_default-clause-done g c =

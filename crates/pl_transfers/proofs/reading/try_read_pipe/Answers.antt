@@ -6,18 +6,18 @@ use Rattle.pl_model.specs.declared.calls.Step.TheVariants.{Begin}
 use Rattle.pl_model.specs.declared.replies.Reply.TheVariants.{Parked, Fault, CallsSpent}
 use Rattle.pl_model.specs.declared.replies.Reply.{Reply}
 use Rattle.pl_model.specs.declared.replies.Errno.TheVariants.{EAGAIN}
-use Rattle.std.specs.Prelude.{Bool, Option, if◌then◌else◌}
+use Rattle.std.specs.Prelude.{Bool, Option, if◌then◌else◌, ◌||◌, not}
 use Rattle.pl_model.specs.Modes.{reads}
 use Rattle.pl_model.specs.Transfer.{read_case}
 use Rattle.pl_state.specs.KernelView.{view_of}
 use Rattle.pl_model.specs.State.{Pipe}
 use Rattle.pl_state.specs.declared.access.OpenEnd.{OpenEnd}
-use Rattle.pl_state.specs.Contents.{Contents}
+use Rattle.pl_state.specs.Contents.{Contents, lets_wait}
 use Rattle.pl_state.specs.Opens.{Opens, of_end}
 use Rattle.pl_desc.specs.Rows.{at}
 use Rattle.pl_state.specs.LastHold.{has_writer}
 use Rattle.pl_state.specs.Makes.{MakesAtKeys}
-use Rattle.pl_state.specs.Parking.{refusal, call_on, with_call}
+use Rattle.pl_state.specs.Parking.{refusal, refusal_in, call_on, with_call}
 use Rattle.pl_nodes.proofs.Keyed.{on_err}
 use Rattle.pl_state.proofs.by_call.Begun.{pipe_there}
 use Rattle.pl_transfers.proofs.by_call.Reading.{read-end, read-refused, read-waits, read-waits-parks}
@@ -56,8 +56,8 @@ abbrev why : {A : Type 0} → Bool → Option (Reply A)
 why spent = if spent then Some CallsSpent else None
 
 -- nothing keeps the call from waiting
-may_wait : (g : Over) (c : Else-spent g) → refusal {A = g.row.A.Denot} c.args.end.nonblock (view_of c.kernel.inside).calls.next ≡ None
-may_wait g c = ap (λ b. refusal {A = g.row.A.Denot} b (view_of c.kernel.inside).calls.next) c.if-end.false ∙ ap (why {A = g.row.A.Denot}) (sym c.spent.ensures ∙ c.if-spent.false)
+may_wait : (g : Over) (c : Else-spent g) → refusal_in {A = g.row.A.Denot} (view_of c.kernel.inside) c.args.end.nonblock ≡ None
+may_wait g c = ap (λ b. refusal {A = g.row.A.Denot} b (view_of c.kernel.inside).calls.next) (ap (λ (z : Contents g.row.A.Denot). c.args.end.nonblock || not (lets_wait z)) c.kernel.view_is ∙ sym c.refuses_to_wait.ensures ∙ c.if-refuses_to_wait.false) ∙ ap (why {A = g.row.A.Denot}) (sym c.spent.ensures ∙ c.if-spent.false)
 
 pub returns-in-Gives-clause-done : goal.returns-in-Gives-clause-done
 returns-in-Gives-clause-done g c =
@@ -69,18 +69,18 @@ returns-in-EndOfFile-clause-done g c =
     let p = on_pipe g w in
     rw (← c.kernel.view_is) (read-end (calls_on g w) c.args.fd c.args.n (o g w) (on_end g w) (some g w) p.0 p.1 (comes_to g w ∙ c.in-EndOfFile.is), refl)
 
-pub returns-then-end-clause-done : goal.returns-then-end-clause-done
-returns-then-end-clause-done g c =
-    let w = (goal.at.returns-then-end-clause-done g c).After-case_of_read in
+pub returns-then-refuses_to_wait-clause-done : goal.returns-then-refuses_to_wait-clause-done
+returns-then-refuses_to_wait-clause-done g c =
+    let w = (goal.at.returns-then-refuses_to_wait-clause-done g c).After-case_of_read in
     let p = on_pipe g w in
-    let refused = ap (λ b. refusal {A = g.row.A.Denot} b (k g w).calls.next) c.if-end.true in
+    let refused = ap (λ b. refusal {A = g.row.A.Denot} b (k g w).calls.next) (ap (λ (z : Contents g.row.A.Denot). c.args.end.nonblock || not (lets_wait z)) c.kernel.view_is ∙ sym c.refuses_to_wait.ensures ∙ c.if-refuses_to_wait.true) in
     rw (← c.kernel.view_is) (read-refused (calls_on g w) c.args.fd c.args.n (o g w) (on_end g w) (some g w) p.0 p.1 (Fault EAGAIN) (comes_to g w ∙ c.in-Waits.is) refused, refl)
 
 pub returns-then-spent-clause-done : goal.returns-then-spent-clause-done
 returns-then-spent-clause-done g c =
     let w = (goal.at.returns-then-spent-clause-done g c).After-case_of_read in
     let p = on_pipe g w in
-    let refused = ap (λ b. refusal {A = g.row.A.Denot} b (k g w).calls.next) c.if-end.false ∙ ap (why {A = g.row.A.Denot}) (sym c.spent.ensures ∙ c.if-spent.true) in
+    let refused = ap (λ b. refusal {A = g.row.A.Denot} b (k g w).calls.next) (ap (λ (z : Contents g.row.A.Denot). c.args.end.nonblock || not (lets_wait z)) c.kernel.view_is ∙ sym c.refuses_to_wait.ensures ∙ c.if-refuses_to_wait.false) ∙ ap (why {A = g.row.A.Denot}) (sym c.spent.ensures ∙ c.if-spent.true) in
     rw (← c.kernel.view_is) (read-refused (calls_on g w) c.args.fd c.args.n (o g w) (on_end g w) (some g w) p.0 p.1 CallsSpent (comes_to g w ∙ c.in-Waits.is) refused, refl)
 
 pub returns-in_err-number-in-Waits-clause-wanted : goal.returns-in_err-number-in-Waits-clause-wanted

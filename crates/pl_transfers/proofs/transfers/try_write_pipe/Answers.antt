@@ -1,5 +1,5 @@
 use Rattle.std.proofs.Common.{◌≡◌, ◌++◌, false, refl, sym, ap, subst, ◌∙◌, length, IfSome, Some, None}
-use Rattle.std.specs.Prelude.{◌==◌, not, slice_range, Bool, Option, if◌then◌else◌}
+use Rattle.std.specs.Prelude.{◌==◌, not, slice_range, Bool, Option, if◌then◌else◌, ◌||◌}
 use Rattle.std.proofs.lemmas.Bool.{ne_eqb}
 use Rattle.pl_model.specs.declared.calls.Call.{Call}
 use Rattle.pl_model.specs.declared.calls.Step.TheVariants.{Begin}
@@ -12,12 +12,12 @@ use Rattle.pl_decisions.specs.Decided.{FitsRoom}
 use Rattle.pl_state.specs.KernelView.{view_of}
 use Rattle.pl_model.specs.State.{Pipe}
 use Rattle.pl_state.specs.declared.access.OpenEnd.{OpenEnd}
-use Rattle.pl_state.specs.Contents.{Contents, nodes_of}
+use Rattle.pl_state.specs.Contents.{Contents, nodes_of, lets_wait}
 use Rattle.pl_state.specs.Opens.{Opens, of_end}
 use Rattle.pl_desc.specs.Rows.{at}
 use Rattle.pl_state.specs.LastHold.{has_reader}
 use Rattle.pl_state.specs.Makes.{MakesAtKeys}
-use Rattle.pl_state.specs.Parking.{refusal}
+use Rattle.pl_state.specs.Parking.{refusal, refusal_in}
 use Rattle.pl_nodes.proofs.Keyed.{on_err}
 use Rattle.pl_state.proofs.by_call.Begun.{pipe_there}
 use Rattle.pl_state.proofs.by_call.Moving.{changed_sound}
@@ -58,8 +58,8 @@ abbrev why : {A : Type 0} → Bool → Option (Reply A)
 why spent = if spent then Some CallsSpent else None
 
 -- nothing keeps the call from waiting
-may_wait : (g : Over) (c : Else-spent g) → refusal {A = g.row.A.Denot} c.args.end.nonblock (view_of c.kernel.inside).calls.next ≡ None
-may_wait g c = ap (λ b. refusal {A = g.row.A.Denot} b (view_of c.kernel.inside).calls.next) c.if-end.false ∙ ap (why {A = g.row.A.Denot}) (sym c.spent.ensures ∙ c.if-spent.false)
+may_wait : (g : Over) (c : Else-spent g) → refusal_in {A = g.row.A.Denot} (view_of c.kernel.inside) c.args.end.nonblock ≡ None
+may_wait g c = ap (λ b. refusal {A = g.row.A.Denot} b (view_of c.kernel.inside).calls.next) (ap (λ (z : Contents g.row.A.Denot). c.args.end.nonblock || not (lets_wait z)) c.kernel.view_is ∙ sym c.refuses_to_wait.ensures ∙ c.if-refuses_to_wait.false) ∙ ap (why {A = g.row.A.Denot}) (sym c.spent.ensures ∙ c.if-spent.false)
 
 pub returns-in_err-write_pipe-in-Ends-clause-wanted : goal.returns-in_err-write_pipe-in-Ends-clause-wanted
 returns-in_err-write_pipe-in-Ends-clause-wanted g c =
@@ -73,18 +73,18 @@ invariant_of-kernel-in-Ends g c =
     let p = on_pipe g w in
     (subst (IsSound g.row.A.Denot) (moved_view c.kernel.inside c.write_pipe.new.self c.in_ok-write_pipe-in-Ends.ensures.files) (changed_sound (k g w) c.kernel.invariant.0 (o g w).key (o g w).pipe (on_end g w).on p.0 p.1 _ (nodes_of c.write_pipe.new.self) (λ x. record x { bytes = x.bytes ++ slice_range c.args.bytes.now c.in-Ends.from c.in-Ends.to }) refl c.in_ok-write_pipe-in-Ends.ensures.ok), c.kernel.invariant.1)
 
-pub returns-then-end-clause-done : goal.returns-then-end-clause-done
-returns-then-end-clause-done g c =
-    let w = (goal.at.returns-then-end-clause-done g c).After-case_of_write in
+pub returns-then-refuses_to_wait-clause-done : goal.returns-then-refuses_to_wait-clause-done
+returns-then-refuses_to_wait-clause-done g c =
+    let w = (goal.at.returns-then-refuses_to_wait-clause-done g c).After-case_of_write in
     let p = on_pipe g w in
-    let refused = ap (λ b. refusal {A = g.row.A.Denot} b (k g w).calls.next) c.if-end.true in
+    let refused = ap (λ b. refusal {A = g.row.A.Denot} b (k g w).calls.next) (ap (λ (z : Contents g.row.A.Denot). c.args.end.nonblock || not (lets_wait z)) c.kernel.view_is ∙ sym c.refuses_to_wait.ensures ∙ c.if-refuses_to_wait.true) in
     rw (← c.kernel.view_is) (write-refused (calls_on g w) c.args.fd c.args.bytes.now (o g w) (on_end g w) (some g w) p.0 p.1 c.in-Waits.from c.in-Waits.to (comes_to g w ∙ c.in-Waits.is) (Fault EAGAIN) refused)
 
 pub returns-then-spent-clause-done : goal.returns-then-spent-clause-done
 returns-then-spent-clause-done g c =
     let w = (goal.at.returns-then-spent-clause-done g c).After-case_of_write in
     let p = on_pipe g w in
-    let refused = ap (λ b. refusal {A = g.row.A.Denot} b (k g w).calls.next) c.if-end.false ∙ ap (why {A = g.row.A.Denot}) (sym c.spent.ensures ∙ c.if-spent.true) in
+    let refused = ap (λ b. refusal {A = g.row.A.Denot} b (k g w).calls.next) (ap (λ (z : Contents g.row.A.Denot). c.args.end.nonblock || not (lets_wait z)) c.kernel.view_is ∙ sym c.refuses_to_wait.ensures ∙ c.if-refuses_to_wait.false) ∙ ap (why {A = g.row.A.Denot}) (sym c.spent.ensures ∙ c.if-spent.true) in
     rw (← c.kernel.view_is) (write-refused (calls_on g w) c.args.fd c.args.bytes.now (o g w) (on_end g w) (some g w) p.0 p.1 c.in-Waits.from c.in-Waits.to (comes_to g w ∙ c.in-Waits.is) CallsSpent refused)
 
 pub returns-in-Broken-clause-done : goal.returns-in-Broken-clause-done
@@ -111,6 +111,6 @@ returns-else-spent-clause-done g c =
         from = c.in-Waits.from;
         comes = subst (λ r. IfSome (at k.nodes.pipes o.pipe) (λ x. r ≡ write_case (length c.args.bytes.now) 0 (room x) (has_reader k.opened o.pipe) (not o.nonblock))) c.in-Waits.is c.case_of_write.ensures.case;
         fits = subst (λ r. IfSome (at k.nodes.pipes o.pipe) (λ x. FitsRoom r (length c.args.bytes.now) 0 (room x))) c.in-Waits.is c.case_of_write.ensures.fits;
-        left = subst (λ z. refusal {A = g.row.A.Denot} o.nonblock z.calls.next ≡ None) c.kernel.view_is (may_wait g (goal.at.returns-else-spent-clause-done g c).Else-spent);
+        left = subst (λ (z : Contents g.row.A.Denot). refusal_in z o.nonblock ≡ None) c.kernel.view_is (may_wait g (goal.at.returns-else-spent-clause-done g c).Else-spent);
       },
     )

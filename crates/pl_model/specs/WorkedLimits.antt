@@ -1,0 +1,66 @@
+-- What the definitions answer in small examples at the limits that are chosen when a kernel is made.
+use Rattle.std.specs.Prelude.{◌≡◌, ℕ, pos, negsuc, [], ◌∷◌, List, true, false, replicate, codes, None}
+use Rattle.pl_model.specs.declared.calls.Limits.{Limits}
+use Rattle.pl_model.specs.declared.calls.Mode.{Mode}
+use Rattle.pl_model.specs.declared.calls.Step.{Step}
+use Rattle.pl_model.specs.declared.calls.Step.TheVariants.{Start, Resume, Interrupt}
+use Rattle.pl_model.specs.declared.replies.Reply.{Reply}
+use Rattle.pl_model.specs.declared.replies.Reply.TheVariants.{Pid, Fd, Fds, Count, Bytes, Size, Unit, Fault, Parked}
+use Rattle.pl_model.specs.declared.replies.Errno.TheVariants.{EAGAIN, EEXIST, EINTR, ENOENT, ENOSPC, ENXIO, EPERM}
+use Rattle.pl_model.specs.Numbers.{last_call}
+use Rattle.pl_model.specs.Flags.{creat, nonblock, poll_in}
+use Rattle.pl_model.specs.Numbered.{opening}
+use Rattle.pl_model.specs.Run.{replies}
+use Rattle.pl_model.specs.Worked.{usual, pipe, read, write}
+use Rattle.pl_model.specs.WorkedFiles.{open_name, unlink}
+use Rattle.pl_model.specs.WorkedCapacity.{set_pipe_sz}
+use Rattle.pl_model.specs.WorkedFifo.{mkfifo}
+use Rattle.pl_model.specs.WorkedSplice.{splice, tee}
+use Rattle.pl_model.specs.WorkedPoll.{poll_now, poll_wait, masks}
+
+-- after the first step of a new kernel with these limits, which starts the process of pid 1, these steps have these replies
+abbrev pub AnswersUnder : (A : Type 0) → Limits → List (Step A) → List (Reply A) → Type 0
+AnswersUnder A limits steps wanted = replies (opening {A = A} limits) (Start ∷ steps) ≡ Pid 1 ∷ wanted
+
+-- where two names are there, a third is refused, after all else that might be wrong with it; one may come where one went
+abbrev pub NamesUpToTheLimit : Type 0 → Type 0
+NamesUpToTheLimit A =
+    (first_call file_max : ℕ) →
+    AnswersUnder A
+    (record (usual first_call file_max) { names_max = 2 })
+    (mkfifo (codes "a") ∷ open_name (codes "b") Mode.Both creat ∷ mkfifo (codes "c") ∷ open_name (codes "c") Mode.Both creat ∷ mkfifo (codes "a") ∷ mkfifo []
+    ∷ open_name (codes "c") Mode.Both 0 ∷ open_name (codes "b") Mode.Write creat ∷ unlink (codes "a") ∷ open_name (codes "c") Mode.Both creat ∷ mkfifo (codes "a") ∷ [])
+    (Unit ∷ Fd (pos 0) ∷ Fault ENOSPC ∷ Fault ENOSPC ∷ Fault EEXIST ∷ Fault ENOENT
+    ∷ Fault ENOENT ∷ Fd (pos 1) ∷ Unit ∷ Fd (pos 2) ∷ Fault ENOSPC ∷ [])
+
+-- where one call waits, and no second one may, every call that would wait is refused and takes nothing, also a large write for a part
+-- of which there is room
+abbrev pub WaitingCallsUpToTheLimit : Type 0 → Type 0
+WaitingCallsUpToTheLimit A =
+    (file_max : ℕ) →
+    AnswersUnder A
+    (record (usual 1 file_max) { waiting_max = 1 })
+    (pipe ∷ pipe ∷ mkfifo (codes "q") ∷ read 0 1 ∷ read 0 1 ∷ splice 0 None 3 None 5 ∷ tee 0 3 5
+    ∷ poll_wait ((pos 0, poll_in) ∷ []) ∷ poll_now ((pos 0, poll_in) ∷ []) ∷ open_name (codes "q") Mode.Read 0 ∷ open_name (codes "q") Mode.Write nonblock
+    ∷ write 1 (replicate 70000 97) ∷ write 1 (codes "b") ∷ Resume 1 ∷ read 0 1 ∷ Interrupt 2 ∷ [])
+    (Fds (pos 0) (pos 1) ∷ Fds (pos 2) (pos 3) ∷ Unit ∷ Parked 1 ∷ Fault EAGAIN ∷ Fault EAGAIN ∷ Fault EAGAIN
+    ∷ Fault EAGAIN ∷ masks 0 (0 ∷ []) ∷ Fault EAGAIN ∷ Fault ENXIO
+    ∷ Fault EAGAIN ∷ Count 1 false ∷ Bytes (codes "b") ∷ Parked 2 ∷ Fault EINTR ∷ [])
+
+-- that too many calls wait comes before that no number is left
+abbrev pub NoCallMayWait : Type 0 → Type 0
+NoCallMayWait A =
+    (file_max : ℕ) →
+    AnswersUnder A
+    (record (usual last_call file_max) { waiting_max = 0 })
+    (pipe ∷ read 0 1 ∷ write 1 (codes "a") ∷ read 0 1 ∷ [])
+    (Fds (pos 0) (pos 1) ∷ Fault EAGAIN ∷ Count 1 false ∷ Bytes (codes "a") ∷ [])
+
+-- what a size is rounded up to is within the limit
+abbrev pub CapacitiesUpToTheLimit : Type 0 → Type 0
+CapacitiesUpToTheLimit A =
+    (first_call file_max : ℕ) →
+    AnswersUnder A
+    (record (usual first_call file_max) { capacity_max = 100000 })
+    (pipe ∷ set_pipe_sz 0 65536 ∷ set_pipe_sz 1 65537 ∷ set_pipe_sz 1 100001 ∷ set_pipe_sz 1 1048577 ∷ set_pipe_sz 1 4096 ∷ [])
+    (Fds (pos 0) (pos 1) ∷ Size 65536 ∷ Fault EPERM ∷ Fault EPERM ∷ Fault EPERM ∷ Size 4096 ∷ [])
