@@ -1,0 +1,36 @@
+//! The names that the sources use of the toolchain's libraries, where those of Rust's `std` differ: growth that can fail, and an
+//! allocator that is given. All memory comes from Rust's global allocator; an [`alloc::Allocator`] says whether it may be asked. The one
+//! line of unsafe code here is for C, which holds a box as a pointer.
+
+pub mod alloc;
+pub mod bitflags;
+pub mod boxed;
+pub mod circular_buffer;
+pub mod collections;
+pub mod slab;
+pub mod string;
+pub mod vec;
+
+#[cfg(feature = "script")]
+pub mod clap;
+#[cfg(feature = "script")]
+pub mod env;
+#[cfg(feature = "script")]
+pub mod fs;
+#[cfg(feature = "script")]
+pub mod hex;
+#[cfg(feature = "script")]
+pub mod io;
+#[cfg(feature = "script")]
+pub mod itoa;
+#[cfg(feature = "script")]
+pub mod memchr;
+#[cfg(feature = "script")]
+pub mod process;
+#[cfg(feature = "script")]
+pub mod rt;
+#[cfg(feature = "script")]
+pub mod test;
+
+#[cfg(test)]
+mod tests;
