@@ -141,6 +141,15 @@ piperun_answers() {
     [ "$ended" -eq "$wanted" ] || { echo "it ended with $ended, and not $wanted"; return 1; }
 }
 
+# Whether piperun, of 64 processes within 70,000 bytes, starts some and finds no memory for the others. Reading takes 65,536 of them, and gives
+# them back.
+# shellcheck disable=SC2317
+piperun_finds_no_memory() {
+    "$piperun" --memory 70000 "$work/starts.script" < /dev/null > "$work/output" || return 1
+    awk '/^pid / && !none && $2 == NR { next } /^nomem$/ && NR > 1 { none = 1; next } { wrong = 1 } END { exit wrong || !none || NR != 64 }' \
+        "$work/output" || { cat "$work/output"; return 1; }
+}
+
 # The words of piperun, as docs/RULES.md has them in "The program".
 try_piperun() {
     sed -n '/^pub const HELP/,/^";$/{//!p;}' "$here/../crates/pl_run/src/help.rt" > "$work/help"
@@ -158,6 +167,13 @@ try_piperun() {
     printf 'pid 1\nfds 0 1\ncalls spent\nno call\n' > "$work/last.out"
     check "piperun where no number is left" piperun_answers 0 "$work/last.out" '' --first-call 18446744073709551615 "$work/first.script"
     check "piperun with too large a number" piperun_answers 2 /dev/null 'piperun: bad command line' --first-call 18446744073709551616
+    yes start | head -n 64 > "$work/starts.script"
+    seq -f 'pid %.0f' 64 > "$work/starts.out"
+    check "piperun within a budget" piperun_finds_no_memory
+    check "piperun within enough memory" piperun_answers 0 "$work/starts.out" '' --memory 1000000 "$work/starts.script"
+    check "piperun within too little for the script" piperun_answers 4 /dev/null 'piperun: no memory' --memory 65536 "$work/starts.script"
+    check "piperun within no memory" piperun_answers 4 /dev/null 'piperun: no memory' --memory 0 "$work/starts.script"
+    check "piperun within no number of bytes" piperun_answers 2 /dev/null 'piperun: bad command line' --memory 64k "$work/starts.script"
     head -c 16000000 /dev/zero | tr '\0' '#' > "$work/long.script"
     cat "$work/long.script" "$work/long.script" > "$work/longer.script"
     check "piperun on a script that is too long" piperun_answers 3 /dev/null 'piperun: script longer than 16777216 bytes' \
@@ -192,13 +208,17 @@ check "installing" "$here/install.sh" "$work/prefix" || end
 check "the names of the archive" defines_what_is_declared
 
 counted=-Wl,--wrap=malloc,--wrap=realloc,--wrap=free
-for name in processes pipes descriptors files fifos splices polls waiting sizes; do
+for name in processes pipes descriptors files fifos splices polls waiting sizes limits; do
     build "$name" && run "$name"
 done
 build memory "$counted" && run memory
 if build growth "$counted"; then
     plainly growth 65536 && sed 's/^/growth: /' "$work/log"
     under_valgrind growth 600
+fi
+if build budget "$counted"; then
+    plainly budget 100000 && sed 's/^/budget: /' "$work/log"
+    under_valgrind budget 2000
 fi
 for name in one_lock two_kernels; do
     build "$name" "$counted" -pthread && run "$name" && without_races "$name"

@@ -23,7 +23,9 @@
  * Memory. It comes from malloc and realloc, and goes by free, all three of one allocator, which aligns as C demands. A call that finds none
  * answers BINDINGCLAY_NO_MEMORY and has changed nothing, neither the kernel nor what its pointers point to: make it again once there is
  * some. Some calls, marked below, ask for none. A call that is refused for another reason has asked for none either, but for the calls with
- * a name, which copy it first. bindingclay_free gives back all.
+ * a name, which copy it first. bindingclay_free gives back all. bindingclay_open_within sets how many bytes a kernel may hold: where a call
+ * would want more, there is none. bindingclay_memory tells how many it holds. Close, exit, interrupt and a read that is resumed always find
+ * what they need, so a guest at its limit can give some back.
  *
  * Pointers. None is null, but one to 0 bytes or to 0 entries, or to an offset of bindingclay_splice, may be. What a call writes to overlaps
  * nothing else that it is given, and nothing that it is given overlaps the kernel's own memory. The library keeps no pointer of yours after
@@ -42,19 +44,23 @@
 #include <stdbool.h>
 #include <stddef.h>
 #include <stdint.h>
+#include <stdlib.h>
 
 #ifdef __cplusplus
 extern "C" {
 #endif
 
 #define BINDINGCLAY_VERSION_MAJOR 0
-#define BINDINGCLAY_VERSION_MINOR 2
+#define BINDINGCLAY_VERSION_MINOR 3
 #define BINDINGCLAY_VERSION_PATCH 0
 #define BINDINGCLAY_VERSION \
     (BINDINGCLAY_VERSION_MAJOR * 1000000 + BINDINGCLAY_VERSION_MINOR * 1000 + BINDINGCLAY_VERSION_PATCH)
 
-/* The most bytes of a regular file, which bindingclay_open may limit further. */
+/* The most bytes of a regular file, which bindingclay_open and bindingclay_open_within may limit further. */
 #define BINDINGCLAY_MOST_FILE_BYTES 16777216
+
+/* The most bytes that a pipe can be made to hold, which bindingclay_open_within may limit further. */
+#define BINDINGCLAY_MOST_CAPACITY 1048576
 
 /* The most bytes of one read or write. Of more the first so many are read or written, and counted. */
 #define BINDINGCLAY_MOST_BYTES 16777216
@@ -106,13 +112,96 @@ typedef struct {
     int16_t revents;
 } bindingclay_pollfd;
 
+/* What a kernel may take. Begin with BINDINGCLAY_LIMITS, and change what is to be less: then a later version may add fields behind these. */
+typedef struct {
+    /* The bytes of the struct. Of a smaller one the fields that it doesn't have are those of BINDINGCLAY_LIMITS. */
+    uint64_t size;
+    /* The number of the first call that waits. The next one gets that behind it, and so on. */
+    uint64_t first_call;
+    /* The most bytes that the kernel may hold, as they are asked of malloc and realloc. A call that would want more answers
+     * BINDINGCLAY_NO_MEMORY. UINT64_MAX: no limit. */
+    uint64_t memory;
+    /* The most names of files and FIFOs at one time. One more answers ENOSPC. UINT64_MAX: no limit. */
+    uint64_t names;
+    /* The most calls that wait at one time. A call that would wait above that answers EAGAIN, and has taken and given nothing. UINT64_MAX:
+     * no limit. */
+    uint64_t waiting_calls;
+    /* The most bytes that bindingclay_set_pipe_sz lets a pipe hold; more answer EPERM. At most BINDINGCLAY_MOST_CAPACITY. A new pipe can
+     * hold 65,536 all the same. */
+    uint32_t capacity;
+    /* The most bytes of a regular file, at most BINDINGCLAY_MOST_FILE_BYTES. */
+    uint32_t file_max;
+} bindingclay_limits;
+
+/* The limits where nobody sets any: bindingclay_limits limits = BINDINGCLAY_LIMITS; */
+#define BINDINGCLAY_LIMITS \
+    { sizeof(bindingclay_limits), 1, UINT64_MAX, UINT64_MAX, UINT64_MAX, BINDINGCLAY_MOST_CAPACITY, BINDINGCLAY_MOST_FILE_BYTES }
+
+/* What a kernel takes of its memory, in bytes as they were asked of malloc and realloc. The block that holds the kernel itself, and the
+ * count, some hundred bytes, are no part of it. */
+typedef struct {
+    /* Those that it holds now. */
+    uint64_t held;
+    /* The most that it held at once. */
+    uint64_t peak;
+    /* The most that it may hold: memory of its limits. */
+    uint64_t most;
+    /* Those of held in segments that it keeps for further bytes of pipes and files: at most 1,048,576. */
+    uint64_t spare;
+} bindingclay_memory_use;
+
+/* bindingclay_open_within, with count words of limits. *budget is written once a block for the budget was taken from malloc: it goes by
+ * free, behind bindingclay_end, or at once where the answer is false. */
+bool bindingclay_open_words(const uint64_t *limits, size_t count, void **kernel, void **budget);
+
+/* bindingclay_free, but for the block of the budget, whose pointer is written to *budget. */
+void bindingclay_end(bindingclay clay, void **budget);
+
+/* bindingclay_memory, written to *memory. */
+void bindingclay_tell_memory(bindingclay clay, bindingclay_memory_use *memory);
+
+/* Makes a kernel without processes, within limits, and writes its pointer to *kernel; false, with nothing written, where there is no
+ * memory, or a capacity or a file may not have so many bytes, or size is that of no such struct. The kernel is yours, and goes by
+ * bindingclay_free. */
+static inline bool bindingclay_open_within(const bindingclay_limits *limits, void **kernel)
+{
+    void *budget = NULL;
+    if (limits->size % sizeof(uint64_t) != 0)
+        return false;
+    /* its fields are words, of which the last two share one */
+    if (bindingclay_open_words((const uint64_t *)(const void *)limits, limits->size / sizeof(uint64_t), kernel, &budget))
+        return true;
+    free(budget);
+    return false;
+}
+
 /* Makes a kernel without processes, and writes its pointer to *kernel; false, with nothing written, where there is no memory, or
  * file_max is above BINDINGCLAY_MOST_FILE_BYTES. Its first call that waits gets the number first_call, the next one that behind it, and so
- * on. A regular file has at most file_max bytes. The kernel is yours, and goes by bindingclay_free. */
-bool bindingclay_open(uint64_t first_call, uint32_t file_max, void **kernel);
+ * on. A regular file has at most file_max bytes. Else it has the limits of BINDINGCLAY_LIMITS. The kernel is yours, and goes by
+ * bindingclay_free. */
+static inline bool bindingclay_open(uint64_t first_call, uint32_t file_max, void **kernel)
+{
+    bindingclay_limits limits = BINDINGCLAY_LIMITS;
+    limits.first_call = first_call;
+    limits.file_max = file_max;
+    return bindingclay_open_within(&limits, kernel);
+}
 
 /* Frees a kernel and all that it holds. Nothing may use it from then on. Asks for no memory. */
-void bindingclay_free(bindingclay clay);
+static inline void bindingclay_free(bindingclay clay)
+{
+    void *budget = NULL;
+    bindingclay_end(clay, &budget);
+    free(budget);
+}
+
+/* What a kernel takes of its memory. Asks for none. */
+static inline bindingclay_memory_use bindingclay_memory(bindingclay clay)
+{
+    bindingclay_memory_use memory;
+    bindingclay_tell_memory(clay, &memory);
+    return memory;
+}
 
 /* The version of the library, as BINDINGCLAY_VERSION. */
 uint32_t bindingclay_version(void);

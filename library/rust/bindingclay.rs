@@ -18,6 +18,9 @@ pub type CallNumber = u64;
 /// The most bytes of a regular file.
 pub const MOST_FILE_BYTES: u32 = 16_777_216;
 
+/// The most bytes that a pipe can be made to hold.
+pub const MOST_CAPACITY: u32 = 1_048_576;
+
 /// The modes and flags of `open_name`, `set_fl` and `get_fl` (Linux, fcntl.h).
 pub const O_RDONLY: u32 = 0;
 pub const O_WRONLY: u32 = 0o1;
@@ -49,6 +52,51 @@ pub const POLLNVAL: i16 = 0o40;
 pub struct Ends {
     pub read_end: Fd,
     pub write_end: Fd,
+}
+
+/// What a kernel may take. `Limits::default()` are the limits where nobody sets any:
+/// `Limits { memory: 1 << 20, ..Limits::default() }`.
+#[derive(Clone, Copy, Debug, PartialEq, Eq)]
+pub struct Limits {
+    /// The number of the first call that waits.
+    pub first_call: CallNumber,
+    /// The most bytes that the kernel may hold. A call that would want more is `NoMemory`.
+    pub memory: u64,
+    /// The most names of files and FIFOs at one time. One more is ENOSPC.
+    pub names: u64,
+    /// The most calls that wait at one time. A call that would wait above that is EAGAIN, and has taken and given nothing.
+    pub waiting_calls: u64,
+    /// The most bytes that `set_pipe_sz` lets a pipe hold, at most `MOST_CAPACITY`; more are EPERM.
+    pub capacity: u32,
+    /// The most bytes of a regular file, at most `MOST_FILE_BYTES`.
+    pub file_max: u32,
+}
+
+impl Default for Limits {
+    fn default() -> Limits {
+        Limits {
+            first_call: 1,
+            memory: u64::MAX,
+            names: u64::MAX,
+            waiting_calls: u64::MAX,
+            capacity: MOST_CAPACITY,
+            file_max: MOST_FILE_BYTES,
+        }
+    }
+}
+
+/// What a kernel takes of its memory, in bytes as they were asked of malloc and realloc.
+#[repr(C)]
+#[derive(Clone, Copy, Debug, Default, PartialEq, Eq)]
+pub struct Memory {
+    /// Those that it holds now.
+    pub held: u64,
+    /// The most that it held at once.
+    pub peak: u64,
+    /// The most that it may hold.
+    pub most: u64,
+    /// Those of `held` in segments that it keeps for further bytes of pipes and files.
+    pub spare: u64,
 }
 
 /// An entry of a poll: a descriptor, what is asked of it, and what was found.
@@ -129,8 +177,10 @@ struct Answer {
 }
 
 unsafe extern "C" {
-    fn bindingclay_open(first_call: u64, file_max: u32, kernel: *mut *mut c_void) -> bool;
-    fn bindingclay_free(clay: Handle);
+    fn free(block: *mut c_void);
+    fn bindingclay_open_words(limits: *const u64, count: usize, kernel: *mut *mut c_void, budget: *mut *mut c_void) -> bool;
+    fn bindingclay_end(clay: Handle, budget: *mut *mut c_void);
+    fn bindingclay_tell_memory(clay: Handle, memory: *mut Memory);
     fn bindingclay_version() -> u32;
     fn bindingclay_start(clay: Handle) -> Answer;
     fn bindingclay_fork(clay: Handle, pid: u32) -> Answer;
@@ -209,7 +259,7 @@ impl Answer {
 }
 
 /// The version that this wrapper is of, as `version`.
-pub const VERSION: u32 = 2_000;
+pub const VERSION: u32 = 3_000;
 
 /// The version of the library: 1,000,000 times the first number, 1,000 times the second, and the third.
 pub fn version() -> u32 {
@@ -224,7 +274,11 @@ unsafe impl Send for Clay {}
 
 impl Drop for Clay {
     fn drop(&mut self) {
-        unsafe { bindingclay_free(self.0) }
+        let mut budget = std::ptr::null_mut();
+        unsafe {
+            bindingclay_end(self.0, &mut budget);
+            free(budget);
+        }
     }
 }
 
@@ -235,11 +289,36 @@ impl Clay {
     ///
     /// # Panics
     ///
-    /// Where the library that was linked declares other calls: its version differs from `VERSION` by more than the third number.
+    /// As `open_within`.
     pub fn open(first_call: CallNumber, file_max: u32) -> Option<Clay> {
+        Clay::open_within(&Limits { first_call, file_max, ..Limits::default() })
+    }
+
+    /// A kernel without processes, within limits. `None` where there is no memory, or a pipe or a file might have more bytes than any may.
+    ///
+    /// # Panics
+    ///
+    /// Where the library that was linked declares other calls: its version differs from `VERSION` by more than the third number.
+    pub fn open_within(limits: &Limits) -> Option<Clay> {
         assert_eq!(version() / 1_000, VERSION / 1_000, "the library is of another version than its wrapper");
+        let Limits { first_call, memory, names, waiting_calls, capacity, file_max } = *limits;
+        // the words of bindingclay_limits, whose first one is its size
+        let words = [48, first_call, memory, names, waiting_calls, u64::from(file_max) << 32 | u64::from(capacity)];
         let mut kernel = std::ptr::null_mut();
-        unsafe { bindingclay_open(first_call, file_max, &mut kernel) }.then(|| Clay(Handle { kernel }))
+        let mut budget = std::ptr::null_mut();
+        let open = unsafe { bindingclay_open_words(words.as_ptr(), words.len(), &mut kernel, &mut budget) };
+        if !open {
+            unsafe { free(budget) }
+            return None;
+        }
+        Some(Clay(Handle { kernel }))
+    }
+
+    /// What the kernel takes of its memory. It takes none for it.
+    pub fn memory(&self) -> Memory {
+        let mut memory = Memory::default();
+        unsafe { bindingclay_tell_memory(self.0, &mut memory) }
+        memory
     }
 
     pub fn start(&mut self) -> Result<Pid> {

@@ -7,10 +7,12 @@ use std::fmt::Debug;
 use std::sync::{Arc, Condvar, Mutex};
 use std::thread;
 
+const EPERM: i32 = 1;
 const ENOENT: i32 = 2;
 const EINTR: i32 = 4;
 const EBADF: i32 = 9;
 const EAGAIN: i32 = 11;
+const ENOSPC: i32 = 28;
 const EPIPE: i32 = 32;
 
 struct Checks {
@@ -141,6 +143,30 @@ fn kernels(checks: &mut Checks) {
     checks.is(texts, ["waits as call 7".to_string(), "no memory".to_string()]);
 }
 
+fn limits(checks: &mut Checks) {
+    let default = Limits::default();
+    checks.is(Clay::open_within(&Limits { capacity: MOST_CAPACITY + 1, ..default }).is_none(), true);
+    let few = Limits { first_call: 7, names: 1, waiting_calls: 1, capacity: 65_536, file_max: 3, ..default };
+    let mut clay = Clay::open_within(&few).expect("memory for a kernel");
+    checks.is(clay.start(), Ok(1));
+    checks.is(clay.open_name(1, b"f", O_RDWR | O_CREAT), Ok(0));
+    checks.is(clay.mkfifo(1, b"q"), Err(NotDone::Fault(ENOSPC)));
+    checks.is(clay.write(1, 0, b"hello"), Ok(3));
+    checks.is(clay.pipe(1, false), Ok(Ends { read_end: 1, write_end: 2 }));
+    checks.is(clay.set_pipe_sz(1, 1, 65_537), Err(NotDone::Fault(EPERM)));
+    checks.is(clay.read(1, 1, &mut [0]), Err(NotDone::Parked(7)));
+    checks.is(clay.read(1, 1, &mut [0]), Err(NotDone::Fault(EAGAIN)));
+
+    let mut clay = Clay::open_within(&Limits { memory: 65_536, ..default }).expect("memory for a kernel");
+    checks.is(clay.memory(), Memory { held: 0, peak: 0, most: 65_536, spare: 0 });
+    checks.is(clay.start(), Ok(1));
+    checks.is(clay.pipe(1, true), Ok(Ends { read_end: 0, write_end: 1 }));
+    checks.is(clay.write(1, 1, &[0; 65_536]), Err(NotDone::NoMemory));
+    let memory = clay.memory();
+    checks.is(0 < memory.held && memory.held <= memory.peak && memory.peak <= memory.most, true);
+    checks.is(clay.write(1, 1, &[0; 4_096]), Ok(4_096));
+}
+
 /// A kernel that moves to another thread, and one that two threads share under a lock.
 fn threads(checks: &mut Checks) {
     let clay = with_process();
@@ -191,6 +217,7 @@ fn main() {
     pipes(&mut checks);
     descriptors(&mut checks);
     names(&mut checks);
+    limits(&mut checks);
     threads(&mut checks);
     std::process::exit(if checks.failed == 0 { 0 } else { 1 });
 }

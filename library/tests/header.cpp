@@ -12,6 +12,8 @@ static_assert(offsetof(bindingclay_answer, error) == 8 && offsetof(bindingclay_a
 static_assert(sizeof(bindingclay) == sizeof(void *), "a kernel");
 static_assert(sizeof(bindingclay_pollfd) == sizeof(pollfd) && offsetof(bindingclay_pollfd, events) == offsetof(pollfd, events)
         && offsetof(bindingclay_pollfd, revents) == offsetof(pollfd, revents), "an entry of a poll");
+static_assert(sizeof(bindingclay_limits) == 48 && offsetof(bindingclay_limits, waiting_calls) == 32
+        && offsetof(bindingclay_limits, capacity) == 40 && offsetof(bindingclay_limits, file_max) == 44, "limits");
 
 int main()
 {
@@ -23,6 +25,13 @@ int main()
         && bindingclay_pipe(clay, 1, false, &ends).kind == BINDINGCLAY_DONE
         && bindingclay_splice(clay, 1, ends.write_end, nullptr, ends.read_end, nullptr, 1, 0).error == 9;
     bindingclay_free(clay);
+    bindingclay_limits limits = BINDINGCLAY_LIMITS;
+    limits.memory = 0;
+    as_wanted = as_wanted && bindingclay_open_within(&limits, &clay.kernel);
+    if (as_wanted) {
+        as_wanted = bindingclay_start(clay).kind == BINDINGCLAY_NO_MEMORY && bindingclay_memory(clay).most == 0;
+        bindingclay_free(clay);
+    }
     if (!as_wanted)
         std::puts("header.cpp: a call answers otherwise");
     return as_wanted ? 0 : 1;

@@ -1,7 +1,7 @@
 -- What a parked call comes to that is tried again, by what the kernel answered.
 use Rattle.std.proofs.Common.{◌≡◌, ◌≤◌, ◌<◌, ℕ, List, drop, length, refl, ap, arith}
 use Rattle.std.specs.Prelude.{Result, Ok, Err, IfOk, OnErr, IsOk}
-use Rattle.std.specs.Global.{Global}
+use Rattle.bindingclay.specs.Heap.{InBudget}
 use Rattle.pl_model.specs.declared.calls.Step.TheVariants.{Resume}
 use Rattle.pl_model.specs.Numbers.{most_capacity}
 use Rattle.pl_state.specs.Contents.{Contents}
@@ -35,7 +35,7 @@ read_has_room : (r : ReadReply) → (read_answer r).kind ≡ short → ⊥
 read_has_room r e = (let few = read_at_most r in omega arith)
 
 -- no read answers masks
-read_marks_none : (before : List PollEntry) (r : ReadReply) (bytes : List ℕ) → before ≡ entries_after {A = Global} before (told r bytes)
+read_marks_none : (before : List PollEntry) (r : ReadReply) (bytes : List ℕ) → before ≡ entries_after {A = InBudget} before (told r bytes)
 read_marks_none before (Reading.Read n) bytes = refl
 read_marks_none before (Reading.Fault e) bytes = refl
 read_marks_none before (Reading.Parked n) bytes = refl
@@ -43,26 +43,26 @@ read_marks_none before Reading.NoProcess bytes = refl
 read_marks_none before Reading.CallsSpent bytes = refl
 
 -- what is said of a read that waits
-abbrev OfReads : Contents Global → ℕ → (ℕ → Type 0) → Type 0
-OfReads old number P = (key n : ℕ) → ReadWaits {A = Global} old number key n → P n
+abbrev OfReads : Contents InBudget → ℕ → (ℕ → Type 0) → Type 0
+OfReads old number P = (key n : ℕ) → ReadWaits {A = InBudget} old number key n → P n
 
-module _ {E : Type 0} (old new : Contents Global) (number : ℕ) (before after : List ℕ) where
-  pub resumes_of : (z : Result (KernelResumed Global) E) → IfOk z (λ r. ResumedByKernel old number (length before) r after new) → IfOk z (λ r. resumed_count r ≤ length after) →
+module _ {E : Type 0} (old new : Contents InBudget) (number : ℕ) (before after : List ℕ) where
+  pub resumes_of : (z : Result (KernelResumed InBudget) E) → IfOk z (λ r. ResumedByKernel old number (length before) r after new) → IfOk z (λ r. resumed_count r ≤ length after) →
       OnErr z (new ≡ old) → Resumes old number (length before) (resumed_answer z) new
   resumes_of (Ok (Read r)) made few same = resumed old new number (length before) (read_answer r) (told r after) made (read_says r after few)
   resumes_of (Ok (Short n)) made few same = too_short old new number (length before) (plain n short) n refl made.0 made.1
   resumes_of (Ok (Other reply)) made few same = resumed old new number (length before) (said reply) reply made refl
   resumes_of (Err error) made few same = found_none old new number (length before) (plain 0 no_memory) refl same
 
-  pub wants_of : (z : Result (KernelResumed Global) E) → OnErr z (WantsMemory old (Resume number)) → Wants old (Resume number) (resumed_answer z)
+  pub wants_of : (z : Result (KernelResumed InBudget) E) → OnErr z (WantsMemory old (Resume number)) → Wants old (Resume number) (resumed_answer z)
   wants_of (Ok (Read r)) wanted = λ e. absurd (read_has_memory r e)
   wants_of (Ok (Short n)) wanted = λ e. absurd (omega arith)
   wants_of (Ok (Other reply)) wanted = λ e. absurd (has_memory (said reply) reply refl e)
   wants_of (Err error) wanted = λ e. wanted
 
-  pub gathers_of : (z : Result (KernelResumed Global) E) → IfOk z (λ r. ResumedByKernel old number (length before) r after new) →
+  pub gathers_of : (z : Result (KernelResumed InBudget) E) → IfOk z (λ r. ResumedByKernel old number (length before) r after new) →
       OfReads old number (λ n. length before < gives_again old number → z ≡ Ok (Short (gives_again old number))) → OfReads old number (λ n. gives_again old number ≤ length before → IfOk z IsRead) → OfReads old number (λ n. most_capacity ≤ length before → IfOk z IsRead) → OfReads old number (λ n. IfOk z IsOfRead) →
-      (((key n : ℕ) → ¬ ReadWaits {A = Global} old number key n) → IfOk z IsOfOther) → IfOk z (λ r. resumed_count r ≤ length after) →
+      (((key n : ℕ) → ¬ ReadWaits {A = InBudget} old number key n) → IfOk z IsOfOther) → IfOk z (λ r. resumed_count r ≤ length after) →
       IfOk z (λ r. drop (resumed_count r) after ≡ drop (resumed_count r) before) → OnErr z (after ≡ before) → OfReads old number (λ n. IsOk z) → Gathers old number before (resumed_answer z) after
   gathers_of (Ok (Read r)) made wide fits enough reads others few rest unread frugal =
       record {
@@ -109,8 +109,8 @@ module _ {E : Type 0} (old new : Contents Global) (number : ℕ) (before after :
         kept = λ e. unread;
       }
 
-  pub notes_of : (z : Result (KernelResumed Global) E) (entries : List PollEntry) → IfOk z (λ r. ResumedByKernel old number (length before) r after new) →
-      OfReads old number (λ n. length before < gives_again old number → z ≡ Ok (Short (gives_again old number))) → OfReads old number (λ n. gives_again old number ≤ length before → IfOk z IsRead) → (((key n : ℕ) → ¬ ReadWaits {A = Global} old number key n) → IfOk z IsOfOther) → length before ≡ 0 →
+  pub notes_of : (z : Result (KernelResumed InBudget) E) (entries : List PollEntry) → IfOk z (λ r. ResumedByKernel old number (length before) r after new) →
+      OfReads old number (λ n. length before < gives_again old number → z ≡ Ok (Short (gives_again old number))) → OfReads old number (λ n. gives_again old number ≤ length before → IfOk z IsRead) → (((key n : ℕ) → ¬ ReadWaits {A = InBudget} old number key n) → IfOk z IsOfOther) → length before ≡ 0 →
       Notes old number entries (resumed_answer z) (resumed_entries entries z)
   notes_of (Ok (Read r)) entries made wide fits others none =
       record {

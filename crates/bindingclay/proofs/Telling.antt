@@ -1,7 +1,7 @@
 -- An answer says what the kernel replied.
 use Rattle.std.proofs.Common.{◌≡◌, ◌≤◌, ◌<◌, ℕ, List, ◌++◌, take, drop, length, refl, sym, ap, subst, ◌∙◌, length-take-le, length-append, length-drop, append_assoc, take-append-drop, arith}
 use Rattle.std.proofs.lemmas.List.{drop-append-le}
-use Rattle.std.specs.Global.{Global}
+use Rattle.bindingclay.specs.Heap.{InBudget}
 use Rattle.pl_model.specs.declared.calls.Step.{Step}
 use Rattle.pl_model.specs.declared.calls.Step.TheVariants.{Resume}
 use Rattle.pl_model.specs.declared.replies.Reply.{Reply}
@@ -16,7 +16,7 @@ use Rattle.pl_numbers.specs.Answers.{said, plain, no_memory, short}
 use Rattle.bindingclay.specs.Made.{Makes, Replied, Resumed, Resumes, read_answer, bytes_after}
 
 -- no reply has the kind of what is no reply
-pub said_at_most : (r : Reply Global) → (said r).kind ≤ 5
+pub said_at_most : (r : Reply InBudget) → (said r).kind ≤ 5
 said_at_most (Pid pid) = omega arith
 said_at_most (Fd fd) = omega arith
 said_at_most (Fds reader writer) = omega arith
@@ -33,7 +33,7 @@ said_at_most NoProcess = omega arith
 said_at_most NoCall = omega arith
 said_at_most CallsSpent = omega arith
 
-module _ (a : Answer) (r : Reply Global) (says : a ≡ said r) where
+module _ (a : Answer) (r : Reply InBudget) (says : a ≡ said r) where
   kind_at_most : a.kind ≤ 5
   kind_at_most = subst (λ (z : Answer). z.kind ≤ 5) (sym says) (said_at_most r)
 
@@ -43,10 +43,10 @@ module _ (a : Answer) (r : Reply Global) (says : a ≡ said r) where
   pub has_room : a.kind ≡ short → ⊥
   has_room e = (let few = kind_at_most in omega arith)
 
-module _ (old : Contents Global) (x : Step Global) (a : Answer) where
-  module _ (r : Reply Global) (new : Contents Global) (made : MadeByKernel old x r new) where
+module _ (old : Contents InBudget) (x : Step InBudget) (a : Answer) where
+  module _ (r : Reply InBudget) (new : Contents InBudget) (made : MadeByKernel old x r new) where
     -- what holds of the kernel's reply holds of the machine's
-    pub of_reply : (P : Reply Global → Type 0) → P r → Replied old x a P
+    pub of_reply : (P : Reply InBudget → Type 0) → P r → Replied old x a P
     of_reply P p = λ kind s stands. subst P (made s stands).0 p
 
     pub replied : a ≡ said r → Makes old x a new
@@ -58,10 +58,10 @@ module _ (old : Contents Global) (x : Step Global) (a : Answer) where
         }
 
   -- where no memory was found, nothing is said of a reply
-  pub not_replied : (P : Reply Global → Type 0) → a ≡ plain 0 no_memory → Replied old x a P
+  pub not_replied : (P : Reply InBudget → Type 0) → a ≡ plain 0 no_memory → Replied old x a P
   not_replied P p = λ kind. absurd (kind (ap (λ (z : Answer). z.kind) p))
 
-  pub unmade : (new : Contents Global) → a ≡ plain 0 no_memory → new ≡ old → Makes old x a new
+  pub unmade : (new : Contents InBudget) → a ≡ plain 0 no_memory → new ≡ old → Makes old x a new
   unmade new p same =
       record {
         says = not_replied (λ reply. a ≡ said reply) p;
@@ -70,7 +70,7 @@ module _ (old : Contents Global) (x : Step Global) (a : Answer) where
       }
 
 -- the answer of a read says its reply
-pub read_says : (r : ReadReply) (bytes : List ℕ) → read_count r ≤ length bytes → read_answer r ≡ said {A = Global} (told r bytes)
+pub read_says : (r : ReadReply) (bytes : List ℕ) → read_count r ≤ length bytes → read_answer r ≡ said {A = InBudget} (told r bytes)
 read_says (Read.Read n) bytes within = ap (λ k. plain k 0) (sym (length-take-le n bytes within))
 read_says (Read.Fault e) bytes within = refl
 read_says (Read.Parked n) bytes within = refl
@@ -87,13 +87,13 @@ read_leaves Read.NoProcess old new within rest = rest
 read_leaves Read.CallsSpent old new within rest = rest
 
 -- bytes that were read into the first n of the caller's
-pub cut_leaves : (reply : Reply Global) (old new : List ℕ) (n : ℕ) → new ≡ bytes_after (take n old) reply → length new ≡ length (take n old) → new ++ drop n old ≡ bytes_after old reply
+pub cut_leaves : (reply : Reply InBudget) (old new : List ℕ) (n : ℕ) → new ≡ bytes_after (take n old) reply → length new ≡ length (take n old) → new ++ drop n old ≡ bytes_after old reply
 cut_leaves reply old new n is same = by reply is
   where
     stays : new ≡ take n old → new ++ drop n old ≡ old
     stays e = ap (λ l. l ++ drop n old) e ∙ take-append-drop n old
 
-    by : (r : Reply Global) → new ≡ bytes_after (take n old) r → new ++ drop n old ≡ bytes_after old r
+    by : (r : Reply InBudget) → new ≡ bytes_after (take n old) r → new ++ drop n old ≡ bytes_after old r
     by (Bytes bytes) e =
         let few : length bytes ≤ length (take n old) = (let counted = sym (ap (λ l. length l) e) ∙ same in let sum = length-append bytes (drop (length bytes) (take n old)) in let rest = length-drop (length bytes) (take n old) in omega arith) in
         ap (λ l. l ++ drop n old) e
@@ -114,10 +114,10 @@ cut_leaves reply old new n is same = by reply is
     by NoCall e = stays e
     by CallsSpent e = stays e
 
-module _ (old new : Contents Global) (number room : ℕ) (a : Answer) where
+module _ (old new : Contents InBudget) (number room : ℕ) (a : Answer) where
   -- a parked call that was tried again, and answered so
-  module _ (r : Reply Global) (made : MadeByKernel old (Resume number) r new) where
-    pub again_of : (P : Reply Global → Type 0) → P r → Resumed old number a P
+  module _ (r : Reply InBudget) (made : MadeByKernel old (Resume number) r new) where
+    pub again_of : (P : Reply InBudget → Type 0) → P r → Resumed old number a P
     again_of P p = λ some room s stands. subst P (made s stands).0 p
 
     pub resumed : a ≡ said r → Resumes old number room a new

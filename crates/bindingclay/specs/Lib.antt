@@ -1,2 +1,4 @@
+pub mod Asked
+pub mod Heap
 pub mod Made
 pub mod Owned

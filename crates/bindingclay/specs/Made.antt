@@ -2,7 +2,7 @@
 use Rattle.std.specs.Prelude.{◌≡◌, ℕ, Bool, true, false, List, length, drop, ◌++◌, ◌<◌, ◌≤◌, nat_lt, if◌then◌else◌, Option}
 use Rattle.std.specs.declared.option.Option.TheVariants.{None, Some}
 use Rattle.std.specs.Prelude.{Result, Ok, Err}
-use Rattle.std.specs.Global.{Global}
+use Rattle.bindingclay.specs.Heap.{InBudget}
 use Rattle.pl_model.specs.declared.calls.Step.{Step}
 use Rattle.pl_model.specs.declared.calls.Step.TheVariants.{Resume}
 use Rattle.pl_model.specs.declared.replies.Errno.TheVariants.{ENOENT}
@@ -25,58 +25,58 @@ use Rattle.pl_numbers.specs.Answers.{said, plain, faulty, no_memory, short}
 use Rattle.pl_polls.specs.Entries.{entries_after}
 
 -- Where memory was found, this holds of the machine's reply, for each state for which the kernel stood.
-abbrev pub Replied : Contents Global → Step Global → Answer → (Reply Global → Type 0) → Type 0
-Replied old x a P = ((a.kind ≡ no_memory) → ⊥) → (s : State Global) → Stands old s → P (step s x).reply
+abbrev pub Replied : Contents InBudget → Step InBudget → Answer → (Reply InBudget → Type 0) → Type 0
+Replied old x a P = ((a.kind ≡ no_memory) → ⊥) → (s : State InBudget) → Stands old s → P (step s x).reply
 
 -- the answer says the machine's reply
-abbrev pub Says : Contents Global → Step Global → Answer → Type 0
+abbrev pub Says : Contents InBudget → Step InBudget → Answer → Type 0
 Says old x a = Replied old x a (λ reply. a ≡ said reply)
 
 -- The answer says the machine's reply, and the kernel stands for the next state; where no memory was found, it is as it was.
-pub record Makes (old : Contents Global) (x : Step Global) (a : Answer) (new : Contents Global) : Type 0 where
+pub record Makes (old : Contents InBudget) (x : Step InBudget) (a : Answer) (new : Contents InBudget) : Type 0 where
   pub says : Says old x a
-  pub made : ((a.kind ≡ no_memory) → ⊥) → (s : State Global) → Stands old s → Stands new (step s x).state
+  pub made : ((a.kind ≡ no_memory) → ⊥) → (s : State InBudget) → Stands old s → Stands new (step s x).state
   pub unmade : a.kind ≡ no_memory → new ≡ old
 
 -- no memory is wanted but where the machine's step may want it
-abbrev pub Wants : Contents Global → Step Global → Answer → Type 0
+abbrev pub Wants : Contents InBudget → Step InBudget → Answer → Type 0
 Wants old x a = a.kind ≡ no_memory → WantsMemory old x
 
 -- POSIX.1-2017, read: the caller's bytes begin with what was read, and stay behind it
-abbrev pub bytes_after : List ℕ → Reply Global → List ℕ
+abbrev pub bytes_after : List ℕ → Reply InBudget → List ℕ
 bytes_after old (Bytes bytes) = bytes ++ drop (length bytes) old
 bytes_after old other = old
 
 -- A parked call is tried again, unless no memory was found, or it is a read and the caller's room too small for its bytes: then this holds of
 -- the machine's reply.
-abbrev pub Resumed : Contents Global → ℕ → Answer → (Reply Global → Type 0) → Type 0
-Resumed old number a P = ((a.kind ≡ no_memory) → ⊥) → ((a.kind ≡ short) → ⊥) → (s : State Global) → Stands old s → P (step s (Resume number)).reply
+abbrev pub Resumed : Contents InBudget → ℕ → Answer → (Reply InBudget → Type 0) → Type 0
+Resumed old number a P = ((a.kind ≡ no_memory) → ⊥) → ((a.kind ≡ short) → ⊥) → (s : State InBudget) → Stands old s → P (step s (Resume number)).reply
 
 -- What trying a parked call again comes to, with so much room for bytes.
-pub record Resumes (old : Contents Global) (number room : ℕ) (a : Answer) (new : Contents Global) : Type 0 where
+pub record Resumes (old : Contents InBudget) (number room : ℕ) (a : Answer) (new : Contents InBudget) : Type 0 where
   pub says : Resumed old number a (λ reply. a ≡ said reply)
-  pub made : ((a.kind ≡ no_memory) → ⊥) → ((a.kind ≡ short) → ⊥) → (s : State Global) → Stands old s → Stands new (step s (Resume number)).state
+  pub made : ((a.kind ≡ no_memory) → ⊥) → ((a.kind ≡ short) → ⊥) → (s : State InBudget) → Stands old s → Stands new (step s (Resume number)).state
   pub wider : a.kind ≡ short → (room < a.value) × (new ≡ old)
   pub unmade : a.kind ≡ no_memory → new ≡ old
 
 -- What it leaves in that room. A read whose bytes fit gives them, and wants no memory; one whose bytes don't fit tells how many they are;
 -- nothing else changes any, and nothing else is too wide.
-pub record Gathers (old : Contents Global) (number : ℕ) (before : List ℕ) (a : Answer) (after : List ℕ) : Type 0 where
-  pub bytes : (key n : ℕ) → ReadWaits {A = Global} old number key n → Resumed old number a (λ reply. after ≡ bytes_after before reply)
-  pub narrow : (key n : ℕ) → ReadWaits {A = Global} old number key n → length before < gives_again old number → a ≡ plain (gives_again old number) short
-  pub fits : (key n : ℕ) → ReadWaits {A = Global} old number key n → gives_again old number ≤ length before → a.kind ≡ short → ⊥
-  pub enough : (key n : ℕ) → ReadWaits {A = Global} old number key n → most_capacity ≤ length before → a.kind ≡ short → ⊥
-  pub frugal : (key n : ℕ) → ReadWaits {A = Global} old number key n → a.kind ≡ no_memory → ⊥
-  pub others : ((key n : ℕ) → ¬ ReadWaits {A = Global} old number key n) → (after ≡ before) × (a.kind ≡ short → ⊥)
+pub record Gathers (old : Contents InBudget) (number : ℕ) (before : List ℕ) (a : Answer) (after : List ℕ) : Type 0 where
+  pub bytes : (key n : ℕ) → ReadWaits {A = InBudget} old number key n → Resumed old number a (λ reply. after ≡ bytes_after before reply)
+  pub narrow : (key n : ℕ) → ReadWaits {A = InBudget} old number key n → length before < gives_again old number → a ≡ plain (gives_again old number) short
+  pub fits : (key n : ℕ) → ReadWaits {A = InBudget} old number key n → gives_again old number ≤ length before → a.kind ≡ short → ⊥
+  pub enough : (key n : ℕ) → ReadWaits {A = InBudget} old number key n → most_capacity ≤ length before → a.kind ≡ short → ⊥
+  pub frugal : (key n : ℕ) → ReadWaits {A = InBudget} old number key n → a.kind ≡ no_memory → ⊥
+  pub others : ((key n : ℕ) → ¬ ReadWaits {A = InBudget} old number key n) → (after ≡ before) × (a.kind ≡ short → ⊥)
   pub unread : a.kind ≡ no_memory → after ≡ before
   pub kept : a.kind ≡ short → after ≡ before
 
 -- What it leaves in the entries of a poll. A read that gives bytes is told to have too little room.
-pub record Notes (old : Contents Global) (number : ℕ) (before : List PollEntry) (a : Answer) (after : List PollEntry) : Type 0 where
+pub record Notes (old : Contents InBudget) (number : ℕ) (before : List PollEntry) (a : Answer) (after : List PollEntry) : Type 0 where
   pub entries : Resumed old number a (λ reply. after ≡ entries_after before reply)
-  pub reads : (key n : ℕ) → ReadWaits {A = Global} old number key n → 0 < gives_again old number → a ≡ plain (gives_again old number) short
-  pub fits : (key n : ℕ) → ReadWaits {A = Global} old number key n → gives_again old number ≡ 0 → a.kind ≡ short → ⊥
-  pub others : ((key n : ℕ) → ¬ ReadWaits {A = Global} old number key n) → a.kind ≡ short → ⊥
+  pub reads : (key n : ℕ) → ReadWaits {A = InBudget} old number key n → 0 < gives_again old number → a ≡ plain (gives_again old number) short
+  pub fits : (key n : ℕ) → ReadWaits {A = InBudget} old number key n → gives_again old number ≡ 0 → a.kind ≡ short → ⊥
+  pub others : ((key n : ℕ) → ¬ ReadWaits {A = InBudget} old number key n) → a.kind ≡ short → ⊥
   pub unmarked : a.kind ≡ no_memory → after ≡ before
   pub kept : a.kind ≡ short → after ≡ before
 
@@ -93,14 +93,14 @@ read_answer read.NoProcess = plain 0 3
 read_answer read.CallsSpent = plain 0 5
 
 -- the answer of a call that was tried again
-abbrev pub resumed_answer : {E : Type 0} → Result (KernelResumed Global) E → Answer
+abbrev pub resumed_answer : {E : Type 0} → Result (KernelResumed InBudget) E → Answer
 resumed_answer (Ok (kernel.Read reply)) = read_answer reply
 resumed_answer (Ok (kernel.Short n)) = plain n short
 resumed_answer (Ok (kernel.Other reply)) = said reply
 resumed_answer (Err error) = plain 0 no_memory
 
 -- and the entries of a poll behind it
-abbrev pub resumed_entries : {E : Type 0} → List PollEntry → Result (KernelResumed Global) E → List PollEntry
+abbrev pub resumed_entries : {E : Type 0} → List PollEntry → Result (KernelResumed InBudget) E → List PollEntry
 resumed_entries old (Ok (kernel.Other reply)) = entries_after old reply
 resumed_entries old other = old
 
@@ -110,8 +110,8 @@ owner_answer None = plain 0 4
 owner_answer (Some pid) = plain pid 0
 
 -- so it is for each state for which the kernel stands
-abbrev pub Owns : Contents Global → ℕ → Answer → Type 0
-Owns k number a = (s : State Global) → Stands k s → a ≡ owner_answer (owner_by s number)
+abbrev pub Owns : Contents InBudget → ℕ → Answer → Type 0
+Owns k number a = (s : State InBudget) → Stands k s → a ≡ owner_answer (owner_by s number)
 
 -- Bytes were copied to the front of the caller's; or there is too little room for them, and the answer says how many they are.
 abbrev pub Copies : (is_short : Bool) → List ℕ → Answer → (old new : List ℕ) → Type 0

@@ -6,7 +6,7 @@ ghost use Rattle.bindingclay.specs.Owned.{layer_coded, layer_owns};
 
 mod parts;
 
-use crate::layer::Layer;
+use crate::layer::{Heap, Layer};
 use parts::Parts;
 use pl_model::Step;
 use pl_numbers::Answer;
@@ -44,9 +44,9 @@ impl Handle {
 
     /// Makes one step of the kernel.
     #[inline(always)]
-    pub fn step(self, step: Step<Global>) -> Answer
-        ensures says { Says self.layer.kernel step result }
-        ensures wants { Wants self.layer.kernel step result }
+    pub fn step(self, step: Step<Heap>) -> Answer
+        ensures says { Says self.layer.kernel step.entry result }
+        ensures wants { Wants self.layer.kernel step.entry result }
     {
         let mut layer = self.into_box();
         let answer = layer.step(step);

@@ -1,10 +1,11 @@
-//! What lies behind a handle: a kernel in the memory of `malloc`.
+//! What lies behind a handle: a kernel in the memory of `malloc`, within a budget.
+mod memory;
 mod names;
 mod transfers;
 mod waiting;
 
 ghost use Rattle.std.specs.Prelude.{◌≡◌, ◌≤◌, ⊤, MatchOption};
-ghost use Rattle.std.specs.Global.{Global as Heap};
+ghost use Rattle.bindingclay.specs.Heap.{InBudget};
 ghost use Rattle.pl_model.specs.Numbers.{most_file_bytes};
 ghost use Rattle.pl_model.specs.Numbered.{opening};
 ghost use Rattle.pl_state.specs.Makes.{Stands};
@@ -13,16 +14,21 @@ ghost use Rattle.pl_numbers.specs.Answers.{plain, faulty, ends_after};
 ghost use Rattle.pl_numbers.specs.Places.{whence_of_number};
 ghost use Rattle.bindingclay.specs.Made.{Makes, Wants, Replied};
 
+pub use memory::{Memory, address};
+use pl_budget::Budget;
 use pl_kernel::{Kernel, NoMemory};
 use pl_model::{Call, Errno, Limits, Step};
 use pl_numbers::{Answer, Ends, answer_of, kind, tell_ends, whence_of_number};
 use std::alloc::Global;
 
+/// What a kernel and the lists for its calls are made in: a budget, which stays where it is as long as the kernel does.
+pub type Heap = &'static Budget<Global>;
+
 /// A kernel, and the memory that lists for its calls are made in.
 #[derive(Drop)]
 pub struct Layer {
-    kernel: Kernel<Global>,
-    alloc: Global,
+    kernel: Kernel<Heap>,
+    heap: Heap,
 }
 
 /// The answer where no memory was found: nothing changed.
@@ -34,21 +40,21 @@ pub(crate) fn no_memory() -> Answer
 
 impl Layer {
     /// A kernel with no process. `limits.file_max` is at most 16,777,216.
-    pub fn new(alloc: Global, limits: Limits) -> Layer
+    pub fn new(heap: Heap, limits: Limits) -> Layer
         requires { limits.file_max ≤ most_file_bytes }
-        ensures { Stands result.kernel (opening {A = Heap} limits) }
+        ensures { Stands result.kernel (opening {A = InBudget} limits) }
     {
         Layer {
-            kernel: Kernel::new(alloc, limits),
-            alloc,
+            kernel: Kernel::new(heap, limits),
+            heap,
         }
     }
 
     /// Makes one step, and answers what it replied.
     #[inline(always)]
-    pub fn step(&mut self, step: Step<Global>) -> Answer
-        ensures makes { Makes self.old.kernel step result self.new.kernel }
-        ensures wants { Wants self.old.kernel step result }
+    pub fn step(&mut self, step: Step<Heap>) -> Answer
+        ensures makes { Makes self.old.kernel step.entry result self.new.kernel }
+        ensures wants { Wants self.old.kernel step.entry result }
     {
         match self.kernel.step(step) {
             Ok(reply) => answer_of(&reply),

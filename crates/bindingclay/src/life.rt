@@ -1,47 +1,40 @@
 //! Kernels and processes.
-ghost use Rattle.std.specs.Prelude.{◌≡◌, ◌<◌, false};
+ghost use Rattle.std.specs.Prelude.{◌≡◌, ◌≤◌, false};
 ghost use Rattle.pl_model.specs.Numbers.{most_file_bytes};
+ghost use Rattle.bindingclay.specs.Asked.{AreNone};
+ghost use Rattle.std.specs.Ptr.{as_ptr};
 ghost use Rattle.bindingclay.specs.Made.{Says, Wants};
 
 use crate::handle::Handle;
-use crate::layer::Layer;
-use pl_model::numbers::MAX_FILE_BYTES;
-use pl_model::{Call, Limits, Step};
+use crate::layer::{Heap, Layer, Memory, address};
+use crate::limits::{Asked, asked_by};
+use pl_budget::Budget;
+use pl_model::{Call, Step};
 use pl_numbers::Answer;
 use std::alloc::Global;
 
 /// The version of these functions: 1,000,000 times the first number, 1,000 times the second, and the third.
-const VERSION: u32 = 2_000;
+const VERSION: u32 = 3_000;
 
 /// Tells the version of these functions: 1,000,000 times the first number, 1,000 times the second, and the third.
 #[unsafe(no_mangle)]
 pub extern "C" fn bindingclay_version() -> u32
-    ensures { result ≡ 2000 }
+    ensures { result ≡ 3000 }
 {
     VERSION
 }
 
-/// Makes a kernel with no process, whose first parked call gets the number `first_call`, and a file of which has at most `file_max`
-/// bytes, and writes the pointer of its handle to `kernel`. False where there is no memory, and where `file_max` is above 16,777,216.
-#[unsafe(no_mangle)]
-pub extern "C" fn bindingclay_open(
-    alloc: Global,
-    first_call: u64,
-    file_max: u32,
-    kernel: &mut *mut u8,
-) -> bool
-    ensures limited { most_file_bytes < file_max → result ≡ false }
+// Makes a kernel with no process, within what is asked, and writes the pointer of its handle to `kernel`.
+fn open(alloc: Global, asked: &Asked, kernel: &mut *mut u8, budget: &mut *mut u8) -> bool
+    requires file_max { asked.now.limits.file_max ≤ most_file_bytes }
     ensures unwritten { result ≡ false → kernel.new ≡ kernel.old }
 {
-    if file_max > MAX_FILE_BYTES {
+    let Ok(made) = Box::new(alloc, Budget::new(alloc, asked.memory)) else {
         return false;
-    }
-    let limits = Limits {
-        first_call,
-        file_max,
-        ..Limits::DEFAULT
     };
-    match Box::new(alloc, Layer::new(alloc, limits)) {
+    let heap: Heap = Box::leak(made);
+    *budget = address(heap);
+    match Box::new(alloc, Layer::new(heap, asked.limits)) {
         Ok(layer) => {
             *kernel = Box::into_raw(layer) as *mut u8;
             true
@@ -50,10 +43,43 @@ pub extern "C" fn bindingclay_open(
     }
 }
 
-/// Frees the kernel. Its handle is of no use from then on.
+/// Makes a kernel with no process, within what the words of `limits` ask for, and writes the pointer of its handle to `kernel`. False where
+/// there is no memory, and where the words ask for nothing that can be had. A pointer is written to `budget` once a block for the budget
+/// was taken from `malloc`. Nothing here frees that block: C does, behind the kernel's end, or at once where the answer is false.
 #[unsafe(no_mangle)]
-pub extern "C" fn bindingclay_free(handle: Handle) {
-    drop(handle.into_box());
+pub extern "C" fn bindingclay_open_words(
+    alloc: Global,
+    limits: &[u64],
+    kernel: &mut *mut u8,
+    budget: &mut *mut u8,
+) -> bool
+    ensures limited { AreNone limits.now → result ≡ false }
+    ensures unwritten { result ≡ false → kernel.new ≡ kernel.old }
+{
+    match asked_by(limits) {
+        Some(asked) => open(alloc, &asked, kernel, budget),
+        None => false,
+    }
+}
+
+/// Frees the kernel, whose handle is of no use from then on, and writes the pointer of its budget's block to `budget`, for C to free.
+#[unsafe(no_mangle)]
+pub extern "C" fn bindingclay_end(handle: Handle, budget: &mut *mut u8)
+    ensures { budget.new ≡ as_ptr handle.layer.heap }
+{
+    let layer = handle.into_box();
+    *budget = layer.budget();
+    drop(layer);
+}
+
+/// Tells what the kernel takes of its memory.
+#[unsafe(no_mangle)]
+pub extern "C" fn bindingclay_tell_memory(handle: Handle, memory: &mut Memory)
+    ensures { memory.new.spare ≤ 1048576 }
+{
+    let layer = handle.into_box();
+    *memory = layer.memory();
+    let _kept = Box::into_raw(layer);
 }
 
 /// Starts a process with no open descriptor: the value is its pid.

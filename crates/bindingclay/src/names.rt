@@ -1,6 +1,6 @@
 //! Files and FIFOs by name.
 ghost use Rattle.std.specs.Prelude.{◌≡◌, take, MatchOption};
-ghost use Rattle.std.specs.Global.{Global as Heap};
+ghost use Rattle.bindingclay.specs.Heap.{InBudget};
 ghost use Rattle.pl_model.specs.declared.replies.Errno.TheVariants.{EINVAL};
 ghost use Rattle.pl_model.specs.State.{file_bytes};
 ghost use Rattle.pl_model.specs.Numbered.{State};
@@ -53,7 +53,7 @@ pub extern "C" fn bindingclay_unlink(handle: Handle, pid: u32, name: &[u8]) -> A
 /// many they are; of what is no file it is `ENOENT`.
 #[unsafe(no_mangle)]
 pub extern "C" fn bindingclay_file_bytes(handle: Handle, name: &[u8], into: &mut [u8]) -> Answer
-    ensures told { ((result.kind ≡ 6) → ⊥) → (s : State Heap) → Stands handle.layer.kernel s → Gives (file_bytes s.core (take 256 name.now)) result into.old into.new }
+    ensures told { ((result.kind ≡ 6) → ⊥) → (s : State InBudget) → Stands handle.layer.kernel s → Gives (file_bytes s.core (take 256 name.now)) result into.old into.new }
     ensures untold { result.kind ≡ 6 → into.new ≡ into.old }
 {
     let layer = handle.into_box();

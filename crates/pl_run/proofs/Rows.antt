@@ -10,7 +10,7 @@ use Rattle.pl_run.specs.declared.choice.Choice.{Choice}
 use Rattle.pl_run.specs.declared.choice.Choice.TheVariants.{Run, Help}
 use Rattle.pl_run.specs.declared.fault.Fault.{Fault}
 use Rattle.pl_run.specs.declared.fault.Fault.TheVariants.{CannotRead, CannotWrite, CommandLine, BadLine, TooLong, NoMemory}
-use Rattle.pl_run.specs.Words.{piperun, rows, faults, IsFirstCall, IsNoNumber, HoldsMatches, Refuses, Chooses, AskForInput}
+use Rattle.pl_run.specs.Words.{piperun, rows, faults, IsFirstCall, IsMemory, IsNoNumber, HoldsMatches, Refuses, Chooses, AskForInput}
 
 has_plain_rules : is_simple_and_free piperun ≡ true
 unfolding clap_on_literals
@@ -40,21 +40,21 @@ unfolding faults
 of_faults P a words same says = subst (λ b. P (fault_of b words)) same (says (ap is_simple_and_free same ∙ has_plain_rules))
 
 -- the words that the command takes
-pub taken : (words : List Text) (number name : Option Text) (r : Result Choice Fault) → number ≡ one_of (codes "first-call") (rows words)
-    → name ≡ first_of (codes "file") (rows words) → faults words ≡ [] → HoldsMatches number name r → Chooses words r
-taken words number name (Ok (Run n file)) same same' none holds = rw (← same, ← same') (none, holds.0, holds.1)
-taken words number name (Ok Help) same same' none holds = absurd holds
-taken words number name (Err CommandLine) same same' none holds = inr (none, rw (← same) holds)
-taken words number name (Err NoMemory) same same' none holds = tt
-taken words number name (Err CannotRead) same same' none holds = absurd holds
-taken words number name (Err CannotWrite) same same' none holds = absurd holds
-taken words number name (Err (BadLine n)) same same' none holds = absurd holds
-taken words number name (Err TooLong) same same' none holds = absurd holds
+pub taken : (words : List Text) (number most name : Option Text) (r : Result Choice Fault) → number ≡ one_of (codes "first-call") (rows words)
+    → most ≡ one_of (codes "memory") (rows words) → name ≡ first_of (codes "file") (rows words) → faults words ≡ [] → HoldsMatches number most name r → Chooses words r
+taken words number most name (Ok (Run n bytes file)) same same' same'' none holds = rw (← same, ← same', ← same'') (none, holds.0, holds.1, holds.2)
+taken words number most name (Ok Help) same same' same'' none holds = absurd holds
+taken words number most name (Err CommandLine) same same' same'' none holds = inr (none, rw (← same, ← same') holds)
+taken words number most name (Err NoMemory) same same' same'' none holds = tt
+taken words number most name (Err CannotRead) same same' same'' none holds = absurd holds
+taken words number most name (Err CannotWrite) same same' same'' none holds = absurd holds
+taken words number most name (Err (BadLine n)) same same' same'' none holds = absurd holds
+taken words number most name (Err TooLong) same same' same'' none holds = absurd holds
 
 -- the words that it doesn't take
 pub refused : (words : List Text) (kind : ErrorKind) (r : Result Choice Fault) → (kind ≡ OutOfMemory) ⊎ IsAmong kind (faults words)
     → Refuses kind r → Chooses words r
-refused words kind (Ok (Run n file)) among made = absurd (cc made.1)
+refused words kind (Ok (Run n bytes file)) among made = absurd (cc made.1)
 refused words kind (Ok Help) (inl memory) made = absurd (cc (memory, made.0))
 refused words kind (Ok Help) (inr among) made = subst (λ k. IsAmong k (faults words)) made.0 among
 refused words kind (Err CommandLine) (inl memory) made = absurd (made.1 memory)
@@ -69,14 +69,19 @@ no_number : (value : Option Text) (n : ℕ) → IsNoNumber value → IsFirstCall
 no_number None n none number = none
 no_number (Some text) n none number = none number.0
 
+no_limit : (value : Option Text) (bytes : Option ℕ) → IsNoNumber value → IsMemory value bytes → ⊥
+no_limit None bytes none most = none
+no_limit (Some text) bytes none most = none most.0
+
 -- words that ask for a run are refused for want of memory alone
-pub refused_for_memory : (words : List Text) (n : ℕ) (fault : Fault) → AskForInput words n → Chooses words (Err fault) → fault ≡ NoMemory
-refused_for_memory words n CommandLine asked (inl bad) =
+pub refused_for_memory : (words : List Text) (n : ℕ) (bytes : Option ℕ) (fault : Fault) → AskForInput words n bytes → Chooses words (Err fault) → fault ≡ NoMemory
+refused_for_memory words n bytes CommandLine asked (inl bad) =
     let among = rw asked.0 at bad.1 in
     absurd among
-refused_for_memory words n CommandLine asked (inr bad) = absurd (no_number _ n bad.1 asked.1)
-refused_for_memory words n NoMemory asked chosen = refl
-refused_for_memory words n CannotRead asked chosen = absurd chosen
-refused_for_memory words n CannotWrite asked chosen = absurd chosen
-refused_for_memory words n (BadLine m) asked chosen = absurd chosen
-refused_for_memory words n TooLong asked chosen = absurd chosen
+refused_for_memory words n bytes CommandLine asked (inr (none, inl bad)) = absurd (no_number _ n bad asked.1)
+refused_for_memory words n bytes CommandLine asked (inr (none, inr bad)) = absurd (no_limit _ bytes bad asked.2)
+refused_for_memory words n bytes NoMemory asked chosen = refl
+refused_for_memory words n bytes CannotRead asked chosen = absurd chosen
+refused_for_memory words n bytes CannotWrite asked chosen = absurd chosen
+refused_for_memory words n bytes (BadLine m) asked chosen = absurd chosen
+refused_for_memory words n bytes TooLong asked chosen = absurd chosen

@@ -2,12 +2,15 @@
 
 /// The text of `--help`: the command, each line of a script, an example with what it prints, and the statuses.
 pub const HELP: &str = "\
-Usage: piperun [--first-call N] [FILE]
+Usage: piperun [--first-call N] [--memory BYTES] [FILE]
 
 Runs a script of pipe calls and prints a line for each reply. The script is
 FILE, or standard input where there is none.
 
       --first-call N  the number of the first call that waits; else it is 1
+      --memory BYTES  the most bytes that the script, what it makes and its
+                      output may take at once; a call that finds none prints
+                      `nomem`, and changes nothing
   -h, --help          this text
 
 Each line of a script is one call, a question or a comment:

@@ -1,5 +1,5 @@
 //! The program: what the words of its command line ask for, from one stream to another, and its fault to a third.
-ghost use Rattle.std.specs.Prelude.{◌≡◌, ◌<◌, ◌≤◌, ◌↔◌, ◌⊎◌, ℕ, List, map, string_bytes, true, false, not, OnOk, IfSome, IfErr, IsErrOf};
+ghost use Rattle.std.specs.Prelude.{◌≡◌, ◌<◌, ◌≤◌, ◌↔◌, ◌⊎◌, ℕ, List, Option, map, string_bytes, true, false, not, OnOk, IfSome, IfErr, IsErrOf};
 ghost use Rattle.std.specs.Io.KnownBytes.{Appends};
 ghost use Rattle.pl_model.specs.Numbers.{most_reads};
 ghost use Rattle.pl_run.specs.Fault.{status_of, line_of, WritesLine};
@@ -11,6 +11,7 @@ use crate::LIMITS;
 use crate::choice::{Choice, words};
 use crate::fault::{Fault, status, write_fault};
 use crate::help::HELP;
+use pl_budget::Budget;
 use pl_model::Limits;
 use pl_script::{Reads, Sink, Source, Writes, run_script, write_whole};
 use std::alloc::Global;
@@ -18,10 +19,12 @@ use std::env::{self, Env};
 use std::fs::{File, Files};
 use std::io::{ErrorKind, Read, Write};
 
-/// Runs the script that the reader gives, with its calls numbered from `first_call`.
+/// Runs the script that the reader gives, with its calls numbered from `first_call`, within so many bytes of memory. All that the run
+/// holds counts: the script, the kernel, and the output that isn't written yet.
 fn run_from<S: Source, T: Sink>(
     alloc: Global,
     first_call: u64,
+    memory: Option<u64>,
     reader: &mut S,
     writer: &mut T,
 ) -> Result<(), Fault>
@@ -39,7 +42,8 @@ fn run_from<S: Source, T: Sink>(
         first_call,
         ..LIMITS
     };
-    run_script(alloc, reader, writer, limits)?;
+    let budget = Budget::new(alloc, memory.unwrap_or(u64::MAX));
+    run_script(&budget, reader, writer, limits)?;
     Ok(())
 }
 
@@ -68,10 +72,10 @@ pub fn run<R: Files + AllocGlobal, S: Source, T: Sink>(
     requires reads { most_reads ≤ S.reads_left input.old }
 
     // Where the words ask for a run of the script of the input, with calls numbered from n.
-    ensures run { (n : ℕ) → AskForInput (map string_bytes given.now) n → IfSome (S.remaining input.old) (λ script.
+    ensures run { (n : ℕ) → (bytes : Option ℕ) → AskForInput (map string_bytes given.now) n bytes → IfSome (S.remaining input.old) (λ script.
         (written : List ℕ) × Appends (T.contents output.old) (T.contents output.new) written
         × IsRunWithin n script result written) }
-    ensures read { (n : ℕ) → AskForInput (map string_bytes given.now) n → S.has_failed input.old ≡ false →
+    ensures read { (n : ℕ) → (bytes : Option ℕ) → AskForInput (map string_bytes given.now) n bytes → S.has_failed input.old ≡ false →
         (IsErrOf result CannotRead ↔ (S.has_failed input.new ≡ true)) }
 
     // Whatever they ask for.
@@ -83,14 +87,22 @@ pub fn run<R: Files + AllocGlobal, S: Source, T: Sink>(
         Choice::Help => Ok(write_whole(output, HELP.as_bytes())?),
         Choice::Run {
             first_call,
+            memory,
             file: None,
-        } => run_from(rt.alloc(), first_call, input, output),
+        } => run_from(rt.alloc(), first_call, memory, input, output),
         Choice::Run {
             first_call,
+            memory,
             file: Some(path),
         } => {
             let file = open(rt, path.as_str())?;
-            run_from(rt.alloc(), first_call, &mut Reads::of_script(file), output)
+            run_from(
+                rt.alloc(),
+                first_call,
+                memory,
+                &mut Reads::of_script(file),
+                output,
+            )
         }
     }
 }

@@ -1,5 +1,5 @@
 //! What the words of the command line ask for.
-use self::Asked::{Fails, Helps, Runs, RunsFile};
+use self::Asked::{Fails, Helps, Runs, RunsFile, RunsWithin};
 use super::equal::is;
 use pl_run::{Choice, Fault, words};
 use std::alloc::Global;
@@ -12,6 +12,8 @@ enum Asked {
     Runs(u64),
     /// The same of a file.
     RunsFile(u64, &'static str),
+    /// A run of the input, with calls numbered from here, within so many bytes.
+    RunsWithin(u64, u64),
     Helps,
     Fails(Fault),
 }
@@ -44,6 +46,24 @@ const WORDS: &[(&[&str], Asked)] = &[
     (&["s", "--first-call"], BAD),
     (&["--first-call", "7", "--first-call", "7"], BAD),
     (&["--first-call=7", "--first-call=8"], BAD),
+    // BYTES
+    (&["--memory", "65536"], RunsWithin(1, 65_536)),
+    (&["--memory=0"], RunsWithin(1, 0)),
+    (&["--memory", "5", "--first-call", "7"], RunsWithin(7, 5)),
+    (&["--first-call", "7", "--memory", "5"], RunsWithin(7, 5)),
+    (
+        &["--memory", "18446744073709551615"],
+        RunsWithin(1, u64::MAX),
+    ),
+    (&["--memory", "18446744073709551616"], BAD),
+    (&["--memory", "-1"], BAD),
+    (&["--memory", "64k"], BAD),
+    (&["--memory", ""], BAD),
+    (&["--memory"], BAD),
+    (&["--memory", "5", "--memory", "5"], BAD),
+    (&["--memory", "5", "--first-call", "x"], BAD),
+    (&["--memory", "x", "--first-call", "7"], BAD),
+    (&["--memory", "5", "--help"], Helps),
     // what isn't the option
     (&["--first-cal", "7"], BAD),
     (&["--First-call", "7"], BAD),
@@ -73,10 +93,23 @@ pub(crate) fn strings(alloc: Global, given: &[&str]) -> Result<Vec<String>, Fail
 
 fn is_so(choice: &Result<Choice, Fault>, asked: Asked) -> bool {
     match (choice, asked) {
-        (Ok(Choice::Run { first_call, file }), Runs(n)) => *first_call == n && file.is_none(),
-        (Ok(Choice::Run { first_call, file }), RunsFile(n, name)) => {
-            *first_call == n && file.as_deref() == Some(name)
-        }
+        (
+            Ok(
+                Choice::Run {
+                    first_call,
+                    memory,
+                    file,
+                },
+            ),
+            wanted,
+        ) => match wanted {
+            Runs(n) => *first_call == n && memory.is_none() && file.is_none(),
+            RunsFile(n, name) => {
+                *first_call == n && memory.is_none() && file.as_deref() == Some(name)
+            }
+            RunsWithin(n, most) => *first_call == n && *memory == Some(most) && file.is_none(),
+            _ => false,
+        },
         (Ok(Choice::Help), Helps) => true,
         (Err(fault), Fails(wanted)) => *fault == wanted,
         _ => false,

@@ -4,16 +4,15 @@ ghost use Rattle.pl_model.specs.declared.replies.Errno.TheVariants.{EINVAL};
 ghost use Rattle.pl_model.specs.State.{file_bytes};
 ghost use Rattle.pl_model.specs.Numbered.{State};
 ghost use Rattle.pl_state.specs.Makes.{Stands};
-ghost use Rattle.std.specs.Global.{Global as Heap};
+ghost use Rattle.bindingclay.specs.Heap.{InBudget};
 ghost use Rattle.pl_numbers.specs.Answers.{faulty};
 ghost use Rattle.pl_numbers.specs.Flags.{mode_of_bits, open_flags_of_bits};
 ghost use Rattle.bindingclay.specs.Made.{Makes, Gives};
 
-use super::{Layer, no_memory};
+use super::{Heap, Layer, no_memory};
 use pl_kernel::NoMemory;
 use pl_model::{Call, Errno, Name, Step};
 use pl_numbers::{Answer, kind, mode_of_bits, open_flags_of_bits};
-use std::alloc::Global;
 
 /// More bytes than a name may have (POSIX.1-2017, limits.h, `NAME_MAX` is 255): those behind them aren't looked at.
 const TOO_LONG: usize = 256;
@@ -32,11 +31,11 @@ fn give(bytes: &[u8], into: &mut [u8]) -> Answer
 
 impl Layer {
     // The name of the caller's bytes.
-    fn name(&self, bytes: &[u8]) -> Result<Name<Global>, NoMemory>
+    fn name(&self, bytes: &[u8]) -> Result<Name<Heap>, NoMemory>
         ensures { IfOk result (λ name. name ≡ take 256 bytes.now) }
     {
         let count = TOO_LONG.min(bytes.len());
-        Ok(Name::from_vec(Vec::from_slice(self.alloc, &bytes[..count])?))
+        Ok(Name::from_vec(Vec::from_slice(self.heap, &bytes[..count])?))
     }
 
     /// Makes a FIFO.
@@ -78,7 +77,7 @@ impl Layer {
     /// Copies the bytes of the file of a name to the caller's. Where there is too little room for them, the answer says how many they
     /// are; of what is no file it is `ENOENT`.
     pub fn file_bytes(&self, name: &[u8], into: &mut [u8]) -> Answer
-        ensures told { ((result.kind ≡ 6) → ⊥) → (s : State Heap) → Stands self.now.kernel s → Gives (file_bytes s.core (take 256 name.now)) result into.old into.new }
+        ensures told { ((result.kind ≡ 6) → ⊥) → (s : State InBudget) → Stands self.now.kernel s → Gives (file_bytes s.core (take 256 name.now)) result into.old into.new }
         ensures untold { result.kind ≡ 6 → into.new ≡ into.old }
     {
         let Ok(name) = self.name(name) else {

@@ -2,7 +2,7 @@
 ghost use Rattle.std.specs.Prelude.{◌≡◌, ◌≤◌, ◌<◌, ◌^◌, ⊤, List, length, take, min, MatchOption};
 ghost use Rattle.pl_model.specs.Numbers.{most_bytes};
 ghost use Rattle.pl_model.specs.declared.replies.Errno.TheVariants.{EINVAL};
-ghost use Rattle.std.specs.Global.{Global as Heap};
+ghost use Rattle.bindingclay.specs.Heap.{InBudget};
 ghost use Rattle.pl_transfers.specs.Waits.{reply_of};
 ghost use Rattle.pl_kernel.specs.Buffers.{Parks};
 ghost use Rattle.pl_numbers.specs.Answers.{said, faulty};
@@ -62,7 +62,7 @@ pub(crate) fn answer_of_read(reply: &ReadReply) -> Answer
 
 // The answer of a write of the caller's bytes.
 fn answer_of_write(reply: &WriteReply) -> Answer
-    ensures { result ≡ said {A = Heap} (reply_of reply.now) }
+    ensures { result ≡ said {A = InBudget} (reply_of reply.now) }
 {
     match reply {
         WriteReply::Wrote { n, sigpipe } => Answer {
@@ -78,7 +78,7 @@ fn answer_of_write(reply: &WriteReply) -> Answer
 
 // The answer of a poll of the caller's entries.
 fn answer_of_poll(reply: &PollReply) -> Answer
-    ensures { (entries : List Entry) → result ≡ said {A = Heap} (poll_told reply.now entries) }
+    ensures { (entries : List Entry) → result ≡ said {A = InBudget} (poll_told reply.now entries) }
 {
     match reply {
         PollReply::Ready(count) => Answer::done(*count as u64),

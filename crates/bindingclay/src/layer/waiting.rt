@@ -3,15 +3,14 @@ ghost use Rattle.std.specs.Prelude.{◌≡◌, length};
 ghost use Rattle.bindingclay.specs.Made.{Gathers, Notes, Owns, Resumes, Wants, resumed_answer, resumed_entries};
 
 use super::transfers::answer_of_read;
-use super::{Layer, no_memory};
+use super::{Heap, Layer, no_memory};
 use pl_kernel::{NoMemory, Resumed};
 use pl_model::Step;
 use pl_numbers::{Answer, answer_of, kind};
 use pl_polls::{PollEntry, mark_entries};
-use std::alloc::Global;
 
 // The answer of a call that was tried again.
-fn answer_of_resumed(resumed: &Result<Resumed<Global>, NoMemory>) -> Answer
+fn answer_of_resumed(resumed: &Result<Resumed<Heap>, NoMemory>) -> Answer
     ensures { result ≡ resumed_answer resumed.now }
 {
     match resumed {
@@ -23,7 +22,7 @@ fn answer_of_resumed(resumed: &Result<Resumed<Global>, NoMemory>) -> Answer
 }
 
 // Notes in each entry what a poll that was tried again found of it.
-fn mark_resumed(resumed: &Result<Resumed<Global>, NoMemory>, entries: &mut [PollEntry])
+fn mark_resumed(resumed: &Result<Resumed<Heap>, NoMemory>, entries: &mut [PollEntry])
     ensures { entries.new ≡ resumed_entries entries.old resumed.now }
 {
     if let Ok(Resumed::Other(reply)) = resumed {

@@ -1,6 +1,6 @@
 use Rattle.std.proofs.Common.{◌≡◌, ◌∙◌, length, rules, w32, SFits}
 use Rattle.std.proofs.lemmas.Int.{to_z-of_z}
-use Rattle.std.specs.Global.{Global}
+use Rattle.bindingclay.specs.Heap.{InBudget}
 use Rattle.pl_model.specs.declared.calls.Call.{Call}
 use Rattle.pl_model.specs.declared.calls.Step.{Step}
 use Rattle.pl_model.specs.declared.calls.Step.TheVariants.{Begin}
@@ -12,7 +12,7 @@ use Rattle.bindingclay.proofs.layer.Layer.read_all.Goals as goal
 pub returns-in-Ok-clause-makes : goal.returns-in-Ok-clause-makes
 returns-in-Ok-clause-makes c =
     let fits : SFits w32 c.args.fd = search rules in
-    let x : Step Global = Begin c.args.pid (Call.Read c.args.fd (length c.args.into.now)) in
+    let x : Step InBudget = Begin c.args.pid (Call.Read c.args.fd (length c.args.into.now)) in
     let r = c.in-Ok.reply in
     let into = c.read_into.new.into in
     replied c.args.self.now.kernel x c.answer_of_read.result (told r into) c.read_into.new.self (rw (to_z-of_z w32 c.args.fd fits) at c.in-Ok.ensures.made)
@@ -21,7 +21,7 @@ returns-in-Ok-clause-makes c =
 pub returns-in-Ok-clause-bytes : goal.returns-in-Ok-clause-bytes
 returns-in-Ok-clause-bytes c =
     let fits : SFits w32 c.args.fd = search rules in
-    let x : Step Global = Begin c.args.pid (Call.Read c.args.fd (length c.args.into.now)) in
+    let x : Step InBudget = Begin c.args.pid (Call.Read c.args.fd (length c.args.into.now)) in
     let r = c.in-Ok.reply in
     let into = c.read_into.new.into in
     of_reply c.args.self.now.kernel x c.answer_of_read.result (told r into) c.read_into.new.self (rw (to_z-of_z w32 c.args.fd fits) at c.in-Ok.ensures.made)

@@ -1,0 +1,25 @@
+-- The words of `bindingclay_limits`, and what they ask for. The first one tells how many there are; later ones may be left out.
+use Rattle.std.specs.Prelude.{◌≡◌, ◌<◌, ◌⊎◌, ◌/◌, ◌%◌, ◌*◌, ◌+◌, ◌^◌, ℕ, List, length, get_or}
+use Rattle.pl_model.specs.declared.calls.Limits.{Limits}
+use Rattle.pl_model.specs.Numbers.{most_capacity, most_file_bytes, no_limit}
+use Rattle.bindingclay.specs.declared.limits.Asked.{Asked}
+
+-- the last word: its lower half is the greatest capacity of a pipe, and its upper half the most bytes of a file
+abbrev pub sizes : List ℕ → ℕ
+sizes words = get_or words 5 (most_file_bytes * 2 ^ 32 + most_capacity)
+
+abbrev pub asked_by : List ℕ → Asked
+asked_by words = record {
+  limits = record {
+    first_call = get_or words 1 1;
+    file_max = sizes words / 2 ^ 32;
+    names_max = get_or words 3 no_limit;
+    waiting_max = get_or words 4 no_limit;
+    capacity_max = sizes words % 2 ^ 32;
+  };
+  memory = get_or words 2 no_limit;
+}
+
+-- there are none of them, or more than are known, or a pipe or a file might have more bytes than any may
+abbrev pub AreNone : List ℕ → Type 0
+AreNone words = (length words ≡ 0) ⊎ (6 < length words) ⊎ (most_capacity < sizes words % 2 ^ 32) ⊎ (most_file_bytes < sizes words / 2 ^ 32)

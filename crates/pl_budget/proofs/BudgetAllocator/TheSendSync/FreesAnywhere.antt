@@ -1,0 +1,9 @@
+-- Any thread may give a block back, if any may give it back to the inner allocator.
+use mir.Syntax.{Dict}
+use denote.RattleType.{RattleType}
+use denote.Param.Send.{Frees}
+use Rattle.std.specs.declared.alloc.Allocator.{Ghosts}
+use Rattle.pl_budget.specs.contracts.BudgetAllocator.TheImpl.{ghosts}
+
+pub frees : (B : RattleType) (g : Ghosts B.Denot) (d e : Dict) → Frees g g.dealloc_token → Frees (ghosts B g d e) (ghosts B g d e).dealloc_token
+frees B g d e f = record { frees = λ own. f.frees own.inner }

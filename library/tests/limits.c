@@ -1,0 +1,396 @@
+/* Limits that a host sets: each at its edge, and one above it, in each call that it can refuse. */
+#include "check.h"
+
+#include <fcntl.h>
+#include <poll.h>
+
+static bindingclay kernel_within(const bindingclay_limits *limits)
+{
+    bindingclay clay = { NULL };
+    if (!bindingclay_open_within(limits, &clay.kernel)) {
+        printf("bindingclay_open_within: false\n");
+        exit(1);
+    }
+    DONE(bindingclay_start(clay), 1);
+    return clay;
+}
+
+static bool is_refused(const bindingclay_limits *limits)
+{
+    void *kernel = &kernel;
+    bool open = bindingclay_open_within(limits, &kernel);
+    return !open && kernel == &kernel;
+}
+
+/* ---- The struct ---- */
+
+/* An earlier version's struct: what it doesn't have is as if nobody had set it. */
+static void structs_that_are_smaller(void)
+{
+    HOLDS(sizeof(bindingclay_limits) == 48);
+    bindingclay_limits limits = { .size = 16, .first_call = 7, .memory = 0, .names = 0, .waiting_calls = 0, .capacity = 0, .file_max = 0 };
+    bindingclay clay = kernel_within(&limits);
+    DONE(mkfifo_text(clay, 1, "a"), 0);
+    bindingclay_ends ends = NEW_PIPE(clay, 1, false);
+    DONE(bindingclay_set_pipe_sz(clay, 1, ends.read_end, BINDINGCLAY_MOST_CAPACITY), BINDINGCLAY_MOST_CAPACITY);
+    PARKED(take(clay, 1, ends.read_end, 1), 7);
+    DONE(open_text(clay, 1, "f", O_RDWR | O_CREAT), 2);
+    DONE(put(clay, 1, 2, "hello"), 5);
+    HOLDS(bindingclay_memory(clay).most == UINT64_MAX);
+    bindingclay_free(clay);
+
+    limits.size = 8;
+    clay = kernel_within(&limits);
+    PARKED(take(clay, 1, NEW_PIPE(clay, 1, false).read_end, 1), 1);
+    bindingclay_free(clay);
+
+    limits.size = 24;
+    limits.memory = 0;
+    bindingclay without = { NULL };
+    HOLDS(bindingclay_open_within(&limits, &without.kernel));
+    OTHER(bindingclay_start(without), BINDINGCLAY_NO_MEMORY);
+    bindingclay_free(without);
+}
+
+static void structs_of_no_version(void)
+{
+    struct {
+        bindingclay_limits limits;
+        uint64_t later;
+    } longer = { .limits = BINDINGCLAY_LIMITS };
+    longer.limits.size = sizeof longer;
+    HOLDS(is_refused(&longer.limits));
+    bindingclay_limits limits = BINDINGCLAY_LIMITS;
+    for (uint64_t size = 0; size < 64; size++)
+        if (size % 8 != 0 || size == 0 || size > sizeof limits) {
+            longer.limits.size = size;
+            HOLDS(is_refused(&longer.limits));
+        }
+}
+
+static void fields_that_are_too_great(void)
+{
+    bindingclay_limits limits = BINDINGCLAY_LIMITS;
+    limits.capacity = BINDINGCLAY_MOST_CAPACITY + 1;
+    HOLDS(is_refused(&limits));
+    limits.capacity = BINDINGCLAY_MOST_CAPACITY;
+    limits.file_max = BINDINGCLAY_MOST_FILE_BYTES + 1;
+    HOLDS(is_refused(&limits));
+    limits.capacity = UINT32_MAX;
+    limits.file_max = UINT32_MAX;
+    HOLDS(is_refused(&limits));
+    void *kernel = &kernel;
+    HOLDS(!bindingclay_open(1, BINDINGCLAY_MOST_FILE_BYTES + 1, &kernel) && kernel == &kernel);
+}
+
+/* ---- Names ---- */
+
+static void names(void)
+{
+    bindingclay_limits limits = BINDINGCLAY_LIMITS;
+    limits.names = 3;
+    bindingclay clay = kernel_within(&limits);
+    DONE(mkfifo_text(clay, 1, "a"), 0);
+    DONE(open_text(clay, 1, "b", O_RDWR | O_CREAT), 0);
+    DONE(mkfifo_text(clay, 1, "c"), 0);
+    FAULT(mkfifo_text(clay, 1, "d"), ENOSPC);
+    FAULT(open_text(clay, 1, "d", O_RDWR | O_CREAT), ENOSPC);
+    FAULT(open_text(clay, 1, "d", O_RDWR | O_CREAT | O_EXCL), ENOSPC);
+    /* other refusals, and opens of what is there */
+    FAULT(open_text(clay, 1, "d", O_RDWR), ENOENT);
+    FAULT(mkfifo_text(clay, 1, "a"), EEXIST);
+    FAULT(mkfifo_text(clay, 1, ""), ENOENT);
+    FAULT(open_text(clay, 1, "b", O_RDWR | O_CREAT | O_EXCL), EEXIST);
+    DONE(open_text(clay, 1, "b", O_RDWR | O_CREAT), 1);
+    /* a name that goes makes place for one */
+    DONE(unlink_text(clay, 1, "b"), 0);
+    DONE(open_text(clay, 1, "d", O_RDWR | O_CREAT), 2);
+    FAULT(mkfifo_text(clay, 1, "e"), ENOSPC);
+    DONE(unlink_text(clay, 1, "a"), 0);
+    DONE(mkfifo_text(clay, 1, "e"), 0);
+    FAULT(open_text(clay, 1, "a", O_RDWR | O_CREAT), ENOSPC);
+    bindingclay_free(clay);
+}
+
+static void no_names(void)
+{
+    bindingclay_limits limits = BINDINGCLAY_LIMITS;
+    limits.names = 0;
+    bindingclay clay = kernel_within(&limits);
+    FAULT(mkfifo_text(clay, 1, "a"), ENOSPC);
+    FAULT(open_text(clay, 1, "a", O_WRONLY | O_CREAT), ENOSPC);
+    FAULT(open_text(clay, 1, "a", O_WRONLY), ENOENT);
+    NEW_PIPE(clay, 1, false);
+    bindingclay_free(clay);
+}
+
+/* ---- Calls that wait ---- */
+
+enum { EMPTY_READ = 0, EMPTY_WRITE, FULL_READ, FULL_WRITE, FILE_END, FREE_PIPE, FREE_WRITE };
+
+/* A kernel in which so many calls may wait and all these do, with an empty pipe 0 1, a pipe 2 3 that is full but for 10 bytes, a file 4 of
+ * 5 bytes, and a FIFO "q". */
+static bindingclay full_of_calls(uint64_t waiting_calls)
+{
+    bindingclay_limits limits = BINDINGCLAY_LIMITS;
+    limits.waiting_calls = waiting_calls;
+    bindingclay clay = kernel_within(&limits);
+    NEW_PIPE(clay, 1, false);
+    NEW_PIPE(clay, 1, false);
+    DONE(put_many(clay, 1, FULL_WRITE, 65526), 65526);
+    DONE(open_text(clay, 1, "f", O_RDWR | O_CREAT), FILE_END);
+    DONE(put(clay, 1, FILE_END, "hello"), 5);
+    DONE(mkfifo_text(clay, 1, "q"), 0);
+    for (uint64_t i = 1; i <= waiting_calls; i++)
+        PARKED(take(clay, 1, EMPTY_READ, 1), i);
+    return clay;
+}
+
+/* Each call that would wait, where no more may: it has taken nothing. */
+static void refuses_each_call(bindingclay clay)
+{
+    uint8_t into[4] = { UNTOUCHED, UNTOUCHED, UNTOUCHED, UNTOUCHED };
+    FAULT(bindingclay_read(clay, 1, EMPTY_READ, into, 4), EAGAIN);
+    HOLDS(into[0] == UNTOUCHED && into[3] == UNTOUCHED);
+    FAULT(put_many(clay, 1, FULL_WRITE, 11), EAGAIN);
+    FAULT(put_many(clay, 1, FULL_WRITE, 4096), EAGAIN);
+    FAULT(put_many(clay, 1, FULL_WRITE, 4097), EAGAIN);
+    FAULT(put_many(clay, 1, FULL_WRITE, 100000), EAGAIN);
+    FAULT(open_text(clay, 1, "q", O_RDONLY), EAGAIN);
+    FAULT(open_text(clay, 1, "q", O_WRONLY), EAGAIN);
+    uint64_t start = 0;
+    FAULT(bindingclay_splice(clay, 1, EMPTY_READ, NULL, FULL_WRITE, NULL, 9, 0), EAGAIN);
+    FAULT(bindingclay_splice(clay, 1, EMPTY_READ, NULL, FILE_END, NULL, 9, 0), EAGAIN);
+    FAULT(bindingclay_tee(clay, 1, EMPTY_READ, FULL_WRITE, 9, 0), EAGAIN);
+    DONE(bindingclay_splice(clay, 1, FILE_END, &start, FULL_WRITE, NULL, 5, 0), 5);
+    DONE(put(clay, 1, FULL_WRITE, "67890"), 5);
+    /* now pipe 2 3 is full */
+    FAULT(bindingclay_splice(clay, 1, FILE_END, &start, FULL_WRITE, NULL, 5, 0), EAGAIN);
+    bindingclay_pollfd entries[] = { { EMPTY_READ, POLLIN, UNTOUCHED }, { FULL_WRITE, POLLOUT, UNTOUCHED } };
+    FAULT(bindingclay_poll(clay, 1, entries, 2, true), EAGAIN);
+    HOLDS(entries[0].revents == UNTOUCHED && entries[1].revents == UNTOUCHED);
+    DONE(bindingclay_poll(clay, 1, entries, 2, false), 0);
+    /* nothing was taken, and nothing went in but those 10 bytes */
+    uint8_t *bytes = needed(malloc(70000));
+    DONE(bindingclay_read(clay, 1, FULL_READ, bytes, 70000), 65536);
+    HOLDS(bytes[65525] == 'a' && memcmp(bytes + 65526, "hello67890", 10) == 0);
+    free(bytes);
+    HAS_FILE(clay, "f", "hello");
+    FAULT(open_text(clay, 1, "q", O_WRONLY | O_NONBLOCK), ENXIO);
+}
+
+static void calls_that_wait(void)
+{
+    bindingclay clay = full_of_calls(3);
+    refuses_each_call(clay);
+    FAULT(take(clay, 1, EMPTY_READ, 1), EAGAIN);
+    /* one that ends makes place for one, and no number was lost */
+    FAULT(bindingclay_interrupt(clay, 2), EINTR);
+    PARKED(open_text(clay, 1, "q", O_RDONLY), 4);
+    FAULT(take(clay, 1, EMPTY_READ, 1), EAGAIN);
+    /* the open of the other end waits for nobody */
+    DONE(open_text(clay, 1, "q", O_WRONLY), 5);
+    DONE(again(clay, 4), 6);
+    PARKED(take(clay, 1, EMPTY_READ, 1), 5);
+    FAULT(take(clay, 1, EMPTY_READ, 1), EAGAIN);
+    /* a process that ends takes its calls with it */
+    DONE(bindingclay_exit(clay, 1), 0);
+    DONE(bindingclay_start(clay), 1);
+    bindingclay_ends ends = NEW_PIPE(clay, 1, false);
+    for (uint64_t i = 6; i <= 8; i++)
+        PARKED(take(clay, 1, ends.read_end, 1), i);
+    FAULT(take(clay, 1, ends.read_end, 1), EAGAIN);
+    bindingclay_free(clay);
+}
+
+/* The last call that may wait, of each kind. */
+static void the_last_that_may_wait(void)
+{
+    bindingclay_limits limits = BINDINGCLAY_LIMITS;
+    limits.waiting_calls = 1;
+    bindingclay clay = kernel_within(&limits);
+    NEW_PIPE(clay, 1, false);
+    NEW_PIPE(clay, 1, false);
+    DONE(put_many(clay, 1, FULL_WRITE, 65536), 65536);
+    DONE(mkfifo_text(clay, 1, "q"), 0);
+    uint64_t number = 0;
+    bindingclay_pollfd entry = { EMPTY_READ, POLLIN, 0 };
+    PARKED(take(clay, 1, EMPTY_READ, 1), ++number);
+    FAULT(bindingclay_interrupt(clay, number), EINTR);
+    PARKED(put_many(clay, 1, FULL_WRITE, 5), ++number);
+    FAULT(bindingclay_interrupt(clay, number), EINTR);
+    PARKED(put_many(clay, 1, FULL_WRITE, 5000), ++number);
+    FAULT(bindingclay_interrupt(clay, number), EINTR);
+    PARKED(open_text(clay, 1, "q", O_RDONLY), ++number);
+    FAULT(bindingclay_interrupt(clay, number), EINTR);
+    PARKED(bindingclay_splice(clay, 1, EMPTY_READ, NULL, FULL_WRITE, NULL, 9, 0), ++number);
+    FAULT(bindingclay_interrupt(clay, number), EINTR);
+    PARKED(bindingclay_tee(clay, 1, EMPTY_READ, FULL_WRITE, 9, 0), ++number);
+    FAULT(bindingclay_interrupt(clay, number), EINTR);
+    PARKED(bindingclay_poll(clay, 1, &entry, 1, true), ++number);
+    FAULT(take(clay, 1, EMPTY_READ, 1), EAGAIN);
+    /* two ends of a FIFO: the first waits, the second meets it and needs no place */
+    FAULT(bindingclay_interrupt(clay, number), EINTR);
+    PARKED(open_text(clay, 1, "q", O_WRONLY), ++number);
+    DONE(open_text(clay, 1, "q", O_RDONLY), 4);
+    DONE(again(clay, number), 5);
+    bindingclay_free(clay);
+}
+
+static void none_may_wait(void)
+{
+    bindingclay clay = full_of_calls(0);
+    refuses_each_call(clay);
+    bindingclay_free(clay);
+}
+
+/* ---- Capacities ---- */
+
+static void capacities(void)
+{
+    bindingclay_limits limits = BINDINGCLAY_LIMITS;
+    limits.capacity = 131072;
+    bindingclay clay = kernel_within(&limits);
+    bindingclay_ends ends = NEW_PIPE(clay, 1, false);
+    DONE(bindingclay_set_pipe_sz(clay, 1, ends.read_end, 131072), 131072);
+    FAULT(bindingclay_set_pipe_sz(clay, 1, ends.read_end, 131073), EPERM);
+    FAULT(bindingclay_set_pipe_sz(clay, 1, ends.read_end, 1048576), EPERM);
+    FAULT(bindingclay_set_pipe_sz(clay, 1, ends.read_end, UINT32_MAX), EPERM);
+    DONE(bindingclay_get_pipe_sz(clay, 1, ends.read_end), 131072);
+    DONE(bindingclay_set_pipe_sz(clay, 1, ends.read_end, 0), 4096);
+    FAULT(bindingclay_set_pipe_sz(clay, 1, 9, 131073), EBADF);
+    bindingclay_free(clay);
+
+    /* between two powers of two: what a size is rounded up to counts */
+    limits.capacity = 131071;
+    clay = kernel_within(&limits);
+    ends = NEW_PIPE(clay, 1, false);
+    FAULT(bindingclay_set_pipe_sz(clay, 1, ends.read_end, 65537), EPERM);
+    DONE(bindingclay_set_pipe_sz(clay, 1, ends.read_end, 65536), 65536);
+    bindingclay_free(clay);
+
+    /* a new pipe has its 65,536 bytes all the same */
+    limits.capacity = 4096;
+    clay = kernel_within(&limits);
+    ends = NEW_PIPE(clay, 1, false);
+    DONE(bindingclay_get_pipe_sz(clay, 1, ends.read_end), 65536);
+    FAULT(bindingclay_set_pipe_sz(clay, 1, ends.read_end, 4097), EPERM);
+    DONE(bindingclay_set_pipe_sz(clay, 1, ends.read_end, 4096), 4096);
+    bindingclay_free(clay);
+
+    limits.capacity = 0;
+    clay = kernel_within(&limits);
+    ends = NEW_PIPE(clay, 1, false);
+    FAULT(bindingclay_set_pipe_sz(clay, 1, ends.read_end, 1), EPERM);
+    bindingclay_free(clay);
+}
+
+/* ---- Files, numbers ---- */
+
+static void files(void)
+{
+    bindingclay_limits limits = BINDINGCLAY_LIMITS;
+    limits.file_max = 5;
+    bindingclay clay = kernel_within(&limits);
+    DONE(open_text(clay, 1, "f", O_RDWR | O_CREAT), 0);
+    DONE(put(clay, 1, 0, "hello!"), 5);
+    FAULT(put(clay, 1, 0, "!"), EFBIG);
+    HAS_FILE(clay, "f", "hello");
+    bindingclay_free(clay);
+}
+
+static void numbers(void)
+{
+    bindingclay_limits limits = BINDINGCLAY_LIMITS;
+    limits.first_call = UINT64_MAX - 1;
+    bindingclay clay = kernel_within(&limits);
+    NEW_PIPE(clay, 1, false);
+    PARKED(take(clay, 1, EMPTY_READ, 1), UINT64_MAX - 1);
+    OTHER(take(clay, 1, EMPTY_READ, 1), BINDINGCLAY_CALLS_SPENT);
+    bindingclay_free(clay);
+}
+
+/* ---- Memory ---- */
+
+/* Calls that take memory, up to the first one that finds none. Whether none did. */
+static bool all_find_memory(bindingclay clay)
+{
+    bindingclay_ends ends;
+    uint8_t *bytes = needed(calloc(30000, 1));
+    bool all = bindingclay_start(clay).kind == BINDINGCLAY_DONE && bindingclay_pipe(clay, 1, false, &ends).kind == BINDINGCLAY_DONE
+        && bindingclay_write(clay, 1, 1, bytes, 30000).kind == BINDINGCLAY_DONE && mkfifo_text(clay, 1, "a").kind == BINDINGCLAY_DONE
+        && open_text(clay, 1, "f", O_RDWR | O_CREAT).kind == BINDINGCLAY_DONE
+        && bindingclay_tee(clay, 1, 0, 2, 1, 0).kind == BINDINGCLAY_FAULT
+        && bindingclay_splice(clay, 1, 0, NULL, 2, NULL, 30000, 0).kind == BINDINGCLAY_DONE
+        && bindingclay_read(clay, 1, 0, bytes, 9).kind == BINDINGCLAY_PARKED && bindingclay_fork(clay, 1).kind == BINDINGCLAY_DONE
+        && bindingclay_file_bytes(clay, bytes_of("f"), 1, bytes, 30000).kind == BINDINGCLAY_DONE;
+    free(bytes);
+    return all;
+}
+
+static void memory(void)
+{
+    bindingclay_limits limits = BINDINGCLAY_LIMITS;
+    bindingclay clay = { NULL };
+    HOLDS(bindingclay_open_within(&limits, &clay.kernel));
+    bindingclay_memory_use use = bindingclay_memory(clay);
+    HOLDS(use.held == 0 && use.peak == 0 && use.most == UINT64_MAX && use.spare == 0);
+    HOLDS(all_find_memory(clay));
+    use = bindingclay_memory(clay);
+    HOLDS(30000 < use.held && use.held < use.peak && use.most == UINT64_MAX);
+    bindingclay_free(clay);
+
+    /* as much as that run took is enough, and one byte less isn't */
+    limits.memory = use.peak;
+    HOLDS(bindingclay_open_within(&limits, &clay.kernel));
+    HOLDS(all_find_memory(clay));
+    bindingclay_memory_use within = bindingclay_memory(clay);
+    HOLDS(within.held == use.held && within.peak == use.peak && within.most == use.peak && within.spare == use.spare);
+    bindingclay_free(clay);
+    limits.memory = use.peak - 1;
+    HOLDS(bindingclay_open_within(&limits, &clay.kernel));
+    HOLDS(!all_find_memory(clay));
+    HOLDS(bindingclay_memory(clay).peak < use.peak);
+    bindingclay_free(clay);
+}
+
+/* A guest at its limit gives some back, and goes on. */
+static void a_guest_at_its_limit(void)
+{
+    bindingclay_limits limits = BINDINGCLAY_LIMITS;
+    limits.memory = 100000;
+    bindingclay clay = kernel_within(&limits);
+    bindingclay_ends ends = NEW_PIPE(clay, 1, true);
+    uint64_t put_in = 0;
+    while (put_many(clay, 1, ends.write_end, 4096).kind == BINDINGCLAY_DONE)
+        put_in += 4096;
+    HOLDS(0 < put_in && bindingclay_memory(clay).held <= 100000);
+    bindingclay_answer none = put_many(clay, 1, ends.write_end, 4096);
+    HOLDS(none.kind == BINDINGCLAY_NO_MEMORY || none.error == EAGAIN);
+    DONE(take(clay, 1, ends.read_end, 4096), 4096);
+    DONE(put_many(clay, 1, ends.write_end, 4096), 4096);
+    uint64_t held = bindingclay_memory(clay).held;
+    DONE(bindingclay_exit(clay, 1), 0);
+    bindingclay_memory_use after = bindingclay_memory(clay);
+    HOLDS(after.held <= held && after.spare <= after.held);
+    DONE(bindingclay_start(clay), 1);
+    bindingclay_free(clay);
+}
+
+int main(void)
+{
+    structs_that_are_smaller();
+    structs_of_no_version();
+    fields_that_are_too_great();
+    names();
+    no_names();
+    calls_that_wait();
+    the_last_that_may_wait();
+    none_may_wait();
+    capacities();
+    files();
+    numbers();
+    memory();
+    a_guest_at_its_limit();
+    return end();
+}
