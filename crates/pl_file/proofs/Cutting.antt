@@ -1,5 +1,5 @@
 -- Slots cut at a place among their bytes.
-use Rattle.std.proofs.Common.{◌≡◌, ℕ, zero, suc, ◌+◌, ◌-◌, ◌<◌, ◌≤◌, List, [], ◌∷◌, ◌++◌, Some, refl, sym, ◌∙◌, ap, subst, inl, inr, length, take, drop, min, arith}
+use Rattle.std.proofs.Common.{◌≡◌, ℕ, ◌+◌, ◌-◌, ◌<◌, ◌≤◌, List, [], ◌∷◌, ◌++◌, Some, refl, sym, ◌∙◌, ap, subst, inl, inr, length, take, drop, min, arith}
 use Rattle.std.specs.Prelude.{◌⊎◌, slice_get, if◌then◌else◌}
 use Rattle.std.proofs.lemmas.Bool.{cases_lt, eq-eqb, ne_eqb}
 use Rattle.std.proofs.lemmas.List.{take-append-drop, take_more, drop_all, drop_more}
@@ -123,22 +123,3 @@ module _ (xs : List Slice) (i : ℕ) (x : Slice) (got : slice_get xs i ≡ Some 
           ∙ ap (drop_bytes (k - total (take i xs) - x.len)) (none-behind last)
           ∙ sym (none-behind last)
           ∙ ap (λ zs. zs ++ drop (i + 1) xs) (sym (solid-none (cut_front skipped x) (omega (arith, is, h))))
-
--- of slots of which n start at a place or before it
-pub starts-some : (xs : List Slice) (n k : ℕ) → (n < length xs → k < total (take n xs)) → 1 ≤ length xs → 1 ≤ n
-starts-some xs zero k after l = let h : k < 0 = after (omega (arith, l)) in absurd (omega (arith, h))
-starts-some xs (suc n) k after l = omega arith
-
-module _ (xs : List Slice) (n : ℕ) (some : 1 ≤ n) (x : Slice) (got : slice_get xs (n - 1) ≡ Some x) where
-  back : n - 1 + 1 ≡ n
-  back = omega (arith, some)
-
-  pub front-cut : (k len : ℕ) → AllSolid xs → total (take (n - 1) xs) < k → (n < length xs → k ≤ total (take n xs)) → len ≡ min (k - total (take (n - 1) xs)) x.len →
-      front_of k xs ≡ take (n - 1) xs ++ solid_of (cut_end len x ∷ [])
-  front-cut k len s before after is = front-here xs (n - 1) x got k len s before (subst (λ m. m < length xs → k ≤ total (take m xs)) (sym back) after) is
-
-  pub rest-cut : (k skipped : ℕ) → total (take (n - 1) xs) ≤ k → (n < length xs → k < total (take n xs)) → skipped ≡ min (k - total (take (n - 1) xs)) x.len →
-      drop_bytes k xs ≡ solid_of (cut_front skipped x ∷ []) ++ drop n xs
-  rest-cut k skipped before after is =
-      rest-here xs (n - 1) x got k skipped before (subst (λ m. m < length xs → k < total (take m xs)) (sym back) after) is
-      ∙ ap (λ m. solid_of (cut_front skipped x ∷ []) ++ drop m xs) back

@@ -55,6 +55,11 @@ total-take (x ∷ xs) zero j l = omega arith
 total-take (x ∷ xs) (suc i) zero l = absurd (omega (arith, l))
 total-take (x ∷ xs) (suc i) (suc j) l = let r = total-take xs i j (omega (arith, l)) in omega (arith, r)
 
+-- where there are bytes there are slots
+pub total-some : (xs : List Slice) → 1 ≤ total xs → 1 ≤ length xs
+total-some [] l = absurd (omega (arith, l))
+total-some (x ∷ xs) l = omega arith
+
 -- no more slots than bytes
 pub solid-length : (xs : List Slice) → AllSolid xs → length xs ≤ total xs
 solid-length [] s = omega arith
@@ -154,14 +159,6 @@ pub put-read : (front one bytes part whole all : List ℕ) → all ≡ (one ++ b
 put-read front one bytes part whole all a w =
     ap (λ bs. front ++ bs) a ∙ sym (append_assoc front (one ++ bytes) part)
     ∙ ap (λ bs. bs ++ part) (sym (append_assoc front one bytes) ∙ ap (λ bs. bs ++ bytes) w)
-
-pub put-slots : (front one new part after whole rest ps ys : List Slice) → ys ≡ front ++ (ps ++ after) → ps ≡ (one ++ new) ++ part → front ++ one ≡ whole → rest ≡ part ++ after →
-    ys ≡ whole ++ (new ++ rest)
-put-slots front one new part after whole rest ps ys y p w r =
-    y ∙ ap (λ zs. front ++ (zs ++ after)) p
-    ∙ ap (λ zs. front ++ zs) (append_assoc (one ++ new) part after ∙ append_assoc one new (part ++ after))
-    ∙ sym (append_assoc front one (new ++ (part ++ after)))
-    ∙ (λ i. w i ++ (new ++ sym r i))
 
 -- the meaning of a write of some bytes
 pub written-some : (place : ℕ) (bytes old : List ℕ) → 1 ≤ length bytes → written place bytes old ≡ take place old ++ (replicate (place - length old) 0 ++ (bytes ++ drop (place + length bytes) old))

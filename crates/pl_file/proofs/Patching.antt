@@ -11,9 +11,11 @@ use Rattle.pl_segments.specs.Slices.{Lies, AllLie, reads, all_read}
 use Rattle.pl_segments.specs.Turns.{Holds, Turns}
 use Rattle.pl_segments.specs.Slots.{total, AllSolid, solid_of, front_of, cut_end, last_len}
 use Rattle.pl_segments.proofs.Changing.{length-reads}
-use Rattle.pl_segments.proofs.Turning.{turns-same, turns-then, holds-turned}
+use Rattle.pl_segments.proofs.Turning.{turns-same, turns-then, holds-turned, read-append}
+use Rattle.pl_file.specs.Joined.{joined}
+use Rattle.pl_file.proofs.Joining.{joined-append}
 use Rattle.pl_segments.proofs.SlotLemmas.{total-append, solid-append, lies-cut_end, reads-cut_end}
-use Rattle.pl_segments.proofs.Pushing.{push-turns, push-read, pushes-turns, pushes-read, lies-still, reads-still, reads-empty}
+use Rattle.pl_segments.proofs.Pushing.{push-turns, push-read, pushes-turns, lies-still, reads-still, reads-empty}
 use Rattle.pl_segments.proofs.Fronting.{front-whole, front-part, front-none, front-lie, front-read}
 
 -- a slot, and those behind it
@@ -100,6 +102,9 @@ solid-read m (x ∷ xs) =
     ]
 
 -- the slices of the first bytes, but those of no bytes
+pub solid-lies : (m : Map) (x : Slice) → Lies m x → AllLie m (solid_of (x ∷ []))
+solid-lies m x lies = solid-lie m (x ∷ []) (lies, tt)
+
 pub asked-lie : (m : Map) (k : ℕ) (xs : List Slice) → AllLie m xs → AllLie m (solid_of (front_of k xs))
 asked-lie m k xs lie = solid-lie m (front_of k xs) (front-lie m xs k lie)
 
@@ -128,41 +133,57 @@ front-step k n x rest some is = elim (cases_lt x.len k) as (λ _. solid_of (fron
 -- Slots are put behind others: what is added so far, and what is still to come, is what was asked.
 pub record Putting (m0 m : Map) (old now asked rest : List Slice) : Type 0 where
   pub added : List Slice
-  pub shape : now ≡ old ++ added
+  pub held : List Slice
+  pub shape : now ≡ joined old added
   pub whole : added ++ rest ≡ asked
-  pub turns : Turns m0 [] m added
+  pub turns : Turns m0 old m now
+  pub holding : Turns m0 [] m held
+  pub read : all_read m now ≡ all_read m0 old ++ all_read m0 added
 
-pub putting-first : (m : Map) (old asked : List Slice) → Putting m m old old asked asked
-putting-first m old asked = record { added = []; shape = sym (append-nil old); whole = refl; turns = turns-same m [] tt }
+pub putting-first : (m : Map) (old asked : List Slice) → Holds m old → Putting m m old old asked asked
+putting-first m old asked h = record {
+  added = [];
+  held = [];
+  shape = refl;
+  whole = refl;
+  turns = turns-same m old h.lie;
+  holding = turns-same m [] tt;
+  read = sym (append-nil (all_read m old));
+}
 
 module _ {m0 m : Map} {old now asked rest : List Slice} (p : Putting m0 m old now asked rest) where
-  pub putting-next : (n : Map) (ys zs more : List Slice) → rest ≡ ys ++ more → zs ≡ now ++ ys → Turns m [] n ys → Putting m0 n old zs asked more
-  putting-next n ys zs more split shape t =
+  pub putting-lies : (x : Slice) → Lies m0 x → Lies m x
+  putting-lies = lies-still m0 m p.held p.holding
+
+  pub putting-next : (n : Map) (ys zs more more_held : List Slice) → rest ≡ ys ++ more → zs ≡ joined now ys → Turns m now n zs → Turns m [] n more_held →
+      AllLie m0 ys → all_read n zs ≡ all_read m now ++ all_read m ys → Putting m0 n old zs asked more
+  putting-next n ys zs more more_held split shape t h lie read =
       let none : Holds m0 [] = record { lie = tt; few = λ key. omega arith } in
       record {
         added = p.added ++ ys;
-        shape = shape ∙ ap (λ zs. zs ++ ys) p.shape ∙ append_assoc old p.added ys;
+        held = p.held ++ more_held;
+        shape = shape ∙ ap (λ zs. joined zs ys) p.shape ∙ sym (joined-append old p.added ys);
         whole = append_assoc p.added ys more ∙ ap (λ bs. p.added ++ bs) (sym split) ∙ p.whole;
-        turns = turns-then m0 m n [] p.added (p.added ++ ys) p.turns (pushes-turns m n p.added ys (holds-turned m0 m [] p.added none p.turns) t);
+        turns = turns-then m0 m n old now zs p.turns t;
+        holding = turns-then m0 m n [] p.held (p.held ++ more_held) p.holding (pushes-turns m n p.held more_held (holds-turned m0 m [] p.held none p.holding) h);
+        read = read
+            ∙ (λ i. p.read i ++ all-still m0 m p.held p.holding ys lie i)
+            ∙ append_assoc (all_read m0 old) (all_read m0 p.added) (all_read m0 ys)
+            ∙ ap (λ bs. all_read m0 old ++ bs) (sym (read-append m0 p.added ys));
       }
 
-  pub putting-lies : (x : Slice) → Lies m0 x → Lies m x
-  putting-lies = lies-still m0 m p.added p.turns
-
-  pub putting-turns : Holds m0 old → Turns m0 old m now
-  putting-turns held = subst (Turns m0 old m) (sym p.shape) (pushes-turns m0 m old p.added held p.turns)
+  pub putting-turns : Turns m0 old m now
+  putting-turns = p.turns
 
   module _ (end : rest ≡ []) where
     all_added : p.added ≡ asked
     all_added = sym (append-nil p.added) ∙ ap (λ zs. p.added ++ zs) (sym end) ∙ p.whole
 
-    pub putting-slots : now ≡ old ++ asked
-    putting-slots = p.shape ∙ ap (λ zs. old ++ zs) all_added
+    pub putting-slots : now ≡ joined old asked
+    putting-slots = p.shape ∙ ap (joined old) all_added
 
-    pub putting-read : Holds m0 old → AllLie m0 asked → all_read m now ≡ all_read m0 old ++ all_read m0 asked
-    putting-read held lie =
-        ap (all_read m) p.shape ∙ pushes-read m0 m old p.added held p.turns
-        ∙ ap (λ bs. all_read m0 old ++ bs) (ap (all_read m) all_added ∙ all-still m0 m p.added p.turns asked lie)
+    pub putting-read : all_read m now ≡ all_read m0 old ++ all_read m0 asked
+    putting-read = p.read ∙ ap (λ zs. all_read m0 old ++ all_read m0 zs) all_added
 
 -- parts of a slice that reads as zeros
 module _ (m : Map) (zeros : Slice) (lies : Lies m zeros) (all : reads m zeros ≡ replicate zeros.len 0) (n : ℕ) (l : n ≤ zeros.len) where

@@ -1,8 +1,7 @@
 -- Slots with the places where they start.
-use Rattle.std.proofs.Common.{◌≡◌, ℕ, zero, suc, ◌+◌, ◌-◌, ◌<◌, ◌≤◌, List, [], ◌∷◌, ◌++◌, Some, refl, sym, ◌∙◌, ap, subst, inl, inr, length, take, drop, arith}
-use Rattle.std.specs.Prelude.{◌⊎◌, slice_get, vec_len, vec_capacity}
-use Rattle.std.proofs.lemmas.Bool.{cases_lt}
-use Rattle.std.proofs.lemmas.List.{append-nil, take-append-drop, take_all, take_at, take_more, take_rest, drop_all, length-drop}
+use Rattle.std.proofs.Common.{◌≡◌, ℕ, zero, suc, ◌+◌, ◌-◌, ◌≤◌, List, [], ◌∷◌, ◌++◌, Some, refl, sym, ◌∙◌, ap, subst, length, take, drop, arith}
+use Rattle.std.specs.Prelude.{slice_get, vec_len, vec_capacity}
+use Rattle.std.proofs.lemmas.List.{take-append-drop, take_all, take_at, take_more, take_rest, length-drop}
 use Rattle.std.proofs.lemmas.List.Edits.{take-paste}
 use lib.Seq.{paste}
 use Rattle.pl_segments.specs.declared.slice.Slice.{Slice}
@@ -104,6 +103,9 @@ module _ (at : ℕ) (es : List Entry) (is : es ≡ placed at (slots_of es)) wher
   pub take-is : (n : ℕ) → take n es ≡ placed at (slots_of (take n es))
   take-is n = ap (take n) is ∙ placed-take n at (slots_of es) ∙ ap (placed at) (sym (slots-take n es))
 
+  pub drop-is : (n : ℕ) → drop n es ≡ placed (at + total (take n (slots_of es))) (slots_of (drop n es))
+  drop-is n = ap (drop n) is ∙ placed-drop n at (slots_of es) ∙ ap (placed (at + total (take n (slots_of es)))) (sym (slots-drop n es))
+
   -- one more behind them
   pub push-is : (end : ℕ) (x : Slice) → end ≡ at + total (slots_of es) → es ++ entry end x ∷ [] ≡ placed at (slots_of (es ++ entry end x ∷ []))
   push-is end x e =
@@ -134,68 +136,24 @@ push-end at es end x e =
     let s : total (slots_of (es ++ entry end x ∷ [])) ≡ total (slots_of es) + (x.len + 0) = ap total (slots-append es (entry end x ∷ [])) ∙ total-append (slots_of es) (x ∷ []) in
     omega (arith, s, e)
 
--- Entries in the place of others, which start where those start. They end where those end, or nothing stays behind them.
-module _ (base at first end : ℕ) (es fs : List Entry) (is : es ≡ placed base (slots_of es)) (are : fs ≡ placed at (slots_of fs))
-    (starts : at ≡ base + total (take first (slots_of es))) (ends : end < length es → at + total (slots_of fs) ≡ base + total (take end (slots_of es))) where
-  abbrev xs : List Slice
-  xs = slots_of es
+-- entries of two rows, of which the one begins where the other ends
+module _ (at base : ℕ) (es fs : List Entry) (is : es ≡ placed at (slots_of es)) (are : fs ≡ placed base (slots_of fs)) (starts : base ≡ at + total (slots_of es)) where
+  pub joined-is : es ++ fs ≡ placed at (slots_of (es ++ fs))
+  joined-is =
+      (λ i. is i ++ are i)
+      ∙ ap (λ k. placed at (slots_of es) ++ placed k (slots_of fs)) starts
+      ∙ sym (placed-append at (slots_of es) (slots_of fs))
+      ∙ ap (placed at) (sym (slots-append es fs))
 
-  abbrev ys : List Slice
-  ys = slots_of fs
+  pub joined-end : base + total (slots_of fs) ≡ at + total (slots_of (es ++ fs))
+  joined-end =
+      let t : total (slots_of (es ++ fs)) ≡ total (slots_of es) + total (slots_of fs) = ap total (slots-append es fs) ∙ total-append (slots_of es) (slots_of fs) in
+      omega (arith, t, starts)
 
-  abbrev mixed : List Entry
-  mixed = take first es ++ (fs ++ drop end es)
-
-  pub mixed-slots : slots_of (take first es ++ (fs ++ drop end es)) ≡ take first (slots_of es) ++ (slots_of fs ++ drop end (slots_of es))
-  mixed-slots =
-      slots-append (take first es) (fs ++ drop end es)
-      ∙ (λ i. slots-take first es i ++ slots-append fs (drop end es) i)
-      ∙ ap (λ zs. take first xs ++ (ys ++ zs)) (slots-drop end es)
-
-  rest-is : fs ++ drop end es ≡ placed at (ys ++ drop end xs)
-  rest-is = by (cases_lt end (length es))
-    where
-      by : (end < length es) ⊎ (length es ≤ end) → fs ++ drop end es ≡ placed at (ys ++ drop end xs)
-      by (inl l) =
-          (λ i. are i ++ drop end (is i))
-          ∙ ap (λ gs. placed at ys ++ gs) (placed-drop end base xs)
-          ∙ ap (λ k. placed at ys ++ placed k (drop end xs)) (sym (ends l))
-          ∙ sym (placed-append at ys (drop end xs))
-      by (inr l) =
-          let n = length-slots es in
-          ap (λ gs. fs ++ gs) (drop_all end es l) ∙ append-nil fs ∙ are ∙ ap (placed at) (sym (append-nil ys))
-          ∙ ap (λ zs. placed at (ys ++ zs)) (sym (drop_all end xs (omega (arith, n, l))))
-
-  pub mixed-is : take first es ++ (fs ++ drop end es) ≡ placed base (slots_of (take first es ++ (fs ++ drop end es)))
-  mixed-is =
-      (λ i. take-is base es is first i ++ rest-is i)
-      ∙ ap (λ zs. placed base zs ++ placed at (ys ++ drop end xs)) (slots-take first es)
-      ∙ ap (λ k. placed base (take first xs) ++ placed k (ys ++ drop end xs)) starts
-      ∙ sym (placed-append base (take first xs) (ys ++ drop end xs))
-      ∙ ap (placed base) (sym mixed-slots)
-
-  total-mixed : total (slots_of (take first es ++ (fs ++ drop end es))) ≡ total (take first xs) + (total ys + total (drop end xs))
-  total-mixed = ap total mixed-slots ∙ total-append (take first xs) (ys ++ drop end xs) ∙ ap (λ k. total (take first xs) + k) (total-append ys (drop end xs))
-
-  -- where the whole ends
-  pub mixed-end : end < length es → base + total (slots_of es) ≡ base + total (slots_of (take first es ++ (fs ++ drop end es)))
-  mixed-end l =
-      let e = ends l in
-      let m = total-mixed in
-      let p = total-parts end xs in
-      omega (arith, e, m, p, starts)
-
-  pub mixed-end_last : length es ≤ end → at + total (slots_of fs) ≡ base + total (slots_of (take first es ++ (fs ++ drop end es)))
-  mixed-end_last l =
-      let m = total-mixed in
-      let n = length-slots es in
-      let z : total (drop end xs) ≡ 0 = ap total (drop_all end xs (omega (arith, n, l))) in
-      omega (arith, m, z, starts)
-
--- what stands from a place on, moved to one before it, and the end cut off
-pub moved-down : {X : Type 0} (xs : List X) (first end : ℕ) → first ≤ end → end ≤ length xs → take (length xs - (end - first)) (paste xs first (drop end xs) (length xs - end)) ≡ take first xs ++ drop end xs
-moved-down xs first end l m =
+-- what stands from a place on, moved to the front, and the end cut off
+pub moved-front : {X : Type 0} (xs : List X) (end : ℕ) → end ≤ length xs → take (length xs - end) (paste xs 0 (drop end xs) (length xs - end)) ≡ drop end xs
+moved-front xs end m =
     let n = length-drop end xs in
-    ap (λ k. take k (paste xs first (drop end xs) (length xs - end))) (let e : length xs - (end - first) ≡ first + (length xs - end) = omega (arith, l, m) in e)
-    ∙ take-paste xs first (drop end xs) (length xs - end) (omega (arith, l, m)) (omega (arith, n))
-    ∙ ap (λ zs. take first xs ++ zs) (take_rest xs end)
+    ap (λ k. take k (paste xs 0 (drop end xs) (length xs - end))) (let e : length xs - end ≡ 0 + (length xs - end) = omega (arith, m) in e)
+    ∙ take-paste xs 0 (drop end xs) (length xs - end) (omega (arith, m)) (omega (arith, n))
+    ∙ take_rest xs end

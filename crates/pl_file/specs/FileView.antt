@@ -1,5 +1,5 @@
 -- The fields of a file, as its slots.
-use Rattle.std.specs.Prelude.{◌≡◌, ◌≤◌, List}
+use Rattle.std.specs.Prelude.{◌≤◌, List}
 use Rattle.pl_model.specs.Numbers.{most_file_bytes}
 use Rattle.pl_segments.specs.declared.slice.Slice.{Slice}
 use Rattle.pl_segments.specs.Slots.{total, AllSolid}
@@ -8,11 +8,10 @@ use Rattle.pl_file.specs.Rows.{AllWithin}
 
 -- the slots from the first byte to the last
 abbrev pub view_of : {A : Type 0} → Inside A → List Slice
-view_of f = f.row.slots
+view_of f = f.chunks.slots
 
--- the first byte stands at 0, no slot is empty or ends past its segment, and no file is longer than the greatest length
+-- no slot is empty or ends past its segment, and no file is longer than the greatest length
 pub record IsSound {A : Type 0} (f : Inside A) : Type 0 where
-  pub base : f.row.base ≡ 0
-  pub most : total f.row.slots ≤ most_file_bytes
-  pub solid : AllSolid f.row.slots
-  pub within : AllWithin f.row.slots
+  pub most : total f.chunks.slots ≤ most_file_bytes
+  pub solid : AllSolid f.chunks.slots
+  pub within : AllWithin f.chunks.slots

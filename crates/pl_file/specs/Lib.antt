@@ -1,4 +1,6 @@
 pub mod Rows
 pub mod RowView
+pub mod ChunksView
+pub mod Joined
 pub mod File
 pub mod FileView

@@ -1,16 +1,17 @@
-//! Where the first bytes of a row of slots end, and where the rest begins.
+//! Where the first bytes of slots end, and where the rest begins.
 ghost use Rattle.std.specs.Prelude.{◌≡◌, ◌<◌, ◌≤◌, ◌++◌, [], ◌∷◌, length, take, drop};
 ghost use Rattle.pl_segments.specs.Slots.{total, AllSolid, solid_of, drop_bytes, front_of};
-ghost use Rattle.pl_file.specs.Rows.{AllWithin};
+ghost use Rattle.pl_file.specs.Rows.{AllWithin, index, IsSpot};
 
-use crate::row::Row;
+use crate::chunks::Chunks;
+use crate::spot::Spot;
 use pl_segments::Slice;
 use std::alloc::Allocator;
 
 /// A place among slots, and the part of a slot that stands before it or behind it; the part is empty where no slot is cut.
 #[derive(Clone, Copy)]
 pub(crate) struct Cut {
-    pub(crate) place: usize,
+    pub(crate) place: Spot,
     pub(crate) part: Slice,
 }
 
@@ -22,22 +23,23 @@ const NO_BYTES: Slice = Slice {
 };
 
 /// The first `count` bytes: the slots before a place, and the part of the one there, in which the last of the bytes lies.
-pub(crate) fn front_cut<A: Allocator>(row: &Row<A>, count: usize) -> Cut
-    requires base { row.now.base ≡ 0 }
-    requires solid { AllSolid row.now.slots }
-    ensures place { result.place ≤ length row.now.slots }
-    ensures starts { total (take result.place row.now.slots) ≤ count }
-    ensures front { front_of count row.now.slots ≡ take result.place row.now.slots ++ solid_of (result.part ∷ []) }
+pub(crate) fn front_cut<A: Allocator + Copy>(chunks: &Chunks<A>, count: usize) -> Cut
+    requires solid { AllSolid chunks.now.slots }
+    ensures spot { IsSpot chunks.now result.place }
+    ensures place { index chunks.now result.place ≤ length chunks.now.slots }
+    ensures starts { total (take (index chunks.now result.place) chunks.now.slots) ≤ count }
+    ensures some { 1 ≤ length (front_of count chunks.now.slots) → 1 ≤ result.part.len }
+    ensures front { front_of count chunks.now.slots ≡ take (index chunks.now result.place) chunks.now.slots ++ solid_of (result.part ∷ []) }
 {
-    if count == 0 || row.len() == 0 {
+    if count == 0 || chunks.is_empty() {
         return Cut {
-            place: 0,
+            place: chunks.first(),
             part: NO_BYTES,
         };
     }
-    let place = row.starting_up_to(count - 1) - 1;
-    let slot = row.get(place);
-    let len = (count - row.start(place)).min(slot.len as usize);
+    let place = chunks.find(count - 1);
+    let slot = chunks.get(place);
+    let len = (count - chunks.start(place)).min(slot.len as usize);
     Cut {
         place,
         part: Slice {
@@ -50,25 +52,26 @@ pub(crate) fn front_cut<A: Allocator>(row: &Row<A>, count: usize) -> Cut
 
 /// The bytes behind the first `count`: the part of the slot before a place, in which the first of them lies, and the slots from
 /// there on.
-pub(crate) fn rest_cut<A: Allocator>(row: &Row<A>, count: usize) -> Cut
-    requires base { row.now.base ≡ 0 }
-    requires solid { AllSolid row.now.slots }
-    requires within { AllWithin row.now.slots }
-    ensures place { result.place ≤ length row.now.slots }
-    ensures starts { result.place < length row.now.slots → count < total (take result.place row.now.slots) }
-    ensures rest { drop_bytes count row.now.slots ≡ solid_of (result.part ∷ []) ++ drop result.place row.now.slots }
+pub(crate) fn rest_cut<A: Allocator + Copy>(chunks: &Chunks<A>, count: usize) -> Cut
+    requires solid { AllSolid chunks.now.slots }
+    requires within { AllWithin chunks.now.slots }
+    ensures spot { IsSpot chunks.now result.place }
+    ensures place { index chunks.now result.place ≤ length chunks.now.slots }
+    ensures starts { index chunks.now result.place < length chunks.now.slots → count < total (take (index chunks.now result.place) chunks.now.slots) }
+    ensures some { 1 ≤ length (drop (index chunks.now result.place) chunks.now.slots) → 1 ≤ result.part.len }
+    ensures rest { drop_bytes count chunks.now.slots ≡ solid_of (result.part ∷ []) ++ drop (index chunks.now result.place) chunks.now.slots }
 {
-    if row.len() == 0 {
+    if chunks.is_empty() {
         return Cut {
-            place: 0,
+            place: chunks.first(),
             part: NO_BYTES,
         };
     }
-    let place = row.starting_up_to(count);
-    let slot = row.get(place - 1);
-    let skipped = (count - row.start(place - 1)).min(slot.len as usize) as u32;
+    let here = chunks.find(count);
+    let slot = chunks.get(here);
+    let skipped = (count - chunks.start(here)).min(slot.len as usize) as u32;
     Cut {
-        place,
+        place: chunks.next(here),
         part: Slice {
             segment: slot.segment,
             from: slot.from + skipped,

@@ -5,24 +5,25 @@ ghost use Rattle.pl_segments.specs.Segments.{most_spare, segment_at, holders, li
 ghost use Rattle.pl_segments.specs.Slices.{AllLie, all_read};
 ghost use Rattle.pl_segments.specs.Turns.{Holds, Turns};
 ghost use Rattle.pl_segments.specs.Slots.{total, AllSolid, solid_of, drop_bytes, front_of};
+ghost use Rattle.pl_file.specs.Joined.{between};
 ghost use Rattle.pl_file.specs.File.{written, fitting};
 
+use crate::chunks::Chunks;
 use crate::cut::rest_cut;
 use crate::edit::{put, write};
 use crate::fault::WriteFault;
 use crate::patch::release_range;
-use crate::row::Row;
 use pl_segments::{NoMemory, SEGMENT_SIZE, Slice, SliceList, Store, len_of};
 use std::alloc::{Allocator, Global};
 use std::marker::Model;
 
 /// The slots of one regular file, from the first byte to the last: slices of the segments of a store, each of which it holds.
-/// With the store it is a list of bytes. Each slot keeps the place where it starts, so a write moves no byte behind those that
-/// it replaces.
+/// With the store it is a list of bytes. They stand in chunks, and each keeps the place where it starts, so a write moves no byte
+/// behind those that it replaces.
 #[derive(Drop)]
 pub struct File<A: Allocator = Global> {
     alloc: A,
-    row: Row<A>,
+    chunks: Chunks<A>,
 }
 
 impl<A: Allocator> Model for File<A> {
@@ -45,7 +46,7 @@ impl<A: Allocator + Copy> File<A> {
     {
         File {
             alloc,
-            row: Row::new(alloc),
+            chunks: Chunks::new(alloc),
         }
     }
 
@@ -55,7 +56,7 @@ impl<A: Allocator + Copy> File<A> {
         ensures most { result ≤ most_file_bytes }
         ensures solid { AllSolid self.now }
     {
-        self.row.end()
+        self.chunks.end()
     }
 
     /// At most `count` bytes from a place on, none past the end (POSIX.1-2017, read).
@@ -79,12 +80,12 @@ impl<A: Allocator + Copy> File<A> {
         requires fits { length into.old ≤ total self.now - place }
         ensures { into.new ≡ take (length into.old) (drop place (all_read (segment_at store.now) self.now)) }
     {
-        let cut = rest_cut(&self.row, place);
+        let cut = rest_cut(&self.chunks, place);
         let mut filled = fill_part(store, cut.part, into);
-        let mut slot = cut.place;
-        while filled < into.len() && slot < self.row.len() {
-            filled = store.fill(self.row.get(slot), into, filled);
-            slot += 1;
+        let mut spot = cut.place;
+        while filled < into.len() && self.chunks.has(spot) {
+            filled = store.fill(self.chunks.get(spot), into, filled);
+            spot = self.chunks.next(spot);
         }
     }
 
@@ -92,13 +93,13 @@ impl<A: Allocator + Copy> File<A> {
     pub fn slices_at(&self, place: usize, count: usize) -> Result<SliceList<A>, NoMemory>
         ensures { IfOk result (λ list. list ≡ front_of count (drop_bytes place self.now)) }
     {
-        let cut = rest_cut(&self.row, place);
+        let cut = rest_cut(&self.chunks, place);
         let mut list = Vec::with_capacity(self.alloc, self.len().min(count) / SEGMENT_SIZE + 2)?;
         let mut rest = list_part(&mut list, cut.part, count)?;
-        let mut slot = cut.place;
-        while 0 < rest && slot < self.row.len() {
-            rest = list_part(&mut list, self.row.get(slot), rest)?;
-            slot += 1;
+        let mut spot = cut.place;
+        while 0 < rest && self.chunks.has(spot) {
+            rest = list_part(&mut list, self.chunks.get(spot), rest)?;
+            spot = self.chunks.next(spot);
         }
         Ok(SliceList::from_vec(list))
     }
@@ -134,7 +135,7 @@ impl<A: Allocator + Copy> File<A> {
             return Ok(0);
         }
         let bytes = &bytes[..count];
-        let Ok(()) = write(self.alloc, store, &mut self.row, place, bytes) else {
+        let Ok(()) = write(self.alloc, store, &mut self.chunks, place, bytes) else {
             return Err(WriteFault::NoMemory);
         };
         Ok(count)
@@ -164,7 +165,7 @@ impl<A: Allocator + Copy> File<A> {
         ensures big { (result ≡ Err WriteFault.TooBig) ↔ ((1 ≤ total slices.now) × (most ≤ place)) }
         ensures turns { OnOk result (Turns (segment_at store.old) self.old (segment_at store.new) self.new) }
         ensures read { OnOk result (all_read (segment_at store.new) self.new ≡ written place (take (most - place) (all_read (segment_at store.old) slices.now)) (all_read (segment_at store.old) self.old)) }
-        ensures slots { IfOk result (λ count. 1 ≤ count → place ≤ total self.old → self.new ≡ front_of place self.old ++ (solid_of (front_of count slices.now) ++ drop_bytes (place + count) self.old)) }
+        ensures slots { IfOk result (λ count. 1 ≤ count → place ≤ total self.old → self.new ≡ between (front_of place self.old) (solid_of (front_of count slices.now)) (drop_bytes (place + count) self.old)) }
         ensures in_use { OnOk result (place ≤ total self.old → live_count store.new.held ≤ live_count store.old.held) }
         ensures err { OnErr result (self.new ≡ self.old) }
         ensures spare { store.old.room ≤ most_spare → store.new.room ≤ most_spare }
@@ -175,7 +176,7 @@ impl<A: Allocator + Copy> File<A> {
         if count == 0 {
             return Ok(0);
         }
-        let Ok(()) = put(self.alloc, store, &mut self.row, place, slices, count) else {
+        let Ok(()) = put(self.alloc, store, &mut self.chunks, place, slices, count) else {
             return Err(WriteFault::NoMemory);
         };
         Ok(count)
@@ -189,9 +190,9 @@ impl<A: Allocator + Copy> File<A> {
         ensures in_use { live_count store.new.held ≤ live_count store.old.held }
         ensures spare { store.old.room ≤ most_spare → store.new.room ≤ most_spare }
     {
-        let slots = self.row.len();
-        release_range(store, &self.row, 0, slots);
-        self.row.clear();
+        let first = self.chunks.first();
+        release_range(store, &self.chunks, first, self.chunks.behind());
+        self.chunks.clear();
     }
 }
 

@@ -1,12 +1,15 @@
 //! Regular files as slots in order: slices of the segments of a store.
 #![tactic(auto)]
 
+mod chunks;
 mod cut;
 mod edit;
 mod fault;
 mod file;
 mod patch;
+mod pieces;
 mod row;
+mod spot;
 
 pub use fault::WriteFault;
 pub use file::File;

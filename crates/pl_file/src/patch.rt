@@ -4,8 +4,12 @@ ghost use Rattle.pl_segments.specs.Segments.{segment_size, most_spare, segment_a
 ghost use Rattle.pl_segments.specs.Slices.{Lies, AllLie, reads, all_read};
 ghost use Rattle.pl_segments.specs.Turns.{Holds, Turns};
 ghost use Rattle.pl_segments.specs.Slots.{total, AllSolid, solid_of, front_of};
+ghost use Rattle.pl_file.specs.Rows.{index, IsSpot};
+ghost use Rattle.pl_file.specs.Joined.{goes_behind, joined, Holding};
 
+use crate::chunks::Chunks;
 use crate::row::Row;
+use crate::spot::Spot;
 use pl_segments::{SEGMENT_SIZE, Slice, Store};
 use std::alloc::Allocator;
 
@@ -39,7 +43,22 @@ fn push_joined<A: Allocator + Copy>(store: &mut Store<A>, patch: &mut Row<A>, sl
     patch.push(joined);
 }
 
-/// Holds a slice and adds it, but one of no bytes. It takes no memory.
+/// Whether a slice goes on where the last slot ends, in the same segment.
+fn goes_behind<A: Allocator>(patch: &Row<A>, part: Slice) -> bool
+    ensures { result ≡ goes_behind patch.now.slots part }
+{
+    if patch.len() == 0 {
+        return false;
+    }
+    let last = patch.get(patch.len() - 1);
+    if last.segment != part.segment {
+        return false;
+    }
+    last.from as usize + last.len as usize == part.from as usize
+}
+
+/// Adds a slice, but one of no bytes: where it goes on where the last slot ends, in the same segment, that slot becomes longer, and
+/// else the slice is held and is a slot of its own. It takes no memory.
 pub(crate) fn hold_part<A: Allocator + Copy>(store: &mut Store<A>, patch: &mut Row<A>, part: Slice)
     requires lies { 1 ≤ part.len → Lies (segment_at store.old) part }
     requires few { 1 ≤ part.len → holders (segment_at store.old) part.segment < 2 ^ 127 }
@@ -47,9 +66,9 @@ pub(crate) fn hold_part<A: Allocator + Copy>(store: &mut Store<A>, patch: &mut R
     requires solid { AllSolid patch.old.slots }
     requires slots { length patch.old.slots + 1 ≤ patch.old.capacity }
     requires fits { patch.old.base + total patch.old.slots + part.len < 2 ^ 64 }
-    ensures slots { patch.new.slots ≡ patch.old.slots ++ solid_of (part ∷ []) }
+    ensures slots { patch.new.slots ≡ joined patch.old.slots (solid_of (part ∷ [])) }
     ensures turns { Turns (segment_at store.old) patch.old.slots (segment_at store.new) patch.new.slots }
-    ensures held { Turns (segment_at store.old) [] (segment_at store.new) (solid_of (part ∷ [])) }
+    ensures held { Holding (segment_at store.old) (segment_at store.new) 1 }
     ensures read { all_read (segment_at store.new) patch.new.slots ≡ all_read (segment_at store.old) patch.old.slots ++ all_read (segment_at store.old) (solid_of (part ∷ [])) }
     ensures solid { AllSolid patch.new.slots }
     ensures in_use { live_count store.new.held ≡ live_count store.old.held }
@@ -57,10 +76,22 @@ pub(crate) fn hold_part<A: Allocator + Copy>(store: &mut Store<A>, patch: &mut R
     ensures capacity { patch.new.capacity ≡ patch.old.capacity }
     ensures base { patch.new.base ≡ patch.old.base }
 {
-    if part.len != 0 {
-        store.hold(part);
-        patch.push(part);
+    if part.len == 0 {
+        return;
     }
+    // A proof learns here that no slot ends past its segment.
+    let _segments = store.in_use();
+    if goes_behind(patch, part) {
+        let last = patch.pop();
+        patch.push(Slice {
+            segment: last.segment,
+            from: last.from,
+            len: last.len + part.len,
+        });
+        return;
+    }
+    store.hold(part);
+    patch.push(part);
 }
 
 /// Holds a slice and adds it, but one of no bytes, and makes it one with the last slot where both fit a segment. There is room
@@ -76,6 +107,7 @@ pub(crate) fn join_part<A: Allocator + Copy>(store: &mut Store<A>, patch: &mut R
     ensures turns { Turns (segment_at store.old) patch.old.slots (segment_at store.new) patch.new.slots }
     ensures read { all_read (segment_at store.new) patch.new.slots ≡ all_read (segment_at store.old) patch.old.slots ++ all_read (segment_at store.old) (solid_of (part ∷ [])) }
     ensures solid { AllSolid patch.new.slots }
+    ensures many { length patch.new.slots ≤ length patch.old.slots + 1 }
     ensures capacity { patch.new.capacity ≡ patch.old.capacity }
     ensures base { patch.new.base ≡ patch.old.base }
     ensures total { total patch.new.slots ≡ total patch.old.slots + part.len }
@@ -213,7 +245,7 @@ fn put_copies<A: Allocator + Copy>(
     }
 }
 
-/// Holds and adds the first `count` bytes of slices, but slices of no bytes. It takes no memory.
+/// Adds the first `count` bytes of slices, each as `hold_part` does. It takes no memory.
 pub(crate) fn put_slices<A: Allocator + Copy>(
     store: &mut Store<A>,
     patch: &mut Row<A>,
@@ -226,7 +258,7 @@ pub(crate) fn put_slices<A: Allocator + Copy>(
     requires solid { AllSolid patch.old.slots }
     requires slots { length patch.old.slots + length slices.now ≤ patch.old.capacity }
     requires fits { patch.old.base + total patch.old.slots + count < 2 ^ 64 }
-    ensures slots { patch.new.slots ≡ patch.old.slots ++ solid_of (front_of count slices.now) }
+    ensures slots { patch.new.slots ≡ joined patch.old.slots (solid_of (front_of count slices.now)) }
     ensures turns { Turns (segment_at store.old) patch.old.slots (segment_at store.new) patch.new.slots }
     ensures read { all_read (segment_at store.new) patch.new.slots ≡ all_read (segment_at store.old) patch.old.slots ++ take count (all_read (segment_at store.old) slices.now) }
     ensures solid { AllSolid patch.new.slots }
@@ -252,21 +284,25 @@ pub(crate) fn put_slices<A: Allocator + Copy>(
     }
 }
 
-/// Lets the slots from `first` to before `end` go, which stay in their row. It takes no memory.
+/// Lets the slots from `first` to before `end` go, which stay in their chunks. It takes no memory.
 pub(crate) fn release_range<A: Allocator + Copy>(
     store: &mut Store<A>,
-    row: &Row<A>,
-    first: usize,
-    end: usize,
+    chunks: &Chunks<A>,
+    first: Spot,
+    end: Spot,
 )
-    requires order { first ≤ end }
-    requires most { end ≤ length row.now.slots }
-    requires held { Holds (segment_at store.old) (drop first (take end row.now.slots)) }
-    ensures turns { Turns (segment_at store.old) (drop first (take end row.now.slots)) (segment_at store.new) [] }
+    requires first { IsSpot chunks.now first }
+    requires end { IsSpot chunks.now end }
+    requires order { index chunks.now first ≤ index chunks.now end }
+    requires most { index chunks.now end ≤ length chunks.now.slots }
+    requires held { Holds (segment_at store.old) (drop (index chunks.now first) (take (index chunks.now end) chunks.now.slots)) }
+    ensures turns { Turns (segment_at store.old) (drop (index chunks.now first) (take (index chunks.now end) chunks.now.slots)) (segment_at store.new) [] }
     ensures in_use { live_count store.new.held ≤ live_count store.old.held }
     ensures spare { store.old.room ≤ most_spare → store.new.room ≤ most_spare }
 {
-    for index in first..end {
-        store.release(row.get(index));
+    let mut spot = first;
+    while chunks.is_before(spot, end) {
+        store.release(chunks.get(spot));
+        spot = chunks.next(spot);
     }
 }

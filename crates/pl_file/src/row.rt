@@ -8,6 +8,9 @@ use pl_segments::{NoMemory, Slice};
 use std::alloc::Allocator;
 use std::marker::Model;
 
+/// How many slots more than it has a row may have memory for, once it stands in a file.
+const SPARE: usize = 16;
+
 /// A slot, and the place of its first byte.
 #[derive(Clone, Copy, Debug, PartialEq, Eq)]
 pub(crate) struct Entry {
@@ -15,8 +18,7 @@ pub(crate) struct Entry {
     slice: Slice,
 }
 
-/// Slots one behind the other. Each keeps the place where it starts, so that a place is found by halving, and slots behind
-/// those that are replaced by as many bytes stay as they are.
+/// Slots one behind the other. Each keeps the place where it starts, so that a place is found by halving.
 #[derive(Drop)]
 pub(crate) struct Row<A: Allocator> {
     entries: Vec<Entry, A>,
@@ -61,15 +63,6 @@ impl<A: Allocator> Row<A> {
             base,
             end: base,
         })
-    }
-
-    /// Makes room for `count` more slots. Nothing else changes.
-    pub(crate) fn reserve(&mut self, count: usize) -> Result<(), NoMemory>
-        ensures room { OnOk result (length self.old.slots + count ≤ self.new.capacity) }
-        ensures kept { self.new ≡ record self.old { capacity = self.new.capacity } }
-    {
-        self.entries.try_reserve(count)?;
-        Ok(())
     }
 
     /// How many slots there are.
@@ -170,71 +163,89 @@ impl<A: Allocator> Row<A> {
         low
     }
 
-    /// Puts the slots of another row in the place of those from `first` to before `end`: it starts where they do, and ends where
-    /// they do but where none is behind them. There is room for it. It takes no memory.
-    pub(crate) fn replace(&mut self, first: usize, end: usize, patch: &Row<A>)
-        requires order { first ≤ end }
-        requires most { end ≤ length self.old.slots }
-        requires room { length self.old.slots + length patch.now.slots ≤ self.old.capacity }
-        requires starts { patch.now.base ≡ self.old.base + total (take first self.old.slots) }
-        requires ends { end < length self.old.slots → patch.now.base + total patch.now.slots ≡ self.old.base + total (take end self.old.slots) }
-        ensures slots { self.new.slots ≡ take first self.old.slots ++ (patch.now.slots ++ drop end self.old.slots) }
-        ensures base { self.new.base ≡ self.old.base }
+    /// Puts before the own slots the first `count` of another row. There is room for them. It takes no memory.
+    pub(crate) fn put_before(&mut self, row: &Row<A>, count: usize)
+        requires count { count ≤ length row.now.slots }
+        requires room { length self.old.slots + count ≤ self.old.capacity }
+        requires starts { self.old.base ≡ row.now.base + total (take count row.now.slots) }
+        ensures slots { self.new.slots ≡ take count row.now.slots ++ self.old.slots }
+        ensures base { self.new.base ≡ row.now.base }
+        ensures capacity { self.old.capacity ≤ self.new.capacity }
     {
-        let last = if end == self.entries.len() {
-            patch.end
-        } else {
-            self.end
-        };
-        replace(&mut self.entries, first, end, &patch.entries);
-        self.end = last;
+        let (front, _) = row.entries.split_at(count);
+        insert_front(&mut self.entries, front);
+        self.base = row.base;
     }
 
-    /// Forgets all slots, and gives back the memory of their list. It takes no memory.
-    pub(crate) fn clear(&mut self)
-        ensures slots { self.new.slots ≡ [] }
+    /// Puts behind the own slots those of another row from `from` on. There is room for them. It takes no memory.
+    pub(crate) fn put_behind(&mut self, row: &Row<A>, from: usize)
+        requires from { from ≤ length row.now.slots }
+        requires room { length self.old.slots + (length row.now.slots - from) ≤ self.old.capacity }
+        requires starts { self.old.base + total self.old.slots ≡ row.now.base + total (take from row.now.slots) }
+        ensures slots { self.new.slots ≡ self.old.slots ++ drop from row.now.slots }
         ensures base { self.new.base ≡ self.old.base }
-        ensures capacity { self.new.capacity ≡ 0 }
     {
-        self.entries.clear();
-        self.entries.shrink_to_fit();
-        self.end = self.base;
+        let (_, rest) = row.entries.split_at(from);
+        extend(&mut self.entries, rest);
+        self.end = row.end;
+    }
+
+    /// Takes the first `count` slots of another row, where it has none itself. There is room for them. It takes no memory.
+    pub(crate) fn take_front(&mut self, row: &mut Row<A>, count: usize)
+        requires none { self.old.slots ≡ [] }
+        requires count { count ≤ length row.old.slots }
+        requires room { count ≤ self.old.capacity }
+        ensures slots { self.new.slots ≡ take count row.old.slots }
+        ensures base { self.new.base ≡ row.old.base }
+        ensures rest { row.new.slots ≡ drop count row.old.slots }
+        ensures rest_base { row.new.base ≡ row.old.base + total (take count row.old.slots) }
+    {
+        let middle = row.start(count);
+        let (front, _) = row.entries.split_at(count);
+        extend(&mut self.entries, front);
+        self.base = row.base;
+        self.end = middle;
+        remove_front(&mut row.entries, count);
+        row.base = middle;
+    }
+
+    /// Gives back the memory that no slot needs, where it is more than a few slots'. It takes no memory.
+    pub(crate) fn shrink(&mut self)
+        ensures slots { self.new.slots ≡ self.old.slots }
+        ensures base { self.new.base ≡ self.old.base }
+    {
+        if self.entries.len() + SPARE < self.entries.capacity() {
+            self.entries.shrink_to_fit();
+        }
     }
 }
 
-/// Puts entries in the place of those from `first` to before `end`; there is room for them.
-fn replace<A: Allocator>(entries: &mut Vec<Entry, A>, first: usize, end: usize, patch: &[Entry])
-    requires order { first ≤ end }
-    requires most { end ≤ vec_len entries.old }
-    requires room { vec_len entries.old + length patch.now ≤ vec_capacity entries.old }
-    ensures { entries.new.items ≡ take first entries.old.items ++ (patch.now ++ drop end entries.old.items) }
-{
-    if patch.len() == end - first {
-        entries.slice_mut(first..end).copy_from_slice(patch);
-        return;
-    }
-    insert_all(entries, end, patch);
-    remove_range(entries, first, end);
-}
-
-/// Adds entries before the one at a place; there is room for them.
-fn insert_all<A: Allocator>(entries: &mut Vec<Entry, A>, place: usize, more: &[Entry])
-    requires most { place ≤ vec_len entries.old }
-    requires room { vec_len entries.old + length more.now ≤ vec_capacity entries.old }
-    ensures { entries.new.items ≡ take place entries.old.items ++ (more.now ++ drop place entries.old.items) }
+/// Adds entries before all others; there is room for them.
+fn insert_front<A: Allocator>(entries: &mut Vec<Entry, A>, more: &[Entry])
+    requires { vec_len entries.old + length more.now ≤ vec_capacity entries.old }
+    ensures items { entries.new.items ≡ more.now ++ entries.old.items }
+    ensures capacity { vec_capacity entries.old ≤ vec_capacity entries.new }
 {
     let len = entries.len();
+    extend(entries, more);
+    entries.slice_mut(..).rotate_left(len);
+}
+
+/// Adds entries behind all others; there is room for them.
+fn extend<A: Allocator>(entries: &mut Vec<Entry, A>, more: &[Entry])
+    requires { vec_len entries.old + length more.now ≤ vec_capacity entries.old }
+    ensures items { entries.new.items ≡ entries.old.items ++ more.now }
+    ensures capacity { vec_capacity entries.old ≤ vec_capacity entries.new }
+{
     entries.extend_from_slice(more).unwrap();
-    entries.slice_mut(place..).rotate_left(len - place);
 }
 
-/// Takes the entries from `first` to before `end` out.
-fn remove_range<A: Allocator>(entries: &mut Vec<Entry, A>, first: usize, end: usize)
-    requires order { first ≤ end }
-    requires most { end ≤ vec_len entries.old }
-    ensures { entries.new.items ≡ take first entries.old.items ++ drop end entries.old.items }
+/// Takes the first entries out.
+fn remove_front<A: Allocator>(entries: &mut Vec<Entry, A>, count: usize)
+    requires { count ≤ vec_len entries.old }
+    ensures { entries.new.items ≡ drop count entries.old.items }
 {
     let len = entries.len();
-    entries.copy_within(end.., first);
-    entries.truncate(len - (end - first));
+    entries.copy_within(count.., 0);
+    entries.truncate(len - count);
 }

@@ -1,5 +1,5 @@
 -- The first slices of a pipe that are put in a file.
-use Rattle.std.proofs.Common.{◌≡◌, ℕ, ◌+◌, ◌-◌, ◌≤◌, ◌++◌, List, Some, sym, ◌∙◌, ap, subst, length, take, slice_set, arith}
+use Rattle.std.proofs.Common.{◌≡◌, ℕ, ◌+◌, ◌-◌, ◌≤◌, List, Some, sym, ◌∙◌, ap, subst, length, take, slice_set, arith}
 use Rattle.std.specs.Prelude.{IfSome}
 use Rattle.std.proofs.lemmas.List.{length-take, take_all}
 use Rattle.pl_model.specs.Numbers.{most_file_bytes}
@@ -11,8 +11,9 @@ use Rattle.pl_segments.specs.Turns.{Turns}
 use Rattle.pl_segments.specs.Slots.{total, solid_of, drop_bytes, front_of}
 use Rattle.pl_segments.specs.Sharing.{named, AreShared}
 use Rattle.pl_segments.proofs.Fronting.{front-total}
-use Rattle.pl_segments.proofs.Turning.{naming-append}
 use Rattle.pl_file.specs.File.{written, fitting}
+use Rattle.pl_file.specs.Joined.{between}
+use Rattle.pl_file.proofs.Joining.{naming-between}
 use Rattle.pl_nodes.specs.declared.content.PipeNode.{PipeNode}
 use Rattle.pl_nodes.specs.declared.content.FileNode.{FileNode}
 use Rattle.pl_nodes.specs.declared.content.Content.TheVariants.{Pipe, File}
@@ -27,15 +28,14 @@ use Rattle.pl_nodes.proofs.Lending.{front-bytes, front-few}
 
 -- what a file names once slices stand in it
 naming-put : (file slices : List Slice) (place moved : ℕ) (key : ℕ)
-    → naming (front_of place file ++ (solid_of (front_of moved slices) ++ drop_bytes (place + moved) file)) key ≤ naming file key + naming slices key + naming file key
+    → naming (between (front_of place file) (solid_of (front_of moved slices)) (drop_bytes (place + moved) file)) key ≤ naming file key + naming slices key + naming file key
 naming-put file slices place moved key =
-    let a = naming-append (front_of place file) (solid_of (front_of moved slices) ++ drop_bytes (place + moved) file) key in
-    let b = naming-append (solid_of (front_of moved slices)) (drop_bytes (place + moved) file) key in
+    let a = naming-between (front_of place file) (solid_of (front_of moved slices)) (drop_bytes (place + moved) file) key in
     let c = naming-front place file key in
     let d = naming-solid (front_of moved slices) key in
     let e = naming-front moved slices key in
     let f = naming-drop (place + moved) file key in
-    omega (arith, a, b, c, d, e, f)
+    omega (arith, a, c, d, e, f)
 
 module _ {A : Type 0} (k : Inside A) (sound : IsSound k) (flat : Nodes) (is : view_of k ≡ flat)
     (from : ℕ) (s : PipeNode A) (source : at k.contents.slots from ≡ Some (Pipe s)) (count : ℕ) (slices : List Slice) (front : slices ≡ front_of count s.ring.slots)
@@ -80,7 +80,7 @@ module _ {A : Type 0} (k : Inside A) (sound : IsSound k) (flat : Nodes) (is : vi
 
     -- each segment that is named was named
     pub put-named : AreShared (segment_at store) (lists (slice_set k.contents.slots to (Some (File (record f { file = file })))))
-        → (moved : ℕ) → file ≡ front_of place f.file ++ (solid_of (front_of moved slices) ++ drop_bytes (place + moved) f.file)
+        → (moved : ℕ) → file ≡ between (front_of place f.file) (solid_of (front_of moved slices)) (drop_bytes (place + moved) f.file)
         → (key : ℕ) → 1 ≤ named (lists (slice_set k.contents.slots to (Some (File (record f { file = file }))))) key → 1 ≤ named flat.slots key
     put-named shared moved e key one =
         let now = shared.counted key in

@@ -2,27 +2,28 @@ use Rattle.std.proofs.Common.{◌∙◌, ◌++◌, ap, sym, subst}
 use Rattle.pl_segments.specs.Segments.{Segments, segment_at}
 use Rattle.pl_segments.specs.Slices.{all_read}
 use Rattle.pl_segments.specs.Turns.{Turns}
+use Rattle.pl_file.specs.Rows.{index}
 use Rattle.pl_file.proofs.Editing.{span-held, gone-turns, gone-read}
 use Rattle.pl_file.proofs.edit.close.Goals as goal
 
 pub release_range-requires-clause-held : goal.release_range-requires-clause-held
 release_range-requires-clause-held g c =
     let m = segment_at c.args.store.now in
-    span-held m m c.args.row.now.slots c.args.patch.now.slots c.args.first c.args.end c.requires.order c.requires.held
+    span-held m m c.args.chunks.now.slots c.args.patch.slots (index c.args.chunks.now c.args.first) (index c.args.chunks.now c.args.end) c.requires.order c.requires.held
 
 pub returns-clause-turns : goal.returns-clause-turns
 returns-clause-turns g c =
     let m = segment_at c.args.store.now in
     let n = segment_at c.release_range.new.store in
-    let xs = c.args.row.now.slots in
-    let ps = c.args.patch.now.slots in
+    let xs = c.args.chunks.now.slots in
+    let ps = c.args.patch.slots in
     subst (λ o. Turns m (xs ++ ps) o c.replace.new.self.slots) (sym (ap (λ (s : Segments). segment_at s) c.trim.ensures.kept))
-    (subst (Turns m (xs ++ ps) n) (sym c.replace.ensures.slots) (gone-turns m n xs ps c.args.first c.args.end c.requires.order c.requires.held c.release_range.ensures.turns))
+    (subst (Turns m (xs ++ ps) n) (sym c.replace.ensures) (gone-turns m n xs ps (index c.args.chunks.now c.args.first) (index c.args.chunks.now c.args.end) c.requires.order c.requires.held c.release_range.ensures.turns))
 
 pub returns-clause-read : goal.returns-clause-read
 returns-clause-read g c =
     let m = segment_at c.args.store.now in
     let n = segment_at c.release_range.new.store in
     ap (λ (s : Segments). all_read (segment_at s) c.replace.new.self.slots) c.trim.ensures.kept
-    ∙ ap (all_read n) c.replace.ensures.slots
-    ∙ gone-read m n c.args.row.now.slots c.args.patch.now.slots c.args.first c.args.end c.requires.order c.requires.held c.release_range.ensures.turns
+    ∙ ap (all_read n) c.replace.ensures
+    ∙ gone-read m n c.args.chunks.now.slots c.args.patch.slots (index c.args.chunks.now c.args.first) (index c.args.chunks.now c.args.end) c.requires.order c.requires.held c.release_range.ensures.turns

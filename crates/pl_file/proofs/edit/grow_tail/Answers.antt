@@ -1,4 +1,4 @@
-use Rattle.std.proofs.Common.{◌≡◌, ◌∙◌, ◌++◌, ◌∷◌, [], ◌+◌, ap, sym, subst, length, arith}
+use Rattle.std.proofs.Common.{◌≡◌, ◌∙◌, ◌++◌, ◌∷◌, [], ◌+◌, ◌-◌, List, ap, sym, subst, length, take, arith}
 use Rattle.std.specs.Prelude.{is_ok, IfOk}
 use Rattle.std.proofs.lemmas.Result.{IfOk-at_ok}
 use Rattle.pl_segments.specs.declared.slice.Slice.{Slice}
@@ -14,73 +14,74 @@ use Rattle.pl_file.proofs.edit.grow_tail.Given.{Over}
 use Rattle.pl_file.proofs.edit.grow_tail.Goals.{After-unwrap-longer}
 use Rattle.pl_file.proofs.edit.grow_tail.Goals as goal
 
+-- all but the last
+abbrev front : List Slice → List Slice
+front xs = take (length xs - 1) xs
+
 pub try_append-requires : goal.try_append-requires
 try_append-requires g c =
     let m = segment_at c.args.store.now in
-    let x = c.pop-last.result in
-    tail-lies m m c.args.row.now.slots c.pop-last.new.self.slots x x c.args.bytes.now c.pop-last.ensures.slots c.requires.held
+    let x = c.last-last.result in
+    tail-lies m m c.args.chunks.now.slots (front c.args.chunks.now.slots) x x c.args.bytes.now c.last-last.ensures.shape c.requires.held
 
 pub unwrap-longer-requires : goal.unwrap-longer-requires
 unwrap-longer-requires g c =
     let m = segment_at c.args.store.now in
-    let x = c.pop-last.result in
-    ap is_ok (c.try_append.ensures.value ∙ tail-fits m m c.args.row.now.slots c.pop-last.new.self.slots x x c.args.bytes.now c.pop-last.ensures.slots c.requires.held c.requires.some c.requires.fits)
+    let x = c.last-last.result in
+    ap is_ok (c.try_append.ensures.value ∙ tail-fits m m c.args.chunks.now.slots (front c.args.chunks.now.slots) x x c.args.bytes.now c.last-last.ensures.shape c.requires.held c.requires.some c.requires.fits)
 
 -- the longer slice
 module _ (g : Over) (c : After-unwrap-longer g) where
-  turns : Turns (segment_at c.args.store.now) (c.pop-last.result ∷ []) (segment_at c.try_append.new.self) (c.unwrap-longer.result ∷ [])
-  turns = IfOk-at_ok (λ more. Turns (segment_at c.args.store.now) (c.pop-last.result ∷ []) (segment_at c.try_append.new.self) (more ∷ [])) c.unwrap-longer.ensures c.try_append.ensures.turns
+  turns : Turns (segment_at c.args.store.now) (c.last-last.result ∷ []) (segment_at c.try_append.new.self) (c.unwrap-longer.result ∷ [])
+  turns = IfOk-at_ok (λ more. Turns (segment_at c.args.store.now) (c.last-last.result ∷ []) (segment_at c.try_append.new.self) (more ∷ [])) c.unwrap-longer.ensures c.try_append.ensures.turns
 
-  read : reads (segment_at c.try_append.new.self) c.unwrap-longer.result ≡ reads (segment_at c.args.store.now) c.pop-last.result ++ c.args.bytes.now
-  read = IfOk-at_ok (λ more. reads (segment_at c.try_append.new.self) more ≡ reads (segment_at c.args.store.now) c.pop-last.result ++ c.args.bytes.now) c.unwrap-longer.ensures c.try_append.ensures.reads
+  read : reads (segment_at c.try_append.new.self) c.unwrap-longer.result ≡ reads (segment_at c.args.store.now) c.last-last.result ++ c.args.bytes.now
+  read = IfOk-at_ok (λ more. reads (segment_at c.try_append.new.self) more ≡ reads (segment_at c.args.store.now) c.last-last.result ++ c.args.bytes.now) c.unwrap-longer.ensures c.try_append.ensures.reads
 
-  len : c.pop-last.result.len + length c.args.bytes.now ≡ c.unwrap-longer.result.len
+  len : c.last-last.result.len + length c.args.bytes.now ≡ c.unwrap-longer.result.len
   len =
       let m = segment_at c.args.store.now in
-      let x = c.pop-last.result in
-      let fits = tail-fits m m c.args.row.now.slots c.pop-last.new.self.slots x x c.args.bytes.now c.pop-last.ensures.slots c.requires.held c.requires.some c.requires.fits in
+      let x = c.last-last.result in
+      let fits = tail-fits m m c.args.chunks.now.slots (front c.args.chunks.now.slots) x x c.args.bytes.now c.last-last.ensures.shape c.requires.held c.requires.some c.requires.fits in
       IfOk-at_ok (λ (s : Slice). x.len + length c.args.bytes.now ≡ s.len) c.unwrap-longer.ensures (subst (λ r. IfOk r (λ (s : Slice). x.len + length c.args.bytes.now ≡ s.len)) (sym (c.try_append.ensures.value ∙ fits)) (omega arith))
 
-  sum : total c.pop-last.new.self.slots + c.unwrap-longer.result.len ≡ total c.args.row.now.slots + length c.args.bytes.now
+  sum : total (front c.args.chunks.now.slots) + c.unwrap-longer.result.len ≡ total c.args.chunks.now.slots + length c.args.bytes.now
   sum =
       let l = len in
-      let a = ap total c.pop-last.ensures.slots in
-      let b = total-append c.pop-last.new.self.slots (c.pop-last.result ∷ []) in
+      let a = ap total c.last-last.ensures.shape in
+      let b = total-append (front c.args.chunks.now.slots) (c.last-last.result ∷ []) in
       omega (arith, l, a, b)
 
-pub push-requires-clause-fits : goal.push-requires-clause-fits
-push-requires-clause-fits g c =
-    let s = sum g (goal.at.push-requires-clause-fits g c).After-unwrap-longer in
-    let b = c.pop-last.ensures.base in
-    omega (arith, s, b, c.requires.most)
+pub set_last-requires-clause-fits : goal.set_last-requires-clause-fits
+set_last-requires-clause-fits g c = let s = sum g (goal.at.set_last-requires-clause-fits g c).After-unwrap-longer in omega (arith, s, c.requires.most)
 
 pub returns-clause-turns : goal.returns-clause-turns
 returns-clause-turns g c =
     let m = segment_at c.args.store.now in
     let n = segment_at c.try_append.new.self in
-    subst (Turns m c.args.row.now.slots n) (sym c.push.ensures.slots)
-    (tail-turns m n c.args.row.now.slots c.pop-last.new.self.slots c.pop-last.result c.unwrap-longer.result c.args.bytes.now c.pop-last.ensures.slots c.requires.held (turns g (goal.at.returns-clause-turns g c).After-unwrap-longer))
+    subst (Turns m c.args.chunks.now.slots n) (sym c.set_last.ensures)
+    (tail-turns m n c.args.chunks.now.slots (front c.args.chunks.now.slots) c.last-last.result c.unwrap-longer.result c.args.bytes.now c.last-last.ensures.shape c.requires.held (turns g (goal.at.returns-clause-turns g c).After-unwrap-longer))
 
 pub returns-clause-read : goal.returns-clause-read
 returns-clause-read g c =
     let m = segment_at c.args.store.now in
     let n = segment_at c.try_append.new.self in
     let k = (goal.at.returns-clause-read g c).After-unwrap-longer in
-    ap (all_read n) c.push.ensures.slots
-    ∙ tail-read m n c.args.row.now.slots c.pop-last.new.self.slots c.pop-last.result c.unwrap-longer.result c.args.bytes.now c.pop-last.ensures.slots c.requires.held (turns g k) (read g k)
+    ap (all_read n) c.set_last.ensures
+    ∙ tail-read m n c.args.chunks.now.slots (front c.args.chunks.now.slots) c.last-last.result c.unwrap-longer.result c.args.bytes.now c.last-last.ensures.shape c.requires.held (turns g k) (read g k)
 
 pub returns-clause-solid : goal.returns-clause-solid
 returns-clause-solid g c =
     let m = segment_at c.args.store.now in
     let l = len g (goal.at.returns-clause-solid g c).After-unwrap-longer in
-    subst AllSolid (sym c.push.ensures.slots)
-    (tail-solid m m c.args.row.now.slots c.pop-last.new.self.slots c.pop-last.result c.unwrap-longer.result c.args.bytes.now c.pop-last.ensures.slots c.requires.held c.requires.solid (omega (arith, l, c.requires.some)))
+    subst AllSolid (sym c.set_last.ensures)
+    (tail-solid m m c.args.chunks.now.slots (front c.args.chunks.now.slots) c.last-last.result c.unwrap-longer.result c.args.bytes.now c.last-last.ensures.shape c.requires.held c.requires.solid (omega (arith, l, c.requires.some)))
 
 pub returns-clause-total : goal.returns-clause-total
 returns-clause-total g c =
     let s = sum g (goal.at.returns-clause-total g c).After-unwrap-longer in
-    let a = ap total c.push.ensures.slots in
-    let b = total-append c.pop-last.new.self.slots (c.unwrap-longer.result ∷ []) in
+    let a = ap total c.set_last.ensures in
+    let b = total-append (front c.args.chunks.now.slots) (c.unwrap-longer.result ∷ []) in
     omega (arith, s, a, b)
 
 pub returns-clause-within : goal.returns-clause-within
@@ -88,5 +89,5 @@ returns-clause-within g c =
     let m = segment_at c.args.store.now in
     let n = segment_at c.try_append.new.self in
     let k = (goal.at.returns-clause-within g c).After-unwrap-longer in
-    let t = tail-turns m n c.args.row.now.slots c.pop-last.new.self.slots c.pop-last.result c.unwrap-longer.result c.args.bytes.now c.pop-last.ensures.slots c.requires.held (turns g k) in
-    subst AllWithin (sym c.push.ensures.slots) (lie-within c.try_append.new.self.held (c.pop-last.new.self.slots ++ c.unwrap-longer.result ∷ []) c.in_use-segments.ensures.good t.lie)
+    let t = tail-turns m n c.args.chunks.now.slots (front c.args.chunks.now.slots) c.last-last.result c.unwrap-longer.result c.args.bytes.now c.last-last.ensures.shape c.requires.held (turns g k) in
+    subst AllWithin (sym c.set_last.ensures) (lie-within c.try_append.new.self.held ((front c.args.chunks.now.slots) ++ c.unwrap-longer.result ∷ []) c.in_use-segments.ensures.good t.lie)

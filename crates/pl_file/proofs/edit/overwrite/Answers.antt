@@ -8,6 +8,7 @@ use Rattle.pl_segments.specs.Slots.{total, AllSolid, solid_of, drop_bytes}
 use Rattle.pl_segments.proofs.Turning.{turns-then}
 use Rattle.pl_segments.proofs.Pushing.{lies-still}
 use Rattle.pl_file.proofs.Patching.{all-still}
+use Rattle.pl_file.specs.Rows.{Chunks, index}
 use Rattle.pl_file.proofs.Editing.{solid-length, still-few, made-held, part-lies, part-lies-some, rest-ends, put-read, change-turns, change-read, change-solid, change-most, lie-within}
 use Rattle.pl_file.proofs.edit.overwrite.Given.{Over}
 use Rattle.pl_file.proofs.edit.overwrite.Goals.{After-put_bytes, After-join_part, After-close}
@@ -20,10 +21,10 @@ module _ (g : Over) (c : After-put_bytes g) where
       turns-then (segment_at c.args.store.now) (segment_at c.open.new.store) (segment_at c.put_bytes.new.store) [] c.in_ok-patch.field-0.patch.slots c.put_bytes.new.patch.slots
       c.in_ok-patch.ensures.turns c.put_bytes.ensures.turns
 
-  slots : c.open.new.row.slots ≡ c.args.row.now.slots
-  slots = λ i. (c.in_ok-patch.ensures.row i).slots
+  slots : c.open.new.chunks.slots ≡ c.args.chunks.now.slots
+  slots = λ i. (c.in_ok-patch.ensures.chunks i).slots
 
-  rest : drop_bytes (c.args.place + length c.args.bytes.now) c.args.row.now.slots ≡ solid_of (c.in_ok-patch.field-0.rest.part ∷ []) ++ drop c.in_ok-patch.field-0.rest.place c.args.row.now.slots
+  rest : drop_bytes (c.args.place + length c.args.bytes.now) c.args.chunks.now.slots ≡ solid_of (c.in_ok-patch.field-0.rest.part ∷ []) ++ drop (index c.args.chunks.now c.in_ok-patch.field-0.rest.place) c.args.chunks.now.slots
   rest = c.in_ok-patch.ensures.rest
 
   part-still :
@@ -33,7 +34,7 @@ module _ (g : Over) (c : After-put_bytes g) where
       let m = segment_at c.args.store.now in
       let o = c.in_ok-patch.field-0 in
       all-still m (segment_at c.put_bytes.new.store) c.put_bytes.new.patch.slots bytes-turns (solid_of (o.rest.part ∷ []))
-      (part-lies c.args.row.now.slots o.rest.place (c.args.place + length c.args.bytes.now) o.rest.part rest m c.requires.held.lie)
+      (part-lies c.args.chunks.now.slots (index c.args.chunks.now o.rest.place) (c.args.place + length c.args.bytes.now) o.rest.part rest m c.requires.held.lie)
 
 pub join_part-requires-clause-lies : goal.join_part-requires-clause-lies
 join_part-requires-clause-lies g c =
@@ -41,7 +42,7 @@ join_part-requires-clause-lies g c =
     let o = c.in_ok-patch.field-0 in
     λ some.
     lies-still (segment_at c.args.store.now) (segment_at c.put_bytes.new.store) c.put_bytes.new.patch.slots (bytes-turns g b) o.rest.part
-    (part-lies-some c.args.row.now.slots o.rest.place (c.args.place + length c.args.bytes.now) o.rest.part (rest g b) (segment_at c.args.store.now) c.requires.held.lie some)
+    (part-lies-some c.args.chunks.now.slots (index c.args.chunks.now o.rest.place) (c.args.place + length c.args.bytes.now) o.rest.part (rest g b) (segment_at c.args.store.now) c.requires.held.lie some)
 
 pub join_part-requires-clause-few : goal.join_part-requires-clause-few
 join_part-requires-clause-few g c =
@@ -63,14 +64,14 @@ module _ (g : Over) (c : After-join_part g) (t : Turns (segment_at c.args.store.
 
   module _ (still : all_read (segment_at c.put_bytes.new.store) (solid_of (c.in_ok-patch.field-0.rest.part ∷ [])) ≡ all_read (segment_at c.args.store.now) (solid_of (c.in_ok-patch.field-0.rest.part ∷ []))) where
     reads :
-        all_read (segment_at c.args.store.now) (take c.in_ok-patch.field-0.first c.args.row.now.slots) ++ all_read (segment_at c.join_part.new.store) c.join_part.new.patch.slots
-        ≡ ((take c.args.place (all_read (segment_at c.args.store.now) c.args.row.now.slots) ++ replicate (c.args.place - total c.args.row.now.slots) 0) ++ c.args.bytes.now)
+        all_read (segment_at c.args.store.now) (take (index c.args.chunks.now c.in_ok-patch.field-0.first) c.args.chunks.now.slots) ++ all_read (segment_at c.join_part.new.store) c.join_part.new.patch.slots
+        ≡ ((take c.args.place (all_read (segment_at c.args.store.now) c.args.chunks.now.slots) ++ replicate (c.args.place - total c.args.chunks.now.slots) 0) ++ c.args.bytes.now)
         ++ all_read (segment_at c.args.store.now) (solid_of (c.in_ok-patch.field-0.rest.part ∷ []))
     reads =
         let m = segment_at c.args.store.now in
         let o = c.in_ok-patch.field-0 in
-        let xs = c.args.row.now.slots in
-        put-read (all_read m (take o.first xs)) (all_read (segment_at c.open.new.store) o.patch.slots) c.args.bytes.now (all_read m (solid_of (o.rest.part ∷ [])))
+        let xs = c.args.chunks.now.slots in
+        put-read (all_read m (take (index c.args.chunks.now o.first) xs)) (all_read (segment_at c.open.new.store) o.patch.slots) c.args.bytes.now (all_read m (solid_of (o.rest.part ∷ [])))
         (take c.args.place (all_read m xs) ++ replicate (c.args.place - total xs) 0) (all_read (segment_at c.join_part.new.store) c.join_part.new.patch.slots)
         (c.join_part.ensures.read ∙ (λ i. c.put_bytes.ensures.read i ++ still i)) c.in_ok-patch.ensures.read
 
@@ -80,40 +81,38 @@ close-requires-clause-held g c =
     let n = segment_at c.join_part.new.store in
     let ps = c.join_part.new.patch.slots in
     subst (λ xs. Holds n (xs ++ ps)) (sym (slots g k.After-put_bytes))
-    (made-held (segment_at c.args.store.now) n c.args.row.now.slots ps c.requires.held (all-turns g k.After-join_part (bytes-turns g k.After-put_bytes)))
+    (made-held (segment_at c.args.store.now) n c.args.chunks.now.slots ps c.requires.held (all-turns g k.After-join_part (bytes-turns g k.After-put_bytes)))
 
 pub close-requires-clause-ends : goal.close-requires-clause-ends
 close-requires-clause-ends g c =
     let b = (goal.at.close-requires-clause-ends g c).After-put_bytes in
     let o = c.in_ok-patch.field-0 in
-    let xs = c.args.row.now.slots in
+    let xs = c.args.chunks.now.slots in
     λ l.
-    let here = subst (λ ys. o.rest.place < length ys) (slots g b) l in
-    let e = rest-ends xs o.rest.place (c.args.place + length c.args.bytes.now) o.rest.part (rest g b) c.in_ok-patch.ensures.rest_starts here in
-    let t = ap (λ ys. total (take o.rest.place ys)) (slots g b) in
-    let base : c.open.new.row.base ≡ c.args.row.now.base = (λ i. (c.in_ok-patch.ensures.row i).base) in
+    let here = subst (λ (v : Chunks). index v o.rest.place < length v.slots) c.in_ok-patch.ensures.chunks l in
+    let e = rest-ends xs (index c.args.chunks.now o.rest.place) (c.args.place + length c.args.bytes.now) o.rest.part (rest g b) c.in_ok-patch.ensures.rest_starts here in
+    let t = ap (λ (v : Chunks). total (take (index v o.rest.place) v.slots)) c.in_ok-patch.ensures.chunks in
     let j = c.join_part.ensures.total in
     let p = c.put_bytes.ensures.total in
     let d = c.join_part.ensures.base in
     let f = c.put_bytes.ensures.base in
     let q = c.in_ok-patch.ensures.place in
-    let z = c.requires.base in
-    omega (arith, e, t, base, j, p, d, f, q, z)
+    omega (arith, e, t, j, p, d, f, q)
 
 -- and put in its place
-module _ (g : Over) (c : After-close g) (same : c.open.new.row.slots ≡ c.args.row.now.slots) where
-  closed : Turns (segment_at c.join_part.new.store) (c.args.row.now.slots ++ c.join_part.new.patch.slots) (segment_at c.close.new.store) c.close.new.row.slots
+module _ (g : Over) (c : After-close g) where
+  closed : Turns (segment_at c.join_part.new.store) (c.args.chunks.now.slots ++ c.join_part.new.patch.slots) (segment_at c.close.new.store) c.close.new.chunks.slots
   closed =
-      subst (λ xs. Turns (segment_at c.join_part.new.store) (xs ++ c.join_part.new.patch.slots) (segment_at c.close.new.store) c.close.new.row.slots) same c.close.ensures.turns
+      subst (λ xs. Turns (segment_at c.join_part.new.store) (xs ++ c.join_part.new.patch.slots) (segment_at c.close.new.store) c.close.new.chunks.slots) (λ i. (c.in_ok-patch.ensures.chunks i).slots) c.close.ensures.turns
 
   closed-read :
-      all_read (segment_at c.close.new.store) c.close.new.row.slots
-      ≡ all_read (segment_at c.join_part.new.store) (take c.in_ok-patch.field-0.first c.args.row.now.slots)
-      ++ (all_read (segment_at c.join_part.new.store) c.join_part.new.patch.slots ++ all_read (segment_at c.join_part.new.store) (drop c.in_ok-patch.field-0.rest.place c.args.row.now.slots))
+      all_read (segment_at c.close.new.store) c.close.new.chunks.slots
+      ≡ all_read (segment_at c.join_part.new.store) (take (index c.args.chunks.now c.in_ok-patch.field-0.first) c.args.chunks.now.slots)
+      ++ (all_read (segment_at c.join_part.new.store) c.join_part.new.patch.slots ++ all_read (segment_at c.join_part.new.store) (drop (index c.args.chunks.now c.in_ok-patch.field-0.rest.place) c.args.chunks.now.slots))
   closed-read =
       let n = segment_at c.join_part.new.store in
       let o = c.in_ok-patch.field-0 in
-      c.close.ensures.read ∙ ap (λ xs. all_read n (take o.first xs) ++ (all_read n c.join_part.new.patch.slots ++ all_read n (drop o.rest.place xs))) same
+      c.close.ensures.read ∙ ap (λ (v : Chunks). all_read n (take (index v o.first) v.slots) ++ (all_read n c.join_part.new.patch.slots ++ all_read n (drop (index v o.rest.place) v.slots))) c.in_ok-patch.ensures.chunks
 
 pub returns-clause-turns : goal.returns-clause-turns
 returns-clause-turns g c =
@@ -121,9 +120,9 @@ returns-clause-turns g c =
     let b = k.After-put_bytes in
     let o = c.in_ok-patch.field-0 in
     let t = bytes-turns g b in
-    change-turns (segment_at c.args.store.now) (segment_at c.join_part.new.store) (segment_at c.close.new.store) c.args.row.now.slots c.join_part.new.patch.slots c.close.new.row.slots
-    o.first o.rest.place c.args.place o.rest.part c.args.bytes.now c.requires.held (all-turns g k.After-join_part t) (rest g b) c.requires.some
-    (reads g k.After-join_part t (part-still g b)) (closed g k.After-close (slots g b)) (closed-read g k.After-close (slots g b))
+    change-turns (segment_at c.args.store.now) (segment_at c.join_part.new.store) (segment_at c.close.new.store) c.args.chunks.now.slots c.join_part.new.patch.slots c.close.new.chunks.slots
+    (index c.args.chunks.now o.first) (index c.args.chunks.now o.rest.place) c.args.place o.rest.part c.args.bytes.now c.requires.held (all-turns g k.After-join_part t) (rest g b) c.requires.some
+    (reads g k.After-join_part t (part-still g b)) (closed g k.After-close) (closed-read g k.After-close)
 
 pub returns-clause-read : goal.returns-clause-read
 returns-clause-read g c =
@@ -131,16 +130,16 @@ returns-clause-read g c =
     let b = k.After-put_bytes in
     let o = c.in_ok-patch.field-0 in
     let t = bytes-turns g b in
-    change-read (segment_at c.args.store.now) (segment_at c.join_part.new.store) (segment_at c.close.new.store) c.args.row.now.slots c.join_part.new.patch.slots c.close.new.row.slots
-    o.first o.rest.place c.args.place o.rest.part c.args.bytes.now c.requires.held (all-turns g k.After-join_part t) (rest g b) c.requires.some
-    (reads g k.After-join_part t (part-still g b)) (closed g k.After-close (slots g b)) (closed-read g k.After-close (slots g b))
+    change-read (segment_at c.args.store.now) (segment_at c.join_part.new.store) (segment_at c.close.new.store) c.args.chunks.now.slots c.join_part.new.patch.slots c.close.new.chunks.slots
+    (index c.args.chunks.now o.first) (index c.args.chunks.now o.rest.place) c.args.place o.rest.part c.args.bytes.now c.requires.held (all-turns g k.After-join_part t) (rest g b) c.requires.some
+    (reads g k.After-join_part t (part-still g b)) (closed g k.After-close) (closed-read g k.After-close)
 
 pub returns-clause-solid : goal.returns-clause-solid
 returns-clause-solid g c =
     let b = (goal.at.returns-clause-solid g c).After-put_bytes in
     let o = c.in_ok-patch.field-0 in
     subst AllSolid (sym c.close.ensures.slots)
-    (change-solid c.open.new.row.slots c.join_part.new.patch.slots o.first o.rest.place (subst AllSolid (sym (slots g b)) c.requires.solid) c.join_part.ensures.solid)
+    (change-solid c.open.new.chunks.slots c.join_part.new.patch.slots (index c.open.new.chunks o.first) (index c.open.new.chunks o.rest.place) (subst AllSolid (sym (slots g b)) c.requires.solid) c.join_part.ensures.solid)
 
 pub returns-clause-most : goal.returns-clause-most
 returns-clause-most g c =
@@ -148,9 +147,9 @@ returns-clause-most g c =
     let b = k.After-put_bytes in
     let o = c.in_ok-patch.field-0 in
     let t = bytes-turns g b in
-    change-most (segment_at c.args.store.now) (segment_at c.join_part.new.store) (segment_at c.close.new.store) c.args.row.now.slots c.join_part.new.patch.slots c.close.new.row.slots
-    o.first o.rest.place c.args.place o.rest.part c.args.bytes.now c.requires.held (all-turns g k.After-join_part t) (rest g b) c.requires.some
-    (reads g k.After-join_part t (part-still g b)) (closed g k.After-close (slots g b)) (closed-read g k.After-close (slots g b)) most_file_bytes c.requires.most c.requires.fits c.close.ensures.turns.lie
+    change-most (segment_at c.args.store.now) (segment_at c.join_part.new.store) (segment_at c.close.new.store) c.args.chunks.now.slots c.join_part.new.patch.slots c.close.new.chunks.slots
+    (index c.args.chunks.now o.first) (index c.args.chunks.now o.rest.place) c.args.place o.rest.part c.args.bytes.now c.requires.held (all-turns g k.After-join_part t) (rest g b) c.requires.some
+    (reads g k.After-join_part t (part-still g b)) (closed g k.After-close) (closed-read g k.After-close) most_file_bytes c.requires.most c.requires.fits c.close.ensures.turns.lie
 
 pub returns-clause-within : goal.returns-clause-within
-returns-clause-within g c = lie-within c.close.new.store.held c.close.new.row.slots c.in_use-segments.ensures.good c.close.ensures.turns.lie
+returns-clause-within g c = lie-within c.close.new.store.held c.close.new.chunks.slots c.in_use-segments.ensures.good c.close.ensures.turns.lie

@@ -1,14 +1,16 @@
 use Rattle.std.proofs.Common.{◌≡◌, ◌∙◌, ◌++◌, ◌∷◌, ◌+◌, ◌-◌, [], ap, refl, drop, length, slice_index_or, arith}
-use Rattle.std.proofs.lemmas.List.{drop_more, drop_all, length-append}
+use Rattle.std.proofs.lemmas.List.{drop_more, drop_all}
 use Rattle.pl_segments.specs.declared.slice.Slice.{Slice}
 use Rattle.pl_segments.specs.Segments.{segment_at}
 use Rattle.pl_segments.specs.Slices.{Lies, all_read}
 use Rattle.pl_segments.specs.Slots.{total, solid_of, front_of, cut_end}
 use Rattle.pl_segments.proofs.Turning.{holds-turned}
-use Rattle.pl_segments.proofs.SlotLemmas.{no_slice, total-append, total-solid, lies-cut_end}
-use Rattle.pl_segments.proofs.Pushing.{lie-at, holders-le}
+use Rattle.pl_segments.proofs.SlotLemmas.{no_slice, total-solid, lies-cut_end}
+use Rattle.pl_segments.proofs.Pushing.{lie-at}
 use Rattle.pl_segments.proofs.Fronting.{front-none}
-use Rattle.pl_file.proofs.Patching.{solid-one, asked-lie, asked-read, front-step, putting-first, putting-next, putting-lies, putting-turns, putting-slots, putting-read}
+use Rattle.pl_file.proofs.Patching.{solid-one, solid-lies, asked-read, front-step, putting-first, putting-next, putting-lies, putting-slots, putting-read}
+use Rattle.pl_file.proofs.Editing.{still-few}
+use Rattle.pl_file.proofs.Joining.{length-joined, total-joined}
 use Rattle.pl_file.proofs.patch.put_slices.Given.{Over}
 use Rattle.pl_file.proofs.patch.put_slices.Goals.{After-min-len}
 use Rattle.pl_file.proofs.patch.put_slices.Goals as goal
@@ -17,15 +19,18 @@ module _ (g : Over) (c : After-min-len g) where
   abbrev it : Slice
   it = slice_index_or c.args.slices.now c.loop-rest.place no_slice
 
-  lies : Lies (segment_at c.loop-rest.store) (cut_end c.min-len.result it)
-  lies =
+  lies0 : Lies (segment_at c.args.store.now) (cut_end c.min-len.result it)
+  lies0 =
       let k = c.min-len.ensures in
-      lies-cut_end (segment_at c.loop-rest.store) it c.min-len.result (omega (arith, k))
-      (putting-lies c.loop-rest.invariant.putting it (lie-at (segment_at c.args.store.now) c.args.slices.now c.loop-rest.place no_slice (omega arith) c.requires.lie))
+      lies-cut_end (segment_at c.args.store.now) it c.min-len.result (omega (arith, k))
+      (lie-at (segment_at c.args.store.now) c.args.slices.now c.loop-rest.place no_slice (omega arith) c.requires.lie)
+
+  lies : Lies (segment_at c.loop-rest.store) (cut_end c.min-len.result it)
+  lies = putting-lies c.loop-rest.invariant.putting (cut_end c.min-len.result it) lies0
 
 pub loop-rest-init : goal.loop-rest-init
 loop-rest-init g c = record {
-  putting = putting-first (segment_at c.args.store.now) c.args.patch.now.slots (solid_of (front_of c.args.count c.args.slices.now));
+  putting = putting-first (segment_at c.args.store.now) c.args.patch.now.slots (solid_of (front_of c.args.count c.args.slices.now)) c.requires.held;
   few = λ key. omega arith;
   solid = c.requires.solid;
   in_use = refl;
@@ -50,7 +55,7 @@ hold_part-requires-clause-few g c =
 pub hold_part-requires-clause-held : goal.hold_part-requires-clause-held
 hold_part-requires-clause-held g c =
     holds-turned (segment_at c.args.store.now) (segment_at c.loop-rest.store) c.args.patch.now.slots c.loop-rest.patch.slots c.requires.held
-    (putting-turns c.loop-rest.invariant.putting c.requires.held)
+    c.loop-rest.invariant.putting.turns
 
 pub loop-rest-preserved : goal.loop-rest-preserved
 loop-rest-preserved g c =
@@ -70,31 +75,33 @@ loop-rest-preserved g c =
     let step : solid_of (front_of k (drop i slices)) ≡ solid_of (y ∷ []) ++ solid_of (front_of (k - len) more) =
     ap (λ ys. solid_of (front_of k ys)) (drop_more slices i no_slice (omega arith)) ∙ front-step k len x more (omega arith) (omega (arith, min)) in
     let long = solid-one y in
-    let all = ap length e.slots ∙ length-append now (solid_of (y ∷ [])) in
-    let sum = ap total e.slots ∙ total-append now (solid_of (y ∷ [])) in
+    let all = ap length e.slots in
+    let few = (length-joined now (solid_of (y ∷ []))).1 in
+    let sum = ap total e.slots ∙ total-joined now (solid_of (y ∷ [])) in
+    let lie = lies0 g (goal.at.loop-rest-preserved g c).After-min-len in
     let bytes = total-solid (y ∷ []) in
     record {
-      putting = putting-next inv.putting n (solid_of (y ∷ [])) zs (solid_of (front_of (k - len) more)) step e.slots e.held;
-      few = λ key. let a = inv.few key in let b = holders-le (segment_at c.loop-rest.store) n (y ∷ []) e.held key in omega (arith, a, b);
+      putting = putting-next inv.putting n (solid_of (y ∷ [])) zs (solid_of (front_of (k - len) more)) e.held.added step e.slots e.turns e.held.turns (solid-lies (segment_at c.args.store.now) y lie) e.read;
+      few = λ key. let a = inv.few key in let b = still-few (segment_at c.loop-rest.store) n e.held.added e.held.turns key in omega (arith, a, b, e.held.few);
       solid = e.solid;
       in_use = e.in_use ∙ inv.in_use;
       room = e.room ∙ inv.room;
       place = omega arith;
-      many = omega (arith, inv.many, all, long);
+      many = omega (arith, inv.many, all, few, long);
       capacity = e.capacity ∙ inv.capacity;
       base = e.base ∙ inv.base;
       left = let l = inv.left in omega (arith, sum, bytes, l, min);
     }
 
 pub returns-else-place-slices-clause-turns : goal.returns-else-place-slices-clause-turns
-returns-else-place-slices-clause-turns g c = putting-turns c.loop-rest.invariant.putting c.requires.held
+returns-else-place-slices-clause-turns g c = c.loop-rest.invariant.putting.turns
 
 pub returns-else-place-slices-clause-read : goal.returns-else-place-slices-clause-read
 returns-else-place-slices-clause-read g c =
     let m = segment_at c.args.store.now in
     let slices = c.args.slices.now in
     let none = ap (λ ys. solid_of (front_of c.loop-rest.rest ys)) (drop_all c.loop-rest.place slices c.if-place-slices.false) in
-    putting-read c.loop-rest.invariant.putting none c.requires.held (asked-lie m c.args.count slices c.requires.lie)
+    putting-read c.loop-rest.invariant.putting none
     ∙ ap (λ bs. all_read m c.args.patch.now.slots ++ bs) (asked-read m c.args.count slices c.requires.lie)
 
 pub returns-after-loop-rest-clause-slots : goal.returns-after-loop-rest-clause-slots
@@ -104,7 +111,7 @@ returns-after-loop-rest-clause-slots g c =
     putting-slots c.loop-rest.invariant.putting (ap (λ k. solid_of (front_of k left)) e ∙ ap solid_of (front-none left))
 
 pub returns-after-loop-rest-clause-turns : goal.returns-after-loop-rest-clause-turns
-returns-after-loop-rest-clause-turns g c = putting-turns c.loop-rest.invariant.putting c.requires.held
+returns-after-loop-rest-clause-turns g c = c.loop-rest.invariant.putting.turns
 
 pub returns-after-loop-rest-clause-read : goal.returns-after-loop-rest-clause-read
 returns-after-loop-rest-clause-read g c =
@@ -112,5 +119,5 @@ returns-after-loop-rest-clause-read g c =
     let slices = c.args.slices.now in
     let left = drop c.loop-rest.place slices in
     let e : c.loop-rest.rest ≡ 0 = omega arith in
-    putting-read c.loop-rest.invariant.putting (ap (λ k. solid_of (front_of k left)) e ∙ ap solid_of (front-none left)) c.requires.held (asked-lie m c.args.count slices c.requires.lie)
+    putting-read c.loop-rest.invariant.putting (ap (λ k. solid_of (front_of k left)) e ∙ ap solid_of (front-none left))
     ∙ ap (λ bs. all_read m c.args.patch.now.slots ++ bs) (asked-read m c.args.count slices c.requires.lie)

@@ -1,0 +1,71 @@
+use Rattle.std.proofs.Common.{◌≡◌, ◌≤◌, ◌++◌, ◌∷◌, [], ◌∙◌, Option, ap, subst, length, arith}
+use Rattle.std.specs.Option.{option_to_list}
+use Rattle.std.proofs.lemmas.List.{length_push, length-drop}
+use Rattle.pl_file.specs.Rows.{Row, AreEmpty}
+use Rattle.pl_file.proofs.Splitting.{empty-left, empty-right, adding-first, adding-next, adding-last}
+use Rattle.pl_file.proofs.pieces.push_chunks.Given.{Over}
+use Rattle.pl_file.proofs.pieces.push_chunks.Goals.{After-unwrap-front}
+use Rattle.pl_file.proofs.pieces.push_chunks.Goals as goal
+
+module _ (g : Over) (c : After-unwrap-front g) where
+  shape : c.loop-pieces.pieces.items ≡ c.pop.new.self.items ++ c.unwrap-front.result ∷ []
+  shape = c.pop.ensures.items ∙ ap (λ (o : Option Row). c.pop.new.self.items ++ option_to_list o) c.unwrap-front.ensures
+
+  all : AreEmpty (c.pop.new.self.items ++ c.unwrap-front.result ∷ [])
+  all = subst AreEmpty shape c.loop-pieces.invariant.empty
+
+  one : (c.unwrap-front.result.slots ≡ []) × (128 ≤ c.unwrap-front.result.capacity)
+  one = let e = empty-right c.pop.new.self.items (c.unwrap-front.result ∷ []) all in (e.0, e.1)
+
+pub loop-pieces-init : goal.loop-pieces-init
+loop-pieces-init g c = record {
+  adding = adding-first c.args.rows.now.items c.args.row;
+  some = c.requires.some;
+  empty = c.requires.empty;
+  enough = c.requires.enough;
+  room = c.requires.room;
+}
+
+pub take_front-requires-clause-none : goal.take_front-requires-clause-none
+take_front-requires-clause-none g c = (one g (goal.at.take_front-requires-clause-none g c).After-unwrap-front).0
+
+pub take_front-requires-clause-room : goal.take_front-requires-clause-room
+take_front-requires-clause-room g c = (one g (goal.at.take_front-requires-clause-room g c).After-unwrap-front).1
+
+pub loop-pieces-smaller : goal.loop-pieces-smaller
+loop-pieces-smaller g c =
+    let l = ap length c.take_front.ensures.rest in
+    let d = length-drop 128 c.loop-pieces.row.slots in
+    let test = c.loop-pieces-test.true in
+    let v = c.len.ensures.value in
+    omega (arith, l, d, test, v)
+
+pub loop-pieces-preserved : goal.loop-pieces-preserved
+loop-pieces-preserved g c =
+    let k = (goal.at.loop-pieces-preserved g c).After-unwrap-front in
+    let inv = c.loop-pieces.invariant in
+    let e = c.take_front.ensures in
+    let row = c.loop-pieces.row in
+    let ps = c.pop.new.self.items in
+    let l = ap length e.rest in
+    let d = length-drop 128 row.slots in
+    let test = c.loop-pieces-test.true in
+    let v = c.len.ensures.value in
+    let s = ap length (shape g k) in
+    let n = length_push ps c.unwrap-front.result in
+    let a = ap length c.push_reserved.ensures.items in
+    let m = length_push c.loop-pieces.rows.items c.take_front.new.self in
+    record {
+      adding = adding-next inv.adding c.push_reserved.new.self.items c.take_front.new.self c.take_front.new.row 128 c.push_reserved.ensures.items e.slots e.base e.rest e.rest_base (omega arith) (omega arith) (omega (arith, test, v));
+      some = omega (arith, l, d, test, v);
+      empty = empty-left ps (c.unwrap-front.result ∷ []) (all g k);
+      enough = let f = inv.enough in omega (arith, l, d, s, n, f);
+      room = let r = inv.room in let cap = c.push_reserved.ensures.capacity in omega (arith, s, n, a, m, r, cap);
+    }
+
+pub returns : goal.returns
+returns g c =
+    let inv = c.loop-pieces.invariant in
+    let v = c.len.ensures.value in
+    let test = c.loop-pieces-test.false in
+    adding-last inv.adding c.push_reserved-2.new.self.items c.shrink.new.self c.push_reserved-2.ensures.items c.shrink.ensures.slots c.shrink.ensures.base inv.some (omega (arith, v, test))

@@ -1,0 +1,244 @@
+//! The slots of a file, in chunks.
+ghost use Rattle.std.specs.Prelude.{◌≡◌, ℕ, ◌+◌, ◌-◌, ◌*◌, ◌<◌, ◌≤◌, ◌^◌, nat_lt, ◌++◌, [], ◌∷◌, length, take, drop, slice_get, slice_index_or, Some, IfOk};
+ghost use Rattle.pl_segments.specs.declared.slice.Slice.{Slice as Part};
+ghost use Rattle.pl_segments.specs.Slots.{total};
+ghost use Rattle.pl_file.specs.Rows.{Row as Slots, most_in_chunk, index, IsSpot, staying, AreReady};
+
+use crate::pieces::{add_front, add_rest, empty_rows, last_up_to, pieces_for, put_rows};
+use crate::row::Row;
+use crate::spot::Spot;
+use pl_segments::{NoMemory, Slice};
+use std::alloc::Allocator;
+use std::marker::Model;
+
+/// Slots one behind the other from the place 0 on, in chunks of at most 256, none of which is empty. So a change moves the slots
+/// of the chunks that it touches, and where the number of chunks changes the list of the chunks behind them. A chunk that is
+/// one of several has 128 bytes or more: it was cut off with as many slots, or took the place of one that had as many bytes.
+#[derive(Drop)]
+pub(crate) struct Chunks<A: Allocator> {
+    rows: Vec<Row<A>, A>,
+}
+
+impl<A: Allocator> Model for Chunks<A> {
+    ghost use Rattle.pl_file.specs.Rows.{Chunks as Chunked};
+
+    ghost Value = { Chunked };
+
+    ghost use Rattle.pl_file.specs.ChunksView.{view_of, IsSound};
+
+    ghost view = { view_of };
+
+    ghost invariant = { IsSound };
+}
+
+impl<A: Allocator + Copy> Chunks<A> {
+    /// No slots. It takes no memory.
+    pub(crate) fn new(alloc: A) -> Chunks<A>
+        ensures slots { result.slots ≡ [] }
+    {
+        Chunks {
+            rows: Vec::new(alloc),
+        }
+    }
+
+    /// The place behind the last slot.
+    pub(crate) fn end(&self) -> usize
+        ensures { result ≡ total self.now.slots }
+    {
+        match self.rows.last() {
+            Some(row) => row.end(),
+            None => 0,
+        }
+    }
+
+    /// Whether there is no slot.
+    pub(crate) fn is_empty(&self) -> bool
+        ensures { result ≡ nat_lt (length self.now.slots) 1 }
+    {
+        self.rows.is_empty()
+    }
+
+    /// The first slot, or where there is none the place behind all.
+    pub(crate) fn first(&self) -> Spot
+        ensures spot { IsSpot self.now result }
+        ensures index { index self.now result ≡ 0 }
+    {
+        // A proof learns here that no chunk is empty.
+        let _rows = self.rows.len();
+        Spot { chunk: 0, at: 0 }
+    }
+
+    /// The place behind all slots.
+    pub(crate) fn behind(&self) -> Spot
+        ensures spot { IsSpot self.now result }
+        ensures index { index self.now result ≡ length self.now.slots }
+    {
+        Spot {
+            chunk: self.rows.len(),
+            at: 0,
+        }
+    }
+
+    /// The slot in which the byte at a place lies, and behind the end the last slot. It is found by halving, among the chunks and then
+    /// in one.
+    pub(crate) fn find(&self, place: usize) -> Spot
+        requires some { 1 ≤ length self.now.slots }
+        ensures spot { IsSpot self.now result }
+        ensures within { index self.now result < length self.now.slots }
+        ensures before { total (take (index self.now result) self.now.slots) ≤ place }
+        ensures after { index self.now result + 1 < length self.now.slots → place < total (take (index self.now result + 1) self.now.slots) }
+    {
+        let chunk = last_up_to(&self.rows, place);
+        let at = self.rows[chunk].starting_up_to(place) - 1;
+        Spot { chunk, at }
+    }
+
+    /// Whether a slot is there, and not the place behind all.
+    pub(crate) fn has(&self, spot: Spot) -> bool
+        requires { IsSpot self.now spot }
+        ensures { result ≡ nat_lt (index self.now spot) (length self.now.slots) }
+    {
+        spot.chunk < self.rows.len()
+    }
+
+    /// A slot.
+    pub(crate) fn get(&self, spot: Spot) -> Slice
+        requires spot { IsSpot self.now spot }
+        requires within { index self.now spot < length self.now.slots }
+        ensures { slice_get self.now.slots (index self.now spot) ≡ Some result }
+    {
+        self.rows[spot.chunk].get(spot.at)
+    }
+
+    /// The place where a slot starts, and behind the last one the end.
+    pub(crate) fn start(&self, spot: Spot) -> usize
+        requires { IsSpot self.now spot }
+        ensures { result ≡ total (take (index self.now spot) self.now.slots) }
+    {
+        if spot.chunk < self.rows.len() {
+            self.rows[spot.chunk].start(spot.at)
+        } else {
+            self.end()
+        }
+    }
+
+    /// The place behind a slot.
+    pub(crate) fn next(&self, spot: Spot) -> Spot
+        requires spot { IsSpot self.now spot }
+        requires within { index self.now spot < length self.now.slots }
+        ensures spot { IsSpot self.now result }
+        ensures index { index self.now result ≡ index self.now spot + 1 }
+    {
+        let row = &self.rows[spot.chunk];
+        if spot.at + 1 < row.len() {
+            Spot {
+                chunk: spot.chunk,
+                at: spot.at + 1,
+            }
+        } else {
+            Spot {
+                chunk: spot.chunk + 1,
+                at: 0,
+            }
+        }
+    }
+
+    /// Whether one slot stands before another.
+    pub(crate) fn is_before(&self, spot: Spot, other: Spot) -> bool
+        requires spot { IsSpot self.now spot }
+        requires other { IsSpot self.now other }
+        ensures { result ≡ nat_lt (index self.now spot) (index self.now other) }
+    {
+        spot.chunk < other.chunk || spot.chunk == other.chunk && spot.at < other.at
+    }
+
+    /// How many slots at most stay of the chunks of two spots, where those from `first` to before `end` go.
+    pub(crate) fn staying(&self, first: Spot, end: Spot) -> usize
+        requires first { IsSpot self.now first }
+        requires end { IsSpot self.now end }
+        ensures value { result ≡ staying self.now first end }
+        ensures most { result ≤ 2 * most_in_chunk }
+    {
+        // A proof learns here that no chunk has too many slots.
+        let _first = self.left_in(first);
+        first.at + self.left_in(end)
+    }
+
+    /// How many slots of a chunk stand at a spot and behind it.
+    fn left_in(&self, spot: Spot) -> usize
+        requires { IsSpot self.now spot }
+        ensures value { result ≡ slice_index_or self.now.lens spot.chunk 0 - spot.at }
+        ensures most { result + spot.at ≤ most_in_chunk }
+    {
+        if spot.chunk < self.rows.len() {
+            self.rows[spot.chunk].len() - spot.at
+        } else {
+            0
+        }
+    }
+
+    /// Takes memory for so many slots in the place of others, the slots that stay of their chunks among them. But for that nothing
+    /// changes.
+    pub(crate) fn reserve(&mut self, alloc: A, capacity: usize) -> Result<Vec<Row<A>, A>, NoMemory>
+        requires { capacity < 2 ^ 64 }
+        ensures ready { IfOk result (λ pieces. AreReady self.new.room (length self.new.lens) capacity pieces.items) }
+        ensures kept { self.new ≡ record self.old { room = self.new.room } }
+    {
+        let count = pieces_for(capacity);
+        let pieces = empty_rows(alloc, count)?;
+        self.rows.try_reserve(count + 1)?;
+        Ok(pieces)
+    }
+
+    /// Puts the slots of a row in the place of those from `first` to before `end`: it starts where they do, and ends where they do but
+    /// where none is behind them. There is memory for it. It takes none.
+    pub(crate) fn replace(&mut self, first: Spot, end: Spot, patch: Row<A>, pieces: Vec<Row<A>, A>)
+        requires first { IsSpot self.old first }
+        requires end { IsSpot self.old end }
+        requires order { index self.old first ≤ index self.old end }
+        requires some { 1 ≤ length patch.slots }
+        requires room { length patch.slots + staying self.old first end ≤ patch.capacity }
+        requires ready { AreReady self.old.room (length self.old.lens) patch.capacity pieces.items }
+        requires starts { patch.base ≡ total (take (index self.old first) self.old.slots) }
+        requires ends { index self.old end < length self.old.slots → patch.base + total patch.slots ≡ total (take (index self.old end) self.old.slots) }
+        ensures { self.new.slots ≡ take (index self.old first) self.old.slots ++ (patch.slots ++ drop (index self.old end) self.old.slots) }
+    {
+        let mut middle = patch;
+        add_front(&self.rows, first, &mut middle);
+        let last = add_rest(&self.rows, end, &mut middle);
+        put_rows(&mut self.rows, first.chunk, last, middle, pieces);
+    }
+
+    /// The last slot.
+    pub(crate) fn last(&self) -> Slice
+        requires { 1 ≤ length self.now.slots }
+        ensures shape { self.now.slots ≡ take (length self.now.slots - 1) self.now.slots ++ result ∷ [] }
+        ensures got { slice_get self.now.slots (length self.now.slots - 1) ≡ Some result }
+    {
+        let row = &self.rows[self.rows.len() - 1];
+        row.get(row.len() - 1)
+    }
+
+    /// Takes the last slot's place for another slot.
+    pub(crate) fn set_last(&mut self, slice: Slice)
+        requires some { 1 ≤ length self.old.slots }
+        requires fits { total (take (length self.old.slots - 1) self.old.slots) + slice.len < 2 ^ 64 }
+        ensures { self.new.slots ≡ take (length self.old.slots - 1) self.old.slots ++ slice ∷ [] }
+    {
+        let last = self.rows.len() - 1;
+        let row = &mut self.rows[last];
+        // A proof learns here that there are no more slots than fit.
+        let _slots = row.len();
+        row.pop();
+        row.push(slice);
+    }
+
+    /// Forgets all slots, and gives back the memory of their lists. It takes no memory.
+    pub(crate) fn clear(&mut self)
+        ensures slots { self.new.slots ≡ [] }
+        ensures room { self.new.room ≡ 0 }
+    {
+        self.rows.clear();
+        self.rows.shrink_to_fit();
+    }
+}

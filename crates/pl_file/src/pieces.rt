@@ -1,0 +1,178 @@
+//! Rows as chunks: one found by its place, and some put in the place of others.
+ghost use Rattle.std.specs.Prelude.{◌≡◌, ℕ, ◌+◌, ◌-◌, ◌*◌, ◌<◌, ◌≤◌, ◌^◌, ◌++◌, [], ◌∷◌, length, take, drop, IfOk, vec_len, vec_capacity};
+ghost use Rattle.pl_segments.specs.Slots.{total};
+ghost use Rattle.pl_file.specs.Rows.{most_in_chunk, piece, flat, lens_of, slots_in, index_of, IsAt, AreChunks, AreEmpty, AreReady, Adds};
+
+use crate::row::Row;
+use crate::spot::Spot;
+use pl_segments::NoMemory;
+use std::alloc::Allocator;
+
+/// The most slots of a chunk.
+const MOST_IN_CHUNK: usize = 256;
+
+/// How many slots go into a chunk of their own where there are more than that: a half, so that a chunk that was cut off takes as many
+/// more before it is cut.
+const PIECE: usize = 128;
+
+/// The last chunk that starts at a place or before it, found by halving. The first starts at 0.
+pub(crate) fn last_up_to<A: Allocator>(rows: &[Row<A>], place: usize) -> usize
+    requires chunks { AreChunks 0 rows.now }
+    requires some { 1 ≤ length rows.now }
+    ensures within { result < length rows.now }
+    ensures before { total (flat (take result rows.now)) ≤ place }
+    ensures after { result + 1 < length rows.now → place < total (flat (take (result + 1) rows.now)) }
+{
+    let mut low = 1;
+    let mut high = rows.len();
+    while low < high {
+        let middle = low + (high - low) / 2;
+        if rows[middle].start(0) <= place {
+            low = middle + 1;
+        } else {
+            high = middle;
+        }
+    }
+    low - 1
+}
+
+/// Rows of no slots, each with memory for a piece.
+pub(crate) fn empty_rows<A: Allocator + Copy>(
+    alloc: A,
+    count: usize,
+) -> Result<Vec<Row<A>, A>, NoMemory>
+    ensures len { IfOk result (λ rows. length rows.items ≡ count) }
+    ensures empty { IfOk result (λ rows. AreEmpty rows.items) }
+{
+    let mut rows = Vec::with_capacity(alloc, count)?;
+    while rows.len() < count {
+        rows.push_reserved(Row::with_capacity(alloc, 0, PIECE)?);
+    }
+    Ok(rows)
+}
+
+/// How many chunks take so many slots, but for the one that has the last of them.
+pub(crate) fn pieces_for(capacity: usize) -> usize
+    ensures enough { capacity ≤ most_in_chunk + piece * result }
+    ensures most { result ≤ capacity }
+{
+    capacity.saturating_sub(PIECE + 1) / PIECE
+}
+
+/// Puts before a row the slots of a spot's chunk that stand before it there. There is room for them.
+pub(crate) fn add_front<A: Allocator>(rows: &[Row<A>], spot: Spot, middle: &mut Row<A>)
+    requires chunks { AreChunks 0 rows.now }
+    requires spot { IsAt (lens_of rows.now) spot.chunk spot.at }
+    requires room { length middle.old.slots + spot.at ≤ middle.old.capacity }
+    requires starts { middle.old.base ≡ total (take (index_of (lens_of rows.now) spot.chunk spot.at) (flat rows.now)) }
+    ensures slots { middle.new.slots ≡ take spot.at (slots_in rows.now spot.chunk) ++ middle.old.slots }
+    ensures whole { flat (take spot.chunk rows.now) ++ take spot.at (slots_in rows.now spot.chunk) ≡ take (index_of (lens_of rows.now) spot.chunk spot.at) (flat rows.now) }
+    ensures base { middle.new.base ≡ total (flat (take spot.chunk rows.now)) }
+    ensures end { middle.new.base + total middle.new.slots ≡ middle.old.base + total middle.old.slots }
+    ensures many { length middle.new.slots ≡ length middle.old.slots + spot.at }
+    ensures capacity { middle.old.capacity ≤ middle.new.capacity }
+{
+    if 0 < spot.at {
+        middle.put_before(&rows[spot.chunk], spot.at);
+    }
+}
+
+/// Puts behind a row the slots of a spot's chunk that stand there from it on, where it isn't the first there, and answers the first
+/// of the chunks behind. There is room for them.
+pub(crate) fn add_rest<A: Allocator>(rows: &[Row<A>], spot: Spot, middle: &mut Row<A>) -> usize
+    requires chunks { AreChunks 0 rows.now }
+    requires spot { IsAt (lens_of rows.now) spot.chunk spot.at }
+    requires room { length middle.old.slots + (length (slots_in rows.now spot.chunk) - spot.at) ≤ middle.old.capacity }
+    requires ends { index_of (lens_of rows.now) spot.chunk spot.at < length (flat rows.now) → middle.old.base + total middle.old.slots ≡ total (take (index_of (lens_of rows.now) spot.chunk spot.at) (flat rows.now)) }
+    ensures slots { middle.new.slots ++ flat (drop result rows.now) ≡ middle.old.slots ++ drop (index_of (lens_of rows.now) spot.chunk spot.at) (flat rows.now) }
+    ensures some { length middle.old.slots ≤ length middle.new.slots }
+    ensures many { length middle.new.slots ≤ length middle.old.slots + (length (slots_in rows.now spot.chunk) - spot.at) }
+    ensures base { middle.new.base ≡ middle.old.base }
+    ensures ends { result < length rows.now → middle.new.base + total middle.new.slots ≡ total (flat (take result rows.now)) }
+    ensures from { spot.chunk ≤ result }
+    ensures behind { 1 ≤ spot.at → spot.chunk < result }
+    ensures most { result ≤ length rows.now }
+{
+    if spot.at == 0 {
+        return spot.chunk;
+    }
+    middle.put_behind(&rows[spot.chunk], spot.at);
+    // A proof learns here that there are no more chunks than fit.
+    let _chunks = rows.len();
+    spot.chunk + 1
+}
+
+/// Puts a row in the place of those from `first` to before `last`, cut into chunks where it has too many slots for one. There is
+/// memory for it. It takes none.
+pub(crate) fn put_rows<A: Allocator + Copy>(
+    rows: &mut Vec<Row<A>, A>,
+    first: usize,
+    last: usize,
+    middle: Row<A>,
+    pieces: Vec<Row<A>, A>,
+)
+    requires chunks { AreChunks 0 rows.old.items }
+    requires order { first ≤ last }
+    requires most { last ≤ length rows.old.items }
+    requires some { 1 ≤ length middle.slots }
+    requires empty { AreEmpty pieces.items }
+    requires enough { length middle.slots ≤ most_in_chunk + piece * length pieces.items }
+    requires room { length rows.old.items + length pieces.items + 1 ≤ vec_capacity rows.old }
+    requires starts { middle.base ≡ total (flat (take first rows.old.items)) }
+    requires ends { last < length rows.old.items → middle.base + total middle.slots ≡ total (flat (take last rows.old.items)) }
+    ensures slots { flat rows.new.items ≡ flat (take first rows.old.items) ++ (middle.slots ++ flat (drop last rows.old.items)) }
+    ensures chunks { AreChunks 0 rows.new.items }
+{
+    if pieces.is_empty() && last == first + 1 {
+        let mut middle = middle;
+        middle.shrink();
+        rows[first] = middle;
+        return;
+    }
+    let len = rows.len();
+    push_chunks(rows, middle, pieces);
+    move_last(rows, first, last, len);
+}
+
+/// Adds a row behind others, cut into chunks where it has too many slots for one. There is memory for it. It takes none.
+fn push_chunks<A: Allocator + Copy>(rows: &mut Vec<Row<A>, A>, row: Row<A>, pieces: Vec<Row<A>, A>)
+    requires some { 1 ≤ length row.slots }
+    requires empty { AreEmpty pieces.items }
+    requires enough { length row.slots ≤ most_in_chunk + piece * length pieces.items }
+    requires room { length rows.old.items + length pieces.items + 1 ≤ vec_capacity rows.old }
+    ensures { Adds rows.old.items rows.new.items row }
+{
+    let mut row = row;
+    let mut pieces = pieces;
+    while MOST_IN_CHUNK < row.len() {
+        let mut front = pieces.pop().unwrap();
+        front.take_front(&mut row, PIECE);
+        rows.push_reserved(front);
+    }
+    row.shrink();
+    rows.push_reserved(row);
+}
+
+/// Puts the rows from `len` on in the place of those from `first` to before `last`.
+fn move_last<A: Allocator>(rows: &mut Vec<Row<A>, A>, first: usize, last: usize, len: usize)
+    requires order { first ≤ last }
+    requires last { last ≤ len }
+    requires most { len ≤ length rows.old.items }
+    ensures { rows.new.items ≡ take first rows.old.items ++ (drop len rows.old.items ++ drop last (take len rows.old.items)) }
+{
+    let gone = last - first;
+    let added = rows.len() - len;
+    rotate(rows, first, len);
+    rotate(rows, first + added, last + added);
+    let left = rows.len() - gone;
+    rows.truncate(left);
+}
+
+/// Puts the rows from `last` on before those from `first` to before `last`.
+fn rotate<A: Allocator>(rows: &mut Vec<Row<A>, A>, first: usize, last: usize)
+    requires order { first ≤ last }
+    requires most { last ≤ length rows.old.items }
+    ensures { rows.new.items ≡ take first rows.old.items ++ (drop (last - first) (drop first rows.old.items) ++ take (last - first) (drop first rows.old.items)) }
+{
+    rows.slice_mut(first..).rotate_left(last - first);
+}
