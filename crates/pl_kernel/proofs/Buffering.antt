@@ -1,6 +1,6 @@
 -- What a step on the caller's bytes tells of the flat machine.
 use Rattle.std.proofs.Common.{sym, ◌∙◌}
-use Rattle.std.specs.Prelude.{Result, Ok, Err, OnErr}
+use Rattle.std.specs.Prelude.{Result, Ok, Err, OnErr, Option, Some, None, IfSome, IfNone}
 use Rattle.pl_model.specs.declared.calls.Step.{Step}
 use Rattle.pl_model.proofs.renaming.Simulates.{unused_keys, same_reply}
 use Rattle.pl_state.specs.Contents.{Contents, core_of}
@@ -19,3 +19,11 @@ if_err (Err error) f h = f h
 pub on_err : {T E : Type 0} {P : Type 0} (result : Result T E) → P → OnErr result P
 on_err (Ok value) h = tt
 on_err (Err error) h = h
+
+pub if_some : {T : Type 0} {P Q : T → Type 0} (result : Option T) → ((value : T) → P value → Q value) → IfSome result P → IfSome result Q
+if_some None f h = tt
+if_some (Some value) f h = f value h
+
+pub if_none : {T P Q : Type 0} (result : Option T) → (P → Q) → IfNone result P → IfNone result Q
+if_none None f h = f h
+if_none (Some value) f h = tt

@@ -1,5 +1,5 @@
 //! One step of the kernel, by the calls.
-ghost use Rattle.std.specs.Prelude.{◌≡◌, ◌≤◌, ◌<◌, ◌^◌, true, false, nat_eq, length, drop, IfOk, OnErr, IsOk, IfSome};
+ghost use Rattle.std.specs.Prelude.{◌≡◌, ◌≢◌, ◌≤◌, ◌<◌, ◌^◌, ℕ, List, true, false, nat_eq, length, drop, IfOk, OnErr, IsOk, IfSome, IfNone};
 ghost use Rattle.pl_model.specs.Numbers.{most_bytes};
 ghost use Rattle.pl_model.specs.Memory.{is_frugal, is_frugal_call};
 ghost use Rattle.pl_model.specs.Map.{get};
@@ -19,8 +19,8 @@ use pl_polls::{PollEntry, PollReply, poll, poll_into, resume_poll};
 use pl_splices::{resume, splice, tee};
 use pl_state::{KernelState, NoMemory};
 use pl_transfers::{
-    ReadReply, WriteReply, get_pipe_sz, interrupt, lseek, pipe, read, read_into, set_pipe_sz,
-    write, write_from,
+    ReadReply, WriteReply, get_pipe_sz, interrupt, lseek, pipe, read, read_into, refused_write,
+    set_pipe_sz, write, write_from,
 };
 use std::alloc::Allocator;
 
@@ -90,6 +90,23 @@ pub(crate) fn begin_write_from<A: Allocator + Copy>(
         return Ok(WriteReply::NoProcess);
     }
     write_from(kernel, pid, fd, bytes)
+}
+
+// What a write of so many bytes, not none, answers where it is refused.
+pub(crate) fn refusal_of_write<A: Allocator + Copy>(
+    kernel: &KernelState<A>,
+    pid: u32,
+    fd: i32,
+    count: usize,
+) -> Option<Reply<A>>
+    requires { count ≢ 0 }
+    ensures some { IfSome result (λ reply. (bytes : List ℕ) → length bytes ≡ count → MakesAtKeys {A = A} kernel.now (Step.Begin pid (Call.Write fd bytes)) reply kernel.now) }
+    ensures none { IfNone result ((bytes : List ℕ) → length bytes ≡ count → MayWantAtKeys {A = A} kernel.now (Step.Begin pid (Call.Write fd bytes))) }
+{
+    if !kernel.descs.has(pid) {
+        return Some(Reply::NoProcess);
+    }
+    refused_write(kernel, pid, fd, count)
 }
 
 // Begins a read into the caller's bytes.

@@ -3,3 +3,4 @@ pub mod Pushing
 pub mod LineLemmas
 pub mod CallLemmas
 pub mod Masks
+pub mod Repeating

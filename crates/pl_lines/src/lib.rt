@@ -1,6 +1,6 @@
 //! The lines of a script: what one asks, and the text of what it is answered.
 //!
-//! `parse_line` reads one line, `next_line` parts the lines of a text, `show` and `push_line` give the text of an outcome, and
+//! `parse_line` reads one line, and `repeated_write` one that writes a byte many times, without its bytes; `next_line` parts the lines of a text, `show` and `push_line` give the text of an outcome, and
 //! `show_file` and `push_file_line` that of a file's bytes. What a line asks and what it is answered is defined in `pl_model`, in
 //! `specs/Lines.antt` and `specs/Shown.antt`. The words of a line are read by `pl_words`, whose `LineFault` is given on.
 //!
@@ -16,6 +16,6 @@ mod parse;
 mod text;
 
 pub use lines::next_line;
-pub use parse::parse_line;
+pub use parse::{RepeatedWrite, parse_line, repeated_write};
 pub use pl_words::LineFault;
 pub use text::{push_file_line, push_line, show, show_file};

@@ -1,14 +1,15 @@
 //! What lines ask.
-ghost use Rattle.std.specs.Prelude.{◌≡◌};
+ghost use Rattle.std.specs.Prelude.{◌≡◌, ◌≢◌, IfSome};
 ghost use Rattle.pl_model.specs.Words.{words};
 ghost use Rattle.pl_model.specs.Lines.{start_of, resume_of, interrupt_of, file_of, begin_of, words_line, is_comment, line};
 ghost use Rattle.pl_words.specs.Parsed.{Gives, GivesTaking};
-ghost use Rattle.pl_lines.specs.Parsed.{LineTakes, LineAskedTakes};
+ghost use Rattle.pl_lines.specs.Parsed.{LineTakes, LineAskedTakes, WritesSoMany};
 
 use crate::calls::parse_call;
 use pl_model::{Line, Step};
 use pl_words::{
-    LineFault, end, next_word, only_u64, only_word, parse_name, parse_u32, without_return, word,
+    LineFault, end, fd_and_word, may_repeat, next_word, only_u64, only_word, parse_name, parse_u32,
+    repeated_count, without_return, word,
 };
 use std::alloc::Allocator;
 
@@ -95,4 +96,40 @@ pub fn parse_line<A: Allocator + Copy>(alloc: A, bytes: &[u8]) -> Result<Option<
         Some((first, _)) if is_comment(first) => Ok(None),
         Some((first, rest)) => Ok(Some(words_line(alloc, first, rest)?)),
     }
+}
+
+/// A write of one byte many times, as a line `P write FD N*hh` asks for it. Its bytes aren't made.
+#[derive(Clone, Copy, Debug, PartialEq, Eq)]
+pub struct RepeatedWrite {
+    /// The process that writes.
+    pub pid: u32,
+    /// Its descriptor.
+    pub fd: i32,
+    /// How many bytes it writes, not 0.
+    pub count: usize,
+}
+
+/// The write of a line that writes one byte many times, for who wants to know whether the call is refused before its bytes are made.
+/// `None` of any other line, good or bad, at next to no cost. It takes no memory.
+pub fn repeated_write<A: Allocator>(bytes: &[u8]) -> Option<RepeatedWrite>
+    ensures some { IfSome result (λ write. write.count ≢ 0) }
+    ensures said { IfSome result (λ write. WritesSoMany A bytes.now write.pid write.fd write.count) }
+{
+    let line = without_return(bytes);
+    if !may_repeat(line) {
+        return None;
+    }
+    let (pid, rest) = next_word(line)?;
+    let (name, rest) = next_word(rest)?;
+    if name != b"write".as_slice() {
+        return None;
+    }
+    let Ok((fd, written)) = fd_and_word(rest) else {
+        return None;
+    };
+    let count = repeated_count(written)?;
+    let Ok(pid) = parse_u32(pid) else {
+        return None;
+    };
+    Some(RepeatedWrite { pid, fd, count })
 }

@@ -1,12 +1,14 @@
 -- From one line of a script to the next.
-use Rattle.std.proofs.Common.{◌≡◌, ℕ, ◌+◌, ◌<◌, ◌≤◌, Bool, true, false, cond, ◌&&◌, List, [], ◌∷◌, ◌++◌, length, take, drop, Option, Some, None, Ok, Err, inr, refl, sym, ap, subst, ◌∙◌, append_assoc, arith}
-use Rattle.std.specs.Prelude.{count_by, replicate, IfSome}
+use Rattle.std.proofs.Common.{◌≡◌, ℕ, ◌+◌, ◌<◌, ◌≤◌, Bool, true, false, cond, ◌&&◌, List, [], ◌∷◌, ◌++◌, length, take, drop, Option, Some, None, Ok, Err, inr, refl, sym, ap, subst, ◌∙◌, append_assoc, add-zero, arith}
+use Rattle.std.specs.Prelude.{ℤ, count_by, replicate, IfSome}
 use Rattle.std.specs.Io.KnownBytes.{Appends}
 use Rattle.std.proofs.KnownBytes.{Appends-nil, Appends-trans}
 use Rattle.std.proofs.lemmas.List.{append-nil, take-append-drop, length-append}
 use Rattle.std.proofs.lemmas.List.Sums.{sum_by-cons, sum_by_push}
 use Rattle.pl_model.specs.declared.calls.Limits.{Limits}
+use Rattle.pl_model.specs.declared.calls.Call.TheVariants.{Write}
 use Rattle.pl_model.specs.declared.calls.Step.{Step}
+use Rattle.pl_model.specs.declared.calls.Step.TheVariants.{Begin}
 use Rattle.pl_model.specs.declared.replies.Reply.{Reply}
 use Rattle.pl_model.specs.declared.replies.Outcome.TheVariants.{Replied}
 use Rattle.pl_model.specs.declared.script.Line.{Line}
@@ -20,9 +22,10 @@ use Rattle.pl_model.specs.Script.{lines, asked, if_good, first_bad, number_if_ba
 use Rattle.pl_script.specs.declared.fault.ScriptFault.TheVariants as faults
 use Rattle.pl_script.specs.declared.fault.ScriptFault.{ScriptFault}
 use Rattle.pl_script.specs.Running.{IsRun, IsCountedRun, Asks, WritesOutput, WritesFrontOfOutput, WritesAndCounts, WritesLinesBefore}
-use Rattle.pl_script.specs.LineByLine.{none_counted, IsAt, IsAnswered, Stops}
+use Rattle.pl_script.specs.LineByLine.{none_counted, IsAt, IsAnswered, IsRefused, Stops}
 use Rattle.pl_words.specs.declared.fault.LineFault.{LineFault}
 use Rattle.pl_words.specs.declared.fault.LineFault.TheVariants.{Bad, NoMemory}
+use Rattle.pl_lines.specs.Parsed.{WritesSoMany}
 use Rattle.pl_lines.proofs.LineLemmas.{length-lines}
 
 -- ---- the definitions, one line at a time
@@ -84,6 +87,13 @@ module _ {A : Type 0} where
   replies old new asked x reply before after is made text = λ s stood.
       let done = made s stood in
       rw is (record { stands = done.1; text = text ∙ ap (λ r. before ++ (outcome_text (Replied r) ++ 10 ∷ [])) done.0; lawful = refl })
+
+  -- a line that writes so many bytes, and is refused whatever they are
+  pub is_refused : (Stands : State A → Type 0) (bytes : List ℕ) (pid : ℕ) (fd : ℤ) (n : ℕ) (told : Option (Reply A)) → WritesSoMany A bytes pid fd n
+      → IfSome told (λ reply. (written : List ℕ) → length written ≡ n → (s : State A) → Stands s → (reply ≡ (step s (Begin pid (Write fd written))).reply) × Stands (step s (Begin pid (Write fd written))).state)
+      → IfSome told (IsRefused Stands bytes)
+  is_refused Stands bytes pid fd n None writes makes = tt
+  is_refused Stands bytes pid fd n (Some reply) writes makes = record { asked = Begin pid (Write fd writes.0); asks = writes.1; made = makes writes.0 writes.2 }
 
   -- as many marks as there are lines, none of them set
   abbrev no_marks : List (Line A) → List Bool
@@ -175,6 +185,16 @@ module _ {A : Type 0} where
           steps_below = omega (arith, at.steps_below, at_most_one (is_step x));
           nomem_below = omega (arith, at.nomem_below, at_most_one mark);
         }
+
+    -- a line that is refused before its bytes are made
+    pub refuses : (reply : Reply A) (before added new : List ℕ) → IsRefused Stands l reply → new ≡ added ++ (outcome_text (Replied reply) ++ 10 ∷ []) → text ≡ before ++ added
+        → IsAt script limits Stands text counted (l ∷ rest)
+        → IsAt script limits Stands (before ++ new) (record { lines = counted.lines + 1; steps = counted.steps + 1; nomem = counted.nomem }) rest
+    refuses reply before added new is said split at =
+        let same : counts (counted.lines + 1) (counted.steps + 1) (counted.nomem + 0) ≡ counts (counted.lines + 1) (counted.steps + 1) counted.nomem =
+        same_counts (counted.lines + 1) (counted.steps + 1) (counted.nomem + 0) _ _ _ refl refl (add-zero counted.nomem) in
+        let answered = replies Stands Stands (Do is.asked) is.asked reply added new refl is.made said in
+        subst (λ t. IsAt script limits Stands (before ++ new) t rest) same (runs (Do is.asked) Stands before added new false is.asks answered split at)
 
     -- the counts fit
     below : length script ≤ most_script_bytes → IsAt script limits Stands text counted (l ∷ rest) → counted.lines < most_script_bytes

@@ -1,9 +1,12 @@
 -- A script that is run line by line.
-use Rattle.std.specs.Prelude.{◌≡◌, ℕ, ◌+◌, ◌≤◌, List, [], ◌∷◌, ◌++◌, length, Bool, false, ◌&&◌, None, count_by}
+use Rattle.std.specs.Prelude.{◌≡◌, ℕ, ◌+◌, ◌≤◌, List, [], ◌∷◌, ◌++◌, length, Bool, false, ◌&&◌, Some, None, count_by}
 use Rattle.pl_model.specs.declared.calls.Limits.{Limits}
+use Rattle.pl_model.specs.declared.calls.Step.{Step}
+use Rattle.pl_model.specs.declared.replies.Reply.{Reply}
 use Rattle.pl_model.specs.declared.script.Line.{Line}
+use Rattle.pl_model.specs.declared.script.Line.TheVariants.{Do}
 use Rattle.pl_model.specs.declared.script.Totals.{Totals}
-use Rattle.pl_model.specs.Numbered.{State, opening}
+use Rattle.pl_model.specs.Numbered.{State, opening, step}
 use Rattle.pl_model.specs.Lines.{line}
 use Rattle.pl_model.specs.Script.{lines, asked, first_bad, answer, answers, never_marked, are_marks, is_step}
 use Rattle.pl_script.specs.Running.{Asks}
@@ -24,6 +27,13 @@ module _ {A : Type 0} where
   -- the same from each state for which the kernel stood
   abbrev pub IsAnswered : (old new : State A → Type 0) → Line A → Bool → (before after : List ℕ) → Type 0
   IsAnswered old new x mark before after = (s : State A) → old s → IsAnsweredFrom s new x mark before after
+
+  -- The line asks for a step that is answered so, from each state for which the kernel stands, and after which it stands for
+  -- what the step leaves.
+  pub record IsRefused (Stands : State A → Type 0) (bytes : List ℕ) (reply : Reply A) : Type 0 where
+    pub asked : Step A
+    pub asks : line bytes ≡ Some (Some (Do asked))
+    pub made : (s : State A) → Stands s → (reply ≡ (step s asked).reply) × Stands (step s asked).state
 
   -- The kernel, the text and the counts are those after the lines before, and before the rest: a run of the lines before and
   -- any others, with whatever marks are to come, goes on from here as a run of the others.

@@ -6,7 +6,7 @@ ghost use Rattle.pl_model.specs.Numbered.{opening};
 ghost use Rattle.pl_model.specs.Script.{is_step};
 ghost use Rattle.pl_model.specs.Numbers.{most_file_bytes, most_script_bytes, most_reads};
 ghost use Rattle.pl_state.specs.Makes.{Stands};
-ghost use Rattle.pl_script.specs.LineByLine.{none_counted, IsAnswered, IsAt, Stops};
+ghost use Rattle.pl_script.specs.LineByLine.{none_counted, IsAnswered, IsRefused, IsAt, Stops};
 ghost use Rattle.pl_script.specs.Running.{IsRun, IsCountedRun, IsReadToEnd, WritingEnds};
 
 use crate::fault::ScriptFault;
@@ -14,8 +14,8 @@ use crate::reading::read_script;
 use crate::streams::{Sink, Source};
 use crate::writing::write_whole;
 use pl_kernel::{Kernel, NoMemory};
-use pl_lines::{LineFault, next_line, parse_line, push_file_line, push_line};
-use pl_model::{Limits, Line, Name, Outcome, Step, Totals};
+use pl_lines::{LineFault, next_line, parse_line, push_file_line, push_line, repeated_write};
+use pl_model::{Limits, Line, Name, Outcome, Reply, Step, Totals};
 use std::alloc::{AllocError, Allocator};
 
 /// Output is written once so many bytes of it wait.
@@ -95,6 +95,15 @@ fn answer_line<A: Allocator + Copy>(
     }
 }
 
+/// What a line is answered that writes one byte many times, where the kernel refuses the write and nothing changes. The bytes aren't
+/// made: such a line costs what it is long, and not what it would write.
+fn refusal_of_line<A: Allocator + Copy>(kernel: &Kernel<A>, line: &[u8]) -> Option<Reply<A>>
+    ensures { IfSome result (λ reply. IsRefused {A = A} (Stands kernel.now) line.now reply) }
+{
+    let write = repeated_write::<A>(line)?;
+    kernel.refusal_of_write(write.pid, write.fd, write.count)
+}
+
 /// Runs one line: adds its line to the output, if it asks something, and counts it. A line that isn't run isn't counted, and
 /// leaves the output as it was.
 fn run_line<A: Allocator + Copy>(
@@ -113,6 +122,12 @@ fn run_line<A: Allocator + Copy>(
         (λ _. IsAt {A = A} script limits (Stands kernel.new) (front ++ string_bytes out.new) totals.new rest)
         (Stops A line.now totals.old totals.new (string_bytes out.old) (string_bytes out.new)) }
 {
+    if let Some(refusal) = refusal_of_line(kernel, line) {
+        push_line(alloc, out, &Outcome::Replied(refusal))?;
+        totals.lines += 1;
+        totals.steps += 1;
+        return Ok(());
+    }
     let Some(asked) = parse_line(alloc, line)? else {
         totals.lines += 1;
         return Ok(());

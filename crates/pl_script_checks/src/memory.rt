@@ -303,3 +303,32 @@ fn each_request_is_refused(rt: HostRuntime) -> Result<(), Fail> {
     }
     Ok(())
 }
+
+/// How many requests for memory the run of a script makes.
+fn requests_of<A: Allocator + Copy>(alloc: A, script: &str) -> Result<u64, ScriptFault> {
+    let heap = Refusing::new(alloc);
+    let mut writer = Drip::new(alloc, usize::MAX);
+    run_from(&heap, LIMITS.first_call, script.as_bytes(), &mut writer)?;
+    Ok(heap.requests())
+}
+
+const READS_ARE_REFUSED: &str =
+    "start\n1 pipe nonblock\n1 pipe nonblock\n1 write 3 65536*61\n    1 read 0 16777216\n    1 read 9 16777216\n    2 read 0 16777216\n";
+
+/// As long as the other, and answered the same.
+const WRITES_ARE_REFUSED: &str =
+    "start\n1 pipe nonblock\n1 pipe nonblock\n1 write 3 65536*61\n1 write 3 16777216*61\n1 write 9 16777216*61\n2 write 3 16777216*61\n";
+
+/// A write that is refused asks for no more memory than a read that is: its bytes aren't made.
+#[test]
+fn a_refused_write_makes_no_bytes(rt: HostRuntime) {
+    let reads = requests_of(rt.alloc(), READS_ARE_REFUSED);
+    let writes = requests_of(rt.alloc(), WRITES_ARE_REFUSED);
+    is(
+        &rt,
+        WRITES_ARE_REFUSED,
+        0,
+        (reads.is_ok(), writes),
+        (true, reads),
+    );
+}

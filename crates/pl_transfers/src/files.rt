@@ -1,8 +1,8 @@
 //! Reads and writes of regular files, at the offset that all descriptors of a description share.
-ghost use Rattle.std.specs.Prelude.{◌≡◌, ◌↔◌, ◌≤◌, length, take, drop, IfOk, OnErr, Err};
+ghost use Rattle.std.specs.Prelude.{◌≡◌, ◌↔◌, ◌≤◌, true, length, take, drop, IfOk, OnErr, Err};
 ghost use Rattle.pl_model.specs.declared.node.Node.TheVariants as node;
 ghost use Rattle.pl_state.specs.Opens.{OpenOn};
-ghost use Rattle.pl_transfers.specs.Files.{ReadsFile, WritesFile, IsFull};
+ghost use Rattle.pl_transfers.specs.Files.{OfFile, ReadsFile, WritesFile, IsFull, place_of};
 
 use bitflags::Flags;
 use pl_model::{Bytes8, Node, OpenFlags};
@@ -51,8 +51,27 @@ pub(crate) fn read_file_into<A: Allocator + Copy>(
     read
 }
 
-// Writes bytes, not none, at the offset of a description, or at the end of the file under `APPEND`, and leaves the offset behind
-// what was written.
+// Where a write on a description begins: at its offset, or at the end of the file under `APPEND` (POSIX.1-2017, open).
+fn place_to_write<A: Allocator + Copy>(kernel: &KernelState<A>, key: usize, file: usize) -> usize
+    requires { OpenOn kernel.now key (Node.File file) }
+    ensures { OfFile kernel.now key file (λ o held. result ≡ place_of o held) }
+{
+    if kernel.descs.flags(key).contains(OpenFlags::APPEND) {
+        kernel.nodes.file_len(file)
+    } else {
+        kernel.descs.offset(key) as usize
+    }
+}
+
+// Whether no byte of a write on a description fits (POSIX.1-2017, write, EFBIG).
+pub(crate) fn is_full<A: Allocator + Copy>(kernel: &KernelState<A>, key: usize, file: usize) -> bool
+    requires { OpenOn kernel.now key (Node.File file) }
+    ensures { (result ≡ true) ↔ IsFull kernel.now key file }
+{
+    kernel.limits.file_max as usize <= place_to_write(kernel, key, file)
+}
+
+// Writes bytes, not none, where a write on a description begins, and leaves the offset behind what was written.
 #[inline(never)]
 pub(crate) fn write_file<A: Allocator + Copy>(
     kernel: &mut KernelState<A>,
@@ -66,11 +85,7 @@ pub(crate) fn write_file<A: Allocator + Copy>(
     ensures big { (result ≡ Err WriteFault.TooBig) ↔ IsFull kernel.old key file }
     ensures undone { OnErr result (kernel.new ≡ kernel.old) }
 {
-    let place = if kernel.descs.flags(key).contains(OpenFlags::APPEND) {
-        kernel.nodes.file_len(file)
-    } else {
-        kernel.descs.offset(key) as usize
-    };
+    let place = place_to_write(kernel, key, file);
     let count = kernel.nodes.write_file(file, place, bytes)?;
     kernel.descs.set_offset(key, (place + count) as u64);
     Ok(count)

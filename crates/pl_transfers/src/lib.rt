@@ -7,6 +7,7 @@ mod offsets;
 mod parking;
 mod readable;
 mod reading;
+mod refused;
 mod transfers;
 mod waiting;
 
@@ -14,6 +15,7 @@ pub use capacities::{get_pipe_sz, set_pipe_sz, slots};
 pub use offsets::lseek;
 pub use readable::{bytes_to_read, bytes_to_resume};
 pub use reading::{ReadReply, read, read_into};
+pub use refused::refused_write;
 pub use transfers::{WriteReply, open_for, pipe, write, write_from};
 pub use waiting::{
     WaitingRead, interrupt, refusal_to_wait, resume_one, resume_read_into, waiting_read,

@@ -129,7 +129,7 @@ no_write text other =
     let few = said.1 in
     elim other [ inl odd ↦ omega arith | inr long ↦ omega arith ])
 
-one_write_few : (bytes : List ℕ) → length bytes ≤ most_bytes → one_write (Some bytes) ≡ Some bytes
+pub one_write_few : (bytes : List ℕ) → length bytes ≤ most_bytes → one_write (Some bytes) ≡ Some bytes
 one_write_few bytes few = rw (le-leb (length bytes) most_bytes few) refl
 
 -- an even number of other bytes is one write's where all are digits

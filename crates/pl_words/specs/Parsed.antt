@@ -36,6 +36,10 @@ EntriesTake entries = 0 < length entries
 abbrev pub one_write : Option (List ℕ) → Option (List ℕ)
 one_write said = said >>= λ bytes. if nat_le (length bytes) most_bytes then Some bytes else None
 
+-- bytes are said, and so many
+abbrev pub SaysSoMany : Option (List ℕ) → ℕ → Type 0
+SaysSoMany said n = (bytes : List ℕ) × (said ≡ Some bytes) × (length bytes ≡ n)
+
 -- the first byte of a name, and the bytes of the word behind it
 abbrev pub first_of_name : List ℕ → Option (ℕ × List ℕ)
 first_of_name [] = None

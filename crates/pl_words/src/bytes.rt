@@ -1,12 +1,13 @@
 //! The bytes in words.
-ghost use Rattle.std.specs.Prelude.{◌≡◌, ◌<◌, length, is_some};
+ghost use Rattle.std.specs.Prelude.{◌≡◌, ◌≢◌, ◌<◌, ◌≤◌, length, is_some, IfSome};
 ghost use Rattle.std.specs.List.{list_all};
+ghost use Rattle.pl_model.specs.Numbers.{most_bytes};
 ghost use Rattle.pl_model.specs.Words.{hex_digit, one_byte, hex_bytes, repeated, digits_or_repeated, bytes_of};
-ghost use Rattle.pl_words.specs.Parsed.{GivesTaking, BytesTake, one_write};
+ghost use Rattle.pl_words.specs.Parsed.{GivesTaking, BytesTake, SaysSoMany, one_write};
 
 use crate::fault::LineFault;
 use crate::numbers::{MOST_DIGITS, parse_count};
-use crate::search::place_of;
+use crate::search::{is_blank, place_of};
 use hex::FromHexError;
 use pl_model::Bytes8;
 use pl_model::numbers::MAX_BYTES;
@@ -117,4 +118,32 @@ pub fn parse_bytes<A: Allocator + Copy>(alloc: A, word: &[u8]) -> Result<Bytes8<
     } else {
         digits_or_repeated(alloc, word)
     }
+}
+
+/// Whether a line ends, but for blanks, in a `*` and two bytes, as each that repeats a byte does. It looks at the end alone, so that it
+/// costs next to nothing of other lines, however long they are.
+pub fn may_repeat(line: &[u8]) -> bool {
+    let mut end = line.len();
+    while end > 0 && is_blank(line[end - 1]) {
+        end -= 1;
+    }
+    end >= 3 && line[end - 3] == b'*'
+}
+
+/// How many bytes a word `N*hh` says, where it says a byte or more. They aren't made.
+pub fn repeated_count(word: &[u8]) -> Option<usize>
+    ensures some { IfSome result (λ n. n ≢ 0) }
+    ensures few { IfSome result (λ n. n ≤ most_bytes) }
+    ensures said { IfSome result (λ n. SaysSoMany (bytes_of word.now) n) }
+{
+    let front = word.split_at(word.len().min(MOST_DIGITS + 1)).0;
+    let star = place_of(b'*', front)?;
+    let Ok(count) = parse_count(word.split_at(star).0) else {
+        return None;
+    };
+    let byte = one_byte(word.split_at(star + 1).1);
+    if byte.is_none() || count == 0 {
+        return None;
+    }
+    Some(count)
 }

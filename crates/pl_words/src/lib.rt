@@ -2,7 +2,8 @@
 //!
 //! `next_word`, `word`, `only_word` and `end` part the words of a line. `parse_u32`, `parse_i32`, `parse_i64`, `parse_offset`,
 //! `parse_name`, `parse_flags_or_none` and `parse_bytes` read one, and `only_u64`, `only_i32`, `fd_and_word`, `open_flags_if_any`,
-//! `splice_flags_if_any` and `parse_entries` all the words that are left. `place_of` finds a byte, as the line feed that ends a line, and `without_return` leaves out a carriage
+//! `splice_flags_if_any` and `parse_entries` all the words that are left. `repeated_count` tells how many bytes a word `N*hh` says,
+//! and makes none. `place_of` finds a byte, as the line feed that ends a line, and `without_return` leaves out a carriage
 //! return there. What words say is defined in `pl_model`, in `specs/Words.antt`; what a reader of them answers, and where it may
 //! find no memory, in `specs/Parsed.antt`.
 #![tactic(auto)]
@@ -16,7 +17,7 @@ mod polls;
 mod search;
 mod words;
 
-pub use bytes::parse_bytes;
+pub use bytes::{may_repeat, parse_bytes, repeated_count};
 pub use fault::LineFault;
 pub use flags::{open_flags_if_any, parse_flags_or_none, splice_flags_if_any};
 pub use names::parse_name;

@@ -1,5 +1,5 @@
 //! Steps on the caller's own bytes and entries.
-ghost use Rattle.std.specs.Prelude.{◌≡◌, ◌≤◌, ◌<◌, ◌^◌, ℕ, length, drop, IfOk, OnErr, IsOk, Ok};
+ghost use Rattle.std.specs.Prelude.{◌≡◌, ◌≢◌, ◌≤◌, ◌<◌, ◌^◌, ℕ, List, length, drop, IfOk, OnErr, IsOk, IfSome, IfNone, Ok};
 ghost use Rattle.pl_model.specs.Numbers.{most_bytes, most_capacity};
 ghost use Rattle.pl_state.specs.Makes.{Makes, LeavesByReply, WantsMemory};
 ghost use Rattle.pl_state.specs.Parking.{ReadWaits};
@@ -11,7 +11,9 @@ ghost use Rattle.pl_polls.specs.Into.{told as poll_told};
 ghost use Rattle.pl_kernel.specs.Buffers.{Parks, resumed_count, IsRead, IsOfRead, IsOfOther, Resumes, ResumesByReply};
 
 use super::Kernel;
-use crate::steps::{begin_poll_into, begin_read_into, begin_write_from, try_again};
+use crate::steps::{
+    begin_poll_into, begin_read_into, begin_write_from, refusal_of_write, try_again,
+};
 use pl_model::{Call, Reply, Step};
 use pl_polls::{PollEntry, PollReply};
 use pl_state::NoMemory;
@@ -47,6 +49,17 @@ impl<A: Allocator + Copy> Kernel<A> {
         let state = &self.state;
         let _ = &state.descs;
         begin_write_from(&mut self.state, pid, fd, bytes)
+    }
+
+    /// What the step at which the process of a pid begins a Write of so many bytes, not none, answers where it is refused: whatever
+    /// the bytes are, it answers this and changes nothing. `None` exactly where it isn't refused, so that it may want memory.
+    /// Who makes the bytes asks here before. It takes no memory.
+    pub fn refusal_of_write(&self, pid: u32, fd: i32, count: usize) -> Option<Reply<A>>
+        requires { count ≢ 0 }
+        ensures some { IfSome result (λ reply. (bytes : List ℕ) → length bytes ≡ count → Makes {A = A} self.now (Step.Begin pid (Call.Write fd bytes)) reply self.now) }
+        ensures none { IfNone result ((bytes : List ℕ) → length bytes ≡ count → WantsMemory {A = A} self.now (Step.Begin pid (Call.Write fd bytes))) }
+    {
+        refusal_of_write(&self.state, pid, fd, count)
     }
 
     /// Makes the step at which the process of a pid begins a Read of as many bytes as the caller's are, into the first of these; the

@@ -11,7 +11,7 @@ use Rattle.pl_model.specs.Trial.{Wait, Flow, flowed}
 use Rattle.pl_model.specs.Step.{Stepped, first_tried, stepped, parked}
 use Rattle.pl_model.specs.Numbered.{numbers}
 use Rattle.pl_state.specs.Contents.{Contents, core_of, lets_wait}
-use Rattle.pl_state.specs.Parking.{refusal, refusal_in}
+use Rattle.pl_state.specs.Parking.{refusal_in}
 use Rattle.pl_state.proofs.by_call.Begun.{may_wait-is}
 
 module _ {A : Type 0} (k : Contents A) (w : Waiting A numbers) (nonblock : Bool) (s : Core A numbers) (flow : Flow numbers) (taken : ℕ) where
