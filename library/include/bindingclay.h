@@ -8,7 +8,8 @@
  * them. No call is made from a signal handler, nor in the forked child of a process that has threads. No call blocks, starts a thread
  * or asks anything of the system but for memory.
  *
- * Waiting. A call that would wait answers BINDINGCLAY_PARKED: that is an answer, and its value is the call's number. Keep the number,
+ * Waiting. A call that would wait answers BINDINGCLAY_PARKED: that is an answer, and its value is the call's number. If as many calls wait
+ * as the limit waiting_calls says, it answers EAGAIN, and has taken and given nothing. Keep the number,
  * and try the call again by bindingclay_resume, or bindingclay_resume_poll, after any call that could help it: nothing tells you which did.
  * What brings bytes into a pipe (write, splice, tee) helps who takes bytes from it. What makes room in it (read, splice, set_pipe_sz) helps
  * who puts bytes into it. What closes an end of it (close, dup2, exit, interrupt, the end of another parked call) helps both. Each of these
@@ -16,21 +17,22 @@
  * has no bytes behind its offset: after an open with O_TRUNC, or, if the splice was given no offset, after a call that moved the offset of
  * its description (lseek, read, write, splice). A call helps in the same way when it is resumed. One rule is always right. After any call
  * that isn't refused, try all calls that wait, round after round, until every try of two rounds in a row answers BINDINGCLAY_PARKED. One
- * round isn't enough, since a write that still waits may have put some of its bytes. Where a call still waits it answers its number again, and that costs little. bindingclay_interrupt ends it. A call that is parked keeps
- * what it found open, until it is answered, is interrupted, or its process exits; an open of a FIFO keeps the end that it makes, which
- * counts as one from then on.
+ * round isn't enough, since a write that still waits may have put some of its bytes. Where a call still waits it answers its number again,
+ * and that costs little. bindingclay_interrupt ends it. A call that is parked keeps what it found open, until it is answered, is interrupted,
+ * or its process exits; an open of a FIFO keeps the end that it makes, which counts as one from then on.
  *
  * Memory. It comes from malloc and realloc, and goes by free, all three of one allocator, which aligns as C demands. A call that finds none
  * answers BINDINGCLAY_NO_MEMORY and has changed nothing, neither the kernel nor what its pointers point to: make it again once there is
  * some. Some calls, marked below, ask for none. A call that is refused for another reason has asked for none either, but for the calls with
  * a name, which copy it first. bindingclay_free gives back all. bindingclay_open_within sets how many bytes a kernel may hold: where a call
- * would want more, there is none. bindingclay_memory tells how many it holds. Close, exit, interrupt and a read that is resumed always find
- * what they need, so a guest at its limit can give some back.
+ * would want more, there is none. bindingclay_memory tells how many it holds: it may tell more behind a call that found none, as a
+ * table may have grown, which the next call that wants it uses. Close, exit, interrupt and a read that is resumed always find what they need,
+ * so a guest at its limit can free what it has; up to 1,048,576 bytes of that stay with the kernel (spare).
  *
  * Pointers. None is null, but one to 0 bytes or to 0 entries, or to an offset of bindingclay_splice, may be. What a call writes to overlaps
  * nothing else that it is given, and nothing that it is given overlaps the kernel's own memory. The library keeps no pointer of yours after
- * a call: a write that is parked has a copy of its bytes. A handle that was freed, that bindingclay_open didn't give, or that two calls
- * have at once, is undefined behaviour, and isn't found out.
+ * a call: a write that is parked has a copy of its bytes. A handle that was freed, that neither bindingclay_open nor
+ * bindingclay_open_within gave, or that two calls have at once, is undefined behaviour, and isn't found out.
  *
  * Errors and flags have Linux's numbers, as errno.h, fcntl.h and poll.h have them there. Pages are those of POSIX.1-2017, and with (2)
  * or (7) behind their name those of Linux. docs/RULES.md of the project has each rule, and the order of the refusals.
@@ -65,7 +67,7 @@ extern "C" {
 /* The most bytes of one read or write. Of more the first so many are read or written, and counted. */
 #define BINDINGCLAY_MOST_BYTES 16777216
 
-/* One kernel: what bindingclay_open gave. Copies of it are the same kernel. */
+/* One kernel: what bindingclay_open or bindingclay_open_within gave. Copies of it are the same kernel. */
 typedef struct {
     void *kernel;
 } bindingclay;
@@ -250,13 +252,14 @@ bindingclay_answer bindingclay_owner(bindingclay clay, uint64_t number);
 bindingclay_answer bindingclay_pipe(bindingclay clay, uint32_t pid, bool nonblock, bindingclay_ends *ends);
 
 /* Makes a FIFO of a name (mkfifo). A name is 1 to 255 bytes, at name, without a NUL at its end. Empty ENOENT; longer
- * ENAMETOOLONG; a slash or a NUL in it EINVAL; the name is taken EEXIST. */
+ * ENAMETOOLONG; a slash or a NUL in it EINVAL; the name is taken EEXIST; there are as many names as the limits allow ENOSPC. */
 bindingclay_answer bindingclay_mkfifo(bindingclay clay, uint32_t pid, const uint8_t *name, size_t size);
 
 /* Opens a name (open; fifo(7)). Value: the least free descriptor. flags: O_RDONLY, O_WRONLY or O_RDWR, with O_CREAT, O_EXCL, O_TRUNC,
  * O_APPEND and O_NONBLOCK of fcntl.h; others have no effect. No such mode EINVAL, before all else. The name as in bindingclay_mkfifo; it is
  * taken, with O_CREAT and O_EXCL, EEXIST; it is free, without O_CREAT, ENOENT; no free descriptor EMFILE; 4,096 open file descriptions
- * ENFILE; a FIFO without a reader, for writing with O_NONBLOCK, ENXIO. The open of a FIFO's one end waits for the other, without O_NONBLOCK. */
+ * ENFILE; a file would be made, and there are as many names as the limits allow, ENOSPC; a FIFO without a reader, for writing with
+ * O_NONBLOCK, ENXIO. The open of a FIFO's one end waits for the other, without O_NONBLOCK. */
 bindingclay_answer bindingclay_open_name(
     bindingclay clay, uint32_t pid, const uint8_t *name, size_t size, uint32_t flags);
 
@@ -344,7 +347,7 @@ bindingclay_answer bindingclay_set_fl(bindingclay clay, uint32_t pid, int32_t fd
 bindingclay_answer bindingclay_get_pipe_sz(bindingclay clay, uint32_t pid, int32_t fd);
 
 /* Sets how many bytes a pipe can hold: the least power of two from 4,096 on that has size (fcntl(2), F_SETPIPE_SZ). Value: that. Not
- * open on a pipe EBADF; size above 1,048,576 EPERM; more bytes held than that EBUSY. */
+ * open on a pipe EBADF; size above 1,048,576, or rounded up to more than the limit capacity, EPERM; more bytes held than that EBUSY. */
 bindingclay_answer bindingclay_set_pipe_sz(bindingclay clay, uint32_t pid, int32_t fd, uint32_t size);
 
 /* ---- Buffers of no bytes ---- */

@@ -72,9 +72,11 @@ void *__wrap_malloc(size_t size)
 
 void *__wrap_realloc(void *block, size_t size)
 {
-    if (is_refused())
-        return NULL;
     long before = (long)malloc_usable_size(block);
+    /* Who gives back more than half of a block goes on with all of it where that is refused, so that no answer tells it. */
+    bool gives_back = (long)size < before / 2;
+    if (!gives_back && is_refused())
+        return NULL;
     void *moved = __real_realloc(block, size);
     if (moved == NULL)
         return NULL;

@@ -19,16 +19,22 @@ static double seconds(void)
     return (double)now.tv_sec + (double)now.tv_nsec / 1e9;
 }
 
-/* Bytes of many slots: each of so many splices moves one byte from a pipe to the end of file f, descriptor 2. */
+/* Bytes of many slots: each of so many splices moves one byte to the end of file f, descriptor 2, from one of two pipes in turn, so that no
+ * two slots go on one where the other ends and become one. The second pipe is closed then. */
 static void fill_by_bytes(bindingclay clay, long count)
 {
     NEW_PIPE(clay, 1, false);
     DONE(open_text(clay, 1, "f", O_RDWR | O_CREAT), 2);
+    bindingclay_ends second = NEW_PIPE(clay, 1, false);
     for (long i = 0; i < count; i++) {
-        if (i % SEGMENT == 0)
+        if (i % (2 * SEGMENT) == 0) {
             DONE(put_many(clay, 1, 1, SEGMENT), SEGMENT);
-        DONE(bindingclay_splice(clay, 1, 0, NULL, 2, NULL, 1, 0), 1);
+            DONE(put_many(clay, 1, second.write_end, SEGMENT), SEGMENT);
+        }
+        DONE(bindingclay_splice(clay, 1, i % 2 == 0 ? 0 : second.read_end, NULL, 2, NULL, 1, 0), 1);
     }
+    OTHER(bindingclay_close(clay, 1, second.read_end), BINDINGCLAY_DONE);
+    OTHER(bindingclay_close(clay, 1, second.write_end), BINDINGCLAY_DONE);
 }
 
 /* A splice of a file of many slots takes the memory of what comes out, and gives back what it doesn't use: a pipe has at most 512 slots, each
@@ -98,6 +104,81 @@ static void an_emptied_file(long count)
     bindingclay_free(clay);
 }
 
+/* The seconds of one round: a byte is put into a pipe, and spliced to a place in the front of the file or else written there. */
+static double seconds_of_a_change(bindingclay clay, bool is_written)
+{
+    enum { ROUNDS = 1000 };
+    double least = 1e9;
+    for (int run = 0; run < 5; run++) {
+        double begun = seconds();
+        for (uint64_t place = 0; place < ROUNDS; place++) {
+            if (is_written) {
+                if (bindingclay_lseek(clay, 1, 2, (int64_t)place, SEEK_SET).kind != BINDINGCLAY_DONE || put(clay, 1, 2, "b").value != 1)
+                    HOLDS(false);
+            } else if (put(clay, 1, 1, "b").value != 1 || bindingclay_splice(clay, 1, 0, NULL, 2, &place, 1, 0).value != 1)
+                HOLDS(false);
+        }
+        double taken = (seconds() - begun) / ROUNDS;
+        least = taken < least ? taken : least;
+    }
+    return least;
+}
+
+/* The seconds that it takes to move so many bytes by one place. */
+static double seconds_of_a_move(size_t size)
+{
+    enum { ROUNDS = 1000 };
+    char *bytes = calloc(size + 1, 1);
+    double least = 1e9;
+    for (int run = 0; bytes != NULL && run < 5; run++) {
+        double begun = seconds();
+        for (int i = 0; i < ROUNDS; i++)
+            memmove(bytes + (i & 1), bytes + !(i & 1), size);
+        double taken = (seconds() - begun) / ROUNDS;
+        least = taken < least ? taken : least;
+    }
+    free(bytes);
+    return least;
+}
+
+/* A change of a file costs what it changes, and at most the list of the chunks behind: 48 bytes for each 128 slots. */
+static void a_change_before_many_slots(long count)
+{
+    enum { CHUNK = 128, ENTRY = 48 };
+    double few[2], many[2];
+    for (int i = 0; i < 2; i++) {
+        double *taken = i == 0 ? few : many;
+        bindingclay clay = kernel_with_process();
+        fill_by_bytes(clay, i == 0 ? count / 16 : count);
+        taken[0] = seconds_of_a_change(clay, false);
+        taken[1] = seconds_of_a_change(clay, true);
+        bindingclay_free(clay);
+    }
+    if (count >= LARGE) {
+        double list = seconds_of_a_move((size_t)(count / CHUNK * ENTRY));
+        HOLDS(many[0] < 4 * (few[0] + list));
+        HOLDS(many[1] < 4 * (few[1] + list));
+    }
+    printf("a splice into the front of %ld slots %.0f ns, of %ld %.0f ns; a write %.0f and %.0f ns\n", count / 16, few[0] * 1e9, count,
+        many[0] * 1e9, few[1] * 1e9, many[1] * 1e9);
+}
+
+/* Bytes that are spliced into a file one by one, one behind the other, are one slot where they go on one where the other ends. */
+static void bytes_one_by_one(long count)
+{
+    bindingclay clay = kernel_with_process();
+    DONE(open_text(clay, 1, "g", O_RDWR | O_CREAT), 0);
+    bindingclay_ends ends = NEW_PIPE(clay, 1, false);
+    long before = bytes_left;
+    for (long i = 0; i < count; i++) {
+        if (i % SEGMENT == 0)
+            DONE(put_many(clay, 1, ends.write_end, SEGMENT), SEGMENT);
+        DONE(bindingclay_splice(clay, 1, ends.read_end, NULL, 0, NULL, 1, 0), 1);
+    }
+    HOLDS(bytes_left - before <= (count / SEGMENT + 2) * (SEGMENT + 512) + SEGMENT);
+    bindingclay_free(clay);
+}
+
 /* The seconds of one round: a fork, a read of the child that waits, and the child's exit. */
 static double seconds_of_an_exit(bindingclay clay, int32_t read_end)
 {
@@ -147,6 +228,8 @@ int main(int words, char **word)
     a_splice_of_many_slots(count);
     a_splice_without_memory(count);
     an_emptied_file(count);
+    a_change_before_many_slots(count);
+    bytes_one_by_one(count);
     an_exit_beside_calls_that_wait(count);
     return end();
 }

@@ -152,6 +152,17 @@ def copied(folder: pathlib.Path, to: str) -> Files:
     return {pathlib.PurePath(to, path.relative_to(folder)): path.read_bytes() for path in folder.rglob("*") if path.is_file()}
 
 
+def with_version(manifest: bytes, repository: pathlib.Path) -> bytes:
+    """The manifest with the version that the header of the library for C has."""
+    header = (repository / "library" / "include" / "bindingclay.h").read_text()
+    numbers = re.findall(r"^#define BINDINGCLAY_VERSION_(?:MAJOR|MINOR|PATCH) (\d+)$", header, re.M)
+    if len(numbers) != 3:
+        raise Unknown("library/include/bindingclay.h:1: no version of three numbers")
+    lines = manifest.decode().split("\n")
+    kept = [line for line in lines if not line.startswith("# that of library/")]
+    return "\n".join(kept).replace('version = "0.0.0"', f'version = "{".".join(numbers)}"').encode()
+
+
 def make(repository: pathlib.Path) -> tuple[Files, collections.Counter[str]]:
     """The files of the package, and how often each construct was erased."""
     counts: collections.Counter[str] = collections.Counter()
@@ -163,6 +174,8 @@ def make(repository: pathlib.Path) -> tuple[Files, collections.Counter[str]]:
         if crate in there:
             files |= make_crate(repository, crate, kept, examples, counts)
     examples.check()
+    manifest = pathlib.PurePath("Cargo.toml")
+    files[manifest] = with_version(files[manifest], repository)
     return files, counts
 
 

@@ -53,7 +53,7 @@ WITH_ALLOCATOR = {"repeat": ("repeat_in", "string", "RepeatIn")}
 SHIMMED = {"bitflags", "circular_buffer", "clap", "hex", "itoa", "memchr", "slab"}
 # Modules of std: those that the shim gives, and those that are the same in Rust.
 STD_SHIMMED = {"alloc", "collections", "env", "fs", "io", "process", "test"}
-STD_SAME = {"cell", "fmt", "mem", "sync::atomic"}
+STD_SAME = {"cell", "fmt", "mem", "ptr", "sync::atomic"}
 # Names that Rattle's prelude has and Rust's lacks, or has otherwise: the module of the shim that has them.
 PRELUDE = {
     "Vec": "vec",
@@ -116,17 +116,18 @@ FOR_ALL = {"Clone", "Into", "TryInto", "ToString", "ToOwned"}
 # The crates whose public functions anybody can call in the edition, and the preconditions there that something else keeps: by crate and
 # function, the clause without white space, and what keeps it.
 EXPOSED = set(LIBRARY) & {"pl_model", "pl_kernel", "pl_numbers"} | {"pl_script", "pl_run", "bindingclay"}
-AT_THE_DOOR = "api.rs answers an error"
+AT_THE_DOOR = "kernel.rs or script.rs of the package answers an error"
 GUARDED: dict[tuple[str, str], dict[str, str]] = {
     ("pl_kernel", "new"): {"{limits.file_max≤most_file_bytes}": AT_THE_DOOR},
     ("pl_kernel", "write_from"): {"{lengthbytes.now≤most_bytes}": AT_THE_DOOR},
+    ("pl_kernel", "refusal_of_write"): {"{count≢0}": "kernel.rs of the package takes a number that isn't 0"},
     ("pl_kernel", "read_into"): {"{lengthinto.old<2^32}": AT_THE_DOOR},
     ("pl_script", "run_script"): {
         "{limits.file_max≤most_file_bytes}": AT_THE_DOOR,
-        "{most_reads≤S.reads_leftreader.old}": "api.rs alone makes the reader",
+        "{most_reads≤S.reads_leftreader.old}": "script.rs of the package alone makes the reader",
     },
     ("pl_run", "run"): {"{most_reads≤S.reads_leftinput.old}": "run_words alone calls it"},
-    ("bindingclay", "new"): {"{limits.file_max≤most_file_bytes}": "bindingclay_open tests it"},
+    ("bindingclay", "new"): {"{limits.file_max≤most_file_bytes}": "asked_by refuses more"},
 }
 
 # A sentence of a comment in which one of these stands speaks of proofs, and is left out.

@@ -9,8 +9,14 @@ use core::slice::SliceIndex;
 
 pub use crate::filled_vec as vec;
 
-/// The places that a list has at least once it grows by and by.
-const FEWEST: usize = 4;
+/// The places that a list has at least once it grows by and by: those that one of `std`'s has.
+const fn fewest<T>() -> usize {
+    match size_of::<T>() {
+        0..=1 => 8,
+        2..=1024 => 4,
+        _ => 1,
+    }
+}
 
 /// A `std::vec::Vec`, and who is asked before it grows and told where it goes. It is a slice too, by `Deref`, and is made of and becomes
 /// one of `std`'s.
@@ -105,7 +111,7 @@ impl<T, A: Allocator> Vec<T, A> {
         self.grow(
             wanted
                 .max(self.items.capacity().saturating_mul(2))
-                .max(FEWEST),
+                .max(fewest::<T>()),
         )
     }
 

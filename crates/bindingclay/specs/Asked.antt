@@ -1,6 +1,5 @@
 -- The words of `bindingclay_limits`, and what they ask for. The first one tells how many there are; later ones may be left out.
 use Rattle.std.specs.Prelude.{◌≡◌, ◌<◌, ◌⊎◌, ◌/◌, ◌%◌, ◌*◌, ◌+◌, ◌^◌, ℕ, List, length, get_or}
-use Rattle.pl_model.specs.declared.calls.Limits.{Limits}
 use Rattle.pl_model.specs.Numbers.{most_capacity, most_file_bytes, no_limit}
 use Rattle.bindingclay.specs.declared.limits.Asked.{Asked}
 

@@ -17,5 +17,5 @@ pub use moves::{SpliceSide, case_of_move, splice_fault, tee_fault};
 pub use naming::name_fault;
 pub use opening::{open_fault, opens_at_once};
 pub use poll::mask_of;
-pub use seeking::sought;
+pub use seeking::{place_in_file, sought};
 pub use transfers::{case_of_read, case_of_write};

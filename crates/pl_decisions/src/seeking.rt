@@ -1,4 +1,4 @@
-//! Where a seek leads.
+//! Where a seek leads, and which place of a file an offset is.
 ghost use Rattle.std.specs.Prelude.{◌≡◌};
 ghost use Rattle.pl_decisions.specs.Offsets.{offset_sought};
 
@@ -21,4 +21,11 @@ pub fn sought(base: u64, offset: i64) -> Result<u64, Errno>
         return Err(Errno::EOVERFLOW);
     }
     Ok(place)
+}
+
+/// An offset as a place in a file. Where `usize` is too small for it, it is the greatest `usize`, behind the end of every file.
+pub fn place_in_file(offset: u64) -> usize
+    ensures { result ≡ offset }
+{
+    usize::try_from(offset).unwrap_or(usize::MAX)
 }

@@ -9,7 +9,7 @@ use Rattle.std.proofs.Math.Seq.{take-append-add, drop-append-add}
 use Rattle.pl_segments.specs.declared.slice.Slice.{Slice}
 use Rattle.pl_segments.specs.Slots.{total}
 use Rattle.pl_segments.proofs.SlotLemmas.{total-append}
-use Rattle.pl_file.specs.Rows.{Row, flat, lens_of, slots_in, index_of, IsAt, IsChunk, AreChunks}
+use Rattle.pl_file.specs.Rows.{Row, flat, lens_of, slots_in, index_of, left_from, IsAt, IsChunk, AreChunks}
 
 -- the slots of rows, whole and in parts
 pub flat-append : (rs ss : List Row) → flat (rs ++ ss) ≡ flat rs ++ flat ss
@@ -401,3 +401,8 @@ last-of-all rs r x got here =
     let few = take (length r.slots - 1) r.slots in
     let shape : flat rs ≡ (front ++ few) ++ x ∷ [] = last-row rs r got ∙ ap (λ ys. front ++ ys) (last-slot r.slots x here) ∙ sym (append_assoc front few (x ∷ [])) in
     shape ∙ ap (λ ys. ys ++ x ∷ []) (sym (push-front (flat rs) (front ++ few) x shape))
+
+-- what is left from a place on that isn't the first
+pub left-some : (n at : ℕ) → 1 ≤ at → left_from n at ≡ n - at
+left-some n zero l = absurd (omega (arith, l))
+left-some n (suc at) l = refl

@@ -85,9 +85,14 @@ IsAt (n ∷ ns) (suc c) at = IsAt ns c at
 abbrev pub IsSpot : Chunks → Spot → Type 0
 IsSpot chunks s = IsAt chunks.lens s.chunk s.at
 
--- how many slots at most stay of the chunks of two spots, where those from the one to before the other go
+-- how many of so many slots of a chunk stand from a place on that isn't its first
+abbrev pub left_from : ℕ → ℕ → ℕ
+left_from n zero = 0
+left_from n (suc at) = n - suc at
+
+-- how many slots stay of the chunks of two spots, where those from the one to before the other go
 abbrev pub staying : Chunks → Spot → Spot → ℕ
-staying chunks first end = first.at + (slice_index_or chunks.lens end.chunk 0 - end.at)
+staying chunks first end = first.at + left_from (slice_index_or chunks.lens end.chunk 0) end.at
 
 -- rows of no slots, each with memory for a piece
 abbrev pub AreEmpty : List Row → Type 0
@@ -95,8 +100,10 @@ AreEmpty [] = Unit {0}
 AreEmpty (r ∷ rs) = (r.slots ≡ []) × (piece ≤ r.capacity) × AreEmpty rs
 
 -- so many slots can become chunks without more memory
-pub record AreReady (room count capacity : ℕ) (pieces : List Row) : Type 0 where
+pub record AreReady (room count capacity : ℕ) (pieces : List Row) (end : Row) : Type 0 where
   pub empty : AreEmpty pieces
+  pub none : end.slots ≡ []
+  pub whole : 1 ≤ length pieces → most_in_chunk ≤ end.capacity
   pub enough : capacity ≤ most_in_chunk + piece * length pieces
   pub list : count + length pieces + 1 ≤ room
 

@@ -2,9 +2,9 @@
 ghost use Rattle.std.specs.Prelude.{◌≡◌, ℕ, ◌+◌, ◌-◌, ◌*◌, ◌<◌, ◌≤◌, ◌^◌, nat_lt, ◌++◌, [], ◌∷◌, length, take, drop, slice_get, slice_index_or, Some, IfOk};
 ghost use Rattle.pl_segments.specs.declared.slice.Slice.{Slice as Part};
 ghost use Rattle.pl_segments.specs.Slots.{total};
-ghost use Rattle.pl_file.specs.Rows.{Row as Slots, most_in_chunk, index, IsSpot, staying, AreReady};
+ghost use Rattle.pl_file.specs.Rows.{Row as Slots, most_in_chunk, left_from, index, IsSpot, staying, AreReady};
 
-use crate::pieces::{add_front, add_rest, empty_rows, last_up_to, pieces_for, put_rows};
+use crate::pieces::{Pieces, add_front, add_rest, last_up_to, new_pieces, pieces_for, put_rows};
 use crate::row::Row;
 use crate::spot::Spot;
 use pl_segments::{NoMemory, Slice};
@@ -152,7 +152,7 @@ impl<A: Allocator + Copy> Chunks<A> {
         spot.chunk < other.chunk || spot.chunk == other.chunk && spot.at < other.at
     }
 
-    /// How many slots at most stay of the chunks of two spots, where those from `first` to before `end` go.
+    /// How many slots stay of the chunks of two spots, where those from `first` to before `end` go.
     pub(crate) fn staying(&self, first: Spot, end: Spot) -> usize
         requires first { IsSpot self.now first }
         requires end { IsSpot self.now end }
@@ -164,41 +164,40 @@ impl<A: Allocator + Copy> Chunks<A> {
         first.at + self.left_in(end)
     }
 
-    /// How many slots of a chunk stand at a spot and behind it.
+    /// How many slots of a chunk stand at a spot and behind it, where that isn't the first of them.
     fn left_in(&self, spot: Spot) -> usize
         requires { IsSpot self.now spot }
-        ensures value { result ≡ slice_index_or self.now.lens spot.chunk 0 - spot.at }
+        ensures value { result ≡ left_from (slice_index_or self.now.lens spot.chunk 0) spot.at }
         ensures most { result + spot.at ≤ most_in_chunk }
     {
-        if spot.chunk < self.rows.len() {
-            self.rows[spot.chunk].len() - spot.at
-        } else {
-            0
+        if spot.at == 0 {
+            return 0;
         }
+        self.rows[spot.chunk].len() - spot.at
     }
 
     /// Takes memory for so many slots in the place of others, the slots that stay of their chunks among them. But for that nothing
     /// changes.
-    pub(crate) fn reserve(&mut self, alloc: A, capacity: usize) -> Result<Vec<Row<A>, A>, NoMemory>
+    pub(crate) fn reserve(&mut self, alloc: A, capacity: usize) -> Result<Pieces<A>, NoMemory>
         requires { capacity < 2 ^ 64 }
-        ensures ready { IfOk result (λ pieces. AreReady self.new.room (length self.new.lens) capacity pieces.items) }
+        ensures ready { IfOk result (λ pieces. AreReady self.new.room (length self.new.lens) capacity pieces.rows.items pieces.last) }
         ensures kept { self.new ≡ record self.old { room = self.new.room } }
     {
         let count = pieces_for(capacity);
-        let pieces = empty_rows(alloc, count)?;
+        let pieces = new_pieces(alloc, count)?;
         self.rows.try_reserve(count + 1)?;
         Ok(pieces)
     }
 
     /// Puts the slots of a row in the place of those from `first` to before `end`: it starts where they do, and ends where they do but
     /// where none is behind them. There is memory for it. It takes none.
-    pub(crate) fn replace(&mut self, first: Spot, end: Spot, patch: Row<A>, pieces: Vec<Row<A>, A>)
+    pub(crate) fn replace(&mut self, first: Spot, end: Spot, patch: Row<A>, pieces: Pieces<A>)
         requires first { IsSpot self.old first }
         requires end { IsSpot self.old end }
         requires order { index self.old first ≤ index self.old end }
         requires some { 1 ≤ length patch.slots }
         requires room { length patch.slots + staying self.old first end ≤ patch.capacity }
-        requires ready { AreReady self.old.room (length self.old.lens) patch.capacity pieces.items }
+        requires ready { AreReady self.old.room (length self.old.lens) patch.capacity pieces.rows.items pieces.last }
         requires starts { patch.base ≡ total (take (index self.old first) self.old.slots) }
         requires ends { index self.old end < length self.old.slots → patch.base + total patch.slots ≡ total (take (index self.old end) self.old.slots) }
         ensures { self.new.slots ≡ take (index self.old first) self.old.slots ++ (patch.slots ++ drop (index self.old end) self.old.slots) }

@@ -12,6 +12,7 @@ ghost use Rattle.pl_file.specs.File.{written};
 use crate::chunks::Chunks;
 use crate::cut::{Cut, front_cut, rest_cut};
 use crate::patch::{hold_part, join_part, put_bytes, put_slices, put_zeros, release_range};
+use crate::pieces::Pieces;
 use crate::row::Row;
 use crate::spot::Spot;
 use pl_segments::{NoMemory, SEGMENT_SIZE, Slice, Store};
@@ -22,7 +23,7 @@ struct Opening<A: Allocator> {
     /// What is put in, so far: what stays of the slot before the place, and the zeros of a gap.
     patch: Row<A>,
     /// Memory for the chunks that it becomes, where it becomes more than one.
-    pieces: Vec<Row<A>, A>,
+    pieces: Pieces<A>,
     /// The first of the slots that go.
     first: Spot,
     /// The first of the slots that stay behind them, and what stays of the one before it.
@@ -66,7 +67,7 @@ fn open<A: Allocator + Copy>(
     ensures rest_some { IfOk result (λ o. 1 ≤ length (drop (index chunks.old o.rest.place) chunks.old.slots) → 1 ≤ o.rest.part.len) }
     ensures rest { IfOk result (λ o. drop_bytes (place + count) chunks.old.slots ≡ solid_of (o.rest.part ∷ []) ++ drop (index chunks.old o.rest.place) chunks.old.slots) }
     ensures room { OnOk result (segments ≤ store.new.room) }
-    ensures ready { IfOk result (λ o. AreReady chunks.new.room (length chunks.old.lens) o.patch.capacity o.pieces.items) }
+    ensures ready { IfOk result (λ o. AreReady chunks.new.room (length chunks.old.lens) o.patch.capacity o.pieces.rows.items o.pieces.last) }
     ensures in_use { OnOk result (place ≤ total chunks.old.slots → live_count store.new.held ≡ live_count store.old.held) }
     ensures chunks { chunks.new ≡ record chunks.old { room = chunks.new.room } }
     ensures store_err { OnErr result (store.new ≡ store.old) }
@@ -96,7 +97,7 @@ fn close<A: Allocator + Copy>(
     first: Spot,
     end: Spot,
     patch: Row<A>,
-    pieces: Vec<Row<A>, A>,
+    pieces: Pieces<A>,
 )
     requires held { Holds (segment_at store.old) (chunks.old.slots ++ patch.slots) }
     requires first { IsSpot chunks.old first }
@@ -105,7 +106,7 @@ fn close<A: Allocator + Copy>(
     requires most { index chunks.old end ≤ length chunks.old.slots }
     requires some { 1 ≤ length patch.slots }
     requires room { length patch.slots + staying chunks.old first end ≤ patch.capacity }
-    requires ready { AreReady chunks.old.room (length chunks.old.lens) patch.capacity pieces.items }
+    requires ready { AreReady chunks.old.room (length chunks.old.lens) patch.capacity pieces.rows.items pieces.last }
     requires starts { patch.base ≡ total (take (index chunks.old first) chunks.old.slots) }
     requires ends { index chunks.old end < length chunks.old.slots → patch.base + total patch.slots ≡ total (take (index chunks.old end) chunks.old.slots) }
     ensures slots { chunks.new.slots ≡ take (index chunks.old first) chunks.old.slots ++ (patch.slots ++ drop (index chunks.old end) chunks.old.slots) }

@@ -1,7 +1,7 @@
 //! Rows as chunks: one found by its place, and some put in the place of others.
 ghost use Rattle.std.specs.Prelude.{◌≡◌, ℕ, ◌+◌, ◌-◌, ◌*◌, ◌<◌, ◌≤◌, ◌^◌, ◌++◌, [], ◌∷◌, length, take, drop, IfOk, vec_len, vec_capacity};
 ghost use Rattle.pl_segments.specs.Slots.{total};
-ghost use Rattle.pl_file.specs.Rows.{most_in_chunk, piece, flat, lens_of, slots_in, index_of, IsAt, AreChunks, AreEmpty, AreReady, Adds};
+ghost use Rattle.pl_file.specs.Rows.{most_in_chunk, piece, flat, lens_of, slots_in, left_from, index_of, IsAt, AreChunks, AreEmpty, AreReady, Adds};
 
 use crate::row::Row;
 use crate::spot::Spot;
@@ -14,6 +14,32 @@ const MOST_IN_CHUNK: usize = 256;
 /// How many slots go into a chunk of their own where there are more than that: a half, so that a chunk that was cut off takes as many
 /// more before it is cut.
 const PIECE: usize = 128;
+
+/// Memory for the chunks that a row becomes, where it may have too many slots for one: rows of no slots with memory for a piece each,
+/// and for the last one that has memory for a chunk.
+#[derive(Drop)]
+pub(crate) struct Pieces<A: Allocator> {
+    rows: Vec<Row<A>, A>,
+    last: Row<A>,
+}
+
+/// Takes memory for so many pieces, and for the last chunk where there are some.
+pub(crate) fn new_pieces<A: Allocator + Copy>(alloc: A, count: usize) -> Result<Pieces<A>, NoMemory>
+    ensures len { IfOk result (λ pieces. length pieces.rows.items ≡ count) }
+    ensures empty { IfOk result (λ pieces. AreEmpty pieces.rows.items) }
+    ensures none { IfOk result (λ pieces. pieces.last.slots ≡ []) }
+    ensures last { IfOk result (λ pieces. 1 ≤ count → most_in_chunk ≤ pieces.last.capacity) }
+{
+    let rows = empty_rows(alloc, count)?;
+    if count == 0 {
+        return Ok(Pieces {
+            rows,
+            last: Row::new(alloc),
+        });
+    }
+    let last = Row::with_capacity(alloc, 0, MOST_IN_CHUNK)?;
+    Ok(Pieces { rows, last })
+}
 
 /// The last chunk that starts at a place or before it, found by halving. The first starts at 0.
 pub(crate) fn last_up_to<A: Allocator>(rows: &[Row<A>], place: usize) -> usize
@@ -37,10 +63,7 @@ pub(crate) fn last_up_to<A: Allocator>(rows: &[Row<A>], place: usize) -> usize
 }
 
 /// Rows of no slots, each with memory for a piece.
-pub(crate) fn empty_rows<A: Allocator + Copy>(
-    alloc: A,
-    count: usize,
-) -> Result<Vec<Row<A>, A>, NoMemory>
+fn empty_rows<A: Allocator + Copy>(alloc: A, count: usize) -> Result<Vec<Row<A>, A>, NoMemory>
     ensures len { IfOk result (λ rows. length rows.items ≡ count) }
     ensures empty { IfOk result (λ rows. AreEmpty rows.items) }
 {
@@ -82,11 +105,11 @@ pub(crate) fn add_front<A: Allocator>(rows: &[Row<A>], spot: Spot, middle: &mut 
 pub(crate) fn add_rest<A: Allocator>(rows: &[Row<A>], spot: Spot, middle: &mut Row<A>) -> usize
     requires chunks { AreChunks 0 rows.now }
     requires spot { IsAt (lens_of rows.now) spot.chunk spot.at }
-    requires room { length middle.old.slots + (length (slots_in rows.now spot.chunk) - spot.at) ≤ middle.old.capacity }
+    requires room { length middle.old.slots + left_from (length (slots_in rows.now spot.chunk)) spot.at ≤ middle.old.capacity }
     requires ends { index_of (lens_of rows.now) spot.chunk spot.at < length (flat rows.now) → middle.old.base + total middle.old.slots ≡ total (take (index_of (lens_of rows.now) spot.chunk spot.at) (flat rows.now)) }
     ensures slots { middle.new.slots ++ flat (drop result rows.now) ≡ middle.old.slots ++ drop (index_of (lens_of rows.now) spot.chunk spot.at) (flat rows.now) }
     ensures some { length middle.old.slots ≤ length middle.new.slots }
-    ensures many { length middle.new.slots ≤ length middle.old.slots + (length (slots_in rows.now spot.chunk) - spot.at) }
+    ensures many { length middle.new.slots ≤ length middle.old.slots + left_from (length (slots_in rows.now spot.chunk)) spot.at }
     ensures base { middle.new.base ≡ middle.old.base }
     ensures ends { result < length rows.now → middle.new.base + total middle.new.slots ≡ total (flat (take result rows.now)) }
     ensures from { spot.chunk ≤ result }
@@ -109,21 +132,19 @@ pub(crate) fn put_rows<A: Allocator + Copy>(
     first: usize,
     last: usize,
     middle: Row<A>,
-    pieces: Vec<Row<A>, A>,
+    pieces: Pieces<A>,
 )
     requires chunks { AreChunks 0 rows.old.items }
     requires order { first ≤ last }
     requires most { last ≤ length rows.old.items }
     requires some { 1 ≤ length middle.slots }
-    requires empty { AreEmpty pieces.items }
-    requires enough { length middle.slots ≤ most_in_chunk + piece * length pieces.items }
-    requires room { length rows.old.items + length pieces.items + 1 ≤ vec_capacity rows.old }
+    requires ready { AreReady (vec_capacity rows.old) (length rows.old.items) (length middle.slots) pieces.rows.items pieces.last }
     requires starts { middle.base ≡ total (flat (take first rows.old.items)) }
     requires ends { last < length rows.old.items → middle.base + total middle.slots ≡ total (flat (take last rows.old.items)) }
     ensures slots { flat rows.new.items ≡ flat (take first rows.old.items) ++ (middle.slots ++ flat (drop last rows.old.items)) }
     ensures chunks { AreChunks 0 rows.new.items }
 {
-    if pieces.is_empty() && last == first + 1 {
+    if pieces.rows.is_empty() && last == first + 1 {
         let mut middle = middle;
         middle.shrink();
         rows[first] = middle;
@@ -135,22 +156,29 @@ pub(crate) fn put_rows<A: Allocator + Copy>(
 }
 
 /// Adds a row behind others, cut into chunks where it has too many slots for one. There is memory for it. It takes none.
-fn push_chunks<A: Allocator + Copy>(rows: &mut Vec<Row<A>, A>, row: Row<A>, pieces: Vec<Row<A>, A>)
+fn push_chunks<A: Allocator + Copy>(rows: &mut Vec<Row<A>, A>, row: Row<A>, pieces: Pieces<A>)
     requires some { 1 ≤ length row.slots }
-    requires empty { AreEmpty pieces.items }
-    requires enough { length row.slots ≤ most_in_chunk + piece * length pieces.items }
-    requires room { length rows.old.items + length pieces.items + 1 ≤ vec_capacity rows.old }
+    requires ready { AreReady (vec_capacity rows.old) (length rows.old.items) (length row.slots) pieces.rows.items pieces.last }
     ensures { Adds rows.old.items rows.new.items row }
 {
     let mut row = row;
+    let Pieces { rows: pieces, last } = pieces;
+    if pieces.is_empty() {
+        row.shrink();
+        rows.push_reserved(row);
+        return;
+    }
     let mut pieces = pieces;
     while MOST_IN_CHUNK < row.len() {
         let mut front = pieces.pop().unwrap();
         front.take_front(&mut row, PIECE);
         rows.push_reserved(front);
     }
-    row.shrink();
-    rows.push_reserved(row);
+    let mut last = last;
+    let left = row.len();
+    last.take_front(&mut row, left);
+    last.shrink();
+    rows.push_reserved(last);
 }
 
 /// Puts the rows from `len` on in the place of those from `first` to before `last`.

@@ -8,7 +8,7 @@ use pl_segments::{NoMemory, Slice};
 use std::alloc::Allocator;
 use std::marker::Model;
 
-/// How many slots more than it has a row may have memory for, once it stands in a file.
+/// For how many slots more than twice those that it has a row may keep memory, once it stands in a file.
 const SPARE: usize = 16;
 
 /// A slot, and the place of its first byte.
@@ -209,12 +209,13 @@ impl<A: Allocator> Row<A> {
         row.base = middle;
     }
 
-    /// Gives back the memory that no slot needs, where it is more than a few slots'. It takes no memory.
+    /// Gives back the memory that no slot needs, where it is as much as all slots need and more. It asks for as much as they need, and
+    /// where that is refused all stays as it is.
     pub(crate) fn shrink(&mut self)
         ensures slots { self.new.slots ≡ self.old.slots }
         ensures base { self.new.base ≡ self.old.base }
     {
-        if self.entries.len() + SPARE < self.entries.capacity() {
+        if self.entries.len() < self.entries.capacity().saturating_sub(SPARE) / 2 {
             self.entries.shrink_to_fit();
         }
     }

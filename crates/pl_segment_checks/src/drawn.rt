@@ -13,24 +13,27 @@ use std::test::Fail;
 /// Operations that are drawn from rows. As they are made, they are cut to what there is and what fits, and their
 /// places are drawn, below those that stand there.
 #[derive(Clone, Copy)]
-struct Drawing {
+pub(crate) struct Drawing {
     /// What a failure calls it.
-    name: &'static str,
+    pub(crate) name: &'static str,
     /// How many bytes the rings may hold.
-    capacities: (usize, usize),
+    pub(crate) capacities: (usize, usize),
     /// How many bytes the file may have.
-    most: usize,
-    rows: &'static [Operation],
+    pub(crate) most: usize,
+    /// What is made first.
+    pub(crate) first: &'static [Operation],
+    pub(crate) rows: &'static [Operation],
     /// How many operations are made.
-    made: u32,
+    pub(crate) made: u32,
     /// What is made after each.
-    then: Operation,
+    pub(crate) then: Operation,
 }
 
 const OF_RINGS: &[Drawing] = &[Drawing {
     name: "rings",
     capacities: (65_536, 8_192),
     most: 0,
+    first: &[],
     rows: RINGS,
     made: 600,
     then: InUse(0, MOST),
@@ -41,6 +44,7 @@ const OF_A_FILE: &[Drawing] = &[
         name: "writes",
         capacities: (4_096, 4_096),
         most: MOST,
+        first: &[],
         rows: WRITES,
         made: 400,
         then: IsDense,
@@ -49,6 +53,7 @@ const OF_A_FILE: &[Drawing] = &[
         name: "writes, copies and truncations",
         capacities: (4_096, 4_096),
         most: MOST,
+        first: &[],
         rows: FILES,
         made: 400,
         then: InUse(0, MOST),
@@ -59,6 +64,7 @@ const OF_ALL: &[Drawing] = &[Drawing {
     name: "all",
     capacities: (65_536, 16_384),
     most: 24_576,
+    first: &[],
     rows: ALL,
     made: 600,
     then: InUse(0, MOST),
@@ -209,6 +215,9 @@ fn draw<A: Allocator + marker::Copy>(
     watched: &mut Watched<A>,
     drawing: &Drawing,
 ) -> Result<(), Fault> {
+    for operation in drawing.first {
+        watched.make(*operation)?;
+    }
     let mut draws = Draws::new();
     for _ in 0..drawing.made {
         let row = draws.below(drawing.rows.len());
@@ -249,7 +258,7 @@ fn goes<A: Allocator + marker::Copy>(
 }
 
 /// Each drawing goes as the lists say.
-fn all_go(alloc: Global, drawings: &[Drawing]) -> Result<(), Fail> {
+pub(crate) fn all_drawn(alloc: Global, drawings: &[Drawing]) -> Result<(), Fail> {
     for drawing in drawings {
         if let Err(fault) = goes(alloc, alloc, drawing) {
             let name = drawing.name;
@@ -261,15 +270,15 @@ fn all_go(alloc: Global, drawings: &[Drawing]) -> Result<(), Fail> {
 
 #[test]
 fn many_operations_of_rings(rt: HostRuntime) -> Result<(), Fail> {
-    all_go(rt.alloc(), OF_RINGS)
+    all_drawn(rt.alloc(), OF_RINGS)
 }
 
 #[test]
 fn many_operations_of_a_file(rt: HostRuntime) -> Result<(), Fail> {
-    all_go(rt.alloc(), OF_A_FILE)
+    all_drawn(rt.alloc(), OF_A_FILE)
 }
 
 #[test]
 fn many_operations_of_all(rt: HostRuntime) -> Result<(), Fail> {
-    all_go(rt.alloc(), OF_ALL)
+    all_drawn(rt.alloc(), OF_ALL)
 }

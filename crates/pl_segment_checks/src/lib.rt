@@ -5,6 +5,8 @@
 #[cfg(test)]
 mod again;
 #[cfg(test)]
+mod chunks;
+#[cfg(test)]
 mod drawn;
 #[cfg(test)]
 mod fault;

@@ -89,6 +89,12 @@ impl<A: Allocator + Copy> OneStore<A> {
         self.file.len()
     }
 
+    /// How many slots the file has.
+    pub(crate) fn file_slots(&self) -> Result<usize, Fault> {
+        let list = range_of(&self.file, 0, usize::MAX)?;
+        Ok(list.as_slice().len())
+    }
+
     /// The left ring has no more slots than it may have: two for each 4,096 bytes that it may hold.
     pub(crate) fn has_few_slots(&self) -> Result<(), Fault> {
         if self.left.capacity() / 2_048 < self.left.slots() {

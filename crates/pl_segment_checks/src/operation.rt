@@ -42,12 +42,19 @@ pub(crate) enum Operation {
     Drain(usize),
     /// So many bytes are written to the file one by one, from the last place to the first.
     Backwards(usize),
+    /// At so many even places of the file, from the first on, the byte behind it is put, as a slice, so that each byte up to there is a
+    /// slot.
+    Scatter(usize),
+    /// Each of so many first bytes of the file is put so many places behind, as a slice, from the last to the first.
+    Repeat(usize),
     /// The ring holds these bytes.
     Holds(&'static [u8]),
     /// The ring is full.
     IsFull,
     /// From a place on the file has these bytes, and then its end.
     EndsWith(usize, &'static [u8]),
+    /// The file has so many slots.
+    HasSlots(usize),
     /// The store holds at least and at most so many segments.
     InUse(usize, usize),
     /// The store holds at most three segments more than one for each 2,048 bytes of the file.

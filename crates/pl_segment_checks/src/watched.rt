@@ -100,6 +100,9 @@ impl<A: Allocator + Copy> Watched<A> {
             Operation::IsFull => self.is_full(),
             Operation::Drain(step) => self.drain(step),
             Operation::Backwards(count) => self.write_backwards(count),
+            Operation::Scatter(count) => self.scatter(count),
+            Operation::Repeat(count) => self.repeat(count),
+            Operation::HasSlots(count) => self.has_slots(count),
             Operation::Holds(bytes) => same_bytes(self.left.bytes(), bytes),
             Operation::EndsWith(place, bytes) => {
                 same_bytes(range(&self.file, place, usize::MAX), bytes)?;
@@ -246,6 +249,28 @@ impl<A: Allocator + Copy> Watched<A> {
     fn write_backwards(&mut self, count: usize) -> Result<(), Fault> {
         for place in (0..count).rev() {
             self.write_made(place, 1)?;
+        }
+        Ok(())
+    }
+
+    fn scatter(&mut self, count: usize) -> Result<(), Fault> {
+        for turn in 0..count {
+            let place = turn.wrapping_mul(2);
+            self.copy(place.wrapping_add(1), 1, place)?;
+        }
+        Ok(())
+    }
+
+    fn repeat(&mut self, count: usize) -> Result<(), Fault> {
+        for place in (0..count).rev() {
+            self.copy(place, 1, count.wrapping_add(place))?;
+        }
+        Ok(())
+    }
+
+    fn has_slots(&self, count: usize) -> Result<(), Fault> {
+        if self.real.file_slots()? != count {
+            return Err(Fault::OtherSizes);
         }
         Ok(())
     }

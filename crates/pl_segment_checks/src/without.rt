@@ -107,15 +107,20 @@ fn refuse_each(alloc: Global, heap: &Refusing<Global>, session: &Session) -> Res
     Err(Fault::OtherRequests)
 }
 
-#[test]
-fn a_want_of_memory_changes_nothing(rt: HostRuntime) -> Result<(), Fail> {
-    let heap = Refusing::new(rt.alloc());
-    for session in SESSIONS {
-        let refused = refuse_each(rt.alloc(), &heap, session);
+/// In each session each request for memory is refused in turn.
+pub(crate) fn all_refused(alloc: Global, sessions: &[Session]) -> Result<(), Fail> {
+    let heap = Refusing::new(alloc);
+    for session in sessions {
+        let refused = refuse_each(alloc, &heap, session);
         if !matches!(refused, Ok(1..)) {
             let name = session.name;
             return Err(Fail::new(format_args!("{refused:?} requests of {name}")));
         }
     }
     Ok(())
+}
+
+#[test]
+fn a_want_of_memory_changes_nothing(rt: HostRuntime) -> Result<(), Fail> {
+    all_refused(rt.alloc(), SESSIONS)
 }

@@ -61,10 +61,8 @@ fn file_to_pipe<A: Allocator + Copy>(
     let start = start_of(kernel, from);
     // A proof learns here that no file is so long that its offsets don't fit.
     let _len = kernel.nodes.file_len(source);
-    kernel
-        .nodes
-        .move_file_pipe(source, start as usize, target, count)?;
-    advance(&mut kernel.descs, from, start + count as u64);
+    kernel.nodes.move_file_pipe(source, start, target, count)?;
+    advance(&mut kernel.descs, from, (start + count) as u64);
     Ok(())
 }
 
@@ -87,13 +85,10 @@ fn pipe_to_file<A: Allocator + Copy>(
     ensures undone { OnErr result (kernel.new ≡ kernel.old) }
 {
     let start = start_of(kernel, to);
-    let Ok(_moved) = kernel
-        .nodes
-        .move_pipe_file(source, target, start as usize, count)
-    else {
+    let Ok(_moved) = kernel.nodes.move_pipe_file(source, target, start, count) else {
         return Err(NoMemory);
     };
-    advance(&mut kernel.descs, to, start + count as u64);
+    advance(&mut kernel.descs, to, (start + count) as u64);
     Ok(())
 }
 

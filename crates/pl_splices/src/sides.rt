@@ -8,6 +8,7 @@ ghost use Rattle.pl_state.specs.Contents.{core_of, node_of};
 ghost use Rattle.pl_state.specs.Opens.{OpenOn};
 ghost use Rattle.pl_splices.specs.Sides.{side_of};
 
+use pl_decisions::place_in_file;
 use pl_desc::Descs;
 use pl_model::{Node, Source, Target};
 use pl_state::KernelState;
@@ -25,14 +26,14 @@ pub(crate) struct Side {
 }
 
 // Where a side that is a file begins: at the offset that was given, or at the description's own (splice(2)).
-pub(crate) fn start_of<A: Allocator + Copy>(kernel: &KernelState<A>, side: Side) -> u64
+pub(crate) fn start_of<A: Allocator + Copy>(kernel: &KernelState<A>, side: Side) -> usize
     requires { IsSome (at kernel.now.opened side.key) }
     ensures { IfSome (at kernel.now.opened side.key) (λ o. result ≡ unwrap_or side.given o.offset) }
 {
-    match side.given {
+    place_in_file(match side.given {
         Some(offset) => offset,
         None => kernel.descs.offset(side.key),
-    }
+    })
 }
 
 // What a side has to give.
@@ -46,7 +47,7 @@ pub(crate) fn source_of<A: Allocator + Copy>(kernel: &KernelState<A>, side: Side
             has_writer: kernel.descs.writers(side.node) > 0,
         },
         Node::File(file) => {
-            let start = start_of(kernel, side) as usize;
+            let start = start_of(kernel, side);
             Source::File {
                 left: kernel.nodes.file_len(file).saturating_sub(start),
             }
@@ -65,7 +66,7 @@ pub(crate) fn target_of<A: Allocator + Copy>(kernel: &KernelState<A>, side: Side
             has_reader: kernel.descs.readers(side.node) > 0,
         },
         Node::File(_) => {
-            let start = start_of(kernel, side) as usize;
+            let start = start_of(kernel, side);
             Target::File {
                 room: (kernel.limits.file_max as usize).saturating_sub(start),
             }

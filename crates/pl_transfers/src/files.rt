@@ -5,6 +5,7 @@ ghost use Rattle.pl_state.specs.Opens.{OpenOn};
 ghost use Rattle.pl_transfers.specs.Files.{OfFile, ReadsFile, WritesFile, IsFull, place_of};
 
 use bitflags::Flags;
+use pl_decisions::place_in_file;
 use pl_model::{Bytes8, Node, OpenFlags};
 use pl_nodes::WriteFault;
 use pl_state::{KernelState, NoMemory};
@@ -22,11 +23,13 @@ pub(crate) fn read_file<A: Allocator + Copy>(
     ensures done { IfOk result (λ bytes. ReadsFile kernel.old key file n bytes kernel.new) }
     ensures undone { OnErr result (kernel.new ≡ kernel.old) }
 {
-    let place = kernel.descs.offset(key) as usize;
+    let offset = kernel.descs.offset(key);
     // A proof learns here that no file has more bytes than a read may answer.
     let _len = kernel.nodes.file_len(file);
-    let bytes = kernel.nodes.read_file(file, place, n as usize)?;
-    kernel.descs.set_offset(key, (place + bytes.len()) as u64);
+    let bytes = kernel
+        .nodes
+        .read_file(file, place_in_file(offset), n as usize)?;
+    kernel.descs.set_offset(key, offset + bytes.len() as u64);
     Ok(Bytes8::from_vec(bytes).unwrap())
 }
 
@@ -43,11 +46,13 @@ pub(crate) fn read_file_into<A: Allocator + Copy>(
     ensures within { result ≤ length into.new }
     ensures rest { drop result into.new ≡ drop result into.old }
 {
-    let place = kernel.descs.offset(key) as usize;
+    let offset = kernel.descs.offset(key);
     // A proof learns here that no file has more bytes than a read may answer.
     let _len = kernel.nodes.file_len(file);
-    let read = kernel.nodes.read_file_into(file, place, into);
-    kernel.descs.set_offset(key, (place + read) as u64);
+    let read = kernel
+        .nodes
+        .read_file_into(file, place_in_file(offset), into);
+    kernel.descs.set_offset(key, offset + read as u64);
     read
 }
 
@@ -59,7 +64,7 @@ fn place_to_write<A: Allocator + Copy>(kernel: &KernelState<A>, key: usize, file
     if kernel.descs.flags(key).contains(OpenFlags::APPEND) {
         kernel.nodes.file_len(file)
     } else {
-        kernel.descs.offset(key) as usize
+        place_in_file(kernel.descs.offset(key))
     }
 }
 

@@ -9,6 +9,7 @@ ghost use Rattle.pl_transfers.specs.Readable.{readable as machine_readable, read
 
 use crate::transfers::open_for;
 use crate::waiting::{pipe_of, waiting_read};
+use pl_decisions::place_in_file;
 use pl_model::Node;
 use pl_state::{Access, KernelState};
 use std::alloc::Allocator;
@@ -21,7 +22,7 @@ fn readable<A: Allocator + Copy>(kernel: &KernelState<A>, key: usize) -> usize
     match kernel.descs.node(key) {
         Node::Pipe(pipe) => kernel.nodes.held(pipe),
         Node::File(file) => {
-            let place = kernel.descs.offset(key) as usize;
+            let place = place_in_file(kernel.descs.offset(key));
             kernel.nodes.file_len(file).saturating_sub(place)
         }
     }

@@ -9,6 +9,7 @@ use crate::{
     WriteReply,
 };
 use core::fmt;
+use core::num::NonZero;
 
 /// A kernel of processes that talk through pipes, in the memory of one allocator.
 ///
@@ -151,6 +152,24 @@ impl<A: Allocator + Copy> Kernel<A> {
             return Err(BufferFault::TooLong);
         }
         Ok(self.inner.write_from(pid, fd, bytes)?)
+    }
+
+    /// What the beginning of a write of so many bytes answers where it is refused, whatever the bytes are; `None` where it isn't, so that it
+    /// may want memory. Who makes the bytes asks here before. Nothing changes, and it takes no memory.
+    ///
+    /// ```
+    /// use bindingclay::memory::Global;
+    /// use bindingclay::{Errno, Kernel, Limits, Reply, Step};
+    /// use std::num::NonZero;
+    ///
+    /// let mut kernel = Kernel::new(Global, Limits::default())?;
+    /// kernel.step(Step::Start)?;
+    /// let count = NonZero::new(1_000_000).expect("a million");
+    /// assert_eq!(kernel.refusal_of_write(1, 0, count), Some(Reply::Fault(Errno::EBADF)));
+    /// # Ok::<(), Box<dyn std::error::Error>>(())
+    /// ```
+    pub fn refusal_of_write(&self, pid: u32, fd: i32, count: NonZero<usize>) -> Option<Reply<A>> {
+        self.inner.refusal_of_write(pid, fd, count.get())
     }
 
     /// Begins a read of as many bytes as the caller's are, into the first of these; the others stay as they are.

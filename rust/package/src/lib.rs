@@ -27,11 +27,6 @@
 #![deny(unsafe_code)]
 #![warn(missing_debug_implementations)]
 
-#[cfg(not(target_pointer_width = "64"))]
-compile_error!(
-    "bindingclay needs 64-bit pointers: with narrower ones offsets of files would be cut"
-);
-
 extern crate alloc;
 
 mod faults;

@@ -88,6 +88,22 @@ fn a_list_asks_once_for_what_it_takes() {
 }
 
 #[test]
+fn a_list_grows_as_that_of_std() {
+    fn capacities<T: Copy>(item: T) {
+        let (mut ours, mut theirs) = (Vec::new(Global), std::vec::Vec::new());
+        for _ in 0..1_000 {
+            ours.push(item).unwrap();
+            theirs.push(item);
+            assert_eq!(ours.capacity(), theirs.capacity());
+        }
+    }
+    capacities(7u8);
+    capacities(7u64);
+    capacities([7u64; 100]);
+    capacities([7u64; 200]);
+}
+
+#[test]
 fn a_list_gives_back_what_no_item_stands_in() {
     let meter = Meter::new();
     let mut ours = Vec::from_elem(&meter, 7u8, 100).unwrap();

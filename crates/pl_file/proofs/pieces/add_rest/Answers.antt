@@ -6,7 +6,7 @@ use Rattle.pl_segments.specs.Slots.{total}
 use Rattle.pl_segments.proofs.SlotLemmas.{total-append}
 use Rattle.pl_file.specs.Rows.{flat, slots_in, lens_of, index_of}
 use Rattle.pl_file.proofs.Placed.{total-parts}
-use Rattle.pl_file.proofs.Chunking.{spot-some, spot-le, spot-most, slots-in, drop-index, drop-first, total-index, index-within, row-le, row-total, row-end}
+use Rattle.pl_file.proofs.Chunking.{spot-some, spot-le, spot-most, slots-in, drop-index, drop-first, total-index, index-within, row-le, row-total, row-end, left-some}
 use Rattle.pl_file.proofs.pieces.add_rest.Given.{Over}
 use Rattle.pl_file.proofs.pieces.add_rest.Goals.{Then-spot-eq0, Else-spot-eq0, After-index-rows-spot, After-put_behind}
 use Rattle.pl_file.proofs.pieces.add_rest.Goals as goal
@@ -67,7 +67,9 @@ pub put_behind-requires-clause-room : goal.put_behind-requires-clause-room
 put_behind-requires-clause-room g c =
     let k = (goal.at.put_behind-requires-clause-room g c).After-index-rows-spot in
     let e = ap length (slots-in c.args.rows.now c.args.spot.chunk c.index-rows-spot.result (got g k)) in
-    omega (arith, e, c.requires.room)
+    let f = c.if-spot-eq0.false in
+    let l = left-some (length (slots_in c.args.rows.now c.args.spot.chunk)) c.args.spot.at (omega (arith, f)) in
+    omega (arith, e, l, c.requires.room)
 
 pub put_behind-requires-clause-starts : goal.put_behind-requires-clause-starts
 put_behind-requires-clause-starts g c = starts g (goal.at.put_behind-requires-clause-starts g c).After-index-rows-spot
@@ -97,7 +99,9 @@ returns-clause-many g c =
     let a = length-append c.args.middle.now.slots (drop c.args.spot.at c.index-rows-spot.result.slots) in
     let d = length-drop c.args.spot.at c.index-rows-spot.result.slots in
     let s = ap length (slots-in c.args.rows.now c.args.spot.chunk c.index-rows-spot.result (got g k)) in
-    omega (arith, e, a, d, s)
+    let f = c.if-spot-eq0.false in
+    let l = left-some (length (slots_in c.args.rows.now c.args.spot.chunk)) c.args.spot.at (omega (arith, f)) in
+    omega (arith, e, a, d, s, l)
 
 pub returns-clause-ends : goal.returns-clause-ends
 returns-clause-ends g c =

@@ -1,7 +1,10 @@
-use Rattle.std.proofs.Common.{◌≡◌, ◌≤◌, ◌++◌, ◌∷◌, [], ◌∙◌, Option, ap, subst, length, arith}
+use Rattle.std.proofs.Common.{◌≡◌, ◌≤◌, ◌++◌, ◌∷◌, [], ◌∙◌, Option, ap, subst, length, take, arith}
 use Rattle.std.specs.Option.{option_to_list}
 use Rattle.std.proofs.lemmas.List.{length_push, length-drop}
+use Rattle.std.proofs.lemmas.List.{take_all}
 use Rattle.pl_file.specs.Rows.{Row, AreEmpty}
+use Rattle.std.specs.Prelude.{vec_len}
+use Rattle.pl_file.proofs.Chunking.{zero-len}
 use Rattle.pl_file.proofs.Splitting.{empty-left, empty-right, adding-first, adding-next, adding-last}
 use Rattle.pl_file.proofs.pieces.push_chunks.Given.{Over}
 use Rattle.pl_file.proofs.pieces.push_chunks.Goals.{After-unwrap-front}
@@ -21,9 +24,9 @@ pub loop-pieces-init : goal.loop-pieces-init
 loop-pieces-init g c = record {
   adding = adding-first c.args.rows.now.items c.args.row;
   some = c.requires.some;
-  empty = c.requires.empty;
-  enough = c.requires.enough;
-  room = c.requires.room;
+  empty = c.requires.ready.empty;
+  enough = c.requires.ready.enough;
+  room = c.requires.ready.list;
 }
 
 pub take_front-requires-clause-none : goal.take_front-requires-clause-none
@@ -53,19 +56,31 @@ loop-pieces-preserved g c =
     let v = c.len.ensures.value in
     let s = ap length (shape g k) in
     let n = length_push ps c.unwrap-front.result in
-    let a = ap length c.push_reserved.ensures.items in
+    let a = ap length c.push_reserved-in-loop-pieces.ensures.items in
     let m = length_push c.loop-pieces.rows.items c.take_front.new.self in
     record {
-      adding = adding-next inv.adding c.push_reserved.new.self.items c.take_front.new.self c.take_front.new.row 128 c.push_reserved.ensures.items e.slots e.base e.rest e.rest_base (omega arith) (omega arith) (omega (arith, test, v));
+      adding = adding-next inv.adding c.push_reserved-in-loop-pieces.new.self.items c.take_front.new.self c.take_front.new.row 128 c.push_reserved-in-loop-pieces.ensures.items e.slots e.base e.rest e.rest_base (omega arith) (omega arith) (omega (arith, test, v));
       some = omega (arith, l, d, test, v);
       empty = empty-left ps (c.unwrap-front.result ∷ []) (all g k);
       enough = let f = inv.enough in omega (arith, l, d, s, n, f);
-      room = let r = inv.room in let cap = c.push_reserved.ensures.capacity in omega (arith, s, n, a, m, r, cap);
+      room = let r = inv.room in let cap = c.push_reserved-in-loop-pieces.ensures.capacity in omega (arith, s, n, a, m, r, cap);
     }
+
+pub returns-then-is_empty : goal.returns-then-is_empty
+returns-then-is_empty g c =
+    let z = zero-len (vec_len c.args.pieces.rows) c.if-is_empty.ensures in
+    let ok = c.args.pieces.rows.ok.0 in
+    adding-last (adding-first c.args.rows.now.items c.args.row) c.push_reserved.new.self.items c.shrink.new.self c.push_reserved.ensures.items c.shrink.ensures.slots c.shrink.ensures.base c.requires.some
+    (omega (arith, z, ok, c.requires.ready.enough))
 
 pub returns : goal.returns
 returns g c =
     let inv = c.loop-pieces.invariant in
-    let v = c.len.ensures.value in
+    let row = c.loop-pieces.row in
+    let e = c.take_front-2.ensures in
+    let v = c.len-left.ensures.value in
+    let w = c.len.ensures.value in
     let test = c.loop-pieces-test.false in
-    adding-last inv.adding c.push_reserved-2.new.self.items c.shrink.new.self c.push_reserved-2.ensures.items c.shrink.ensures.slots c.shrink.ensures.base inv.some (omega (arith, v, test))
+    let all : take c.len-left.result row.slots ≡ row.slots = take_all c.len-left.result row.slots (omega (arith, v)) in
+    adding-last inv.adding c.push_reserved-2.new.self.items c.shrink-2.new.self c.push_reserved-2.ensures.items (c.shrink-2.ensures.slots ∙ e.slots ∙ all) (c.shrink-2.ensures.base ∙ e.base) inv.some
+    (omega (arith, w, test))

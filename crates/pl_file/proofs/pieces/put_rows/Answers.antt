@@ -11,9 +11,9 @@ use Rattle.pl_file.proofs.pieces.put_rows.Goals as goal
 module _ (g : Over) (c : After-shrink g) where
   most : length c.args.middle.slots ≤ most_in_chunk
   most =
-      let z = zero-len (vec_len c.args.pieces) c.if-is_empty.ensures in
-      let ok = c.args.pieces.ok.0 in
-      omega (arith, z, ok, c.requires.enough)
+      let z = zero-len (vec_len c.args.pieces.rows) c.if-is_empty.ensures in
+      let ok = c.args.pieces.rows.ok.0 in
+      omega (arith, z, ok, c.requires.ready.enough)
 
   shape : slice_set c.args.rows.now.items c.args.first c.shrink.new.self ≡ take c.args.first c.args.rows.now.items ++ ((c.shrink.new.self ∷ []) ++ drop c.args.last c.args.rows.now.items)
   shape =

@@ -23,24 +23,24 @@ module _ (g : Over) (c : After-kernel g) where
   abbrev held : (bytes : List ℕ) × (at c.kernel.inside.nodes.files c.args.file ≡ Some bytes)
   held = file_there (view_of c.kernel.inside) c.kernel.invariant.0.whole c.args.key c.args.file on
 
-pub overflow_add-place : goal.overflow_add-place
-overflow_add-place g c =
-    let s = (goal.at.overflow_add-place g c).After-kernel in
+pub overflow_add-offset : goal.overflow_add-offset
+overflow_add-offset g c =
+    let s = (goal.at.overflow_add-offset g c).After-kernel in
     let on = on g s in
     let held = held g s in
-    let is : c.in_ok-bytes.bytes.items ≡ take c.args.n (drop c.offset-place.result held.0) = subst (λ o. IfSome o (λ bytes. c.in_ok-bytes.bytes.items ≡ take c.args.n (drop c.offset-place.result bytes))) held.1 c.in_ok-bytes.ensures in
+    let is : c.in_ok-bytes.bytes.items ≡ take c.args.n (drop c.place_in_file.result held.0) = subst (λ o. IfSome o (λ bytes. c.in_ok-bytes.bytes.items ≡ take c.args.n (drop c.place_in_file.result bytes))) held.1 c.in_ok-bytes.ensures in
     let len : c.file_len-len.result ≡ length held.0 = subst (λ o. IfSome o (λ bytes. c.file_len-len.result ≡ length bytes)) held.1 c.file_len-len.ensures.value in
-    let fits = read-fits c.offset-place.result c.args.n held.0 c.in_ok-bytes.bytes.items is (omega (arith, len, c.file_len-len.ensures.few)) c.offset-place.type_inv in
-    omega (arith, fits.1, c.len.ensures)
+    let fits = read-fits c.place_in_file.result c.args.n held.0 c.in_ok-bytes.bytes.items is (omega (arith, len, c.file_len-len.ensures.few)) c.place_in_file.type_inv in
+    omega (arith, fits.1, c.len.ensures, c.place_in_file.ensures)
 
 pub unwrap-requires : goal.unwrap-requires
 unwrap-requires g c =
     let s = (goal.at.unwrap-requires g c).After-kernel in
     let on = on g s in
     let held = held g s in
-    let is : c.in_ok-bytes.bytes.items ≡ take c.args.n (drop c.offset-place.result held.0) = subst (λ o. IfSome o (λ bytes. c.in_ok-bytes.bytes.items ≡ take c.args.n (drop c.offset-place.result bytes))) held.1 c.in_ok-bytes.ensures in
+    let is : c.in_ok-bytes.bytes.items ≡ take c.args.n (drop c.place_in_file.result held.0) = subst (λ o. IfSome o (λ bytes. c.in_ok-bytes.bytes.items ≡ take c.args.n (drop c.place_in_file.result bytes))) held.1 c.in_ok-bytes.ensures in
     let len : c.file_len-len.result ≡ length held.0 = subst (λ o. IfSome o (λ bytes. c.file_len-len.result ≡ length bytes)) held.1 c.file_len-len.ensures.value in
-    let fits = read-fits c.offset-place.result c.args.n held.0 c.in_ok-bytes.bytes.items is (omega (arith, len, c.file_len-len.ensures.few)) c.offset-place.type_inv in
+    let fits = read-fits c.place_in_file.result c.args.n held.0 c.in_ok-bytes.bytes.items is (omega (arith, len, c.file_len-len.ensures.few)) c.place_in_file.type_inv in
     c.from_vec.ensures.fits.1 fits.0
 
 pub invariant_of-kernel : goal.invariant_of-kernel
@@ -57,15 +57,16 @@ returns-clause-done g c =
     let s = (goal.at.returns-clause-done g c).After-kernel in
     let on = on g s in
     let held = held g s in
-    let is : c.in_ok-bytes.bytes.items ≡ take c.args.n (drop c.offset-place.result held.0) = subst (λ o. IfSome o (λ bytes. c.in_ok-bytes.bytes.items ≡ take c.args.n (drop c.offset-place.result bytes))) held.1 c.in_ok-bytes.ensures in
+    let is : c.in_ok-bytes.bytes.items ≡ take c.args.n (drop c.place_in_file.result held.0) = subst (λ o. IfSome o (λ bytes. c.in_ok-bytes.bytes.items ≡ take c.args.n (drop c.place_in_file.result bytes))) held.1 c.in_ok-bytes.ensures in
     let given : c.unwrap.result ≡ c.in_ok-bytes.bytes.items = subst (λ o. IfSome o (λ made. made ≡ c.in_ok-bytes.bytes.items)) c.unwrap.ensures c.from_vec.ensures.list in
-    let said : Some on.opened.offset ≡ Some c.offset-place.result = sym (ap (option_map (λ (x : Opened). x.offset)) on.here) ∙ c.offset-place.ensures in
-    let place : on.opened.offset ≡ c.offset-place.result = cc in
+    let said : Some on.opened.offset ≡ Some c.offset-offset.result = sym (ap (option_map (λ (x : Opened). x.offset)) on.here) ∙ c.offset-offset.ensures in
+    let offset : on.opened.offset ≡ c.offset-offset.result = cc in
+    let place : on.opened.offset ≡ c.place_in_file.result = offset ∙ sym c.place_in_file.ensures in
     let k = view_of c.kernel.inside in
     let new = view_of (record c.kernel.inside { descs = c.set_offset.new.self }) in
     let len : c.len.result ≡ length c.in_ok-bytes.bytes.items = omega (arith, c.len.ensures) in
     let moved : at new.opened ≡ change_at c.args.key (λ x. record x { offset = on.opened.offset + length c.unwrap.result }) (at k.opened) =
-    c.set_offset.ensures.opened ∙ ap (λ n. change_at c.args.key (λ (x : Opened). record x { offset = n }) (at k.opened)) ((λ i. sym place i + len i) ∙ ap (λ z. on.opened.offset + length z) (sym given)) in
+    c.set_offset.ensures.opened ∙ ap (λ n. change_at c.args.key (λ (x : Opened). record x { offset = n }) (at k.opened)) ((λ i. sym offset i + len i) ∙ ap (λ z. on.opened.offset + length z) (sym given)) in
     subst (λ z. ReadsFile z c.args.key c.args.file c.args.n c.unwrap.result new) c.kernel.view_is (record {
       read = say_file k c.args.key c.args.file on.opened held.0 (λ o held. c.unwrap.result ≡ take c.args.n (drop o.offset held)) on.here held.1 (given ∙ is ∙ ap (λ z. take c.args.n (drop z held.0)) (sym place));
       opened = say_file k c.args.key c.args.file on.opened held.0 (λ o held. at new.opened ≡ change_at c.args.key (λ x. record x { offset = o.offset + length c.unwrap.result }) (at k.opened)) on.here held.1 moved;

@@ -24,18 +24,18 @@ module _ (g : Over) (c : After-kernel g) where
   abbrev held : (bytes : List ℕ) × (at c.kernel.inside.nodes.files c.args.file ≡ Some bytes)
   held = file_there (view_of c.kernel.inside) c.kernel.invariant.0.whole c.args.key c.args.file on
 
-pub overflow_add-place : goal.overflow_add-place
-overflow_add-place g c =
-    let s = (goal.at.overflow_add-place g c).After-kernel in
+pub overflow_add-offset : goal.overflow_add-offset
+overflow_add-offset g c =
+    let s = (goal.at.overflow_add-offset g c).After-kernel in
     let held = held g s in
     let n = length c.args.into.now in
     let count = c.read_file_into-read.result in
     let read = take count c.read_file_into-read.new.into in
-    let is : read ≡ take n (drop c.offset-place.result held.0) = subst (λ o. IfSome o (λ bytes. read ≡ take n (drop c.offset-place.result bytes))) held.1 c.read_file_into-read.ensures.bytes in
+    let is : read ≡ take n (drop c.place_in_file.result held.0) = subst (λ o. IfSome o (λ bytes. read ≡ take n (drop c.place_in_file.result bytes))) held.1 c.read_file_into-read.ensures.bytes in
     let len : c.file_len-len.result ≡ length held.0 = subst (λ o. IfSome o (λ bytes. c.file_len-len.result ≡ length bytes)) held.1 c.file_len-len.ensures.value in
     let many = length-take-le count c.read_file_into-read.new.into c.read_file_into-read.ensures.most in
-    let fits = read-fits c.offset-place.result n held.0 read is (omega (arith, len, c.file_len-len.ensures.few)) c.offset-place.type_inv in
-    omega (arith, fits.1, many)
+    let fits = read-fits c.place_in_file.result n held.0 read is (omega (arith, len, c.file_len-len.ensures.few)) c.place_in_file.type_inv in
+    omega (arith, fits.1, many, c.place_in_file.ensures)
 
 pub invariant_of-kernel : goal.invariant_of-kernel
 invariant_of-kernel g c =
@@ -54,14 +54,15 @@ returns-clause-done g c =
     let n = length c.args.into.now in
     let count = c.read_file_into-read.result in
     let read = take count c.read_file_into-read.new.into in
-    let is : read ≡ take n (drop c.offset-place.result held.0) = subst (λ o. IfSome o (λ bytes. read ≡ take n (drop c.offset-place.result bytes))) held.1 c.read_file_into-read.ensures.bytes in
-    let said : Some on.opened.offset ≡ Some c.offset-place.result = sym (ap (option_map (λ (x : Opened). x.offset)) on.here) ∙ c.offset-place.ensures in
-    let place : on.opened.offset ≡ c.offset-place.result = cc in
+    let is : read ≡ take n (drop c.place_in_file.result held.0) = subst (λ o. IfSome o (λ bytes. read ≡ take n (drop c.place_in_file.result bytes))) held.1 c.read_file_into-read.ensures.bytes in
+    let said : Some on.opened.offset ≡ Some c.offset-offset.result = sym (ap (option_map (λ (x : Opened). x.offset)) on.here) ∙ c.offset-offset.ensures in
+    let offset : on.opened.offset ≡ c.offset-offset.result = cc in
+    let place : on.opened.offset ≡ c.place_in_file.result = offset ∙ sym c.place_in_file.ensures in
     let k = view_of c.kernel.inside in
     let new = view_of (record c.kernel.inside { descs = c.set_offset.new.self }) in
     let len : count ≡ length read = sym (length-take-le count c.read_file_into-read.new.into c.read_file_into-read.ensures.most) in
     let moved : at new.opened ≡ change_at c.args.key (λ x. record x { offset = on.opened.offset + length read }) (at k.opened) =
-    c.set_offset.ensures.opened ∙ ap (λ n. change_at c.args.key (λ (x : Opened). record x { offset = n }) (at k.opened)) (λ i. sym place i + len i) in
+    c.set_offset.ensures.opened ∙ ap (λ n. change_at c.args.key (λ (x : Opened). record x { offset = n }) (at k.opened)) (λ i. sym offset i + len i) in
     subst (λ z. ReadsFile z c.args.key c.args.file n read new) c.kernel.view_is (record {
       read = say_file k c.args.key c.args.file on.opened held.0 (λ o held. read ≡ take n (drop o.offset held)) on.here held.1 (is ∙ ap (λ z. take n (drop z held.0)) (sym place));
       opened = say_file k c.args.key c.args.file on.opened held.0 (λ o held. at new.opened ≡ change_at c.args.key (λ x. record x { offset = o.offset + length read }) (at k.opened)) on.here held.1 moved;

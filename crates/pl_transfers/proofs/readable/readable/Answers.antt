@@ -29,7 +29,8 @@ returns-in-Pipe g c =
 pub returns-in-File : goal.returns-in-File
 returns-in-File g c =
     let v = (goal.at.returns-in-File g c).After-node in
-    let told : Some (here g v).0.offset ≡ Some c.offset-place.result = sym (ap (option_map (λ (x : Opened). x.offset)) (here g v).1) ∙ c.offset-place.ensures in
-    let place : (here g v).0.offset ≡ c.offset-place.result = cc in
+    let told : Some (here g v).0.offset ≡ Some c.offset.result = sym (ap (option_map (λ (x : Opened). x.offset)) (here g v).1) ∙ c.offset.ensures in
+    let offset : (here g v).0.offset ≡ c.offset.result = cc in
+    let place : (here g v).0.offset ≡ c.place_in_file-place.result = offset ∙ sym c.place_in_file-place.ensures in
     let found = readable-file (k g v) c.kernel.invariant.0.whole c.args.key (here g v).0 (here g v).1 c.in-File.file (on g v ∙ c.in-File.is) c.file_len.result c.file_len.ensures.value in
     rw (← c.kernel.view_is) (subst (AreReadable (k g v) c.args.key) (ap (λ n. c.file_len.result - n) place ∙ sym c.saturating_sub.ensures) found)

@@ -1,4 +1,4 @@
-use Rattle.std.proofs.Common.{◌≡◌, ◌∙◌, ap, subst, take, length, rules, w32, SFits, arith}
+use Rattle.std.proofs.Common.{◌∙◌, ap, subst, length, rules, w32, SFits, arith}
 use Rattle.std.proofs.lemmas.Int.{to_z-of_z}
 use Rattle.std.proofs.lemmas.List.{length-take}
 use Rattle.pl_model.specs.Numbers.{most_bytes}

@@ -1,7 +1,7 @@
-use Rattle.std.proofs.Common.{◌≡◌, ◌≤◌, ◌-◌, ◌+◌, List, ap, inl, inr, length, arith}
+use Rattle.std.proofs.Common.{◌≡◌, ◌≤◌, ◌+◌, List, ap, inl, inr, length, arith}
 use Rattle.std.specs.Prelude.{slice_index_or}
 use Rattle.std.proofs.lemmas.Bool.{cases_lt}
-use Rattle.pl_file.specs.Rows.{Row, Chunks, slots_in}
+use Rattle.pl_file.specs.Rows.{Row, Chunks, left_from, slots_in}
 use Rattle.pl_file.proofs.Chunking.{length-lens, len-in, index-less}
 use Rattle.pl_file.proofs.chunks.Chunks.replace.Given.{Over}
 use Rattle.pl_file.proofs.chunks.Chunks.replace.Goals.{After-add_front}
@@ -9,11 +9,11 @@ use Rattle.pl_file.proofs.chunks.Chunks.replace.Goals as goal
 
 -- the slots with those that stay before them have room for those that stay behind
 module _ (g : Over) (c : After-add_front g) (rows : List Row) (same : rows ≡ c.self.inside.rows.items) where
-  fits : length c.add_front.new.middle.slots + (length (slots_in rows c.args.end.chunk) - c.args.end.at) ≤ c.args.patch.capacity
+  fits : length c.add_front.new.middle.slots + left_from (length (slots_in rows c.args.end.chunk)) c.args.end.at ≤ c.args.patch.capacity
   fits =
-      let s = len-in c.self.inside.rows.items c.args.end.chunk in
-      let d = ap (λ (rs : List Row). length (slots_in rs c.args.end.chunk)) same in
-      let v = ap (λ (v : Chunks). slice_index_or v.lens c.args.end.chunk 0) c.self.view_is in
+      let s = ap (λ n. left_from n c.args.end.at) (len-in c.self.inside.rows.items c.args.end.chunk) in
+      let d = ap (λ (rs : List Row). left_from (length (slots_in rs c.args.end.chunk)) c.args.end.at) same in
+      let v = ap (λ (v : Chunks). left_from (slice_index_or v.lens c.args.end.chunk 0) c.args.end.at) c.self.view_is in
       omega (arith, s, d, v, c.add_front.ensures.many, c.requires.room)
 
 pub add_rest-last-requires-clause-room : goal.add_rest-last-requires-clause-room
@@ -33,15 +33,18 @@ put_rows-requires-clause-order g c =
       | inr l ↦ omega (arith, l, from)
     ]
 
-pub put_rows-requires-clause-enough : goal.put_rows-requires-clause-enough
-put_rows-requires-clause-enough g c =
-    let k = (goal.at.put_rows-requires-clause-enough g c).After-add_front in
+pub put_rows-requires-clause-ready : goal.put_rows-requires-clause-ready
+put_rows-requires-clause-ready g c =
+    let k = (goal.at.put_rows-requires-clause-ready g c).After-add_front in
     let f = fits g k c.deref-2.result.now c.deref-2.ensures.value in
-    omega (arith, f, c.add_rest-last.ensures.many, c.requires.ready.enough)
-
-pub put_rows-requires-clause-room : goal.put_rows-requires-clause-room
-put_rows-requires-clause-room g c =
     let n = length-lens c.self.inside.rows.items in
     let v = ap (λ (v : Chunks). length v.lens) c.self.view_is in
     let r = ap (λ (v : Chunks). v.room) c.self.view_is in
-    omega (arith, n, v, r, c.requires.ready.list)
+    let ready = c.requires.ready in
+    record {
+      empty = ready.empty;
+      none = ready.none;
+      whole = ready.whole;
+      enough = omega (arith, f, c.add_rest-last.ensures.many, ready.enough);
+      list = omega (arith, n, v, r, ready.list);
+    }

@@ -13,6 +13,8 @@ returns-clause-ready g c =
     let p = pieces.len in
     record {
       empty = pieces.empty;
+      none = pieces.none;
+      whole = λ some. pieces.last (omega (arith, p, some));
       enough = omega (arith, e, p);
       list = omega (arith, ok, n, len, p);
     }
