@@ -1,8 +1,10 @@
 pub mod Placed
 pub mod Chunking
 pub mod Splitting
+pub mod Swapping
 pub mod Joining
 pub mod Cutting
 pub mod Patching
 pub mod Editing
 pub mod Opening
+pub mod Compacting

@@ -190,14 +190,6 @@ module _ (rs ms : List Row) (middle : Row) (first last : ℕ) (slots : flat ms �
       chunks-mixed rs ms first last ok (subst (λ k. AreChunks k ms) starts are)
       (λ l. let e = ends l in let s = ap total slots in omega (arith, e, s, starts))
 
--- one row alone is a chunk
-module _ (r middle : Row) (slots : r.slots ≡ middle.slots) (base : r.base ≡ middle.base) (some : 1 ≤ length middle.slots) (most : length middle.slots ≤ most_in_chunk) where
-  pub alone-slots : flat (r ∷ []) ≡ middle.slots
-  alone-slots = append-nil r.slots ∙ slots
-
-  pub alone-chunk : AreChunks middle.base (r ∷ [])
-  alone-chunk = let n = ap length slots in (record { base = base; some = omega (arith, n, some); most = omega (arith, n, most) }, tt)
-
 -- what is added behind some, and moved to its place among them
 pub moved-added : {X : Type 0} (xs ms : List X) (first last len : ℕ) → len ≡ length xs → first ≤ length xs →
     take first (xs ++ ms) ++ (drop len (xs ++ ms) ++ drop last (take len (xs ++ ms))) ≡ take first xs ++ (ms ++ drop last xs)

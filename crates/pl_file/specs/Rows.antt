@@ -43,7 +43,7 @@ slots_in [] c = []
 slots_in (r ∷ rs) zero = r.slots
 slots_in (r ∷ rs) (suc c) = slots_in rs c
 
--- the most slots of a chunk, and how many go into a chunk of their own where there are more
+-- the most slots of a chunk, and how many are cut off at most as a chunk of their own
 abbrev pub most_in_chunk : ℕ
 most_in_chunk = 256
 
@@ -104,7 +104,7 @@ pub record AreReady (room count capacity : ℕ) (pieces : List Row) (end : Row) 
   pub empty : AreEmpty pieces
   pub none : end.slots ≡ []
   pub whole : 1 ≤ length pieces → most_in_chunk ≤ end.capacity
-  pub enough : capacity ≤ most_in_chunk + piece * length pieces
+  pub enough : capacity ≤ piece + piece * length pieces
   pub list : count + length pieces + 1 ≤ room
 
 -- the rows became these and others behind them, which have the slots of one row

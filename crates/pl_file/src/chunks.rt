@@ -1,5 +1,5 @@
 //! The slots of a file, in chunks.
-ghost use Rattle.std.specs.Prelude.{◌≡◌, ℕ, ◌+◌, ◌-◌, ◌*◌, ◌<◌, ◌≤◌, ◌^◌, nat_lt, ◌++◌, [], ◌∷◌, length, take, drop, slice_get, slice_index_or, Some, IfOk};
+ghost use Rattle.std.specs.Prelude.{◌≡◌, ℕ, ◌+◌, ◌-◌, ◌*◌, ◌<◌, ◌≤◌, ◌^◌, nat_lt, ◌++◌, [], ◌∷◌, length, take, drop, slice_get, slice_index_or, Some, IfOk, IfSome};
 ghost use Rattle.pl_segments.specs.declared.slice.Slice.{Slice as Part};
 ghost use Rattle.pl_segments.specs.Slots.{total};
 ghost use Rattle.pl_file.specs.Rows.{Row as Slots, most_in_chunk, left_from, index, IsSpot, staying, AreReady};
@@ -12,8 +12,9 @@ use std::alloc::Allocator;
 use std::marker::Model;
 
 /// Slots one behind the other from the place 0 on, in chunks of at most 256, none of which is empty. So a change moves the slots
-/// of the chunks that it touches, and where the number of chunks changes the list of the chunks behind them. A chunk that is
-/// one of several has 128 bytes or more: it was cut off with as many slots, or took the place of one that had as many bytes.
+/// of the chunks that it touches. It moves the list of the chunks behind them only if it makes chunks more or fewer, which is rare:
+/// see `put_rows`. A chunk that is one of several has 64 bytes or more: it was cut off with as many slots, or took the place of
+/// chunks that had as many bytes.
 #[derive(Drop)]
 pub(crate) struct Chunks<A: Allocator> {
     rows: Vec<Row<A>, A>,
@@ -141,6 +142,23 @@ impl<A: Allocator + Copy> Chunks<A> {
                 at: 0,
             }
         }
+    }
+
+    /// The slots of the chunk at a place, if they are scattered, but its first and its last: the first of these, and the slot behind them.
+    pub(crate) fn scattered(&self, place: usize) -> Option<(Spot, Spot)>
+        requires some { 1 ≤ length self.now.slots }
+        ensures first { IfSome result (λ range. IsSpot self.now range.0) }
+        ensures end { IfSome result (λ range. IsSpot self.now range.1) }
+        ensures order { IfSome result (λ range. index self.now range.0 < index self.now range.1) }
+        ensures within { IfSome result (λ range. index self.now range.1 < length self.now.slots) }
+    {
+        let chunk = last_up_to(&self.rows, place);
+        let row = &self.rows[chunk];
+        if !row.is_scattered() {
+            return None;
+        }
+        let last = row.len() - 1;
+        Some((Spot { chunk, at: 1 }, Spot { chunk, at: last }))
     }
 
     /// Whether one slot stands before another.

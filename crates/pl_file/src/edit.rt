@@ -10,6 +10,7 @@ ghost use Rattle.pl_file.specs.Joined.{between};
 ghost use Rattle.pl_file.specs.File.{written};
 
 use crate::chunks::Chunks;
+use crate::compact::compact;
 use crate::cut::{Cut, front_cut, rest_cut};
 use crate::patch::{hold_part, join_part, put_bytes, put_slices, put_zeros, release_range};
 use crate::pieces::Pieces;
@@ -48,7 +49,7 @@ fn open<A: Allocator + Copy>(
     requires slots { slots < 2 ^ 60 }
     requires segments { segments < 2 ^ 60 }
     requires held { Holds (segment_at store.old) chunks.old.slots }
-    requires few { (key : ℕ) → holders (segment_at store.old) key < 2 ^ 100 }
+    requires few { (key : ℕ) → holders (segment_at store.old) key < 2 ^ 101 }
     ensures turns { IfOk result (λ o. Turns (segment_at store.old) [] (segment_at store.new) o.patch.slots) }
     ensures read { IfOk result (λ o. all_read (segment_at store.old) (take (index chunks.old o.first) chunks.old.slots) ++ all_read (segment_at store.new) o.patch.slots ≡ take place (all_read (segment_at store.old) chunks.old.slots) ++ replicate (place - total chunks.old.slots) 0) }
     ensures front { IfOk result (λ o. place ≤ total chunks.old.slots → take (index chunks.old o.first) chunks.old.slots ++ o.patch.slots ≡ front_of place chunks.old.slots) }
@@ -120,8 +121,8 @@ fn close<A: Allocator + Copy>(
     chunks.replace(first, end, patch, pieces);
 }
 
-/// Writes bytes at a place: at the end into the last slot's segment, where all fit there, and else into new segments. An error leaves
-/// all as it was.
+/// Writes bytes at a place: at the end into the last slot's segment, where all fit there, and else into new segments, after which the
+/// slots around the place are copied together if they are scattered. An error leaves all as it was.
 pub(crate) fn write<A: Allocator + Copy>(
     alloc: A,
     store: &mut Store<A>,
@@ -147,14 +148,15 @@ pub(crate) fn write<A: Allocator + Copy>(
 {
     if place == chunks.end() && bytes.len() <= tail_room(store, chunks) {
         grow_tail(store, chunks, bytes);
-    } else {
-        overwrite(alloc, store, chunks, place, bytes)?;
+        return Ok(());
     }
+    overwrite(alloc, store, chunks, place, bytes)?;
+    compact(alloc, store, chunks, place);
     Ok(())
 }
 
 /// Writes bytes at a place, in new segments. An error leaves all as it was.
-fn overwrite<A: Allocator + Copy>(
+pub(crate) fn overwrite<A: Allocator + Copy>(
     alloc: A,
     store: &mut Store<A>,
     chunks: &mut Chunks<A>,
@@ -167,7 +169,7 @@ fn overwrite<A: Allocator + Copy>(
     requires fits { place + length bytes.now ≤ most_file_bytes }
     requires some { 1 ≤ length bytes.now }
     requires held { Holds (segment_at store.old) chunks.old.slots }
-    requires few { (key : ℕ) → holders (segment_at store.old) key < 2 ^ 100 }
+    requires few { (key : ℕ) → holders (segment_at store.old) key < 2 ^ 101 }
     ensures turns { OnOk result (Turns (segment_at store.old) chunks.old.slots (segment_at store.new) chunks.new.slots) }
     ensures read { OnOk result (all_read (segment_at store.new) chunks.new.slots ≡ written place bytes.now (all_read (segment_at store.old) chunks.old.slots)) }
     ensures solid { OnOk result (AllSolid chunks.new.slots) }

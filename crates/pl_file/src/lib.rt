@@ -2,6 +2,7 @@
 #![tactic(auto)]
 
 mod chunks;
+mod compact;
 mod cut;
 mod edit;
 mod fault;

@@ -11,8 +11,8 @@ use std::alloc::Allocator;
 /// The most slots of a chunk.
 const MOST_IN_CHUNK: usize = 256;
 
-/// How many slots go into a chunk of their own where there are more than that: a half, so that a chunk that was cut off takes as many
-/// more before it is cut.
+/// How many slots are cut off at most as a chunk of their own: a half, so that a chunk that was cut off takes as many more before it
+/// is cut. Several chunks become one if they have no more slots than this: a chunk that came of several takes as many more, too.
 const PIECE: usize = 128;
 
 /// Memory for the chunks that a row becomes, where it may have too many slots for one: rows of no slots with memory for a piece each,
@@ -74,12 +74,12 @@ fn empty_rows<A: Allocator + Copy>(alloc: A, count: usize) -> Result<Vec<Row<A>,
     Ok(rows)
 }
 
-/// How many chunks take so many slots, but for the one that has the last of them.
+/// How many chunks are cut off so many slots at most.
 pub(crate) fn pieces_for(capacity: usize) -> usize
-    ensures enough { capacity ≤ most_in_chunk + piece * result }
+    ensures enough { capacity ≤ piece + piece * result }
     ensures most { result ≤ capacity }
 {
-    capacity.saturating_sub(PIECE + 1) / PIECE
+    capacity.saturating_sub(1) / PIECE
 }
 
 /// Puts before a row the slots of a spot's chunk that stand before it there. There is room for them.
@@ -125,8 +125,12 @@ pub(crate) fn add_rest<A: Allocator>(rows: &[Row<A>], spot: Spot, middle: &mut R
     spot.chunk + 1
 }
 
-/// Puts a row in the place of those from `first` to before `last`, cut into chunks where it has too many slots for one. There is
-/// memory for it. It takes none.
+/// Puts a row in the place of those from `first` to before `last`, cut into chunks if it has too many slots for one. There is memory
+/// for it. It takes none.
+///
+/// In the place of one chunk stands one while the slots fit. In the place of several stand two at least, unless a piece takes all
+/// slots. So one chunk more comes only where the chunks that are cut have 128 slots more than a piece each, and a chunk goes without
+/// any having more than a piece. The number of chunks, with which the list moves, thus changes at most once for 64 slots that come.
 pub(crate) fn put_rows<A: Allocator + Copy>(
     rows: &mut Vec<Row<A>, A>,
     first: usize,
@@ -144,20 +148,26 @@ pub(crate) fn put_rows<A: Allocator + Copy>(
     ensures slots { flat rows.new.items ≡ flat (take first rows.old.items) ++ (middle.slots ++ flat (drop last rows.old.items)) }
     ensures chunks { AreChunks 0 rows.new.items }
 {
-    if pieces.rows.is_empty() && last == first + 1 {
-        let mut middle = middle;
-        middle.shrink();
-        rows[first] = middle;
-        return;
-    }
+    let most = if last - first <= 1 {
+        MOST_IN_CHUNK
+    } else {
+        PIECE
+    };
     let len = rows.len();
-    push_chunks(rows, middle, pieces);
+    push_chunks(rows, middle, pieces, most);
     move_last(rows, first, last, len);
 }
 
-/// Adds a row behind others, cut into chunks where it has too many slots for one. There is memory for it. It takes none.
-fn push_chunks<A: Allocator + Copy>(rows: &mut Vec<Row<A>, A>, row: Row<A>, pieces: Pieces<A>)
+/// Adds a row behind others, cut into chunks if it has more slots than `most`. There is memory for it. It takes none.
+fn push_chunks<A: Allocator + Copy>(
+    rows: &mut Vec<Row<A>, A>,
+    row: Row<A>,
+    pieces: Pieces<A>,
+    most: usize,
+)
     requires some { 1 ≤ length row.slots }
+    requires least { piece ≤ most }
+    requires most { most ≤ most_in_chunk }
     requires ready { AreReady (vec_capacity rows.old) (length rows.old.items) (length row.slots) pieces.rows.items pieces.last }
     ensures { Adds rows.old.items rows.new.items row }
 {
@@ -169,10 +179,14 @@ fn push_chunks<A: Allocator + Copy>(rows: &mut Vec<Row<A>, A>, row: Row<A>, piec
         return;
     }
     let mut pieces = pieces;
-    while MOST_IN_CHUNK < row.len() {
+    let mut most = most;
+    while most < row.len() {
+        let len = row.len();
+        let count = PIECE.min(len - len / 2);
         let mut front = pieces.pop().unwrap();
-        front.take_front(&mut row, PIECE);
+        front.take_front(&mut row, count);
         rows.push_reserved(front);
+        most = MOST_IN_CHUNK;
     }
     let mut last = last;
     let left = row.len();
@@ -181,7 +195,7 @@ fn push_chunks<A: Allocator + Copy>(rows: &mut Vec<Row<A>, A>, row: Row<A>, piec
     rows.push_reserved(last);
 }
 
-/// Puts the rows from `len` on in the place of those from `first` to before `last`.
+/// Puts the rows from `len` on in the place of those from `first` to before `last`. If they are as many, no other row moves.
 fn move_last<A: Allocator>(rows: &mut Vec<Row<A>, A>, first: usize, last: usize, len: usize)
     requires order { first ≤ last }
     requires last { last ≤ len }
@@ -190,10 +204,27 @@ fn move_last<A: Allocator>(rows: &mut Vec<Row<A>, A>, first: usize, last: usize,
 {
     let gone = last - first;
     let added = rows.len() - len;
+    if added == gone {
+        swap_last(rows, first, last);
+        return;
+    }
     rotate(rows, first, len);
     rotate(rows, first + added, last + added);
     let left = rows.len() - gone;
     rows.truncate(left);
+}
+
+/// Puts the last rows in the place of as many, of those from `first` to before `last`.
+fn swap_last<A: Allocator>(rows: &mut Vec<Row<A>, A>, first: usize, last: usize)
+    requires order { first ≤ last }
+    requires most { last + (last - first) ≤ length rows.old.items }
+    ensures { rows.new.items ≡ take first rows.old.items ++ (drop (length rows.old.items - (last - first)) rows.old.items ++ drop last (take (length rows.old.items - (last - first)) rows.old.items)) }
+{
+    let mut place = last;
+    while first < place {
+        place -= 1;
+        rows.swap_remove(place);
+    }
 }
 
 /// Puts the rows from `last` on before those from `first` to before `last`.

@@ -1,15 +1,19 @@
 //! Slots in a row, each with the place where it starts.
-ghost use Rattle.std.specs.Prelude.{◌≡◌, ◌+◌, ◌-◌, ◌<◌, ◌≤◌, ◌^◌, ◌++◌, [], ◌∷◌, length, take, drop, slice_get, Some, IfOk, OnOk, vec_len, vec_capacity};
+ghost use Rattle.std.specs.Prelude.{◌≡◌, ◌+◌, ◌-◌, ◌*◌, ◌/◌, nat_lt, ◌<◌, ◌≤◌, ◌^◌, ◌++◌, [], ◌∷◌, length, take, drop, slice_get, Some, IfOk, OnOk, vec_len, vec_capacity};
+ghost use Rattle.pl_segments.specs.Segments.{segment_size};
 ghost use Rattle.pl_segments.specs.Slots.{total, last_len};
 ghost use Rattle.pl_file.specs.Rows.{placed, slots_of};
 ghost use Rattle.pl_file.specs.declared.row.Entry.{Entry as Placed};
 
-use pl_segments::{NoMemory, Slice};
+use pl_segments::{NoMemory, SEGMENT_SIZE, Slice};
 use std::alloc::Allocator;
 use std::marker::Model;
 
 /// For how many slots more than twice those that it has a row may keep memory, once it stands in a file.
 const SPARE: usize = 16;
+
+/// How many slots a row may have beside two for each 4,096 bytes before they count as scattered.
+const FEW: usize = 64;
 
 /// A slot, and the place of its first byte.
 #[derive(Clone, Copy, Debug, PartialEq, Eq)]
@@ -85,6 +89,13 @@ impl<A: Allocator> Row<A> {
         ensures { result ≡ self.now.base + total self.now.slots }
     {
         self.end
+    }
+
+    /// Whether the slots are scattered: more than two for each 4,096 bytes, and 64 beside them.
+    pub(crate) fn is_scattered(&self) -> bool
+        ensures { result ≡ nat_lt (2 * (total self.now.slots / segment_size) + 64) (length self.now.slots) }
+    {
+        2 * ((self.end - self.base) / SEGMENT_SIZE) + FEW < self.entries.len()
     }
 
     /// A slot.

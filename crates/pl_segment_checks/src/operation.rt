@@ -62,6 +62,14 @@ pub(crate) enum Operation {
 }
 
 impl Operation {
+    /// Whether it writes bytes to the file.
+    pub(crate) fn is_write(self) -> bool {
+        matches!(
+            self,
+            Operation::Write(_, _) | Operation::WriteThese(_, _) | Operation::Backwards(_)
+        )
+    }
+
     /// Whether it takes no memory.
     pub(crate) fn takes_none(self) -> bool {
         matches!(

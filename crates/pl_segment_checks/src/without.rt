@@ -7,17 +7,17 @@ use pl_refusing::{MOST_REQUESTS, Refusing};
 use std::alloc::{Allocator, Global};
 use std::test::Fail;
 
-/// Where an operation found memory, no request was refused; and one that is to take none made none since there were so many. It
-/// answers that none was refused.
-fn none_refused(
-    heap: &Refusing<Global>,
-    operation: Operation,
-    requests: u64,
-) -> Result<bool, Fault> {
-    if heap.refused() || operation.takes_none() && heap.requests() != requests {
+/// Where an operation found memory, no request was refused, but one by which a write copies slots together; and one that is to take none
+/// made none since there were so many. It answers whether one was refused.
+fn made(heap: &Refusing<Global>, operation: Operation, requests: u64) -> Result<bool, Fault> {
+    let refused = heap.refused();
+    if refused && !operation.is_write() || operation.takes_none() && heap.requests() != requests {
         return Err(Fault::OtherRequests);
     }
-    Ok(false)
+    if refused {
+        heap.refuse(0);
+    }
+    Ok(refused)
 }
 
 /// Where an operation found no memory all is as it was, with as many segments, and the operation can be made again.
@@ -41,7 +41,7 @@ fn make_again<A: Allocator + Copy>(
     let in_use = watched.in_use();
     let requests = heap.requests();
     match watched.make(operation) {
-        Ok(()) => none_refused(heap, operation, requests),
+        Ok(()) => made(heap, operation, requests),
         Err(Fault::NoMemory) if heap.refused() => {
             heap.refuse(0);
             once_more(watched, operation, in_use)
