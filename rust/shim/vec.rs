@@ -211,6 +211,12 @@ impl<T, A: Allocator> Vec<T, A> {
         self.items.drain(range)
     }
 
+    /// Takes the item at a place out. The last one takes its place.
+    #[inline(always)]
+    pub fn swap_remove(&mut self, place: usize) -> T {
+        self.items.swap_remove(place)
+    }
+
     /// Keeps the first items, at most so many.
     #[inline(always)]
     pub fn truncate(&mut self, len: usize) {

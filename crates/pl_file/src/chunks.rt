@@ -144,21 +144,24 @@ impl<A: Allocator + Copy> Chunks<A> {
         }
     }
 
-    /// The slots of the chunk at a place, if they are scattered, but its first and its last: the first of these, and the slot behind them.
+    /// The chunk at a place, if its slots are scattered: its first slot, and the place behind its last.
     pub(crate) fn scattered(&self, place: usize) -> Option<(Spot, Spot)>
         requires some { 1 ≤ length self.now.slots }
         ensures first { IfSome result (λ range. IsSpot self.now range.0) }
         ensures end { IfSome result (λ range. IsSpot self.now range.1) }
         ensures order { IfSome result (λ range. index self.now range.0 < index self.now range.1) }
-        ensures within { IfSome result (λ range. index self.now range.1 < length self.now.slots) }
+        ensures within { IfSome result (λ range. index self.now range.1 ≤ length self.now.slots) }
     {
         let chunk = last_up_to(&self.rows, place);
-        let row = &self.rows[chunk];
-        if !row.is_scattered() {
+        if !self.rows[chunk].is_scattered() {
             return None;
         }
-        let last = row.len() - 1;
-        Some((Spot { chunk, at: 1 }, Spot { chunk, at: last }))
+        let first = Spot { chunk, at: 0 };
+        let end = Spot {
+            chunk: chunk + 1,
+            at: 0,
+        };
+        Some((first, end))
     }
 
     /// Whether one slot stands before another.

@@ -13,7 +13,7 @@ use std::marker::Model;
 const SPARE: usize = 16;
 
 /// How many slots a row may have beside two for each 4,096 bytes before they count as scattered.
-const FEW: usize = 64;
+const FEW: usize = 16;
 
 /// A slot, and the place of its first byte.
 #[derive(Clone, Copy, Debug, PartialEq, Eq)]
@@ -91,9 +91,9 @@ impl<A: Allocator> Row<A> {
         self.end
     }
 
-    /// Whether the slots are scattered: more than two for each 4,096 bytes, and 64 beside them.
+    /// Whether the slots are scattered: more than two for each 4,096 bytes, and 16 beside them.
     pub(crate) fn is_scattered(&self) -> bool
-        ensures { result ≡ nat_lt (2 * (total self.now.slots / segment_size) + 64) (length self.now.slots) }
+        ensures { result ≡ nat_lt (2 * (total self.now.slots / segment_size) + 16) (length self.now.slots) }
     {
         2 * ((self.end - self.base) / SEGMENT_SIZE) + FEW < self.entries.len()
     }

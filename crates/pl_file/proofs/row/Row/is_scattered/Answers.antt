@@ -10,4 +10,4 @@ returns g c =
     let t = ap (λ (r : Row). total r.slots) c.self.view_is in
     let bytes : c.self.inside.end - c.self.inside.base ≡ total c.args.self.now.slots = omega (arith, e, t) in
     let many : c.len.result ≡ length c.args.self.now.slots = c.len.ensures ∙ count-is c.self.inside c.args.self.now c.self.view_is in
-    (λ i. nat_lt (2 * (bytes i / 4096) + 64) (many i))
+    (λ i. nat_lt (2 * (bytes i / 4096) + 16) (many i))
