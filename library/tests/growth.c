@@ -57,7 +57,8 @@ static void a_splice_of_many_slots(long count)
     DONE(bindingclay_start(clay), 1);
     OTHER(unlink_text(clay, 1, "f"), BINDINGCLAY_DONE);
     OTHER(bindingclay_exit(clay, 1), BINDINGCLAY_DONE);
-    HOLDS(bytes_left <= (MOST_SPARE + 8) * (SEGMENT + 128));
+    /* the table of segments keeps its length */
+    HOLDS(bytes_left <= (MOST_SPARE + 8) * (SEGMENT + 128) + 2 * (count + moved) / SEGMENT * 128);
     bindingclay_free(clay);
     HOLDS(bytes_left == 0);
 }
@@ -104,33 +105,48 @@ static void an_emptied_file(long count)
     bindingclay_free(clay);
 }
 
-/* The seconds of one round: a byte is put into a pipe, and spliced to a place in the front of the file or else written there. */
-static double seconds_of_a_change(bindingclay clay, bool is_written)
+/* A byte is put into a pipe, and spliced to a place of the file or else written there. */
+static void change(bindingclay clay, bool is_written, uint64_t place)
+{
+    if (is_written) {
+        if (bindingclay_lseek(clay, 1, 2, (int64_t)place, SEEK_SET).kind != BINDINGCLAY_DONE || put(clay, 1, 2, "b").value != 1)
+            HOLDS(false);
+    } else if (put(clay, 1, 1, "b").value != 1 || bindingclay_splice(clay, 1, 0, NULL, 2, &place, 1, 0).value != 1)
+        HOLDS(false);
+}
+
+/* The seconds of a change of one byte, at places that lie so far apart: the least of five rounds. */
+static double seconds_of_a_change(bindingclay clay, bool is_written, uint64_t apart)
 {
     enum { ROUNDS = 1000 };
     double least = 1e9;
     for (int run = 0; run < 5; run++) {
         double begun = seconds();
-        for (uint64_t place = 0; place < ROUNDS; place++) {
-            if (is_written) {
-                if (bindingclay_lseek(clay, 1, 2, (int64_t)place, SEEK_SET).kind != BINDINGCLAY_DONE || put(clay, 1, 2, "b").value != 1)
-                    HOLDS(false);
-            } else if (put(clay, 1, 1, "b").value != 1 || bindingclay_splice(clay, 1, 0, NULL, 2, &place, 1, 0).value != 1)
-                HOLDS(false);
-        }
+        for (uint64_t i = 0; i < ROUNDS; i++)
+            change(clay, is_written, i * apart);
         double taken = (seconds() - begun) / ROUNDS;
         least = taken < least ? taken : least;
     }
     return least;
 }
 
+/* The seconds for each slot of writes at places all over a file, which copy its slots together. */
+static double seconds_of_a_sweep(bindingclay clay, long slots)
+{
+    double begun = seconds();
+    for (long place = 0; place < slots; place += 64)
+        change(clay, true, (uint64_t)place);
+    return (seconds() - begun) / (double)slots;
+}
+
 /* The seconds that it takes to move so many bytes by one place. */
 static double seconds_of_a_move(size_t size)
 {
     enum { ROUNDS = 1000 };
-    char *bytes = calloc(size + 1, 1);
+    char *bytes = needed(malloc(size + 1));
+    memset(bytes, 'a', size + 1);
     double least = 1e9;
-    for (int run = 0; bytes != NULL && run < 5; run++) {
+    for (int run = 0; run < 5; run++) {
         double begun = seconds();
         for (int i = 0; i < ROUNDS; i++)
             memmove(bytes + (i & 1), bytes + !(i & 1), size);
@@ -141,26 +157,126 @@ static double seconds_of_a_move(size_t size)
     return least;
 }
 
-/* A change of a file costs what it changes, and at most the list of the chunks behind: 48 bytes for each 128 slots. */
-static void a_change_before_many_slots(long count)
+/* A change of a file costs what it changes, however many slots there are, and wherever it is; and once for 64 slots that come or go the list
+ * of the chunks behind moves: 48 bytes for each 64 slots at most. */
+static void a_change_among_many_slots(long count)
 {
-    enum { CHUNK = 128, ENTRY = 48 };
-    double few[2], many[2];
+    const char *of[] = { "splices into the front", "splices far apart", "writes into the front", "slots copied together" };
+    double taken[2][4];
     for (int i = 0; i < 2; i++) {
-        double *taken = i == 0 ? few : many;
+        long slots = i == 0 ? count / 16 : count;
         bindingclay clay = kernel_with_process();
-        fill_by_bytes(clay, i == 0 ? count / 16 : count);
-        taken[0] = seconds_of_a_change(clay, false);
-        taken[1] = seconds_of_a_change(clay, true);
+        fill_by_bytes(clay, slots);
+        taken[i][0] = seconds_of_a_change(clay, false, 1);
+        taken[i][1] = seconds_of_a_change(clay, false, (uint64_t)slots / 1000 + 1);
+        taken[i][2] = seconds_of_a_change(clay, true, 1);
+        taken[i][3] = seconds_of_a_sweep(clay, slots);
         bindingclay_free(clay);
     }
-    if (count >= LARGE) {
-        double list = seconds_of_a_move((size_t)(count / CHUNK * ENTRY));
-        HOLDS(many[0] < 4 * (few[0] + list));
-        HOLDS(many[1] < 4 * (few[1] + list));
+    double list = seconds_of_a_move((size_t)(count / 64 * 48)) / 64;
+    for (int kind = 0; kind < 4; kind++) {
+        if (count >= LARGE)
+            HOLDS(taken[1][kind] < 4 * (taken[0][kind] + list));
+        printf("%s, of %ld %.0f ns each, of %ld %.0f ns\n", of[kind], count / 16, taken[0][kind] * 1e9, count, taken[1][kind] * 1e9);
     }
-    printf("a splice into the front of %ld slots %.0f ns, of %ld %.0f ns; a write %.0f and %.0f ns\n", count / 16, few[0] * 1e9, count,
-        many[0] * 1e9, few[1] * 1e9, many[1] * 1e9);
+}
+
+/* The byte of a slot of scattered_file. */
+static uint8_t byte_of(long slot)
+{
+    return (uint8_t)('a' + slot % 26);
+}
+
+/* A file f, descriptor 2, of so many slots of a byte, each of which keeps a segment of its own; file g, descriptor 3, shares the first of
+ * these segments. */
+static void scattered_file(bindingclay clay, long slots, long shared)
+{
+    uint8_t *bytes = needed(malloc(SEGMENT));
+    NEW_PIPE(clay, 1, false);
+    DONE(open_text(clay, 1, "f", O_RDWR | O_CREAT), 2);
+    DONE(open_text(clay, 1, "g", O_RDWR | O_CREAT), 3);
+    bindingclay_ends copies = NEW_PIPE(clay, 1, false);
+    for (long i = 0; i < slots; i++) {
+        memset(bytes, byte_of(i), SEGMENT);
+        DONE(bindingclay_write(clay, 1, 1, bytes, SEGMENT), SEGMENT);
+        if (i < shared) {
+            DONE(bindingclay_tee(clay, 1, 0, copies.write_end, 1, 0), 1);
+            DONE(bindingclay_splice(clay, 1, copies.read_end, NULL, 3, NULL, 1, 0), 1);
+        }
+        DONE(bindingclay_splice(clay, 1, 0, NULL, 2, NULL, 1, 0), 1);
+        DONE(take(clay, 1, 0, SEGMENT - 1), SEGMENT - 1);
+    }
+    free(bytes);
+}
+
+/* Whether a file has the bytes of so many slots, of which each at a multiple of `every` was written over by 'Z'; with 0 none was. */
+static bool has_slots(bindingclay clay, const char *name, long slots, long every)
+{
+    uint8_t *into = needed(malloc((size_t)slots + 1));
+    bindingclay_answer got = bindingclay_file_bytes(clay, bytes_of(name), 1, into, (size_t)slots + 1);
+    bool as_wanted = got.kind == BINDINGCLAY_DONE && got.value == (uint64_t)slots;
+    for (long i = 0; as_wanted && i < slots; i++)
+        as_wanted = into[i] == (every != 0 && i % every == 0 ? 'Z' : byte_of(i));
+    free(into);
+    return as_wanted;
+}
+
+/* Writes copy scattered slots together, and so give back the segments that nobody else holds. A file that shares them keeps its bytes. */
+static void writes_that_copy_together(long count)
+{
+    enum { APART = 64, SHARED = 100 };
+    long slots = count / 16;
+    long shared = slots < SHARED ? slots : SHARED;
+    bindingclay clay = kernel_with_process();
+    long before = bytes_left;
+    scattered_file(clay, slots, shared);
+    HOLDS(bytes_left - before >= slots * SEGMENT);
+    for (long place = 0; place < slots; place += APART) {
+        DONE(bindingclay_lseek(clay, 1, 2, place, SEEK_SET), place);
+        DONE(put(clay, 1, 2, "Z"), 1);
+    }
+    HOLDS(has_slots(clay, "f", slots, APART));
+    HOLDS(has_slots(clay, "g", shared, 0));
+    /* two for each 4,096 bytes, 16 for the chunk behind the last write, those of g, and what is spare */
+    HOLDS(bytes_left - before <= (2 * slots / SEGMENT + 16 + shared + MOST_SPARE + 8) * (SEGMENT + 128) + 128 * slots);
+    bindingclay_free(clay);
+    HOLDS(bytes_left == 0);
+}
+
+/* A write in which a request for memory is refused: it changes nothing, or if that would have served to copy slots together it is made
+ * without that. It returns whether a request was refused. */
+static bool a_write_without_memory(long granted, long *passed_over)
+{
+    enum { SLOTS = 200 };
+    bindingclay clay = kernel_with_process();
+    scattered_file(clay, SLOTS, 0);
+    DONE(bindingclay_lseek(clay, 1, 2, 0, SEEK_SET), 0);
+    long blocks = blocks_left;
+    refuse(granted, 1);
+    bindingclay_answer got = put(clay, 1, 2, "Z");
+    refuse_none();
+    bool was_refused = refused != 0;
+    if (got.kind == BINDINGCLAY_NO_MEMORY) {
+        HOLDS(was_refused);
+        HOLDS(blocks_left == blocks);
+        HOLDS(has_slots(clay, "f", SLOTS, 0));
+    } else {
+        DONE(got, 1);
+        HOLDS(has_slots(clay, "f", SLOTS, SLOTS));
+        *passed_over += was_refused;
+    }
+    bindingclay_free(clay);
+    HOLDS(bytes_left == 0);
+    return was_refused;
+}
+
+static void writes_without_memory(void)
+{
+    long granted = 0, passed_over = 0;
+    while (a_write_without_memory(granted, &passed_over))
+        granted++;
+    HOLDS(passed_over >= 2);
+    HOLDS(granted - passed_over >= 2);
 }
 
 /* Bytes that are spliced into a file one by one, one behind the other, are one slot where they go on one where the other ends. */
@@ -228,7 +344,9 @@ int main(int words, char **word)
     a_splice_of_many_slots(count);
     a_splice_without_memory(count);
     an_emptied_file(count);
-    a_change_before_many_slots(count);
+    a_change_among_many_slots(count);
+    writes_that_copy_together(count);
+    writes_without_memory();
     bytes_one_by_one(count);
     an_exit_beside_calls_that_wait(count);
     return end();
