@@ -22,7 +22,7 @@ def _modules(prefix: str, names: str) -> dict[str, Place]:
 # The crates of the library, in the order of its modules.
 LIBRARY = _modules(
     "parts/",
-    "budget model segments ring file parked desc nodes decisions state descriptors naming transfers splices polls kernel numbers",
+    "budget model segments ring packets file parked desc nodes decisions state descriptors naming transfers splices polls kernel numbers",
 )
 # Scripts, and the program that runs them.
 SCRIPT = _modules("parts/", "words lines script run") | {"piperun": Place("parts/piperun", "crate::parts::piperun")}
@@ -31,7 +31,7 @@ EXPORTS = {"bindingclay": Place("parts/c", "crate::parts::c")}
 # What tests share, and the tests.
 CHECKS = _modules("checks/", "refusing testing") | {
     f"pl_{name}_checks": Place(f"checks/{name}", f"crate::checks::{name}")
-    for name in "layer segment kernel memory script".split()
+    for name in "layer segment packet kernel memory script".split()
 }
 # A place may be that of a crate that isn't there, as a crate may come or go with another change.
 PLACES = LIBRARY | SCRIPT | EXPORTS | CHECKS
