@@ -3,8 +3,9 @@ ghost use Rattle.std.specs.Prelude.{◌≡◌, ℕ, ◌<◌, ◌≤◌, [], ◌�
 ghost use Rattle.std.specs.List.{All};
 ghost use Rattle.pl_model.specs.History.{entry, of, IsLegal, state_of_history};
 ghost use Rattle.pl_state.specs.Makes.{Stands};
-ghost use Rattle.pl_locked.specs.Views.{Full, Gains, HasCaller, IsAnswer, IsDone, Shown, total_made};
+ghost use Rattle.pl_locked.specs.Views.{Full, Gains, HasCaller, IsDone, Shown, total_made};
 ghost use Rattle.pl_locked.specs.Journals.{Owes, KeepsItsNumber};
+ghost use Rattle.pl_locked.specs.Waking.{tried, changes_of};
 
 use crate::caller::{Caller, gather};
 use crate::fault::StepFault;
@@ -107,7 +108,7 @@ impl<N: Layer, A: Allocator + Copy> Desk<N, A> {
         ensures wanted { IsErrOf result StepFault.NoMemory → ¬ Full N.max_steps me.new }
         ensures unmade { OnErr result ((self.new ≡ self.old) × Shown N.limits N.max_steps me.old me.new) }
         ensures number { IfOk result (KeepsItsNumber step) }
-        ensures woken { IfOk result (λ reply. IsAnswer reply → self.new.changes ≡ self.old.changes + 1) }
+        ensures woken { IfOk result (λ reply. self.new.changes ≡ self.old.changes + changes_of {A = A} (state_of_history {A = A} N.limits self.new.journal) (tried {A = A} (state_of_history {A = A} N.limits self.old.journal) step) reply) }
     {
         self.show(word, me);
         if self.recorded.len() >= self.most as usize {
@@ -115,7 +116,7 @@ impl<N: Layer, A: Allocator + Copy> Desk<N, A> {
         }
         let place = me.number as usize;
         let number = self.counts[place];
-        let taken = self.taken_by(&step);
+        let taken = self.tried(&step);
         let reply = self
             .recorded
             .step(word, &mut me.made, &mut me.eye, me.number, number, step)?;
@@ -126,7 +127,9 @@ impl<N: Layer, A: Allocator + Copy> Desk<N, A> {
     }
 
     /// How many bytes the call has taken that the step tries again, if it does and the call is parked.
-    fn taken_by(&self, step: &Step<A>) -> Option<u32> {
+    fn tried(&self, step: &Step<A>) -> Option<u32>
+        ensures { result ≡ tried {A = A} (state_of_history {A = A} N.limits self.now.journal) step.now }
+    {
         match step {
             Step::Resume(call) => self.recorded.taken(*call),
             _ => None,
@@ -168,7 +171,7 @@ fn change<N: Layer, A: Allocator + Copy>(
     reply: &Reply<A>,
 ) -> u64
     ensures few { result ≤ 1 }
-    ensures answered { IsAnswer reply.now → result ≡ 1 }
+    ensures value { result ≡ changes_of {A = A} (state_of_history {A = A} N.limits recorded.now) taken reply.now }
 {
     match reply {
         Reply::Parked(call) if recorded.taken(*call) == taken => 0,

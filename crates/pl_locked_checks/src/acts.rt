@@ -15,6 +15,8 @@ pub(crate) enum Act {
     Steps(u32, Ask),
     /// It makes a whole call, which waits until it is answered.
     Call(Ask),
+    /// It makes whole calls, each a read of at most 70,000 bytes, until it has read so many `a`.
+    Drain(u32),
     /// It makes a whole call, which takes at most so many turns.
     Turns(Ask, u32),
     /// It glances.
@@ -110,6 +112,24 @@ fn call<N: Layer, R: Wait, A: Allocator + Copy>(
     }
 }
 
+/// The caller reads by whole calls until it has so many `a`. It comes to `Other` if a read gives none, or anything else.
+fn drain<N: Layer, R: Wait, A: Allocator + Copy>(
+    rt: &R,
+    alloc: A,
+    locked: &Locked<N, A>,
+    me: &mut Caller<N, A>,
+    count: u32,
+) -> Came {
+    let mut read = 0u32;
+    while read < count {
+        match call(rt, alloc, locked, me, Ask::Read(70_000)) {
+            Came::Bytes(some, 0) if some != 0 && some <= count - read => read += some,
+            _ => return Came::Other,
+        }
+    }
+    Came::Bytes(read, 0)
+}
+
 /// The caller makes the call that is asked, which takes at most so many turns.
 fn call_turns<N: Layer, R: Wait, A: Allocator + Copy>(
     rt: &R,
@@ -162,6 +182,7 @@ fn does<N: Layer, R: Wait, A: Allocator + Copy>(
         Act::Step(ask) => attempt(rt, alloc, locked, me, *ask),
         Act::Steps(times, ask) => attempts(rt, alloc, locked, me, *times, *ask),
         Act::Call(ask) => call(rt, alloc, locked, me, *ask),
+        Act::Drain(count) => drain(rt, alloc, locked, me, *count),
         Act::Turns(ask, turns) => call_turns(rt, alloc, locked, me, *ask, *turns),
         Act::Glance => Came::Steps(glance(locked, me)),
         Act::Sees(steps) => sees(locked, me, *steps),

@@ -18,10 +18,16 @@ pub(crate) enum Ask {
     Unlink,
     /// It reads at most so many bytes from descriptor 0.
     Read(u32),
+    /// It reads a byte from descriptor 2, which reads from another pipe.
+    ReadOther,
     /// It writes the text to descriptor 1.
     Write(&'static str),
     /// It writes more bytes there than it may write at once in one piece.
     WriteMany,
+    /// It writes so many `a` there.
+    WriteLong(usize),
+    /// It writes `b` to descriptor 3, which writes to the other pipe.
+    WriteOther,
     Close(i32),
     Fork,
 }
@@ -51,6 +57,7 @@ fn call_of<A: Allocator>(alloc: A, ask: Ask) -> Option<Call<A>> {
         },
         Ask::Unlink => Call::Unlink { name: fifo(alloc)? },
         Ask::Read(n) => Call::Read { fd: 0, n },
+        Ask::ReadOther => Call::Read { fd: 2, n: 1 },
         Ask::Write(bytes) => Call::Write {
             fd: 1,
             bytes: text(alloc, bytes)?,
@@ -58,6 +65,14 @@ fn call_of<A: Allocator>(alloc: A, ask: Ask) -> Option<Call<A>> {
         Ask::WriteMany => Call::Write {
             fd: 1,
             bytes: many(alloc)?,
+        },
+        Ask::WriteLong(count) => Call::Write {
+            fd: 1,
+            bytes: Bytes8::from_vec(Vec::from_elem(alloc, b'a', count).ok()?)?,
+        },
+        Ask::WriteOther => Call::Write {
+            fd: 3,
+            bytes: text(alloc, "b")?,
         },
         Ask::Close(fd) => Call::Close { fd },
         _ => Call::Fork,

@@ -118,6 +118,61 @@ const TURNS: Scene = Scene {
     left: Left::Anything,
 };
 
+/// A read and a write that are both longer than the pipe wait for each other: the write that begins to wait has put bytes in, of which
+/// the reader is told.
+const LONG_READ: Scene = Scene {
+    name: "a long read beside a long write",
+    callers: 2,
+    max_steps: 100,
+    in_turn: &[&[START, PIPE]],
+    at_once: &[
+        &[(Act::Call(Ask::Read(70_000)), Came::Bytes(65_536, 0))],
+        &[(Act::Call(Ask::WriteLong(70_000)), Came::Count(70_000))],
+    ],
+    read: (65_536, 0),
+    steps: (5, 100),
+    left: Left::Anything,
+};
+
+/// A write puts bytes in at several turns, and is read whole: of each turn the reader is told.
+const LONG_WRITE: Scene = Scene {
+    name: "a write of several turns",
+    callers: 2,
+    max_steps: 1_000,
+    in_turn: &[&[START, PIPE]],
+    at_once: &[
+        &[(Act::Drain(300_000), Came::Bytes(300_000, 0))],
+        &[(Act::Call(Ask::WriteLong(300_000)), Came::Count(300_000))],
+    ],
+    read: (300_000, 0),
+    steps: (12, 1_000),
+    left: Left::Anything,
+};
+
+/// One caller waits on a pipe, and then another on another pipe. A byte for the second one reaches it, though the first is told too; the
+/// second then writes for the first.
+const TWO_PIPES: Scene = Scene {
+    name: "two wait on two pipes",
+    callers: 3,
+    max_steps: 100,
+    in_turn: &[&[START, PIPE, (Act::Step(Ask::Pipe), Came::Fds(2, 3))]],
+    at_once: &[
+        &[
+            (Act::Sees(5), Came::Steps(5)),
+            (Act::Step(Ask::WriteOther), Came::Count(1)),
+        ],
+        &[(Act::Call(Ask::Read(1)), Came::Bytes(1, 0))],
+        &[
+            (Act::Sees(4), Came::Steps(4)),
+            (Act::Call(Ask::ReadOther), Came::Bytes(0, 1)),
+            (Act::Step(Ask::Write("a")), Came::Count(1)),
+        ],
+    ],
+    read: (1, 1),
+    steps: (9, 100),
+    left: Left::Anything,
+};
+
 /// Four callers do this and that.
 const STORM: Scene = Scene {
     name: "a storm",
@@ -135,6 +190,14 @@ const BLOWS: Acts = &[(Act::Storm, Came::Unit)];
 #[test]
 fn callers_in_threads(rt: HostRuntime) -> Result<(), Fail> {
     for scene in [&WRITERS, &READERS, &TURNS] {
+        assert!(rt; together(&rt, rt.alloc(), scene)?);
+    }
+    Ok(())
+}
+
+#[test]
+fn callers_that_wait_are_told(rt: HostRuntime) -> Result<(), Fail> {
+    for scene in [&LONG_READ, &LONG_WRITE, &TWO_PIPES] {
         assert!(rt; together(&rt, rt.alloc(), scene)?);
     }
     Ok(())
