@@ -231,9 +231,10 @@ while IFS= read -r name; do
     set -- "$@" "$examples/$name.script"
 done < "$examples/scripts"
 if build scripts "$counted"; then
-    # each request for memory is refused in turn in scripts that make at most so many: under valgrind, which takes longer, in short ones
-    plainly scripts 400 "$@" && sed 's/^/scripts: /' "$work/log"
-    under_valgrind scripts 12 "$@"
+    # each request for memory is refused in turn in scripts that make at most 400, and the first 200 in longer ones: under valgrind, which takes
+    # longer, in short ones alone
+    plainly scripts 400 200 "$@" && sed 's/^/scripts: /' "$work/log"
+    under_valgrind scripts 12 0 "$@"
 fi
 
 if [ -x "$piperun" ]; then
