@@ -212,6 +212,7 @@ for name in processes pipes descriptors files fifos splices polls waiting sizes 
     build "$name" && run "$name"
 done
 build memory "$counted" && run memory
+build storms "$counted" && run storms 500
 if build growth "$counted"; then
     plainly growth 65536 && sed 's/^/growth: /' "$work/log"
     under_valgrind growth 600
