@@ -165,6 +165,15 @@ piperun_cannot_write() {
     ended_with 1 'piperun: cannot write'
 }
 
+# Whether piperun ends with the status of a fault of which it can't print the line.
+# shellcheck disable=SC2317
+piperun_ends_unheard() {
+    ended=0
+    "$piperun" "$here/tests/bad_line.script" < /dev/null > "$work/output" 2> /dev/full || ended=$?
+    sed 's/parked 7/parked 1/' "$here/tests/bad_line.out" | diff - "$work/output" || return 1
+    [ "$ended" -eq 3 ] || { echo "it ended with $ended, and not 3"; return 1; }
+}
+
 # Whether piperun takes its script from standard input where no file is named, and says so where that can't be read.
 # shellcheck disable=SC2317
 piperun_takes_standard_input() {
@@ -288,6 +297,7 @@ try_piperun() {
     check "piperun on no file" piperun_answers 1 /dev/null 'piperun: cannot read' "$work/no_such_file"
     check "piperun on a file that can't be read" piperun_answers 1 /dev/null 'piperun: cannot read' "$work"
     check "piperun where it can't write" piperun_cannot_write
+    check "piperun where nobody hears of its fault" piperun_ends_unheard
     check "piperun with an unknown option" piperun_answers 2 /dev/null 'piperun: bad command line' --last-call 7
     check "piperun with no number" piperun_answers 2 /dev/null 'piperun: bad command line' --first-call seven
     check "piperun with an option and nothing behind it" piperun_answers 2 /dev/null 'piperun: bad command line' --first-call
