@@ -89,6 +89,37 @@ static void a_splice_without_memory(long count)
     HOLDS(bytes_left == 0);
 }
 
+/* A read gives all that a pipe holds, 251 bytes over and over. */
+static bool gives_pattern(bindingclay clay, int32_t read_end, uint8_t *bytes)
+{
+    memset(bytes, 0, MOST_CAPACITY);
+    bool as_wanted = DONE(bindingclay_read(clay, 1, read_end, bytes, MOST_CAPACITY), MOST_CAPACITY);
+    for (long i = 0; as_wanted && i < MOST_CAPACITY; i++)
+        as_wanted = bytes[i] == i % 251;
+    return as_wanted;
+}
+
+/* A copy of a full pipe shares its bytes: it takes three segments at most, and each of the two pipes gives all of them. */
+static void a_tee_of_a_full_pipe(void)
+{
+    bindingclay clay = kernel_with_process();
+    uint8_t *bytes = needed(malloc(MOST_CAPACITY));
+    for (long i = 0; i < MOST_CAPACITY; i++)
+        bytes[i] = (uint8_t)(i % 251);
+    bindingclay_ends full = NEW_PIPE(clay, 1, false), copy = NEW_PIPE(clay, 1, false);
+    DONE(bindingclay_set_pipe_sz(clay, 1, full.write_end, MOST_CAPACITY), MOST_CAPACITY);
+    DONE(bindingclay_set_pipe_sz(clay, 1, copy.write_end, MOST_CAPACITY), MOST_CAPACITY);
+    DONE(bindingclay_write(clay, 1, full.write_end, bytes, MOST_CAPACITY), MOST_CAPACITY);
+    uint64_t before = bindingclay_memory(clay).held;
+    DONE(bindingclay_tee(clay, 1, full.read_end, copy.write_end, MOST_CAPACITY, 0), MOST_CAPACITY);
+    HOLDS(bindingclay_memory(clay).held - before <= 3 * SEGMENT);
+    HOLDS(gives_pattern(clay, full.read_end, bytes));
+    HOLDS(gives_pattern(clay, copy.read_end, bytes));
+    bindingclay_free(clay);
+    free(bytes);
+    HOLDS(bytes_left == 0);
+}
+
 /* A file that is emptied gives back all but what is spare. */
 static void an_emptied_file(long count)
 {
@@ -343,6 +374,7 @@ int main(int words, char **word)
     long count = atol(word[1]);
     a_splice_of_many_slots(count);
     a_splice_without_memory(count);
+    a_tee_of_a_full_pipe();
     an_emptied_file(count);
     a_change_among_many_slots(count);
     writes_that_copy_together(count);

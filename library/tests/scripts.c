@@ -1,11 +1,11 @@
 /* Runs scripts through the library, and compares each answer with what the script is to print. docs/RULES.md has the format of scripts and
  * of answers, in "Scripts".
  *
- *     scripts MOST_REQUESTS NAME.script ..
+ *     scripts MOST_REQUESTS FIRST_REQUESTS NAME.script ..
  *
  * Each script is run as it is, and then nothing is left of it. What is to take no memory asks for none. A script that makes at most
  * MOST_REQUESTS requests for memory is run again with each of them refused in turn: the call that finds no memory has changed nothing, and
- * is made once more. */
+ * is made once more. Of one that makes up to ten times as many, only the first FIRST_REQUESTS are refused in turn. */
 #define _GNU_SOURCE
 #include "counted.h"
 #include "script_text.h"
@@ -280,12 +280,22 @@ static void run_again(const struct script *script)
     leave();
 }
 
-/* Runs a script as it is, and then, if it makes no more requests for memory than that, with each of them refused in turn. Answers whether
- * it did the latter.
+/* The numbers of the command line. */
+static long most_requests, first_requests;
+
+/* How many of the requests of a script are refused in turn. */
+static long to_be_refused(long requests)
+{
+    if (requests <= most_requests)
+        return requests;
+    return requests <= 10 * most_requests ? first_requests : 0;
+}
+
+/* Runs a script as it is, and then with requests for memory refused in turn. Answers how many it makes.
  *
  * A kernel keeps some blocks for what is to come, as many after each of these runs, and also after a second run on the same kernel. If a
  * run left a segment there, the next one would take another block in its place. */
-static bool try_script(const struct script *script, long most_requests)
+static long try_script(const struct script *script)
 {
     long before = atomic_load(&blocks_left);
     int failed = checks_failed;
@@ -296,8 +306,8 @@ static bool try_script(const struct script *script, long most_requests)
     HOLDS(atomic_load(&blocks_left) == kept);
     bindingclay_free(clay);
     HOLDS(atomic_load(&blocks_left) == before);
-    bool in_turn = requests <= most_requests;
-    for (long granted = 0; in_turn && granted < requests && checks_failed == failed; granted++) {
+    long last = to_be_refused(requests);
+    for (long granted = 0; granted < last && checks_failed == failed; granted++) {
         run_with(script, granted);
         HOLDS(refused == 1 && atomic_load(&blocks_left) == kept);
         bindingclay_free(clay);
@@ -307,22 +317,26 @@ static bool try_script(const struct script *script, long most_requests)
     }
     if (checks_failed > failed)
         printf("that was %s\n", script->path);
-    return in_turn;
+    return requests;
 }
 
 int main(int argc, char **argv)
 {
-    if (argc < 3) {
-        printf("usage: scripts MOST_REQUESTS NAME.script ..\n");
+    if (argc < 4) {
+        printf("usage: scripts MOST_REQUESTS FIRST_REQUESTS NAME.script ..\n");
         return 2;
     }
-    long most_requests = strtol(argv[1], NULL, 10);
-    int in_turn = 0;
-    for (int i = 2; i < argc; i++) {
+    most_requests = strtol(argv[1], NULL, 10);
+    first_requests = strtol(argv[2], NULL, 10);
+    int whole = 0, in_part = 0;
+    for (int i = 3; i < argc; i++) {
         struct script script = read_script(argv[i]);
-        in_turn += try_script(&script, most_requests);
+        long requests = try_script(&script), last = to_be_refused(requests);
+        whole += last == requests;
+        in_part += last < requests && last > 0;
         free_script(&script);
     }
-    printf("%d run; each request for memory refused in turn in %d of them, and not in %d\n", argc - 2, in_turn, argc - 2 - in_turn);
+    printf("%d run; each request for memory refused in turn in %d of them, the first %ld in %d, and none in %d\n", argc - 3, whole,
+        first_requests, in_part, argc - 3 - whole - in_part);
     return end();
 }

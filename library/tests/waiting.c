@@ -52,12 +52,24 @@ static void numbers(void)
     NEW_PIPE(clay, 1, false);
     OTHER(take(clay, 1, 0, 1), BINDINGCLAY_CALLS_SPENT);
     bindingclay_free(clay);
-    clay = new_kernel(0, 0);
+}
+
+/* The first number may be 0, and then the next one is 1. */
+static void a_first_number_of_0(void)
+{
+    bindingclay clay = new_kernel(0, 0);
     DONE(bindingclay_start(clay), 1);
     NEW_PIPE(clay, 1, false);
+    OTHER(bindingclay_owner(clay, 0), BINDINGCLAY_NO_CALL);
     PARKED(take(clay, 1, 0, 1), 0);
+    DONE(bindingclay_owner(clay, 0), 1);
+    PARKED(bindingclay_poll(clay, 1, NULL, 0, true), 1);
     DONE(put(clay, 1, 1, "a"), 1);
     RESUMES(clay, 0, 1, "a");
+    OTHER(again(clay, 0), BINDINGCLAY_NO_CALL);
+    FAULT(bindingclay_interrupt(clay, 1), EINTR);
+    PARKED(take(clay, 1, 0, 1), 2);
+    OTHER(bindingclay_interrupt(clay, 0), BINDINGCLAY_NO_CALL);
     bindingclay_free(clay);
 }
 
@@ -221,6 +233,7 @@ int main(void)
     null_pointers();
     no_calls();
     numbers();
+    a_first_number_of_0();
     room_of_a_read();
     kept_ends();
     interrupted();
