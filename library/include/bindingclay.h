@@ -27,7 +27,8 @@
  * a name, which copy it first. bindingclay_free gives back all. bindingclay_open_within sets how many bytes a kernel may hold: where a call
  * would want more, there is none. bindingclay_memory tells how many it holds: it may tell more behind a call that found none, as a
  * table may have grown, which the next call that wants it uses. Close, exit, interrupt and a read that is resumed always find what they need,
- * so a guest at its limit can free what it has; up to 1,048,576 bytes of that stay with the kernel (spare).
+ * so a guest at its limit can free what it has. Up to 1,048,576 bytes of that stay with the kernel (spare), and so do its tables, each as
+ * long as it ever was: up to 128 bytes for each segment and process, and 350 for each waiting call, description, and pipe or file.
  *
  * Pointers. None is null, but one to 0 bytes or to 0 entries, or to an offset of bindingclay_splice, may be. What a call writes to overlaps
  * nothing else that it is given, and nothing that it is given overlaps the kernel's own memory. The library keeps no pointer of yours after

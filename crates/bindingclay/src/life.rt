@@ -75,7 +75,8 @@ pub extern "C" fn bindingclay_end(handle: Handle, budget: &mut *mut u8)
 /// Tells what the kernel takes of its memory.
 #[unsafe(no_mangle)]
 pub extern "C" fn bindingclay_tell_memory(handle: Handle, memory: &mut Memory)
-    ensures { memory.new.spare ≤ 1048576 }
+    ensures most { memory.new.most ≡ handle.layer.heap.now.counter.most }
+    ensures spare { memory.new.spare ≤ 1048576 }
 {
     let layer = handle.into_box();
     *memory = layer.memory();

@@ -32,7 +32,8 @@ pub fn address(heap: Heap) -> *mut u8
 impl Layer {
     /// What the kernel takes of its memory.
     pub fn memory(&self) -> Memory
-        ensures { result.spare ≤ 1048576 }
+        ensures most { result.most ≡ self.now.heap.now.counter.most }
+        ensures spare { result.spare ≤ 1048576 }
     {
         let account = self.heap.account();
         Memory {
