@@ -271,7 +271,7 @@ bindingclay_answer bindingclay_owner(bindingclay clay, uint64_t number);
  * descriptions. */
 bindingclay_answer bindingclay_pipe(bindingclay clay, uint32_t pid, bool nonblock, bindingclay_ends *ends);
 
-/* Makes a FIFO that has a name (mkfifo). A name is 1 to 255 bytes, at name, without a NUL at its end. Errors:
+/* Makes a FIFO under a name (mkfifo). A name is 1 to 255 bytes, at name, without a NUL at its end. Errors:
  * - ENOENT: the name is empty.
  * - ENAMETOOLONG: the name is longer than 255 bytes.
  * - EINVAL: a slash or a NUL is in the name.
@@ -294,7 +294,7 @@ bindingclay_answer bindingclay_mkfifo(bindingclay clay, uint32_t pid, const uint
 bindingclay_answer bindingclay_open_name(
     bindingclay clay, uint32_t pid, const uint8_t *name, size_t size, uint32_t flags);
 
-/* Takes a name away (unlink). What it stood for stays while it is open. Errors:
+/* Removes a name (unlink). What it stood for stays while it is open. Errors:
  * - ENOENT, ENAMETOOLONG, EINVAL: the name is as bindingclay_mkfifo refuses it.
  * - ENOENT: the name is free. */
 bindingclay_answer bindingclay_unlink(bindingclay clay, uint32_t pid, const uint8_t *name, size_t size);
@@ -307,12 +307,13 @@ bindingclay_answer bindingclay_file_bytes(
 
 /* ---- Bytes ---- */
 
-/* Reads at most size bytes to the first of those at into (read). The others stay as they are. Value: how many; 0 at the end. In this order:
+/* Reads at most size bytes (read), into the first of the bytes at into. The others there stay as they are. Value: how many; 0 at the end.
+ * In this order:
  * - EBADF: fd isn't open for reading.
  * - 0: size is 0.
  * - EAGAIN, or a wait: the pipe is empty and has a writer. With O_NONBLOCK the read fails with EAGAIN. Without it the read waits.
  *
- * Asks for memory only if it waits. bindingclay_resume gives the bytes then, so into is free. */
+ * Asks for memory only if it waits. bindingclay_resume gives the bytes then, so into is free at once. */
 bindingclay_answer bindingclay_read(bindingclay clay, uint32_t pid, int32_t fd, uint8_t *into, size_t size);
 
 /* Writes size bytes (write). Value: how many went in. In this order:
@@ -341,8 +342,9 @@ bindingclay_answer bindingclay_splice_at(bindingclay clay, uint32_t pid, int32_t
     uint64_t from_offset, int32_t to, bool has_to_offset, uint64_t to_offset, uint32_t len, uint32_t flags);
 
 /* Moves at most len bytes from one descriptor to another (splice(2)). At least one of them is a pipe. Value: how many; 0 at the end of the
- * source. An offset is one of a regular file. If it is null, the file's own offset is used. If one is given, the file's own stays, and so
- * do *from_offset and *to_offset. flags: SPLICE_F_NONBLOCK. SPLICE_F_MOVE, SPLICE_F_MORE and SPLICE_F_GIFT have no effect. In this order:
+ * source. An offset is one in a regular file. If it is null, the file's own offset is used. If one is given, the file's own offset stays as
+ * it is, and so do *from_offset and *to_offset. flags: SPLICE_F_NONBLOCK. SPLICE_F_MOVE, SPLICE_F_MORE and SPLICE_F_GIFT have no effect. In
+ * this order:
  * - EINVAL, before all else: flags has another flag.
  * - 0: len is 0, whatever the descriptors are.
  * - EBADF: the source isn't open for reading, or the target isn't open for writing.
