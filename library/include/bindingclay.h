@@ -372,9 +372,9 @@ bindingclay_answer bindingclay_tee(
     bindingclay clay, uint32_t pid, int32_t from, int32_t to, uint32_t len, uint32_t flags);
 
 /* Tells for each entry which of its events hold of its descriptor, of POLLIN and POLLOUT of poll.h (poll). It tells POLLERR, POLLHUP and
- * POLLNVAL unasked. Value: how many entries have a revents that isn't 0. If it is done it writes all revents, and else none. An entry with
- * a negative fd is passed over. If wait is true and nothing is found, it waits, and only then asks for memory. Fails with EINVAL if there
- * are more than 256 entries. */
+ * POLLNVAL unasked. Value: how many entries have a revents that isn't 0. If the poll is done, it writes all revents, and otherwise none. An
+ * entry with a negative fd is passed over. If wait is true and nothing is found, it waits, and only then asks for memory. Fails with EINVAL
+ * if there are more than 256 entries. */
 bindingclay_answer bindingclay_poll(
     bindingclay clay, uint32_t pid, bindingclay_pollfd *entries, size_t count, bool wait);
 
