@@ -1,0 +1,325 @@
+"""Draws scripts by a seed. The same seed draws the same script.
+
+  python3 tools/model/draw.py SEED    prints the script, behind a comment that tells the seed and the number of the first call
+
+A script is drawn beside the machine that runs it, so that most lines name processes, descriptors and waiting calls that are there. Of
+some scripts a few bytes are changed behind that, so that bad lines come.
+"""
+from __future__ import annotations
+
+import enum
+import random
+import sys
+from dataclasses import dataclass
+from typing import Callable, Dict, List, Optional, Tuple, Type
+
+from machine import Machine, OpenFlag, SpliceFlag, Whence
+from replies import Event
+from script import parse_line
+from state import FIRST_CAPACITY, GREATEST_CAPACITY, GREATEST_OFFSET, MOST_FILE_BYTES, NEVER_A_CALL, PIPE_BUF, File, Mode
+
+FIRST_CALLS = (1, 1, 1, 0, 5, NEVER_A_CALL, NEVER_A_CALL - 1, NEVER_A_CALL - 3)
+LENGTHS = (30, 100, 250)
+SIZES = (0, 1, 2, 10, PIPE_BUF - 1, PIPE_BUF, PIPE_BUF + 1, 5000, FIRST_CAPACITY - 1, FIRST_CAPACITY, 70000)
+CAPACITIES = (0, 1, 4096, 4097, 8192, 65536, 65537, GREATEST_CAPACITY, GREATEST_CAPACITY + 1, 2**32 - 1)
+SPLICE_OFFSETS = (0, 1, 5, 100, 4096, 9000, MOST_FILE_BYTES - 6, MOST_FILE_BYTES, GREATEST_OFFSET, 2**63, 2**64 - 1)
+SEEKS = (0, 0, 1, -1, 5, 4096, MOST_FILE_BYTES - 1, GREATEST_OFFSET, -(2**63))
+USUAL_NAMES = ("q", "f", "g")
+ALL_NAMES = ("q", "f", "g", "-", "a%2fb", "%2d", "%00", "g" * 255, "g" * 256)
+# what is seldom drawn of names is drawn of this part of them
+SELDOM = 0.07
+# of larger files the bytes aren't asked for, as their line would be most of what is printed
+MOST_BYTES_TOLD = 1000000
+BEGINNING = ("start", "1 pipe", "1 mkfifo q", "1 open f rw creat", "1 fork")
+# so many pipes leave a process few descriptors
+PIPES_OF_A_FULL_TABLE = 126
+CHANGED_BYTES = b"0123456789 \t\r\n-,:*%#+abcdefrw\x00\x80\x0b\x7f"
+PART_CHANGED = 0.25
+
+
+@dataclass(frozen=True)
+class Drawn:
+    """A script, and the number of its first call."""
+
+    script: bytes
+    first_call: int
+
+
+class Scene:
+    """A script that is being drawn: its lines, and the machine that ran them."""
+
+    def __init__(self, chance: random.Random) -> None:
+        self.chance = chance
+        self.first_call = chance.choice(FIRST_CALLS)
+        self.machine = Machine(self.first_call)
+        self.lines: List[str] = []
+        self.pid = 1
+
+    def add(self, line: str) -> None:
+        """Adds a line, and runs it."""
+        self.lines.append(line)
+        request = parse_line(line.encode("ascii"))
+        if request is not None:
+            request(self.machine)
+
+    def happens(self, part: float) -> bool:
+        """Whether something happens that happens in this part of the cases."""
+        return self.chance.random() < part
+
+    # The words of a line
+
+    def draw_pid(self) -> int:
+        """The pid of a process, mostly one that is there."""
+        if self.machine.processes and not self.happens(0.03):
+            return self.chance.choice(sorted(self.machine.processes))
+        return self.chance.randrange(5)
+
+    def descriptor(self) -> int:
+        """A descriptor, mostly one that is open."""
+        process = self.machine.processes.get(self.pid)
+        if process is not None and process.descriptors and not self.happens(0.07):
+            return self.chance.choice(sorted(process.descriptors))
+        return self.chance.choice((-1, 0, 3, 7, 255, 256))
+
+    def size(self) -> int:
+        """A number of bytes, mostly one at an edge."""
+        return self.chance.randrange(200000) if self.happens(0.1) else self.chance.choice(SIZES)
+
+    def content(self) -> str:
+        """The bytes of a write."""
+        few = ("-", "61", "6162", "aAfF00")
+        return self.chance.choice(few) if self.happens(0.4) else f"{self.size()}*{self.chance.randrange(256):02x}"
+
+    def name(self) -> str:
+        """A name, mostly one of few."""
+        return self.chance.choice(ALL_NAMES if self.happens(SELDOM) else USUAL_NAMES)
+
+    def word(self, words: Type[enum.Enum]) -> str:
+        """One word of a list."""
+        return str(self.chance.choice(list(words)).value)
+
+    def several(self, words: Type[enum.Enum]) -> str:
+        """Up to three words of a list."""
+        return ",".join(self.word(words) for _ in range(self.chance.randrange(1, 4)))
+
+    def flags_if_any(self, words: Type[enum.Enum], part: float) -> str:
+        """A word of flags, behind a blank, in this part of the cases."""
+        return f" {self.several(words)}" if self.happens(part) else ""
+
+    def offset_if_any(self) -> str:
+        """The offset of a splice."""
+        return str(self.chance.choice(SPLICE_OFFSETS)) if self.happens(0.35) else "-"
+
+    def call_number(self) -> int:
+        """The number of a call, mostly one that waits."""
+        waiting = self.machine.waiting
+        if waiting and not self.happens(0.05):
+            return self.chance.choice(list(waiting))
+        return (self.first_call + self.chance.randrange(20)) % 2**64
+
+    # The lines, each by the word that it has
+
+    def pipe(self) -> str:
+        """A pipe, now and then one that doesn't wait."""
+        return "pipe nonblock" if self.happens(0.25) else "pipe"
+
+    def mkfifo(self) -> str:
+        """A FIFO."""
+        return f"mkfifo {self.name()}"
+
+    def open(self) -> str:
+        """An open. Half of the new names come by CREAT."""
+        flags = " creat" if self.happens(0.25) else self.flags_if_any(OpenFlag, 0.4)
+        return f"open {self.name()} {self.word(Mode)}{flags}"
+
+    def unlink(self) -> str:
+        """An unlink."""
+        return f"unlink {self.name()}"
+
+    def read(self) -> str:
+        """A read."""
+        return f"read {self.descriptor()} {self.size()}"
+
+    def write(self) -> str:
+        """A write."""
+        return f"write {self.descriptor()} {self.content()}"
+
+    def splice(self) -> str:
+        """A splice."""
+        ends = f"{self.descriptor()} {self.offset_if_any()} {self.descriptor()} {self.offset_if_any()}"
+        return f"splice {ends} {self.size()}{self.flags_if_any(SpliceFlag, 0.25)}"
+
+    def tee(self) -> str:
+        """A tee."""
+        return f"tee {self.descriptor()} {self.descriptor()} {self.size()}{self.flags_if_any(SpliceFlag, 0.25)}"
+
+    def poll(self) -> str:
+        """A poll of a few entries."""
+        masks = ("-", "in", "out", self.several(Event))
+        entries = [f" {self.descriptor()}:{self.chance.choice(masks)}" for _ in range(self.chance.randrange(4))]
+        return f"poll {self.chance.choice(('now', 'wait', 'wait'))}{''.join(entries)}"
+
+    def dup(self) -> str:
+        """A dup."""
+        return f"dup {self.descriptor()}"
+
+    def dup2(self) -> str:
+        """A dup2."""
+        return f"dup2 {self.descriptor()} {self.descriptor()}"
+
+    def dupfd(self) -> str:
+        """A dupfd, from the end of the table on too."""
+        return f"dupfd {self.descriptor()} {self.chance.choice((self.descriptor(), 254, 255, 256, -1))}"
+
+    def close(self) -> str:
+        """A close."""
+        return f"close {self.descriptor()}"
+
+    def lseek(self) -> str:
+        """A seek."""
+        return f"lseek {self.descriptor()} {self.chance.choice(SEEKS)} {self.word(Whence)}"
+
+    def getfl(self) -> str:
+        """The flags told."""
+        return f"getfl {self.descriptor()}"
+
+    def setfl(self) -> str:
+        """The flags set."""
+        return f"setfl {self.descriptor()} {self.several(OpenFlag) if self.happens(0.6) else '-'}"
+
+    def getsz(self) -> str:
+        """The capacity told."""
+        return f"getsz {self.descriptor()}"
+
+    def setsz(self) -> str:
+        """The capacity set."""
+        return f"setsz {self.descriptor()} {self.chance.choice(CAPACITIES)}"
+
+    def fork(self) -> str:
+        """A fork."""
+        return "fork"
+
+    def exit(self) -> str:
+        """An exit."""
+        return "exit"
+
+    def start(self) -> str:
+        """A start."""
+        return "start"
+
+    def resume(self) -> str:
+        """A resume."""
+        return f"resume {self.call_number()}"
+
+    def interrupt(self) -> str:
+        """An interrupt."""
+        return f"interrupt {self.call_number()}"
+
+    def file(self) -> str:
+        """The bytes of a file, if they aren't too many."""
+        name = self.name()
+        node = self.machine.names.get(name.encode("ascii"))
+        return f"file {name}" if not isinstance(node, File) or len(node.content) <= MOST_BYTES_TOLD else "# too long"
+
+
+Line = Callable[[Scene], str]
+
+# How often each line of a process comes.
+CALLS: Dict[Line, float] = {
+    Scene.pipe: 6,
+    Scene.mkfifo: 2,
+    Scene.open: 9,
+    Scene.unlink: 1.5,
+    Scene.read: 12,
+    Scene.write: 14,
+    Scene.splice: 9,
+    Scene.tee: 5,
+    Scene.poll: 6,
+    Scene.dup: 2,
+    Scene.dup2: 2,
+    Scene.dupfd: 2,
+    Scene.close: 5,
+    Scene.lseek: 3,
+    Scene.getfl: 1,
+    Scene.setfl: 2,
+    Scene.getsz: 1,
+    Scene.setsz: 4,
+    Scene.fork: 2,
+    Scene.exit: 0.5,
+}
+
+# How often each line comes that no process makes.
+WITHOUT_PROCESS: Dict[Line, float] = {Scene.start: 0.7, Scene.resume: 16, Scene.interrupt: 2, Scene.file: 2}
+
+# What some scripts have more of.
+EMPHASES: Tuple[Dict[Line, float], ...] = ({}, {Scene.open: 16}, {Scene.splice: 18, Scene.tee: 12}, {Scene.poll: 16})
+
+
+def begin(scene: Scene) -> None:
+    """Adds the first lines: mostly a pipe, a FIFO, a file and a child, now and then so many pipes that few descriptors are free."""
+    count = len(BEGINNING) if scene.happens(0.75) else 1
+    for line in BEGINNING[:count]:
+        scene.add(line)
+    if scene.happens(0.05):
+        for _ in range(PIPES_OF_A_FULL_TABLE):
+            scene.add("1 pipe")
+
+
+def as_written(scene: Scene, line: str) -> str:
+    """A line as it may be written too: with other blanks, zeros before a number, or a return at its end."""
+    if not scene.happens(0.05):
+        return line
+    return scene.chance.choice((f"  {line}", line.replace(" ", "\t"), f"{line} ", f"{line}\r", f"00{line}" if line[0].isdigit() else line))
+
+
+def scene_of(chance: random.Random) -> Scene:
+    """Draws the lines of a script."""
+    scene = Scene(chance)
+    weights = {**CALLS, **WITHOUT_PROCESS, **chance.choice(EMPHASES)}
+    lines = list(weights)
+    begin(scene)
+    for line in chance.choices(lines, list(weights.values()), k=chance.choice(LENGTHS)):
+        if line in WITHOUT_PROCESS:
+            scene.add(as_written(scene, line(scene)))
+        else:
+            scene.pid = scene.draw_pid()
+            scene.add(as_written(scene, f"{scene.pid} {line(scene)}"))
+    return scene
+
+
+def change(chance: random.Random, script: bytes) -> bytes:
+    """Changes a few bytes of a script, puts some in, takes some away, or cuts it."""
+    changed = bytearray(script)
+    for _ in range(chance.randrange(1, 3)):
+        place, byte = chance.randrange(len(changed)), chance.choice(CHANGED_BYTES)
+        kind = chance.choices(("other", "more", "less", "cut"), (3, 3, 3, 1))[0]
+        if kind == "other":
+            changed[place] = byte
+        elif kind == "more":
+            changed.insert(place, byte)
+        elif len(changed) > 1:
+            del changed[max(1, place) : None if kind == "cut" else max(1, place) + 1]
+    return bytes(changed)
+
+
+def draw(seed: int) -> Drawn:
+    """Draws a script by a seed."""
+    chance = random.Random(seed)
+    scene = scene_of(chance)
+    script = "".join(line + "\n" for line in scene.lines).encode("ascii")
+    if scene.happens(PART_CHANGED):
+        script = change(chance, script)
+    return Drawn(script, scene.first_call)
+
+
+def main(words: List[str]) -> Optional[str]:
+    """Prints the script of a seed."""
+    if len(words) != 1:
+        return "usage: draw.py SEED"
+    drawn = draw(int(words[0]))
+    sys.stdout.buffer.write(f"# seed {words[0]}, piperun --first-call {drawn.first_call}\n".encode("ascii") + drawn.script)
+    return None
+
+
+if __name__ == "__main__":
+    sys.exit(main(sys.argv[1:]))
