@@ -1,6 +1,6 @@
 """Draws scripts by a seed. The same seed draws the same script.
 
-  python3 tools/model/draw.py SEED    prints the script, behind a comment that tells the seed and the number of the first call
+  python3 tools/model/draw.py SEED    prints the script, and to standard error the option of piperun for the number of its first call
 
 A script is drawn beside the machine that runs it, so that most lines name processes, descriptors and waiting calls that are there. Of
 some scripts a few bytes are changed behind that, so that bad lines come.
@@ -16,7 +16,18 @@ from typing import Callable, Dict, List, Optional, Tuple, Type
 from machine import Machine, OpenFlag, SpliceFlag, Whence
 from replies import Event
 from script import parse_line
-from state import FIRST_CAPACITY, GREATEST_CAPACITY, GREATEST_OFFSET, MOST_FILE_BYTES, NEVER_A_CALL, PIPE_BUF, File, Mode
+from state import (
+    FIRST_CAPACITY,
+    GREATEST_CAPACITY,
+    GREATEST_OFFSET,
+    MOST_FILE_BYTES,
+    NEVER_A_CALL,
+    PIPE_BUF,
+    Description,
+    File,
+    Mode,
+    Pipe,
+)
 
 FIRST_CALLS = (1, 1, 1, 0, 5, NEVER_A_CALL, NEVER_A_CALL - 1, NEVER_A_CALL - 3)
 LENGTHS = (30, 100, 250)
@@ -74,12 +85,30 @@ class Scene:
             return self.chance.choice(sorted(self.machine.processes))
         return self.chance.randrange(5)
 
-    def descriptor(self) -> int:
-        """A descriptor, mostly one that is open."""
+    def descriptor(self, suits: Callable[[Description], bool] = lambda _: True) -> int:
+        """A descriptor, mostly one that is open and suits."""
         process = self.machine.processes.get(self.pid)
-        if process is not None and process.descriptors and not self.happens(0.07):
-            return self.chance.choice(sorted(process.descriptors))
+        table = sorted(process.descriptors.items()) if process is not None else []
+        suitable = [descriptor for descriptor, description in table if suits(description) or self.happens(0.05)]
+        if suitable and not self.happens(0.05):
+            return self.chance.choice(suitable)
         return self.chance.choice((-1, 0, 3, 7, 255, 256))
+
+    def reading(self, of_pipes: bool = False) -> int:
+        """A descriptor, mostly one for reading."""
+        return self.descriptor(lambda found: found.mode.reads and not (of_pipes and isinstance(found.node, File)))
+
+    def writing(self, of_pipes: bool = False) -> int:
+        """A descriptor, mostly one for writing."""
+        return self.descriptor(lambda found: found.mode.writes and not (of_pipes and isinstance(found.node, File)))
+
+    def end_of_pipe(self) -> int:
+        """A descriptor, mostly one of a pipe."""
+        return self.descriptor(lambda found: isinstance(found.node, Pipe))
+
+    def of_file(self) -> int:
+        """A descriptor, mostly one of a file."""
+        return self.descriptor(lambda found: isinstance(found.node, File))
 
     def size(self) -> int:
         """A number of bytes, mostly one at an edge."""
@@ -106,9 +135,12 @@ class Scene:
         """A word of flags, behind a blank, in this part of the cases."""
         return f" {self.several(words)}" if self.happens(part) else ""
 
-    def offset_if_any(self) -> str:
-        """The offset of a splice."""
-        return str(self.chance.choice(SPLICE_OFFSETS)) if self.happens(0.35) else "-"
+    def offset_if_any(self, descriptor: int) -> str:
+        """The offset of a splice for a descriptor, mostly for a file's."""
+        process = self.machine.processes.get(self.pid)
+        description = process.descriptors.get(descriptor) if process is not None else None
+        part = 0.5 if description is not None and isinstance(description.node, File) else 0.05
+        return str(self.chance.choice(SPLICE_OFFSETS)) if self.happens(part) else "-"
 
     def call_number(self) -> int:
         """The number of a call, mostly one that waits."""
@@ -138,20 +170,22 @@ class Scene:
 
     def read(self) -> str:
         """A read."""
-        return f"read {self.descriptor()} {self.size()}"
+        return f"read {self.reading()} {self.size()}"
 
     def write(self) -> str:
         """A write."""
-        return f"write {self.descriptor()} {self.content()}"
+        return f"write {self.writing()} {self.content()}"
 
     def splice(self) -> str:
         """A splice."""
-        ends = f"{self.descriptor()} {self.offset_if_any()} {self.descriptor()} {self.offset_if_any()}"
+        source, target = self.reading(), self.writing()
+        ends = f"{source} {self.offset_if_any(source)} {target} {self.offset_if_any(target)}"
         return f"splice {ends} {self.size()}{self.flags_if_any(SpliceFlag, 0.25)}"
 
     def tee(self) -> str:
         """A tee."""
-        return f"tee {self.descriptor()} {self.descriptor()} {self.size()}{self.flags_if_any(SpliceFlag, 0.25)}"
+        ends = f"{self.reading(of_pipes=True)} {self.writing(of_pipes=True)}"
+        return f"tee {ends} {self.size()}{self.flags_if_any(SpliceFlag, 0.25)}"
 
     def poll(self) -> str:
         """A poll of a few entries."""
@@ -177,7 +211,7 @@ class Scene:
 
     def lseek(self) -> str:
         """A seek."""
-        return f"lseek {self.descriptor()} {self.chance.choice(SEEKS)} {self.word(Whence)}"
+        return f"lseek {self.of_file()} {self.chance.choice(SEEKS)} {self.word(Whence)}"
 
     def getfl(self) -> str:
         """The flags told."""
@@ -189,11 +223,11 @@ class Scene:
 
     def getsz(self) -> str:
         """The capacity told."""
-        return f"getsz {self.descriptor()}"
+        return f"getsz {self.end_of_pipe()}"
 
     def setsz(self) -> str:
         """The capacity set."""
-        return f"setsz {self.descriptor()} {self.chance.choice(CAPACITIES)}"
+        return f"setsz {self.end_of_pipe()} {self.chance.choice(CAPACITIES)}"
 
     def fork(self) -> str:
         """A fork."""
@@ -251,8 +285,20 @@ CALLS: Dict[Line, float] = {
 # How often each line comes that no process makes.
 WITHOUT_PROCESS: Dict[Line, float] = {Scene.start: 0.7, Scene.resume: 16, Scene.interrupt: 2, Scene.file: 2}
 
-# What some scripts have more of.
-EMPHASES: Tuple[Dict[Line, float], ...] = ({}, {Scene.open: 16}, {Scene.splice: 18, Scene.tee: 12}, {Scene.poll: 16})
+# Lines that mostly are of use only if a call waits.
+OF_WAITING_CALLS = (Scene.resume, Scene.interrupt)
+
+# What keeps descriptions open beside their first descriptor.
+OTHER_HOLDERS: Tuple[Line, ...] = (Scene.fork, Scene.dup, Scene.dup2, Scene.dupfd)
+
+# What some scripts have more of, or less. In the last ones the ends of FIFOs come and go.
+EMPHASES: Tuple[Dict[Line, float], ...] = (
+    {},
+    {Scene.open: 16},
+    {Scene.splice: 18, Scene.tee: 12},
+    {Scene.poll: 16, Scene.close: 12},
+    {Scene.open: 20, Scene.close: 20, Scene.exit: 2, Scene.start: 3, Scene.pipe: 1, **dict.fromkeys(OTHER_HOLDERS, 0.3)},
+)
 
 
 def begin(scene: Scene) -> None:
@@ -269,7 +315,8 @@ def as_written(scene: Scene, line: str) -> str:
     """A line as it may be written too: with other blanks, zeros before a number, or a return at its end."""
     if not scene.happens(0.05):
         return line
-    return scene.chance.choice((f"  {line}", line.replace(" ", "\t"), f"{line} ", f"{line}\r", f"00{line}" if line[0].isdigit() else line))
+    other_number = f"00{line}" if line[0].isdigit() else line
+    return scene.chance.choice((f"  {line}", line.replace(" ", "\t"), f"{line} ", f"{line}\r", other_number))
 
 
 def scene_of(chance: random.Random) -> Scene:
@@ -279,6 +326,8 @@ def scene_of(chance: random.Random) -> Scene:
     lines = list(weights)
     begin(scene)
     for line in chance.choices(lines, list(weights.values()), k=chance.choice(LENGTHS)):
+        if line in OF_WAITING_CALLS and not scene.machine.waiting and not scene.happens(0.1):
+            continue
         if line in WITHOUT_PROCESS:
             scene.add(as_written(scene, line(scene)))
         else:
@@ -313,11 +362,12 @@ def draw(seed: int) -> Drawn:
 
 
 def main(words: List[str]) -> Optional[str]:
-    """Prints the script of a seed."""
+    """Prints the script of a seed, and the number of its first call."""
     if len(words) != 1:
         return "usage: draw.py SEED"
     drawn = draw(int(words[0]))
-    sys.stdout.buffer.write(f"# seed {words[0]}, piperun --first-call {drawn.first_call}\n".encode("ascii") + drawn.script)
+    sys.stdout.buffer.write(drawn.script)
+    print(f"--first-call {drawn.first_call}", file=sys.stderr)
     return None
 
 

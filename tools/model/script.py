@@ -148,7 +148,10 @@ def entry(text: str) -> Tuple[int, Mask]:
 
 @dataclass(frozen=True)
 class Form:
-    """How a line gives a call: the words that it has to have, one that it may lack, with what is taken then, or any number of words."""
+    """How a line gives a call: the words that it has to have, and then one that it may lack, or any number of words.
+
+    `without_last` is what is taken for the word that is lacking.
+    """
 
     call: Callable[..., Reply]
     words: Tuple[Parser, ...] = ()

@@ -65,7 +65,7 @@ class Read(Call):
         return Data(data)
 
     def _read_pipe(self, pipe: Pipe) -> Optional[Reply]:
-        """A read gets what is held. If nothing is, a pipe without writers is at the end of file, and any other has to be waited for."""
+        """A read gets what is held. An empty pipe without writers is at the end of file. For any other the read has to wait."""
         data = pipe.front(self.most)
         if not data and pipe.writers:
             return None
@@ -108,15 +108,16 @@ class Write(Call):
             if self.taken:
                 return Count(self.taken, sigpipe=True)
             raise Refused(Errno.EPIPE)
-        rest = self.data[self.taken :]
-        if len(rest) <= pipe.room:
-            pipe.put(rest)
-            return Count(len(self.data))
-        if self._is_large and not self.may_wait and pipe.room:
-            part = rest[: pipe.room]
-            pipe.put(part)
-            return Count(len(part))
+        fits = len(self.data) - self.taken <= pipe.room
+        if fits or (self._is_large and not self.may_wait and pipe.room):
+            self._put_what_fits(pipe)
+            return Count(self.taken)
         return None
+
+    def _put_what_fits(self, pipe: Pipe) -> None:
+        part = self.data[self.taken : self.taken + pipe.room]
+        pipe.put(part)
+        self.taken += len(part)
 
     @property
     def _is_large(self) -> bool:
@@ -126,9 +127,7 @@ class Write(Call):
         """A large write that waits puts in as many bytes as there is room for (the amount per turn: our own)."""
         pipe = self.target.node
         if isinstance(pipe, Pipe) and self._is_large:
-            part = self.data[self.taken : self.taken + pipe.room]
-            pipe.put(part)
-            self.taken += len(part)
+            self._put_what_fits(pipe)
 
     def interrupted(self) -> Reply:
         """A write that took bytes answers their count (POSIX.1-2017, write)."""
