@@ -2,8 +2,8 @@
 
   python3 tools/model/draw.py SEED    prints the script, and to standard error the option of piperun for the number of its first call
 
-A script is drawn beside the machine that runs it, so that most lines name processes, descriptors and waiting calls that are there. Of
-some scripts a few bytes are changed behind that, so that bad lines come.
+A script is drawn beside the machine that runs it, so that most lines name processes, descriptors and waiting calls that are there.
+Behind that some words are spelled otherwise, or a few bytes are changed, so that bad lines come.
 """
 from __future__ import annotations
 
@@ -21,6 +21,7 @@ from state import (
     GREATEST_CAPACITY,
     GREATEST_OFFSET,
     MOST_FILE_BYTES,
+    MOST_PROCESSES,
     NEVER_A_CALL,
     PIPE_BUF,
     Description,
@@ -31,7 +32,7 @@ from state import (
 
 FIRST_CALLS = (1, 1, 1, 0, 5, NEVER_A_CALL, NEVER_A_CALL - 1, NEVER_A_CALL - 3)
 LENGTHS = (30, 100, 250)
-SIZES = (0, 1, 2, 10, PIPE_BUF - 1, PIPE_BUF, PIPE_BUF + 1, 5000, FIRST_CAPACITY - 1, FIRST_CAPACITY, 70000)
+SIZES = (0, 1, 2, 10, PIPE_BUF - 1, PIPE_BUF, PIPE_BUF, PIPE_BUF, PIPE_BUF + 1, 5000, FIRST_CAPACITY - 1, FIRST_CAPACITY, 70000)
 CAPACITIES = (0, 1, 4096, 4097, 8192, 65536, 65537, GREATEST_CAPACITY, GREATEST_CAPACITY + 1, 2**32 - 1)
 SPLICE_OFFSETS = (0, 1, 5, 100, 4096, 9000, MOST_FILE_BYTES - 6, MOST_FILE_BYTES, GREATEST_OFFSET, 2**63, 2**64 - 1)
 SEEKS = (0, 0, 1, -1, 5, 4096, MOST_FILE_BYTES - 1, GREATEST_OFFSET, -(2**63))
@@ -42,10 +43,23 @@ SELDOM = 0.07
 # of larger files the bytes aren't asked for, as their line would be most of what is printed
 MOST_BYTES_TOLD = 1000000
 BEGINNING = ("start", "1 pipe", "1 mkfifo q", "1 open f rw creat", "1 fork")
-# so many pipes leave a process few descriptors
-PIPES_OF_A_FULL_TABLE = 126
+# What now and then comes behind them. A process has few free descriptors, few descriptions are left, or few pids are.
+FULL_TABLE = ("1 pipe",) * 126
+ALL_DESCRIPTIONS = tuple(line for pid in range(2, 22) for line in ("start", *(f"{pid} pipe",) * 102))
+ALL_PIDS = ("start",) * (MOST_PROCESSES - 3)
+CROWDS = (FULL_TABLE, ALL_DESCRIPTIONS, ALL_PIDS)
 CHANGED_BYTES = b"0123456789 \t\r\n-,:*%#+abcdefrw\x00\x80\x0b\x7f"
-PART_CHANGED = 0.25
+PART_CHANGED = 0.15
+# How words may be spelled otherwise, well or badly. Numbers are of 20 and of 21 digits, and at the edges of their types.
+ODD_NUMBERS = ("0" * 19 + "1", "0" * 20 + "1", "-0", "-1", "--1", "+1", "1-", "0x1", "1.") + tuple(
+    str(edge + beside) for edge in (-(2**63), -(2**31), 2**31, 2**32, 2**63, 2**64) for beside in (-1, 0)
+)
+ODD_CONTENTS = ("0*61", "0005*6a", "5*6A", "0" * 20 + "5*61", "16777217*61", "5*6", "5*611", "*61", "5**61", "-5*61", "616", "6g", "")
+ODD_ENDINGS = ("", "", "", " 1", " nonblock", "\r\r", " \r", "\r \r", "\x0b")
+PART_RESPELLED = 0.5
+LINES_RESPELLED = 3
+# respelled are some of so many last lines, as what is behind a bad line isn't run
+LAST_LINES = 20
 
 
 @dataclass(frozen=True)
@@ -160,8 +174,8 @@ class Scene:
         return f"mkfifo {self.name()}"
 
     def open(self) -> str:
-        """An open. Half of the new names come by CREAT."""
-        flags = " creat" if self.happens(0.25) else self.flags_if_any(OpenFlag, 0.4)
+        """An open, often of a name that is to be made, or one that doesn't wait."""
+        flags = self.chance.choice(("", " creat", " nonblock", f" {self.several(OpenFlag)}"))
         return f"open {self.name()} {self.word(Mode)}{flags}"
 
     def unlink(self) -> str:
@@ -297,18 +311,17 @@ EMPHASES: Tuple[Dict[Line, float], ...] = (
     {Scene.open: 16},
     {Scene.splice: 18, Scene.tee: 12},
     {Scene.poll: 16, Scene.close: 12},
-    {Scene.open: 20, Scene.close: 20, Scene.exit: 2, Scene.start: 3, Scene.pipe: 1, **dict.fromkeys(OTHER_HOLDERS, 0.3)},
+    {Scene.open: 20, Scene.close: 24, Scene.poll: 10, Scene.setsz: 8, Scene.pipe: 0.5, **dict.fromkeys(OTHER_HOLDERS, 0.3)},
 )
 
 
 def begin(scene: Scene) -> None:
-    """Adds the first lines: mostly a pipe, a FIFO, a file and a child, now and then so many pipes that few descriptors are free."""
+    """Adds the first lines: mostly a pipe, a FIFO, a file and a child, now and then a crowd that leaves little free."""
     count = len(BEGINNING) if scene.happens(0.75) else 1
     for line in BEGINNING[:count]:
         scene.add(line)
-    if scene.happens(0.05):
-        for _ in range(PIPES_OF_A_FULL_TABLE):
-            scene.add("1 pipe")
+    for line in scene.chance.choices(((), *CROWDS), (0.93, 0.04, 0.015, 0.015))[0]:
+        scene.add(line)
 
 
 def as_written(scene: Scene, line: str) -> str:
@@ -336,6 +349,28 @@ def scene_of(chance: random.Random) -> Scene:
     return scene
 
 
+def respell(chance: random.Random, line: str) -> str:
+    """Spells a word of a line otherwise, mostly one of an argument, or its end. The line may be a bad one then."""
+    words = line.split()
+    first = 0 if chance.random() < 0.2 else min(2, len(words) - 1)
+    place = chance.randrange(first, len(words))
+    word = words[place]
+    if word.lstrip("-").isdigit():
+        words[place] = chance.choice(ODD_NUMBERS)
+    elif "*" in word:
+        words[place] = chance.choice(ODD_CONTENTS)
+    else:
+        words[place] = chance.choice((word.upper(), f"{word},", f",{word}", f"{word},{word}", f"{word}%", f"%6G{word}", word[:-1], "-"))
+    return " ".join(words) + chance.choice(ODD_ENDINGS)
+
+
+def respell_some(scene: Scene) -> None:
+    """Spells some of the last lines otherwise."""
+    last = range(max(0, len(scene.lines) - LAST_LINES), len(scene.lines))
+    for place in scene.chance.choices(last, k=LINES_RESPELLED):
+        scene.lines[place] = respell(scene.chance, scene.lines[place])
+
+
 def change(chance: random.Random, script: bytes) -> bytes:
     """Changes a few bytes of a script, puts some in, takes some away, or cuts it."""
     changed = bytearray(script)
@@ -355,6 +390,8 @@ def draw(seed: int) -> Drawn:
     """Draws a script by a seed."""
     chance = random.Random(seed)
     scene = scene_of(chance)
+    if scene.happens(PART_RESPELLED):
+        respell_some(scene)
     script = "".join(line + "\n" for line in scene.lines).encode("ascii")
     if scene.happens(PART_CHANGED):
         script = change(chance, script)
