@@ -1,6 +1,6 @@
 """Draws scripts by a seed. The same seed draws the same script.
 
-  python3 tools/model/draw.py SEED    prints the script, and to standard error the option of piperun for the number of its first call
+  python3 tools/model/draw.py SEED    prints the script, and to standard error the option that tells piperun its first call
 
 A script is drawn beside the machine that runs it, so that most lines name processes, descriptors and waiting calls that are there.
 Behind that some words are spelled otherwise, or a few bytes are changed, so that bad lines come.
@@ -36,7 +36,7 @@ SIZES = (0, 1, 2, 10, PIPE_BUF - 1, PIPE_BUF, PIPE_BUF, PIPE_BUF, PIPE_BUF + 1, 
 CAPACITIES = (0, 1, 4096, 4097, 8192, 65536, 65537, GREATEST_CAPACITY, GREATEST_CAPACITY + 1, 2**32 - 1)
 SPLICE_OFFSETS = (0, 1, 5, 100, 4096, 9000, MOST_FILE_BYTES - 6, MOST_FILE_BYTES, GREATEST_OFFSET, 2**63, 2**64 - 1)
 SEEKS = (0, 0, 1, -1, 5, 4096, MOST_FILE_BYTES - 1, GREATEST_OFFSET, -(2**63))
-USUAL_NAMES = ("q", "f", "g")
+USUAL_NAMES = ("q", "q", "f", "g")
 ALL_NAMES = ("q", "f", "g", "-", "a%2fb", "%2d", "%00", "g" * 255, "g" * 256)
 # what is seldom drawn of names is drawn of this part of them
 SELDOM = 0.07
@@ -311,7 +311,10 @@ EMPHASES: Tuple[Dict[Line, float], ...] = (
     {Scene.open: 16},
     {Scene.splice: 18, Scene.tee: 12},
     {Scene.poll: 16, Scene.close: 12},
-    {Scene.open: 20, Scene.close: 24, Scene.poll: 10, Scene.setsz: 8, Scene.pipe: 0.5, **dict.fromkeys(OTHER_HOLDERS, 0.3)},
+    {
+        **{Scene.open: 20, Scene.close: 24, Scene.poll: 10, Scene.setsz: 8, Scene.getsz: 6, Scene.pipe: 0.2},
+        **dict.fromkeys(OTHER_HOLDERS, 0.3),
+    },
 )
 
 

@@ -13,7 +13,6 @@ from replies import (
     Count,
     Data,
     Errno,
-    Event,
     Fault,
     FileContent,
     Mask,
@@ -421,7 +420,7 @@ class Machine:
         ends = [description for description in (giver, taker) if isinstance(description.node, Pipe)]
         return SpliceFlag.NONBLOCK not in flags and not any(end.nonblock for end in ends)
 
-    def poll(self, process: Process, wait: bool, asked: Sequence[Tuple[int, FrozenSet[Event]]]) -> Reply:
+    def poll(self, process: Process, wait: bool, asked: Sequence[Tuple[int, Mask]]) -> Reply:
         """Tells what is found of descriptors, or waits until something is (POSIX.1-2017, poll)."""
         if len(asked) > OPEN_MAX:
             raise Refused(Errno.EINVAL)
