@@ -1,45 +1,57 @@
 /* Bindingclay: POSIX pipes, FIFOs and regular files in the memory of one process, with splice, tee and poll.
  *
- * A kernel has processes, descriptors, pipes, FIFOs and files of its own, and nothing of the system's: its pids, descriptors and names
- * mean something in its own calls alone. Each call does at most one step of it, and answers at once.
+ * A kernel has its own processes, descriptors, pipes, FIFOs and files, and nothing of the system's. Its pids, descriptors and names mean
+ * something only in its own calls. Each call makes at most one step of the kernel, and returns at once.
  *
- * Threads. A kernel is given to one call at a time: threads that share one hold a lock of yours around each call. It may move from
- * thread to thread, under that lock, or with the start or the end of a thread. Two kernels share nothing, and need no lock between
- * them. No call is made from a signal handler, nor in the forked child of a process that has threads. No call blocks, starts a thread
- * or asks anything of the system but for memory.
+ * Threads. A kernel takes one call at a time: threads that share a kernel hold a lock of yours around each call. A kernel may move from
+ * thread to thread under that lock, or when a thread starts or ends. Two kernels share nothing, and need no lock between them. Make no call
+ * from a signal handler, or in the forked child of a process that has threads. No call blocks, starts a thread, or asks the system for
+ * anything except memory.
  *
- * Waiting. A call that would wait answers BINDINGCLAY_PARKED: that is an answer, and its value is the call's number. If as many calls wait
- * as the limit waiting_calls says, it answers EAGAIN, and has taken and given nothing. Keep the number,
- * and try the call again by bindingclay_resume, or bindingclay_resume_poll, after any call that could help it: nothing tells you which did.
- * What brings bytes into a pipe (write, splice, tee) helps who takes bytes from it. What makes room in it (read, splice, set_pipe_sz) helps
- * who puts bytes into it. What closes an end of it (close, dup2, exit, interrupt, the end of another parked call) helps both. Each of these
- * helps a poll of the pipe too. An open helps the open of a FIFO's other end. A splice from a file into a full pipe answers 0 once the file
- * has no bytes behind its offset: after an open with O_TRUNC, or, if the splice was given no offset, after a call that moved the offset of
- * its description (lseek, read, write, splice). A call helps in the same way when it is resumed. One rule is always right. After any call
- * that isn't refused, try all calls that wait, round after round, until every try of two rounds in a row answers BINDINGCLAY_PARKED. One
- * round isn't enough, since a write that still waits may have put some of its bytes. Where a call still waits it answers its number again,
- * and that costs little. bindingclay_interrupt ends it. A call that is parked keeps what it found open, until it is answered, is interrupted,
- * or its process exits; an open of a FIFO keeps the end that it makes, which counts as one from then on.
+ * Waiting. A call that would wait answers BINDINGCLAY_PARKED. That is an answer, and its value is the call's number. If as many calls
+ * already wait as the limit waiting_calls allows, the call answers EAGAIN instead, and has taken and given nothing. Keep the number. Try
+ * the call again with bindingclay_resume, or a poll with bindingclay_resume_poll, after any call that could help it. Nothing tells you
+ * which call did. A call helps as follows:
  *
- * Memory. It comes from malloc and realloc, and goes by free, all three of one allocator, which aligns as C demands. A call that finds none
- * answers BINDINGCLAY_NO_MEMORY and has changed nothing, neither the kernel nor what its pointers point to: make it again once there is
- * some. Some calls, marked below, ask for none. A call that is refused for another reason has asked for none either, but for the calls with
- * a name, which copy it first. bindingclay_free gives back all. bindingclay_open_within sets how many bytes a kernel may hold: where a call
- * would want more, there is none. bindingclay_memory tells how many it holds: it may tell more behind a call that found none, as a
- * table may have grown, which the next call that wants it uses. Close, exit, interrupt and a read that is resumed always find what they need,
- * so a guest at its limit can free what it has. Up to 1,048,576 bytes of that stay with the kernel (spare), and so do its tables, each as
- * long as it ever was: up to 128 bytes for each segment and process, and 350 for each waiting call, description, and pipe or file.
+ * - A call that brings bytes into a pipe (write, splice, tee) helps a call that takes bytes from it.
+ * - A call that makes room in a pipe (read, splice, set_pipe_sz) helps a call that puts bytes into it.
+ * - A call that closes an end of a pipe (close, dup2, exit, interrupt, the end of another parked call) helps both.
+ * - Each of these also helps a poll of the pipe.
+ * - An open of a FIFO helps the open of its other end.
+ * - A splice from a file into a full pipe answers 0 once the file has no bytes behind the splice's offset. An open with O_TRUNC can cause
+ *   that. If the splice was given no offset, so can a call that moves the offset of the file's description (lseek, read, write, splice).
  *
- * Pointers. None is null, but one to 0 bytes or to 0 entries, or to an offset of bindingclay_splice, may be. What a call writes to overlaps
- * nothing else that it is given, and nothing that it is given overlaps the kernel's own memory. The library keeps no pointer of yours after
- * a call: a write that is parked has a copy of its bytes. A handle that was freed, that neither bindingclay_open nor
- * bindingclay_open_within gave, or that two calls have at once, is undefined behaviour, and isn't found out.
+ * A call helps in the same way when it is resumed.
  *
- * Errors and flags have Linux's numbers, as errno.h, fcntl.h and poll.h have them there. Pages are those of POSIX.1-2017, and with (2)
- * or (7) behind their name those of Linux. docs/RULES.md of the project has each rule, and the order of the refusals.
+ * One rule is always right. After any call that isn't refused, try all calls that wait, round after round, until every try of two rounds in
+ * a row answers BINDINGCLAY_PARKED. One round isn't enough, since a write that still waits may have put in some of its bytes. A call that
+ * still waits answers its number again, and that costs little. bindingclay_interrupt ends a call that waits.
  *
- * Versions. 0.x: a minor number may change what is declared here, a patch number doesn't. Compare BINDINGCLAY_VERSION, that of this
- * header, with bindingclay_version(), that of the library.
+ * A parked call keeps open what it found open, until it is answered, it is interrupted, or its process exits. An open of a FIFO keeps the
+ * end that it makes, which counts as an end from then on.
+ *
+ * Memory. It comes from malloc and realloc, and is given back by free. All three belong to one allocator, which aligns as C demands. A call
+ * that finds no memory answers BINDINGCLAY_NO_MEMORY. It has changed nothing, neither the kernel nor what its pointers point to: make it
+ * again once there is some. Some calls, marked below, ask for none. A call that is refused for another reason has asked for none either,
+ * except the calls with a name, which copy it first. bindingclay_free gives back all memory.
+ *
+ * bindingclay_open_within sets how many bytes a kernel may hold. If a call would want more, there is no memory for it. bindingclay_memory
+ * tells how many bytes the kernel holds. It may tell more after a call that found no memory, as a table may have grown. The next call that
+ * wants that table uses it. Close, exit, interrupt and a read that is resumed always find what they need, so a guest at its limit can free
+ * what it has. Up to 1,048,576 bytes of that stay with the kernel (spare). Its tables stay too, each as long as it ever was. They take up
+ * to 128 bytes for each segment and process, and up to 350 for each waiting call, each description, and each pipe or file.
+ *
+ * Pointers. A pointer may be null only if it points to 0 bytes or to 0 entries, or is an offset of bindingclay_splice. What a call writes
+ * to overlaps nothing else that the call is given, and nothing that it is given overlaps the kernel's own memory. The library keeps no
+ * pointer of yours after a call: a write that is parked has a copy of its bytes. It is undefined behaviour to use a handle that was freed,
+ * a handle that neither bindingclay_open nor bindingclay_open_within gave, or one handle in two calls at once. No call detects it.
+ *
+ * Errors. Errors and flags have Linux's numbers, as errno.h, fcntl.h and poll.h define them there. Each call below lists its errors in the
+ * order in which it checks them. A page that is named below is one of POSIX.1-2017. With (2) or (7) behind its name it is one of Linux.
+ * docs/RULES.md of the project has each rule, and the order of the refusals.
+ *
+ * Versions. In 0.x, a new minor number may change what is declared here, and a new patch number doesn't. Compare BINDINGCLAY_VERSION, the
+ * version of this header, with bindingclay_version(), the version of the library.
  */
 #ifndef BINDINGCLAY_H
 #define BINDINGCLAY_H
@@ -59,41 +71,41 @@ extern "C" {
 #define BINDINGCLAY_VERSION \
     (BINDINGCLAY_VERSION_MAJOR * 1000000 + BINDINGCLAY_VERSION_MINOR * 1000 + BINDINGCLAY_VERSION_PATCH)
 
-/* The most bytes of a regular file, which bindingclay_open and bindingclay_open_within may limit further. */
+/* The most bytes of a regular file. bindingclay_open and bindingclay_open_within may limit it further. */
 #define BINDINGCLAY_MOST_FILE_BYTES 16777216
 
-/* The most bytes that a pipe can be made to hold, which bindingclay_open_within may limit further. */
+/* The most bytes that a pipe can be made to hold. bindingclay_open_within may limit it further. */
 #define BINDINGCLAY_MOST_CAPACITY 1048576
 
-/* The most bytes of one read or write. Of more the first so many are read or written, and counted. */
+/* The most bytes of one read or write. A larger one is cut to this many of its bytes, the first ones, and counts only these. */
 #define BINDINGCLAY_MOST_BYTES 16777216
 
-/* One kernel: what bindingclay_open or bindingclay_open_within gave. Copies of it are the same kernel. */
+/* One kernel, as bindingclay_open or bindingclay_open_within gave it. Copies of this struct are the same kernel. */
 typedef struct {
     void *kernel;
 } bindingclay;
 
-/* What a call came to. */
+/* What became of a call. */
 enum bindingclay_kind {
-    /* It is done; value: what it answers, or 0 where it answers nothing. */
+    /* The call is done. value: its result, or 0 if it has none. */
     BINDINGCLAY_DONE = 0,
-    /* It failed; error: why, a number of errno.h. With EPIPE sigpipe is set. */
+    /* The call failed. error: the reason, a number of errno.h. With EPIPE, sigpipe is set. */
     BINDINGCLAY_FAULT = 1,
-    /* It waits; value: its number, for bindingclay_resume and bindingclay_interrupt. */
+    /* The call waits. value: its number, for bindingclay_resume and bindingclay_interrupt. */
     BINDINGCLAY_PARKED = 2,
     /* There is no process of this pid. Nothing changed. */
     BINDINGCLAY_NO_PROCESS = 3,
     /* No call of this number waits. Nothing changed. */
     BINDINGCLAY_NO_CALL = 4,
-    /* It would wait, and no number is left: the last is 18,446,744,073,709,551,614. Nothing changed. */
+    /* The call would wait, and no number is left: the last one is 18,446,744,073,709,551,614. Nothing changed. */
     BINDINGCLAY_CALLS_SPENT = 5,
     /* There is no memory. Nothing changed. */
     BINDINGCLAY_NO_MEMORY = 6,
-    /* A read that is resumed would give more bytes than there is room for, or a file has more; value: how many. Nothing changed. */
+    /* A read that is resumed would give more bytes than there is room for, or a file has more. value: how many. Nothing changed. */
     BINDINGCLAY_SHORT = 7
 };
 
-/* The answer of a call. A field of which its kind says nothing is 0. */
+/* The answer of a call. A field that the comment on its kind doesn't name is 0, except that sigpipe may be set with a count. */
 typedef struct {
     uint64_t value;
     int32_t error;
@@ -115,57 +127,57 @@ typedef struct {
     int16_t revents;
 } bindingclay_pollfd;
 
-/* What a kernel may take. Begin with BINDINGCLAY_LIMITS, and change what is to be less: then a later version may add fields behind these. */
+/* What a kernel may take. Begin with BINDINGCLAY_LIMITS, and change what should be less. Then a later version may add fields at the end. */
 typedef struct {
-    /* The bytes of the struct. Of a smaller one the fields that it doesn't have are those of BINDINGCLAY_LIMITS. */
+    /* The bytes of the struct. If it is a smaller one, the fields that it lacks are those of BINDINGCLAY_LIMITS. */
     uint64_t size;
-    /* The number of the first call that waits. The next one gets that behind it, and so on. */
+    /* The number of the first call that waits. The next call that waits gets the next number, and so on. */
     uint64_t first_call;
     /* The most bytes that the kernel may hold, as they are asked of malloc and realloc. A call that would want more answers
      * BINDINGCLAY_NO_MEMORY. UINT64_MAX: no limit. */
     uint64_t memory;
-    /* The most names of files and FIFOs at one time. One more answers ENOSPC. UINT64_MAX: no limit. */
+    /* The most names of files and FIFOs at one time. A call that would make one more fails with ENOSPC. UINT64_MAX: no limit. */
     uint64_t names;
-    /* The most calls that wait at one time. A call that would wait above that answers EAGAIN, and has taken and given nothing. UINT64_MAX:
-     * no limit. */
+    /* The most calls that wait at one time. One more that would wait fails with EAGAIN, and has taken and given nothing. UINT64_MAX: no
+     * limit. */
     uint64_t waiting_calls;
-    /* The most bytes that bindingclay_set_pipe_sz lets a pipe hold; more answer EPERM. At most BINDINGCLAY_MOST_CAPACITY. A new pipe can
-     * hold 65,536 all the same. */
+    /* The most bytes that bindingclay_set_pipe_sz lets a pipe hold; more fails with EPERM. At most BINDINGCLAY_MOST_CAPACITY. A new pipe
+     * can hold 65,536 bytes all the same. */
     uint32_t capacity;
-    /* The most bytes of a regular file, at most BINDINGCLAY_MOST_FILE_BYTES. */
+    /* The most bytes of a regular file. At most BINDINGCLAY_MOST_FILE_BYTES. */
     uint32_t file_max;
 } bindingclay_limits;
 
-/* The limits where nobody sets any: bindingclay_limits limits = BINDINGCLAY_LIMITS; */
+/* The limits if nobody sets any: bindingclay_limits limits = BINDINGCLAY_LIMITS; */
 #define BINDINGCLAY_LIMITS \
     { sizeof(bindingclay_limits), 1, UINT64_MAX, UINT64_MAX, UINT64_MAX, BINDINGCLAY_MOST_CAPACITY, BINDINGCLAY_MOST_FILE_BYTES }
 
-/* What a kernel takes of its memory, in bytes as they were asked of malloc and realloc. The block that holds the kernel itself, and the
- * count, some hundred bytes, are no part of it. */
+/* How much memory a kernel takes, in bytes as they were asked of malloc and realloc. The block that holds the kernel itself and the block
+ * that holds this count, some hundred bytes, are no part of it. */
 typedef struct {
-    /* Those that it holds now. */
+    /* The bytes that it holds now. */
     uint64_t held;
-    /* The most that it held at once. */
+    /* The most bytes that it held at once. */
     uint64_t peak;
-    /* The most that it may hold: memory of its limits. */
+    /* The most bytes that it may hold: memory of its limits. */
     uint64_t most;
-    /* Those of held in segments that it keeps for further bytes of pipes and files: at most 1,048,576. */
+    /* The bytes of held that are in segments kept for further bytes of pipes and files: at most 1,048,576. */
     uint64_t spare;
 } bindingclay_memory_use;
 
-/* bindingclay_open_within, with count words of limits. *budget is written once a block for the budget was taken from malloc: it goes by
- * free, behind bindingclay_end, or at once where the answer is false. */
+/* Does what bindingclay_open_within does, with count words of limits. *budget is written once a block for the budget was taken from malloc.
+ * Give that block to free after bindingclay_end, or at once if the answer is false. */
 bool bindingclay_open_words(const uint64_t *limits, size_t count, void **kernel, void **budget);
 
-/* bindingclay_free, but for the block of the budget, whose pointer is written to *budget. */
+/* Does what bindingclay_free does, except that the block of the budget stays. Its pointer is written to *budget. */
 void bindingclay_end(bindingclay clay, void **budget);
 
-/* bindingclay_memory, written to *memory. */
+/* Does what bindingclay_memory does, and writes the answer to *memory. */
 void bindingclay_tell_memory(bindingclay clay, bindingclay_memory_use *memory);
 
-/* Makes a kernel without processes, within limits, and writes its pointer to *kernel; false, with nothing written, where there is no
- * memory, or a capacity or a file may not have so many bytes, or size is that of no such struct. The kernel is yours, and goes by
- * bindingclay_free. */
+/* Makes a kernel without processes, within limits, and writes its pointer to *kernel. Returns false, and writes nothing, if memory runs
+ * out. It does the same if a limit lets a pipe or a file have more bytes than any may, or if size isn't the size of such a struct. The
+ * kernel is yours: free it with bindingclay_free. */
 static inline bool bindingclay_open_within(const bindingclay_limits *limits, void **kernel)
 {
     void *budget = NULL;
@@ -178,10 +190,10 @@ static inline bool bindingclay_open_within(const bindingclay_limits *limits, voi
     return false;
 }
 
-/* Makes a kernel without processes, and writes its pointer to *kernel; false, with nothing written, where there is no memory, or
- * file_max is above BINDINGCLAY_MOST_FILE_BYTES. Its first call that waits gets the number first_call, the next one that behind it, and so
- * on. A regular file has at most file_max bytes. Else it has the limits of BINDINGCLAY_LIMITS. The kernel is yours, and goes by
- * bindingclay_free. */
+/* Makes a kernel without processes, and writes its pointer to *kernel. Returns false, and writes nothing, if memory runs out, or if
+ * file_max is above BINDINGCLAY_MOST_FILE_BYTES. The kernel's first call that waits gets the number first_call, the next one the next
+ * number, and so on. A regular file has at most file_max bytes. The other limits are those of BINDINGCLAY_LIMITS. The kernel is yours: free
+ * it with bindingclay_free. */
 static inline bool bindingclay_open(uint64_t first_call, uint32_t file_max, void **kernel)
 {
     bindingclay_limits limits = BINDINGCLAY_LIMITS;
@@ -198,7 +210,7 @@ static inline void bindingclay_free(bindingclay clay)
     free(budget);
 }
 
-/* What a kernel takes of its memory. Asks for none. */
+/* Tells how much memory a kernel takes. Asks for no memory. */
 static inline bindingclay_memory_use bindingclay_memory(bindingclay clay)
 {
     bindingclay_memory_use memory;
@@ -206,101 +218,143 @@ static inline bindingclay_memory_use bindingclay_memory(bindingclay clay)
     return memory;
 }
 
-/* The version of the library, as BINDINGCLAY_VERSION. */
+/* The version of the library, as BINDINGCLAY_VERSION gives it. */
 uint32_t bindingclay_version(void);
 
 /* ---- Processes ---- */
 
-/* Starts a process without descriptors. Value: its pid, the least that is free, from 1 on. With 1,024 processes EAGAIN (fork). */
+/* Starts a process without descriptors. Value: its pid, the least one that is free, from 1 on. Fails with EAGAIN if there are 1,024
+ * processes (fork). */
 bindingclay_answer bindingclay_start(bindingclay clay);
 
-/* Starts a process whose descriptors name what those of process pid do (fork). Value: its pid, the least that is free. Calls that
- * wait stay the parent's. With 1,024 processes EAGAIN. */
+/* Starts a process whose descriptors name what those of process pid name (fork). Value: its pid, the least one that is free. Calls that
+ * wait stay the parent's. Fails with EAGAIN if there are 1,024 processes. */
 bindingclay_answer bindingclay_fork(bindingclay clay, uint32_t pid);
 
-/* Ends a process (_exit): its descriptors are closed, its calls that wait are gone without an answer, and its pid is free. Asks for no
+/* Ends a process (_exit). Its descriptors are closed, its calls that wait are gone without an answer, and its pid is free. Asks for no
  * memory. */
 bindingclay_answer bindingclay_exit(bindingclay clay, uint32_t pid);
 
 /* ---- Calls that wait ---- */
 
-/* Tries again the call of a number that waits. It answers what the call would have, or BINDINGCLAY_PARKED with the same number where it
- * still waits; a fault ends it too, as EMFILE does an open that has met and finds no descriptor free. A read gives what its pipe holds, and
- * no more than it asked for, into the first of the size bytes at into. Room for 1,048,576 bytes is always enough. If size is less than what
- * it gives, BINDINGCLAY_SHORT tells how many bytes that is, and the read waits on. The bytes behind what it read stay as they are. A read
- * that is resumed asks for no memory. Other calls leave all the bytes alone, and size may be 0. Of a poll this tells no revents: it is
- * resumed by bindingclay_resume_poll. No call of this number BINDINGCLAY_NO_CALL. */
+/* Tries again the call that waits under a number. It answers what the call would answer, or BINDINGCLAY_PARKED with the same number if the
+ * call still waits. A fault ends the call too. For example, EMFILE ends the open of a FIFO that has met its other end, if no descriptor is
+ * free.
+ *
+ * A read gives what its pipe holds, and no more than it asked for, into the first of the size bytes at into. Room for 1,048,576 bytes is
+ * always enough. If size is less than what the read gives, BINDINGCLAY_SHORT tells how many bytes that is, and the read still waits. The
+ * bytes behind what it read stay as they are. A read that is resumed asks for no memory.
+ *
+ * Other calls leave all bytes at into alone, and size may be 0. For a poll this tells no revents: bindingclay_resume_poll resumes it. If no
+ * call of this number waits, the answer is BINDINGCLAY_NO_CALL. */
 bindingclay_answer bindingclay_resume(bindingclay clay, uint64_t number, uint8_t *into, size_t size);
 
-/* Tries again the poll of a number that waits. It answers as bindingclay_poll does, or BINDINGCLAY_PARKED with the same number, of what the
- * poll found open as it began and was asked then. The entries are as many as it began with: where it is done their revents are written, in
- * the same order, and nothing else of them is looked at. Of fewer entries the revents of the first are told, and the others lost; of more,
- * those behind stay as they are. Any other call is resumed as by bindingclay_resume with a size of 0. */
+/* Tries again the poll that waits under a number. It answers as bindingclay_poll does, or BINDINGCLAY_PARKED with the same number. It looks
+ * at what the poll found open when it began, and at what it was asked then. The entries are as many as it began with. If the poll is done,
+ * their revents are written, in the same order, and nothing else of them is looked at. If there are fewer entries, the first revents are
+ * told, and the others are lost. If there are more, those behind stay as they are. Any other call is resumed as by bindingclay_resume with
+ * a size of 0. */
 bindingclay_answer bindingclay_resume_poll(bindingclay clay, uint64_t number, bindingclay_pollfd *entries, size_t count);
 
-/* Ends a call that waits, as a signal does: EINTR, or for a write that took bytes their count (read; write; open; poll). No call of this
- * number BINDINGCLAY_NO_CALL. Asks for no memory. */
+/* Ends a call that waits, as a signal does (read; write; open; poll). The answer is EINTR, or the count if it is a write that took bytes.
+ * If no call of this number waits, the answer is BINDINGCLAY_NO_CALL. Asks for no memory. */
 bindingclay_answer bindingclay_interrupt(bindingclay clay, uint64_t number);
 
-/* Tells whose call waits under a number. Value: the pid of the process that began it. No call of this number BINDINGCLAY_NO_CALL. Asks
- * for no memory. */
+/* Tells whose call waits under a number. Value: the pid of the process that began it. If no call of this number waits, the answer is
+ * BINDINGCLAY_NO_CALL. Asks for no memory. */
 bindingclay_answer bindingclay_owner(bindingclay clay, uint64_t number);
 
 /* ---- Pipes and names ---- */
 
-/* Makes a pipe (pipe; pipe2(2)) on the two least free descriptors, with O_NONBLOCK on both where nonblock. They are written to *ends
- * where it is done. Fewer than two free descriptors EMFILE; more than 4,094 open file descriptions ENFILE. */
+/* Makes a pipe (pipe; pipe2(2)) on the two least free descriptors, with O_NONBLOCK on both if nonblock is true. If it is done, they are
+ * written to *ends. Fails with EMFILE if fewer than two descriptors are free, and with ENFILE if there are more than 4,094 open file
+ * descriptions. */
 bindingclay_answer bindingclay_pipe(bindingclay clay, uint32_t pid, bool nonblock, bindingclay_ends *ends);
 
-/* Makes a FIFO of a name (mkfifo). A name is 1 to 255 bytes, at name, without a NUL at its end. Empty ENOENT; longer
- * ENAMETOOLONG; a slash or a NUL in it EINVAL; the name is taken EEXIST; there are as many names as the limits allow ENOSPC. */
+/* Makes a FIFO under a name (mkfifo). A name is 1 to 255 bytes, at name, without a NUL at its end. Errors:
+ * - ENOENT: the name is empty.
+ * - ENAMETOOLONG: the name is longer than 255 bytes.
+ * - EINVAL: a slash or a NUL is in the name.
+ * - EEXIST: the name is taken.
+ * - ENOSPC: there are as many names as the limits allow. */
 bindingclay_answer bindingclay_mkfifo(bindingclay clay, uint32_t pid, const uint8_t *name, size_t size);
 
 /* Opens a name (open; fifo(7)). Value: the least free descriptor. flags: O_RDONLY, O_WRONLY or O_RDWR, with O_CREAT, O_EXCL, O_TRUNC,
- * O_APPEND and O_NONBLOCK of fcntl.h; others have no effect. No such mode EINVAL, before all else. The name as in bindingclay_mkfifo; it is
- * taken, with O_CREAT and O_EXCL, EEXIST; it is free, without O_CREAT, ENOENT; no free descriptor EMFILE; 4,096 open file descriptions
- * ENFILE; a file would be made, and there are as many names as the limits allow, ENOSPC; a FIFO without a reader, for writing with
- * O_NONBLOCK, ENXIO. The open of a FIFO's one end waits for the other, without O_NONBLOCK. */
+ * O_APPEND and O_NONBLOCK of fcntl.h. Other flags have no effect. Errors:
+ * - EINVAL, before all else: flags has none of these modes.
+ * - ENOENT, ENAMETOOLONG, EINVAL: the name is as bindingclay_mkfifo refuses it.
+ * - EEXIST: the name is taken, and flags has O_CREAT and O_EXCL.
+ * - ENOENT: the name is free, and flags lacks O_CREAT.
+ * - EMFILE: no descriptor is free.
+ * - ENFILE: there are 4,096 open file descriptions.
+ * - ENOSPC: a file would be made, and there are as many names as the limits allow.
+ * - ENXIO: the name is that of a FIFO without a reader, and flags has O_WRONLY and O_NONBLOCK.
+ *
+ * Without O_NONBLOCK, the open of one end of a FIFO waits for the other end. */
 bindingclay_answer bindingclay_open_name(
     bindingclay clay, uint32_t pid, const uint8_t *name, size_t size, uint32_t flags);
 
-/* Takes a name away (unlink). What it stood for stays while it is open. The name as in bindingclay_mkfifo; it is free ENOENT. */
+/* Removes a name (unlink). What it stood for stays while it is open. Errors:
+ * - ENOENT, ENAMETOOLONG, EINVAL: the name is as bindingclay_mkfifo refuses it.
+ * - ENOENT: the name is free. */
 bindingclay_answer bindingclay_unlink(bindingclay clay, uint32_t pid, const uint8_t *name, size_t size);
 
 /* Copies the bytes of the regular file that a name stands for to the first of the room bytes at into. It needs no process, and changes
- * nothing of the kernel. Value: how many bytes the file has; BINDINGCLAY_SHORT, with nothing copied, where room is less. ENOENT where
- * the name stands for no regular file. It takes memory for as many bytes as the file has, and gives it back. */
+ * nothing in the kernel. Value: how many bytes the file has. If room is less, the answer is BINDINGCLAY_SHORT, and nothing is copied. Fails
+ * with ENOENT if the name stands for no regular file. It takes memory for as many bytes as the file has, and gives it back. */
 bindingclay_answer bindingclay_file_bytes(
     bindingclay clay, const uint8_t *name, size_t size, uint8_t *into, size_t room);
 
 /* ---- Bytes ---- */
 
-/* Reads at most size bytes to the first of those at into (read); the others stay as they are. Value: how many; 0 at the end. Not
- * open for reading EBADF; a size of 0 answers 0; an empty pipe with a writer: EAGAIN with O_NONBLOCK, and without it the read waits.
- * Asks for memory only where it waits. The bytes are given by bindingclay_resume then, so into is free. */
+/* Reads at most size bytes (read), into the first of the bytes at into. The others there stay as they are. Value: how many; 0 at the end.
+ * In this order:
+ * - EBADF: fd isn't open for reading.
+ * - 0: size is 0.
+ * - EAGAIN, or a wait: the pipe is empty and has a writer. With O_NONBLOCK the read fails with EAGAIN. Without it the read waits.
+ *
+ * Asks for memory only if it waits. bindingclay_resume gives the bytes then, so into is free at once. */
 bindingclay_answer bindingclay_read(bindingclay clay, uint32_t pid, int32_t fd, uint8_t *into, size_t size);
 
-/* Writes size bytes (write). Value: how many went in. Not open for writing EBADF; a size of 0 answers 0; a pipe without a reader EPIPE; too
- * little room in a pipe: EAGAIN with O_NONBLOCK (of more than 4,096 bytes some go in, where there is some room), and without it the write
- * waits until all its bytes went in; a file with no room EFBIG. At most 4,096 bytes go into a pipe whole or not at all (pipe(7), PIPE_BUF). */
+/* Writes size bytes (write). Value: how many went in. In this order:
+ * - EBADF: fd isn't open for writing.
+ * - 0: size is 0.
+ * - EPIPE: the pipe has no reader.
+ * - EAGAIN, or a wait: the pipe has too little room. With O_NONBLOCK the write fails with EAGAIN, except that of more than 4,096 bytes some
+ *   go in if there is some room. Without O_NONBLOCK the write waits until all its bytes went in.
+ * - EFBIG: the file has no room.
+ *
+ * At most 4,096 bytes go into a pipe whole or not at all (pipe(7), PIPE_BUF). */
 bindingclay_answer bindingclay_write(bindingclay clay, uint32_t pid, int32_t fd, const uint8_t *bytes, size_t size);
 
-/* Sets the offset of a regular file (lseek), from SEEK_SET, SEEK_CUR or SEEK_END of stdio.h. Value: the offset. Another whence EINVAL,
- * before all else; not open EBADF; a pipe ESPIPE; an offset below 0 EINVAL; above 9,223,372,036,854,775,807 EOVERFLOW. Asks for no memory. */
+/* Sets the offset of a regular file (lseek), from SEEK_SET, SEEK_CUR or SEEK_END of stdio.h. Value: the offset. Errors:
+ * - EINVAL, before all else: whence is another number.
+ * - EBADF: fd isn't open.
+ * - ESPIPE: fd is open on a pipe.
+ * - EINVAL: the offset would be below 0.
+ * - EOVERFLOW: the offset would be above 9,223,372,036,854,775,807.
+ *
+ * Asks for no memory. */
 bindingclay_answer bindingclay_lseek(bindingclay clay, uint32_t pid, int32_t fd, int64_t offset, int32_t whence);
 
-/* bindingclay_splice with its offsets by value. */
+/* Does what bindingclay_splice does, with its offsets by value. */
 bindingclay_answer bindingclay_splice_at(bindingclay clay, uint32_t pid, int32_t from, bool has_from_offset,
     uint64_t from_offset, int32_t to, bool has_to_offset, uint64_t to_offset, uint32_t len, uint32_t flags);
 
-/* Moves at most len bytes from one descriptor to another, of which one at least is a pipe (splice(2)). Value: how many; 0 at the end of
- * the source. An offset is that of a regular file, and null for its own; the file's own stays, and *from_offset and *to_offset do, where
- * one is given. flags: SPLICE_F_NONBLOCK; SPLICE_F_MOVE, SPLICE_F_MORE and SPLICE_F_GIFT have no effect; others EINVAL, before all
- * else. A len of 0 answers 0, whatever the descriptors are. The source not open for reading, or the target not for writing, EBADF;
- * an offset of a pipe ESPIPE; one above 9,223,372,036,854,775,807, no pipe, the same pipe twice, or a target that is a file with O_APPEND
- * EINVAL; the target is a pipe without a reader EPIPE; the source is at its end, 0; a source that is empty and may get bytes, or a target
- * that is a pipe without room, is waited for, and with SPLICE_F_NONBLOCK, or O_NONBLOCK of one of the pipes, EAGAIN; the target is a file
- * with no room EFBIG. */
+/* Moves at most len bytes from one descriptor to another (splice(2)). At least one of them is a pipe. Value: how many; 0 at the end of the
+ * source. An offset is one in a regular file. If it is null, the file's own offset is used. If one is given, the file's own offset stays as
+ * it is, and so do *from_offset and *to_offset. flags: SPLICE_F_NONBLOCK. SPLICE_F_MOVE, SPLICE_F_MORE and SPLICE_F_GIFT have no effect. In
+ * this order:
+ * - EINVAL, before all else: flags has another flag.
+ * - 0: len is 0, whatever the descriptors are.
+ * - EBADF: the source isn't open for reading, or the target isn't open for writing.
+ * - ESPIPE: an offset is given for a pipe.
+ * - EINVAL: an offset is above 9,223,372,036,854,775,807, neither is a pipe, both are the same pipe, or the target is a file with O_APPEND.
+ * - EPIPE: the target is a pipe without a reader.
+ * - 0: the source is at its end.
+ * - EAGAIN, or a wait: the source is empty and may get bytes, or the target is a pipe without room. With SPLICE_F_NONBLOCK, or with
+ *   O_NONBLOCK on one of the pipes, the splice fails with EAGAIN. Without these it waits.
+ * - EFBIG: the target is a file with no room. */
 static inline bindingclay_answer bindingclay_splice(bindingclay clay, uint32_t pid, int32_t from,
     const uint64_t *from_offset, int32_t to, const uint64_t *to_offset, uint32_t len, uint32_t flags)
 {
@@ -308,53 +362,61 @@ static inline bindingclay_answer bindingclay_splice(bindingclay clay, uint32_t p
         to_offset != NULL, to_offset != NULL ? *to_offset : 0, len, flags);
 }
 
-/* Copies at most len bytes from the front of one pipe to another, and leaves them in the first (tee(2)). Value: how many; 0 where the
- * source is empty and has no writer. flags, and a len of 0, as of bindingclay_splice. The source not open for reading, or the target not
- * for writing, EBADF; not two pipes, or the same one twice, EINVAL; a target without a reader EPIPE. It waits, or answers EAGAIN, as
- * bindingclay_splice does. */
+/* Copies at most len bytes from the front of one pipe to another, and leaves them in the first (tee(2)). Value: how many; 0 if the source
+ * is empty and has no writer. flags, and a len of 0, are as in bindingclay_splice. Then, in this order:
+ * - EBADF: the source isn't open for reading, or the target isn't open for writing.
+ * - EINVAL: they aren't two pipes, or both are the same one.
+ * - EPIPE: the target has no reader.
+ * - EAGAIN, or a wait: as in bindingclay_splice. */
 bindingclay_answer bindingclay_tee(
     bindingclay clay, uint32_t pid, int32_t from, int32_t to, uint32_t len, uint32_t flags);
 
-/* Tells of each entry what of its events, of POLLIN and POLLOUT of poll.h, is so of its descriptor, and unasked POLLERR, POLLHUP
- * and POLLNVAL (poll). Value: of how many entries revents isn't 0. Writes all revents where it is done, and else none. A negative fd is
- * passed over. With wait, and nothing found, it waits, and only then asks for memory. More than 256 entries EINVAL. */
+/* Tells for each entry which of its events hold of its descriptor, of POLLIN and POLLOUT of poll.h (poll). It tells POLLERR, POLLHUP and
+ * POLLNVAL unasked. Value: how many entries have a revents that isn't 0. If the poll is done, it writes all revents, and otherwise none. An
+ * entry with a negative fd is passed over. If wait is true and nothing is found, it waits, and only then asks for memory. Fails with EINVAL
+ * if there are more than 256 entries. */
 bindingclay_answer bindingclay_poll(
     bindingclay clay, uint32_t pid, bindingclay_pollfd *entries, size_t count, bool wait);
 
 /* ---- Descriptors ---- */
 
-/* Names what fd names by the least free descriptor too (dup). Value: that one. Not open EBADF; none free EMFILE. Asks for no memory. */
+/* Makes the least free descriptor name what fd names too (dup). Value: that descriptor. Fails with EBADF if fd isn't open, and with EMFILE
+ * if none is free. Asks for no memory. */
 bindingclay_answer bindingclay_dup(bindingclay clay, uint32_t pid, int32_t fd);
 
-/* Names what fd names by target too, in place of what it named, which is closed; where that is the same description nothing changes
- * (dup2). Value: target. fd not open, or target not within 0 to 255, EBADF. Asks for no memory. */
+/* Makes target name what fd names too (dup2). What target named is closed. If that is the same description, nothing changes. Value: target.
+ * Fails with EBADF if fd isn't open, or target isn't within 0 to 255. Asks for no memory. */
 bindingclay_answer bindingclay_dup2(bindingclay clay, uint32_t pid, int32_t fd, int32_t target);
 
-/* Names what fd names by the least free descriptor from least on too (fcntl, F_DUPFD). Value: that one. Not open EBADF; least not within
- * 0 to 255 EINVAL; none free EMFILE. Asks for no memory. */
+/* Makes the least free descriptor from least on name what fd names too (fcntl, F_DUPFD). Value: that descriptor. Fails with EBADF if fd
+ * isn't open, with EINVAL if least isn't within 0 to 255, and with EMFILE if none is free. Asks for no memory. */
 bindingclay_answer bindingclay_dup_fd(bindingclay clay, uint32_t pid, int32_t fd, int32_t least);
 
-/* Closes a descriptor (close). Not open EBADF. Asks for no memory. */
+/* Closes a descriptor (close). Fails with EBADF if it isn't open. Asks for no memory. */
 bindingclay_answer bindingclay_close(bindingclay clay, uint32_t pid, int32_t fd);
 
-/* The mode and the flags (fcntl, F_GETFL). Value: O_RDONLY, O_WRONLY or O_RDWR, with O_APPEND and O_NONBLOCK where they are set. Not
- * open EBADF. Asks for no memory. */
+/* Tells the mode and the flags (fcntl, F_GETFL). Value: O_RDONLY, O_WRONLY or O_RDWR, with O_APPEND and O_NONBLOCK if they are set. Fails
+ * with EBADF if fd isn't open. Asks for no memory. */
 bindingclay_answer bindingclay_get_fl(bindingclay clay, uint32_t pid, int32_t fd);
 
-/* Sets O_APPEND and O_NONBLOCK as flags has them (fcntl, F_SETFL); others have no effect. Not open EBADF. Asks for no memory. */
+/* Sets O_APPEND and O_NONBLOCK as flags has them (fcntl, F_SETFL). Other flags have no effect. Fails with EBADF if fd isn't open. Asks for
+ * no memory. */
 bindingclay_answer bindingclay_set_fl(bindingclay clay, uint32_t pid, int32_t fd, uint32_t flags);
 
-/* How many bytes a pipe can hold (fcntl(2), F_GETPIPE_SZ). Not open on a pipe EBADF. Asks for no memory. */
+/* Tells how many bytes a pipe can hold (fcntl(2), F_GETPIPE_SZ). Fails with EBADF if fd isn't open on a pipe. Asks for no memory. */
 bindingclay_answer bindingclay_get_pipe_sz(bindingclay clay, uint32_t pid, int32_t fd);
 
-/* Sets how many bytes a pipe can hold: the least power of two from 4,096 on that has size (fcntl(2), F_SETPIPE_SZ). Value: that. Not
- * open on a pipe EBADF; size above 1,048,576, or rounded up to more than the limit capacity, EPERM; more bytes held than that EBUSY. */
+/* Sets how many bytes a pipe can hold: the least power of two from 4,096 on that isn't below size (fcntl(2), F_SETPIPE_SZ). Value: that
+ * number. Errors:
+ * - EBADF: fd isn't open on a pipe.
+ * - EPERM: size is above 1,048,576, or is rounded up to more than the limit capacity.
+ * - EBUSY: the pipe holds more bytes than that number. */
 bindingclay_answer bindingclay_set_pipe_sz(bindingclay clay, uint32_t pid, int32_t fd, uint32_t size);
 
 /* ---- Buffers of no bytes ---- */
 
-/* The functions of the library take no null pointer. So in C and C++ the calls with a buffer go by those below, which put another pointer
- * in the place of one to nothing. What such a pointer points to is neither read nor written. */
+/* The functions of the library take no null pointer. So in C and C++ the calls with a buffer go through the functions below. They put
+ * another pointer in the place of one to nothing. What such a pointer points to is neither read nor written. */
 static inline const uint8_t *bindingclay_c_bytes(const uint8_t *bytes, size_t size)
 {
     static const uint8_t nothing = 0;
@@ -435,8 +497,9 @@ static inline bindingclay_answer bindingclay_c_poll(
 #define bindingclay_poll bindingclay_c_poll
 
 /* ---- Calls that wait, of one process alone ----
- * As the functions without _of, for a host that passes on a number that a guest gave it: where no call of this number waits, or process pid
- * didn't begin it, they answer BINDINGCLAY_NO_CALL, and nothing changed. */
+ *
+ * These do what the functions without _of do. They are for a host that passes on a number that a guest gave it. If no call of this number
+ * waits, or process pid didn't begin it, they answer BINDINGCLAY_NO_CALL, and nothing changed. */
 
 static inline bool bindingclay_c_is_of(bindingclay clay, uint32_t pid, uint64_t number)
 {

@@ -116,6 +116,11 @@ spot-over k [] c ok l = absurd (omega (arith, l))
 spot-over k (r ∷ rs) zero ok l = spot-first (k + total r.slots) rs ok.1
 spot-over k (r ∷ rs) (suc c) ok l = spot-over (k + total r.slots) rs c ok.1 (omega (arith, l))
 
+-- the first spot of a chunk, or the one behind all
+pub spot-begins : (k : ℕ) (rs : List Row) (c : ℕ) → AreChunks k rs → c ≤ length rs → IsAt (lens_of rs) c 0
+spot-begins k rs zero ok l = spot-first k rs ok
+spot-begins k rs (suc c) ok l = spot-over k rs c ok (omega (arith, l))
+
 pub spot-behind : (rs : List Row) → IsAt (lens_of rs) (length rs) 0
 spot-behind [] = (refl, refl)
 spot-behind (r ∷ rs) = spot-behind rs

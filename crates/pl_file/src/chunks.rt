@@ -2,7 +2,7 @@
 ghost use Rattle.std.specs.Prelude.{◌≡◌, ℕ, ◌+◌, ◌-◌, ◌*◌, ◌<◌, ◌≤◌, ◌^◌, nat_lt, ◌++◌, [], ◌∷◌, length, take, drop, slice_get, slice_index_or, Some, IfOk, IfSome};
 ghost use Rattle.pl_segments.specs.declared.slice.Slice.{Slice as Part};
 ghost use Rattle.pl_segments.specs.Slots.{total};
-ghost use Rattle.pl_file.specs.Rows.{Row as Slots, most_in_chunk, left_from, index, IsSpot, staying, AreReady};
+ghost use Rattle.pl_file.specs.Rows.{Row as Slots, most_in_chunk, left_from, slots_in, index, IsSpot, staying, AreReady};
 
 use crate::pieces::{Pieces, add_front, add_rest, last_up_to, new_pieces, pieces_for, put_rows};
 use crate::row::Row;
@@ -10,6 +10,12 @@ use crate::spot::Spot;
 use pl_segments::{NoMemory, Slice};
 use std::alloc::Allocator;
 use std::marker::Model;
+
+/// How many chunks a write copies together at most: a segment full, if each slot has a byte.
+const MOST_TOGETHER: usize = 32;
+
+/// Below how many bytes it begins to copy a further chunk.
+const BYTES_TOGETHER: usize = 65_536;
 
 /// Slots one behind the other from the place 0 on, in chunks of at most 256, none of which is empty. So a change moves the slots
 /// of the chunks that it touches. It moves the list of the chunks behind them only if it makes chunks more or fewer, which is rare:
@@ -144,24 +150,23 @@ impl<A: Allocator + Copy> Chunks<A> {
         }
     }
 
-    /// The chunk at a place, if its slots are scattered: its first slot, and the place behind its last.
+    /// The chunk at a place, if its slots are scattered, with those behind it that are scattered too: the second slot, and the last one.
+    /// So what is put in the place of those between is in these chunks alone, and no chunk beside them is cut.
     pub(crate) fn scattered(&self, place: usize) -> Option<(Spot, Spot)>
         requires some { 1 ≤ length self.now.slots }
         ensures first { IfSome result (λ range. IsSpot self.now range.0) }
         ensures end { IfSome result (λ range. IsSpot self.now range.1) }
         ensures order { IfSome result (λ range. index self.now range.0 < index self.now range.1) }
-        ensures within { IfSome result (λ range. index self.now range.1 ≤ length self.now.slots) }
+        ensures within { IfSome result (λ range. index self.now range.1 < length self.now.slots) }
     {
         let chunk = last_up_to(&self.rows, place);
-        if !self.rows[chunk].is_scattered() {
+        let behind = behind_scattered(&self.rows, chunk);
+        if behind == chunk {
             return None;
         }
-        let first = Spot { chunk, at: 0 };
-        let end = Spot {
-            chunk: chunk + 1,
-            at: 0,
-        };
-        Some((first, end))
+        let last = behind - 1;
+        let at = self.rows[last].len() - 1;
+        Some((Spot { chunk, at: 1 }, Spot { chunk: last, at }))
     }
 
     /// Whether one slot stands before another.
@@ -261,4 +266,23 @@ impl<A: Allocator + Copy> Chunks<A> {
         self.rows.clear();
         self.rows.shrink_to_fit();
     }
+}
+
+/// The chunk behind those that are scattered one behind the other from `chunk` on; the same if that one isn't.
+fn behind_scattered<A: Allocator>(rows: &[Row<A>], chunk: usize) -> usize
+    requires { chunk < length rows.now }
+    ensures from { chunk ≤ result }
+    ensures most { result ≤ length rows.now }
+    ensures many { chunk < result → 16 < length (slots_in rows.now chunk) }
+{
+    let from = rows[chunk].start(0);
+    let mut end = chunk;
+    while end < rows.len()
+        && end - chunk < MOST_TOGETHER
+        && rows[end].start(0).saturating_sub(from) < BYTES_TOGETHER
+        && rows[end].is_scattered()
+    {
+        end += 1;
+    }
+    end
 }

@@ -120,14 +120,17 @@ fn drain<N: Layer, R: Wait, A: Allocator + Copy>(
     me: &mut Caller<N, A>,
     count: u32,
 ) -> Came {
-    let mut read = 0u32;
-    while read < count {
+    let mut left = count;
+    for _read in 0..count {
+        if left == 0 {
+            break;
+        }
         match call(rt, alloc, locked, me, Ask::Read(70_000)) {
-            Came::Bytes(some, 0) if some != 0 && some <= count - read => read += some,
+            Came::Bytes(some, 0) if some != 0 && some <= left => left = left.saturating_sub(some),
             _ => return Came::Other,
         }
     }
-    Came::Bytes(read, 0)
+    Came::Bytes(count.saturating_sub(left), 0)
 }
 
 /// The caller makes the call that is asked, which takes at most so many turns.

@@ -14,7 +14,7 @@ module _ (g : Over) (c : After-as_slice g) where
   order = c.in-Some.ensures.order
 
   most : index c.args.chunks.now c.in-Some.end ≤ length c.args.chunks.now.slots
-  most = c.in-Some.ensures.within
+  most = let l = c.in-Some.ensures.within in omega (arith, l)
 
   bytes : c.as_slice.result.now ≡ between (segment_at c.args.store.now) c.args.chunks.now.slots (index c.args.chunks.now c.in-Some.first) (index c.args.chunks.now c.in-Some.end) order most c.requires.held.lie c.requires.solid
   bytes = c.as_slice.ensures.value ∙ c.in-Ok.ensures

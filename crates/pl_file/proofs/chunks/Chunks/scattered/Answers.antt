@@ -1,73 +1,93 @@
-use Rattle.std.proofs.Common.{◌≡◌, ◌<◌, ◌≤◌, ◌+◌, ◌*◌, ◌/◌, ℕ, suc, true, nat_lt, Some, List, ap, sym, subst, length, arith}
+use Rattle.std.proofs.Common.{◌≡◌, ◌<◌, ◌≤◌, ◌-◌, ℕ, Some, List, ap, inl, inr, subst, length, arith}
 use Rattle.std.specs.Prelude.{slice_get}
-use Rattle.std.proofs.lemmas.Bool.{ltb-true}
+use Rattle.std.proofs.lemmas.Bool.{cases_lt}
 use Rattle.std.proofs.lemmas.Option.{slice_get_read}
-use Rattle.pl_segments.specs.Slots.{total}
 use Rattle.pl_file.specs.Rows.{Row, Chunks, lens_of, slots_in, IsAt, index_of}
-use Rattle.pl_file.proofs.Chunking.{slots-in, spot-next, spot-over, index-plus, index-over, index-le}
+use Rattle.pl_file.proofs.Chunking.{chunk-at, slots-in, spot-next, index-less, index-plus, index-within}
 use Rattle.pl_file.proofs.chunks.Chunks.scattered.Given.{Over}
-use Rattle.pl_file.proofs.chunks.Chunks.scattered.Goals.{After-is_scattered}
+use Rattle.pl_file.proofs.chunks.Chunks.scattered.Goals.{After-len-at}
 use Rattle.pl_file.proofs.chunks.Chunks.scattered.Goals as goal
 
-module _ (g : Over) (c : After-is_scattered g) (scattered : 16 < length c.index.result.now.slots) where
+module _ (g : Over) (c : After-len-at g) where
   abbrev rows : List Row
   rows = c.self.inside.rows.items
 
   abbrev chunk : ℕ
   chunk = c.last_up_to-chunk.result
 
-  within : chunk < length rows
-  within = let l = c.last_up_to-chunk.ensures.within in let e = ap length c.deref.ensures.value in omega (arith, l, e)
+  abbrev last : ℕ
+  last = c.behind_scattered-behind.result - 1
 
-  some : 16 < length (slots_in rows chunk)
-  some =
+  after : chunk < c.behind_scattered-behind.result
+  after = let l = c.behind_scattered-behind.ensures.from in let n = c.if-behind-chunk.false in omega (arith, l, n)
+
+  most : c.behind_scattered-behind.result ≤ length rows
+  most = let l = c.behind_scattered-behind.ensures.most in let e = ap length c.deref-2.ensures.value in omega (arith, l, e)
+
+  within : last < length rows
+  within = let l = most in let a = after in omega (arith, l, a)
+
+  many : 16 < length (slots_in rows chunk)
+  many = subst (λ (rs : List Row). 16 < length (slots_in rs chunk)) c.deref-2.ensures.value (c.behind_scattered-behind.ensures.many after)
+
+  got : slice_get rows last ≡ Some c.index.result.now
+  got =
       let ok = c.self.inside.rows.ok.0 in
       let l = within in
-      let got : slice_get rows chunk ≡ Some c.index.result.now = slice_get_read rows c.self.inside.rows.len chunk c.index.result.now ok (omega (arith, l, ok)) c.index.ensures in
-      let e = ap length (slots-in rows chunk c.index.result.now got) in
-      omega (arith, e, scattered)
+      slice_get_read rows c.self.inside.rows.len last c.index.result.now ok (omega (arith, l, ok)) c.index.ensures
 
-  first : IsAt (lens_of rows) chunk 0
-  first = let s = some in spot-next rows chunk 0 within (omega (arith, s))
+  some : 1 ≤ length c.index.result.now.slots
+  some = (chunk-at 0 rows last c.index.result.now c.self.invariant.chunks got).some
 
-  next : suc chunk ≡ chunk + 1
-  next = omega arith
+  len : length (slots_in rows last) ≡ length c.index.result.now.slots
+  len = ap length (slots-in rows last c.index.result.now got)
 
-  end : IsAt (lens_of rows) (chunk + 1) 0
-  end = ap-spot (spot-over 0 rows chunk c.self.invariant.chunks within)
-    where
-      ap-spot : IsAt (lens_of rows) (suc chunk) 0 → IsAt (lens_of rows) (chunk + 1) 0
-      ap-spot = subst (λ k. IsAt (lens_of rows) k 0) next
+  first : IsAt (lens_of rows) chunk 1
+  first =
+      let m = many in
+      let w = within in
+      let a = after in
+      spot-next rows chunk 1 (omega (arith, w, a)) (omega (arith, m))
 
-  order : index_of (lens_of rows) chunk 0 < index_of (lens_of rows) (chunk + 1) 0
-  order =
-      let e = ap (λ k. index_of (lens_of rows) k 0) next in
-      let o = index-over rows chunk within in
-      let p = index-plus (lens_of rows) chunk (length (slots_in rows chunk)) in
+  end : IsAt (lens_of rows) last (c.len-at.result - 1)
+  end =
+      let v = c.len-at.ensures.value in
       let s = some in
-      omega (arith, e, o, p, s)
+      let n = len in
+      spot-next rows last (c.len-at.result - 1) within (omega (arith, v, s, n))
 
-many : (g : Over) (c : After-is_scattered g) → true ≡ nat_lt (2 * (total c.index.result.now.slots / 4096) + 16) (length c.index.result.now.slots) → 16 < length c.index.result.now.slots
-many g c e = let l = ltb-true (2 * (total c.index.result.now.slots / 4096) + 16) (length c.index.result.now.slots) (sym e) in omega (arith, l)
+  order : index_of (lens_of rows) chunk 1 < index_of (lens_of rows) last (c.len-at.result - 1)
+  order = elim (cases_lt chunk last) as (λ _. index_of (lens_of rows) chunk 1 < index_of (lens_of rows) last (c.len-at.result - 1)) [
+    | inl l ↦ index-less (lens_of rows) chunk 1 last (c.len-at.result - 1) first end l
+    | inr l ↦
+        (let a = after in
+        let same : last ≡ chunk = omega (arith, l, a) in
+        let m = many in
+        let n = len in
+        let s = ap (λ j. length (slots_in rows j)) same in
+        let v = c.len-at.ensures.value in
+        let p = index-plus (lens_of rows) chunk 1 in
+        let q = index-plus (lens_of rows) chunk (c.len-at.result - 1) in
+        let e = ap (λ j. index_of (lens_of rows) j (c.len-at.result - 1)) same in
+        omega (arith, m, n, s, v, p, q, e))
+  ]
+
+pub overflow_sub-at : goal.overflow_sub-at
+overflow_sub-at g c = let s = some g (goal.at.overflow_sub-at g c).After-len-at in let v = c.len-at.ensures.value in omega (arith, s, v)
 
 pub returns-clause-first : goal.returns-clause-first
-returns-clause-first g c =
-    let k = (goal.at.returns-clause-first g c).After-is_scattered in
-    subst (λ (v : Chunks). IsAt v.lens c.last_up_to-chunk.result 0) c.self.view_is (first g k (many g k c.if-not-is_scattered.ensures))
+returns-clause-first g c = subst (λ (v : Chunks). IsAt v.lens c.last_up_to-chunk.result 1) c.self.view_is (first g (goal.at.returns-clause-first g c).After-len-at)
 
 pub returns-clause-end : goal.returns-clause-end
-returns-clause-end g c =
-    let k = (goal.at.returns-clause-end g c).After-is_scattered in
-    subst (λ (v : Chunks). IsAt v.lens (c.last_up_to-chunk.result + 1) 0) c.self.view_is (end g k (many g k c.if-not-is_scattered.ensures))
+returns-clause-end g c = subst (λ (v : Chunks). IsAt v.lens (c.behind_scattered-behind.result - 1) (c.len-at.result - 1)) c.self.view_is (end g (goal.at.returns-clause-end g c).After-len-at)
 
 pub returns-clause-order : goal.returns-clause-order
 returns-clause-order g c =
-    let k = (goal.at.returns-clause-order g c).After-is_scattered in
-    subst (λ (v : Chunks). index_of v.lens c.last_up_to-chunk.result 0 < index_of v.lens (c.last_up_to-chunk.result + 1) 0) c.self.view_is
-    (order g k (many g k c.if-not-is_scattered.ensures))
+    subst (λ (v : Chunks). index_of v.lens c.last_up_to-chunk.result 1 < index_of v.lens (c.behind_scattered-behind.result - 1) (c.len-at.result - 1)) c.self.view_is
+    (order g (goal.at.returns-clause-order g c).After-len-at)
 
 pub returns-clause-within : goal.returns-clause-within
 returns-clause-within g c =
-    let k = (goal.at.returns-clause-within g c).After-is_scattered in
-    subst (λ (v : Chunks). index_of v.lens (c.last_up_to-chunk.result + 1) 0 ≤ length v.slots) c.self.view_is
-    (index-le (rows g k (many g k c.if-not-is_scattered.ensures)) (c.last_up_to-chunk.result + 1) 0 (end g k (many g k c.if-not-is_scattered.ensures)))
+    let k = (goal.at.returns-clause-within g c).After-len-at in
+    subst (λ (v : Chunks). index_of v.lens (c.behind_scattered-behind.result - 1) (c.len-at.result - 1) < length v.slots) c.self.view_is
+    (index-within c.self.inside.rows.items (c.behind_scattered-behind.result - 1) (c.len-at.result - 1) (end g k) (within g k))
