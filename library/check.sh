@@ -330,6 +330,11 @@ try_piperun() {
     check "piperun within no number of bytes" piperun_answers 2 /dev/null 'piperun: bad command line' --memory 64k "$work/starts.script"
     check "piperun on each line by itself" piperun_answers_lines
     check "piperun on a script that is cut" piperun_on_cut_scripts
+    if is_there python3; then
+        check "piperun beside a model of the rules" timeout 300 python3 -B "$here/../tools/model/compare" "$piperun" 300
+    else
+        echo "passed over: piperun beside a model of the rules"
+    fi
     head -c 16000000 /dev/zero | tr '\0' '#' > "$work/long.script"
     cat "$work/long.script" "$work/long.script" > "$work/longer.script"
     check "piperun on a script that is too long" piperun_answers 3 /dev/null 'piperun: script longer than 16777216 bytes' \

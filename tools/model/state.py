@@ -1,0 +1,126 @@
+"""What the machine is made of: pipes, files, open file descriptions and processes, and the limits on them."""
+from __future__ import annotations
+
+import enum
+from dataclasses import dataclass, field
+from typing import Dict, Iterator, Union
+
+# POSIX.1-2017, limits.h; pipe(7), PIPE_BUF
+PIPE_BUF = 4096
+# pipe(7), Pipe capacity
+FIRST_CAPACITY = 65536
+# fcntl(2), F_SETPIPE_SZ
+GREATEST_CAPACITY = 1048576
+# POSIX.1-2017, limits.h: OPEN_MAX and NAME_MAX
+OPEN_MAX = 256
+NAME_MAX = 255
+# POSIX.1-2017, lseek, EOVERFLOW
+GREATEST_OFFSET = 2**63 - 1
+# limits that the layer chose for itself
+MOST_DESCRIPTIONS = 4096
+MOST_PROCESSES = 1024
+MOST_FILE_BYTES = 16777216
+# a number that no waiting call gets
+NEVER_A_CALL = 2**64 - 1
+
+
+class Mode(enum.Enum):
+    """For what a description is open (POSIX.1-2017, open)."""
+
+    READ = "r"
+    WRITE = "w"
+    BOTH = "rw"
+
+    @property
+    def reads(self) -> bool:
+        """Whether it has reading."""
+        return self is not Mode.WRITE
+
+    @property
+    def writes(self) -> bool:
+        """Whether it has writing."""
+        return self is not Mode.READ
+
+
+@dataclass(eq=False)
+class Pipe:
+    """A pipe or a FIFO. Its bytes come out in the order in which they went in (pipe(7)).
+
+    `readers` and `writers` are its live descriptions whose mode has reading, or writing. It is `hung` if its last writer has gone.
+    """
+
+    content: bytearray = field(default_factory=bytearray)
+    capacity: int = FIRST_CAPACITY
+    readers: int = 0
+    writers: int = 0
+    hung: bool = False
+
+    @property
+    def room(self) -> int:
+        """How many bytes it can still take."""
+        return self.capacity - len(self.content)
+
+    def put(self, data: bytes) -> None:
+        """Puts bytes in at the end."""
+        self.content += data
+
+    def front(self, most: int) -> bytes:
+        """The first bytes, as many as are held, and `most` at most."""
+        return bytes(self.content[:most])
+
+    def drop_front(self, count: int) -> None:
+        """Takes the first bytes out."""
+        del self.content[:count]
+
+
+@dataclass(eq=False)
+class File:
+    """A regular file."""
+
+    content: bytearray = field(default_factory=bytearray)
+
+    def at(self, start: int, most: int) -> bytes:
+        """What it has from a place on, `most` bytes at most; none at its end or past it (POSIX.1-2017, read)."""
+        return bytes(self.content[start : start + most])
+
+    @staticmethod
+    def room(start: int) -> int:
+        """How many bytes it can take from a place on (which limit: our own)."""
+        return max(0, MOST_FILE_BYTES - start)
+
+    def put(self, start: int, data: bytes) -> None:
+        """Puts bytes over what is there. A gap before them reads as zeros (POSIX.1-2017, lseek)."""
+        gap = start - len(self.content)
+        if gap > 0:
+            self.content += bytes(gap)
+        self.content[start : start + len(data)] = data
+
+
+Node = Union[Pipe, File]
+
+
+@dataclass(eq=False)
+class Description:
+    """An open file description. Descriptors that name it share its mode, its flags and its offset (POSIX.1-2017, dup; fork).
+
+    `holders` counts the descriptors that name it, and the waiting calls that keep it. It is live while there is one.
+    """
+
+    node: Node
+    mode: Mode
+    append: bool = False
+    nonblock: bool = False
+    offset: int = 0
+    holders: int = 0
+
+
+@dataclass(eq=False)
+class Process:
+    """A process, with its table of descriptors."""
+
+    pid: int
+    descriptors: Dict[int, Description] = field(default_factory=dict)
+
+    def free_descriptors(self, least: int = 0) -> Iterator[int]:
+        """The descriptors that are free, from `least` on, the least first (POSIX.1-2017, File Descriptor Allocation)."""
+        return (descriptor for descriptor in range(least, OPEN_MAX) if descriptor not in self.descriptors)
