@@ -269,7 +269,7 @@ static void writes_that_copy_together(long count)
     HOLDS(has_slots(clay, "f", slots, APART));
     HOLDS(has_slots(clay, "g", shared, 0));
     /* two for each 4,096 bytes, 16 for the chunk behind the last write, those of g, and what is spare */
-    HOLDS(bytes_left - before <= (2 * slots / SEGMENT + 16 + shared + MOST_SPARE + 8) * (SEGMENT + 128) + 128 * slots);
+    HOLDS(bytes_left - before <= (2 * slots / SEGMENT + 16 + shared + MOST_SPARE + 8) * (SEGMENT + 128) + 176 * slots);
     bindingclay_free(clay);
     HOLDS(bytes_left == 0);
 }
