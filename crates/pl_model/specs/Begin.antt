@@ -16,6 +16,7 @@ use Rattle.pl_model.specs.Flags.{has, creat, excl, trunc, append, nonblock, spli
 use Rattle.pl_model.specs.Keys.{Keys, Node, NewKeys, Draws, PipeNode, FileNode}
 use Rattle.pl_model.specs.State.{Core, Description, Open, described, named, can_name, can_wait, row, set_file, set_pipe, set_description, empty_pipe}
 use Rattle.pl_model.specs.Live.{live_count}
+use Rattle.pl_model.specs.Packets.{used}
 use Rattle.pl_model.specs.Trial.{Begins, Begun, Answered, Tried, pipe_at, answered, tried, refuse_if, found}
 use Rattle.pl_model.specs.Transfer.{count, file_at, moved_to}
 use Rattle.pl_model.specs.Capacity.{rounded_capacity, pipe_of, set_capacity}
@@ -286,14 +287,14 @@ module _ {A : Type 0} {K : Keys} where
       found (pipe_of o.description.node) EBADF (λ p.
       answered s (Size (pipe_at s p).capacity)))
 
-  -- fcntl(2), F_SETPIPE_SZ: EBADF, EPERM above the greatest capacity, EBUSY where more bytes are held. That it is EBADF of what is
+  -- fcntl(2), F_SETPIPE_SZ: EBADF, EPERM above the greatest capacity, EBUSY where the pipe takes more. That it is EBADF of what is
   -- no pipe too, and that the limit is on what the size is rounded to, is our own choice.
   unfoldable pub begin_set_pipe_sz : Core A K → ℕ → ℤ → ℕ → Begins A K
   begin_set_pipe_sz s pid fd size =
       found (open_fd s pid fd) EBADF (λ o.
       found (pipe_of o.description.node) EBADF (λ p.
       refuse_if (nat_lt most_capacity size || nat_lt s.limits.capacity_max (rounded_capacity size)) EPERM
-      (refuse_if (nat_lt (rounded_capacity size) (length (pipe_at s p).bytes)) EBUSY
+      (refuse_if (nat_lt (rounded_capacity size) (used (pipe_at s p))) EBUSY
       (answered (set_capacity s p (rounded_capacity size)) (Size (rounded_capacity size))))))
 
   -- POSIX.1-2017, unlink: ENOENT. What the name stood for lives on while it is open.

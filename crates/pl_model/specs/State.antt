@@ -22,10 +22,11 @@ pub record Open (K : Keys) : Type 0 where
   pub key : K.Description
   pub description : Description K
 
--- POSIX.1-2017, Pipe: bytes that come out in the order in which they went in. A pipe is hung once its last writer left
--- while a reader stayed.
+-- POSIX.1-2017, Pipe: bytes that come out in the order in which they went in. A packet pipe has the lengths of its packets from the
+-- front too (pipe(2), O_DIRECT), and a byte queue has none. A pipe is hung once its last writer left while a reader stayed.
 pub record Pipe : Type 0 where
   pub bytes : List ℕ
+  pub packets : Option (List ℕ)
   pub capacity : ℕ
   pub hung : Bool
 
@@ -53,7 +54,11 @@ pub record Core (A : Type 0) (K : Keys) : Type 0 where
 
 -- POSIX.1-2017, pipe: a new pipe holds nothing.
 abbrev pub empty_pipe : Pipe
-empty_pipe = record { bytes = []; capacity = first_capacity; hung = false }
+empty_pipe = record { bytes = []; packets = None; capacity = first_capacity; hung = false }
+
+-- pipe(2), O_DIRECT: a new packet pipe holds no packets.
+abbrev pub empty_packet_pipe : Pipe
+empty_packet_pipe = record empty_pipe { packets = Some [] }
 
 module _ {A : Type 0} {K : Keys} where
   -- nothing has happened yet

@@ -9,17 +9,18 @@ use Rattle.pl_model.specs.Numbers.{pipe_buf}
 use Rattle.pl_model.specs.Flags.{has, append}
 use Rattle.pl_model.specs.Keys.{Keys, Node, PipeNode, FileNode}
 use Rattle.pl_model.specs.State.{Core, Pipe, Description, set_file, set_description}
+use Rattle.pl_model.specs.Packets.{used, front, spent}
 use Rattle.pl_model.specs.Live.{readers, writers}
 use Rattle.pl_model.specs.Trial.{Trial, Done, Wait, still, loses, gains, pipe_at}
 
--- pipe(7), Pipe capacity: how many more bytes the pipe can hold.
+-- pipe(7), Pipe capacity: how many more bytes the pipe can hold. A packet pipe has room for PIPE_BUF bytes for each free place.
 abbrev pub room : Pipe → ℕ
-room pipe = pipe.capacity - length pipe.bytes
+room pipe = pipe.capacity - used pipe
 
--- POSIX.1-2017, read: a read of n bytes, n not 0, of a pipe that holds so many. The first row that holds decides.
-abbrev pub read_case : (n held : ℕ) (has_writer : Bool) → ReadCase
-read_case n held has_writer =
-    if nat_lt 0 held then ReadCase.Gives (min n held)
+-- POSIX.1-2017, read: a read of n bytes, n not 0, of a pipe of which it can get so many. The first row that holds decides.
+abbrev pub read_case : (n front : ℕ) (has_writer : Bool) → ReadCase
+read_case n front has_writer =
+    if nat_lt 0 front then ReadCase.Gives (min n front)
     else if not has_writer then ReadCase.EndOfFile
     else ReadCase.Waits
 
@@ -59,13 +60,13 @@ module _ {A : Type 0} {K : Keys} where
   moved_to s d description o = set_description s d (record description { offset = o })
 
   abbrev pub read_row : Core A K → K.Pipe → Pipe → ReadCase → Trial A K
-  read_row s p pipe (ReadCase.Gives n) = Done s (loses p n) (Bytes (take n pipe.bytes))
+  read_row s p pipe (ReadCase.Gives n) = Done s (loses p (spent pipe n)) (Bytes (take n pipe.bytes))
   read_row s p pipe ReadCase.EndOfFile = Done s still (Bytes [])
   read_row s p pipe ReadCase.Waits = Wait s still 0
 
   -- POSIX.1-2017, read: of a pipe, n not 0.
   unfoldable pub read_pipe : Core A K → K.Pipe → Pipe → ℕ → Trial A K
-  read_pipe s p pipe n = read_row s p pipe (read_case n (length pipe.bytes) (nat_lt 0 (writers s p)))
+  read_pipe s p pipe n = read_row s p pipe (read_case n (front pipe) (nat_lt 0 (writers s p)))
 
   -- POSIX.1-2017, read: of a regular file, from the offset on, which advances.
   unfoldable pub read_file : Core A K → K.Description → Description K → List ℕ → ℕ → Trial A K

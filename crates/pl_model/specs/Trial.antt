@@ -1,10 +1,11 @@
 -- What the checks of a call give, and what one try of it gives.
-use Rattle.std.specs.Prelude.{◌++◌, drop, unwrap_or, ℕ, Bool, List, Option, if◌then◌else◌}
+use Rattle.std.specs.Prelude.{unwrap_or, ℕ, Bool, List, Option, if◌then◌else◌}
 use Rattle.std.specs.declared.option.Option.TheVariants.{None, Some}
 use Rattle.pl_model.specs.declared.replies.Reply.{Reply}
 use Rattle.pl_model.specs.declared.replies.Errno.{Errno}
 use Rattle.pl_model.specs.Keys.{Keys, Drawing, Plain}
 use Rattle.pl_model.specs.State.{Core, Pipe, empty_pipe, set_pipe}
+use Rattle.pl_model.specs.Packets.{lose, gain}
 
 -- the bytes that a try moves: a pipe loses its first n, a pipe gains these at its end
 pub record Flow (K : Keys) : Type 0 where
@@ -42,11 +43,11 @@ module _ {A : Type 0} {K : Keys} where
 
   abbrev pub lost : Core A K → Option (K.Pipe × ℕ) → Core A K
   lost s None = s
-  lost s (Some o) = let pipe = pipe_at s o.0 in set_pipe s o.0 (record pipe { bytes = drop o.1 pipe.bytes })
+  lost s (Some o) = set_pipe s o.0 (lose o.1 (pipe_at s o.0))
 
   abbrev pub gained : Core A K → Option (K.Pipe × List ℕ) → Core A K
   gained s None = s
-  gained s (Some i) = let pipe = pipe_at s i.0 in set_pipe s i.0 (record pipe { bytes = pipe.bytes ++ i.1 })
+  gained s (Some i) = set_pipe s i.0 (gain i.1 (pipe_at s i.0))
 
   -- the state after the bytes moved
   unfoldable pub flowed : Core A K → Flow K → Core A K
