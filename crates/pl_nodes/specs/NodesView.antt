@@ -23,7 +23,7 @@ one_if b = if b then 1 else 0
 
 -- a pipe has the bytes that its slots read
 abbrev pub pipe_of : {A : Type 0} → Map → PipeNode A → PipeState
-pipe_of m p = record { bytes = all_read m p.ring.slots; capacity = p.ring.capacity; hung = p.hung }
+pipe_of m p = record { bytes = all_read m p.ring.slots; packets = None; capacity = p.ring.capacity; hung = p.hung }
 
 module _ {A : Type 0} where
   -- the pipe under a key

@@ -1,5 +1,6 @@
 //! Bytes that go from one pipe or file to another, or are copied, by sharing the segments in which they stand.
 ghost use Rattle.std.specs.Prelude.{◌≡◌, ◌≢◌, ◌↔◌, ℕ, ◌+◌, ◌≤◌, ◌++◌, length, take, drop, slice_set, IfOk, OnErr, OnOk, IsSome, IfSome, Err};
+ghost use Rattle.pl_model.specs.Packets.{lose, gain};
 ghost use Rattle.pl_model.specs.Transfer.{room};
 ghost use Rattle.pl_model.specs.Map.{change_at};
 ghost use Rattle.pl_segments.specs.Segments.{at};
@@ -25,7 +26,7 @@ impl<A: Allocator + Copy> Nodes<A> {
         requires other { from ≢ to }
         requires held { IfSome (at self.old.pipes from) (λ x. count ≤ length x.bytes) }
         requires room { IfSome (at self.old.pipes to) (λ x. count ≤ room x) }
-        ensures ok { OnOk result (at self.new.pipes ≡ change_at to (λ x. record x { bytes = x.bytes ++ take count (bytes_of (at self.old.pipes from)) }) (at self.old.pipes)) }
+        ensures ok { OnOk result (at self.new.pipes ≡ change_at to (gain (take count (bytes_of (at self.old.pipes from)))) (at self.old.pipes)) }
         ensures files { SameFiles self.old self.new }
         ensures segments { OnOk result (self.new.segments ≤ self.old.segments + 3) }
         ensures parts { OnOk result (strange (slots_at self.old.slots to ++ slots_at self.old.slots from) (slots_at self.new.slots to) ≤ 3) }
@@ -61,7 +62,7 @@ impl<A: Allocator + Copy> Nodes<A> {
         requires other { from ≢ to }
         requires held { IfSome (at self.old.pipes from) (λ x. count ≤ length x.bytes) }
         requires room { IfSome (at self.old.pipes to) (λ x. count ≤ room x) }
-        ensures ok { OnOk result (at self.new.pipes ≡ change_at to (λ x. record x { bytes = x.bytes ++ take count (bytes_of (at self.old.pipes from)) }) (change_at from (λ x. record x { bytes = drop count x.bytes }) (at self.old.pipes))) }
+        ensures ok { OnOk result (at self.new.pipes ≡ change_at to (gain (take count (bytes_of (at self.old.pipes from)))) (change_at from (lose count) (at self.old.pipes))) }
         ensures files { SameFiles self.old self.new }
         ensures segments { OnOk result (self.new.segments ≤ self.old.segments + 3) }
         ensures parts { OnOk result (strange (slots_at self.old.slots to ++ slots_at self.old.slots from) (slots_at self.new.slots to) ≤ 3) }
@@ -84,7 +85,7 @@ impl<A: Allocator + Copy> Nodes<A> {
         requires from { IsSome (at self.old.files from) }
         requires to { IsSome (at self.old.pipes to) }
         requires room { IfSome (at self.old.pipes to) (λ x. count ≤ room x) }
-        ensures ok { OnOk result (at self.new.pipes ≡ change_at to (λ x. record x { bytes = x.bytes ++ part_of place count (at self.old.files from) }) (at self.old.pipes)) }
+        ensures ok { OnOk result (at self.new.pipes ≡ change_at to (gain (part_of place count (at self.old.files from))) (at self.old.pipes)) }
         ensures files { SameFiles self.old self.new }
         ensures err { OnErr result (self.new ≡ self.old) }
     {
@@ -124,7 +125,7 @@ impl<A: Allocator + Copy> Nodes<A> {
         requires held { IfSome (at self.old.pipes from) (λ x. count ≤ length x.bytes) }
         ensures count { IfOk result (λ moved. moved ≡ fitting count place self.old.file_max) }
         ensures big { (result ≡ Err WriteFault.TooBig) ↔ ((1 ≤ count) × (self.old.file_max ≤ place)) }
-        ensures pipes { OnOk result (at self.new.pipes ≡ change_at from (λ x. record x { bytes = drop (fitting count place self.old.file_max) x.bytes }) (at self.old.pipes)) }
+        ensures pipes { OnOk result (at self.new.pipes ≡ change_at from (lose (fitting count place self.old.file_max)) (at self.old.pipes)) }
         ensures files { OnOk result (at self.new.files ≡ change_at to (written place (take (fitting count place self.old.file_max) (bytes_of (at self.old.pipes from)))) (at self.old.files)) }
         ensures names { self.new.names ≡ self.old.names }
         ensures file_max { self.new.file_max ≡ self.old.file_max }
@@ -190,7 +191,7 @@ impl<A: Allocator + Copy> Nodes<A> {
     fn drop_front(&mut self, key: usize, count: usize)
         requires here { IsSome (at self.old.pipes key) }
         requires held { IfSome (at self.old.pipes key) (λ x. count ≤ length x.bytes) }
-        ensures ok { at self.new.pipes ≡ change_at key (λ x. record x { bytes = drop count x.bytes }) (at self.old.pipes) }
+        ensures ok { at self.new.pipes ≡ change_at key (lose count) (at self.old.pipes) }
         ensures files { SameFiles self.old self.new }
         ensures slots { self.new.slots ≡ slice_set self.old.slots key (drop_bytes count (slots_at self.old.slots key)) }
         ensures segments { self.new.segments ≤ self.old.segments }

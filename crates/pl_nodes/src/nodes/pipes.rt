@@ -3,6 +3,7 @@ ghost use Rattle.std.specs.Prelude.{◌≡◌, ◌↔◌, ◌+◌, ◌-◌, ◌*
 ghost use Rattle.pl_model.specs.Numbers.{most_capacity};
 ghost use Rattle.pl_model.specs.Capacity.{IsPipeCapacity};
 ghost use Rattle.pl_model.specs.State.{empty_pipe};
+ghost use Rattle.pl_model.specs.Packets.{used, front, spent, lose, gain};
 ghost use Rattle.pl_model.specs.Transfer.{room};
 ghost use Rattle.pl_model.specs.Map.{set_at, change_at};
 ghost use Rattle.pl_model.specs.Nodes.{has_name};
@@ -68,6 +69,15 @@ impl<A: Allocator + Copy> Nodes<A> {
         node.ring.len()
     }
 
+    /// How many bytes of a pipe the next read can get.
+    pub fn front(&self, key: usize) -> usize
+        requires { IsSome (at self.now.pipes key) }
+        ensures value { IfSome (at self.now.pipes key) (λ x. result ≡ front x) }
+        ensures few { result ≤ most_capacity }
+    {
+        self.held(key)
+    }
+
     /// How many bytes a pipe can hold.
     pub fn capacity(&self, key: usize) -> usize
         requires { IsSome (at self.now.pipes key) }
@@ -114,14 +124,14 @@ impl<A: Allocator + Copy> Nodes<A> {
         node.ring.slots()
     }
 
-    /// Takes the first bytes out of a pipe, which holds so many. An error leaves all as it was.
+    /// Takes bytes out of a pipe, of which a read can get so many. An error leaves all as it was.
     #[inline(always)]
     pub fn read_pipe(&mut self, key: usize, count: usize) -> Result<Vec<u8, A>, NoMemory>
         requires here { IsSome (at self.old.pipes key) }
-        requires held { IfSome (at self.old.pipes key) (λ x. count ≤ length x.bytes) }
+        requires held { IfSome (at self.old.pipes key) (λ x. count ≤ front x) }
         ensures bytes { IfOk result (λ bytes. IfSome (at self.old.pipes key) (λ x. bytes.items ≡ take count x.bytes)) }
         ensures few { IfOk result (λ bytes. length bytes.items ≤ most_capacity) }
-        ensures ok { OnOk result (at self.new.pipes ≡ change_at key (λ x. record x { bytes = drop count x.bytes }) (at self.old.pipes)) }
+        ensures ok { OnOk result (at self.new.pipes ≡ change_at key (λ x. lose (spent x count) x) (at self.old.pipes)) }
         ensures files { SameFiles self.old self.new }
         ensures err { OnErr result (self.new ≡ self.old) }
     {
@@ -137,13 +147,13 @@ impl<A: Allocator + Copy> Nodes<A> {
         Ok(bytes)
     }
 
-    /// Takes the first bytes out of a pipe, which holds so many, into a list. It takes no memory.
+    /// Takes bytes out of a pipe, of which a read can get so many, into a list. It takes no memory.
     #[inline(always)]
     pub fn read_pipe_into(&mut self, key: usize, into: &mut [u8])
         requires here { IsSome (at self.old.pipes key) }
-        requires held { IfSome (at self.old.pipes key) (λ x. length into.old ≤ length x.bytes) }
+        requires held { IfSome (at self.old.pipes key) (λ x. length into.old ≤ front x) }
         ensures bytes { IfSome (at self.old.pipes key) (λ x. into.new ≡ take (length into.old) x.bytes) }
-        ensures ok { at self.new.pipes ≡ change_at key (λ x. record x { bytes = drop (length into.old) x.bytes }) (at self.old.pipes) }
+        ensures ok { at self.new.pipes ≡ change_at key (λ x. lose (spent x (length into.old)) x) (at self.old.pipes) }
         ensures files { SameFiles self.old self.new }
     {
         let Some(node) = self.contents[key].as_pipe_mut() else {
@@ -160,7 +170,7 @@ impl<A: Allocator + Copy> Nodes<A> {
     pub fn write_pipe(&mut self, key: usize, bytes: &[u8]) -> Result<(), NoMemory>
         requires here { IsSome (at self.old.pipes key) }
         requires room { IfSome (at self.old.pipes key) (λ x. length bytes.now ≤ room x) }
-        ensures ok { OnOk result (at self.new.pipes ≡ change_at key (λ x. record x { bytes = x.bytes ++ bytes.now }) (at self.old.pipes)) }
+        ensures ok { OnOk result (at self.new.pipes ≡ change_at key (gain bytes.now) (at self.old.pipes)) }
         ensures files { SameFiles self.old self.new }
         ensures err { OnErr result (self.new ≡ self.old) }
     {
@@ -181,13 +191,13 @@ impl<A: Allocator + Copy> Nodes<A> {
     ///
     /// # Errors
     ///
-    /// - `Busy` exactly where the pipe holds more bytes, whether or not there is memory.
-    /// - `NoMemory` where it holds no more, and there is no memory for a pipe of that capacity.
+    /// - `Busy` exactly where the pipe takes more of its capacity, whether or not there is memory.
+    /// - `NoMemory` where it takes no more, and there is no memory for a pipe of that capacity.
     pub fn set_capacity(&mut self, key: usize, capacity: usize) -> Result<(), CapacityFault>
         requires here { IsSome (at self.old.pipes key) }
         requires capacity { IsPipeCapacity capacity }
         ensures ok { OnOk result (at self.new.pipes ≡ change_at key (λ x. record x { capacity = capacity }) (at self.old.pipes)) }
-        ensures busy { (result ≡ Err CapacityFault.Busy) ↔ IfSome (at self.old.pipes key) (λ x. capacity < length x.bytes) }
+        ensures busy { (result ≡ Err CapacityFault.Busy) ↔ IfSome (at self.old.pipes key) (λ x. capacity < used x) }
         ensures files { SameFiles self.old self.new }
         ensures memory { memory_of self.new ≡ memory_of self.old }
         ensures err { OnErr result (self.new ≡ self.old) }
