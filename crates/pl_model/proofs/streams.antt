@@ -18,8 +18,12 @@ pub mod Courses
 pub mod CallRuns
 -- A description stays on its node, while its number isn't given anew.
 pub mod Nodes
--- Writes and reads over a run.
+-- Writes over a run.
 pub mod WriteRuns
+-- A byte queue stays one.
+pub mod ByteQueues
+-- Reads over a run.
+pub mod ReadRuns
 -- Splices and tees over a run.
 pub mod MoveRuns
 -- A call that begins in a run.

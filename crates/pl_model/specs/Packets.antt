@@ -1,5 +1,5 @@
 -- Pipes in packet mode (pipe(2), O_DIRECT): a write makes packets, and a read takes one.
-use Rattle.std.specs.Prelude.{◌≡◌, ℕ, zero, suc, ◌+◌, ◌-◌, ◌*◌, ◌/◌, ◌%◌, nat_le, List, [], ◌∷◌, ◌++◌, length, take, drop, replicate, Option, option_map, if◌then◌else◌}
+use Rattle.std.specs.Prelude.{◌≡◌, ℕ, zero, suc, ◌+◌, ◌-◌, ◌*◌, ◌/◌, ◌%◌, Bool, nat_le, List, [], ◌∷◌, ◌++◌, length, take, drop, replicate, Option, option_map, is_none, if◌then◌else◌}
 use Rattle.std.specs.declared.option.Option.TheVariants.{None, Some}
 use Rattle.pl_model.specs.Numbers.{pipe_buf}
 use Rattle.pl_model.specs.State.{Pipe}
@@ -43,6 +43,10 @@ spent_of (Some (l ∷ ls)) n = l
 -- pipe(2), O_DIRECT: how many bytes a read takes that gives n of them. The rest of a packet is discarded.
 abbrev pub spent : Pipe → ℕ → ℕ
 spent pipe n = spent_of pipe.packets n
+
+-- bytes come out as they went in, in pieces of any length
+abbrev pub is_byte_queue : Pipe → Bool
+is_byte_queue pipe = is_none pipe.packets
 
 -- without its first n bytes
 abbrev pub lose : ℕ → Pipe → Pipe

@@ -1,5 +1,5 @@
 -- The stream law of whole runs: what is proved of the bytes that go through a pipe, and of those of each call.
-use Rattle.std.specs.Prelude.{◌≡◌, ℕ, ℤ, ◌<◌, ◌≤◌, Bool, true, false, nat_eq, List, [], ◌∷◌, ◌++◌, length, slice_range, Option, IfSome, if◌then◌else◌}
+use Rattle.std.specs.Prelude.{◌≡◌, ℕ, ℤ, ◌<◌, ◌≤◌, Bool, true, false, nat_eq, List, [], ◌∷◌, ◌++◌, length, take, slice_range, Option, IfSome, if◌then◌else◌}
 use Rattle.std.specs.declared.option.Option.TheVariants.{None, Some}
 use Rattle.std.specs.List.{concat}
 use Rattle.pl_model.specs.declared.calls.Call.{Call}
@@ -12,6 +12,8 @@ use Rattle.pl_model.specs.Modes.{reads, writes}
 use Rattle.pl_model.specs.Map.{get}
 use Rattle.pl_model.specs.Keys.{Node, PipeNode}
 use Rattle.pl_model.specs.State.{Open, Waiting}
+use Rattle.pl_model.specs.Packets.{is_byte_queue}
+use Rattle.pl_model.specs.Trial.{pipe_at}
 use Rattle.pl_model.specs.Begin.{open_for, may_block}
 use Rattle.pl_model.specs.OnNodes.{Keeps, KeepsBoth, OpensBoth}
 use Rattle.pl_model.specs.Numbered.{numbers, State, step}
@@ -46,6 +48,19 @@ module _ {A : Type 0} where
     -- a write that may wait answers the count of all its bytes, where it isn't interrupted and a reader is left
     pub all : (n : ℕ) → may_wait ≡ true → end.ending ≡ Answered (count n) → n ≡ length bytes
 
+-- what was answered is the front of what went out, and none was answered where nothing went out
+abbrev pub FrontOf : (outs answered : List (List ℕ)) → Type 0
+FrontOf [] answered = answered ≡ []
+FrontOf (out ∷ []) (bytes ∷ []) = bytes ≡ take (length bytes) out
+FrontOf outs answered = ⊥
+
+-- What a read of n bytes takes out of a pipe, of which this is answered. The rest of a packet goes out too (pipe(2), O_DIRECT).
+pub record Reads (n : ℕ) (is_byte_queue : Bool) (outs answered : List (List ℕ)) : Type 0 where
+  -- at most one piece goes out, of which the front is answered
+  pub front : 0 < n → FrontOf outs answered
+  -- what goes out of a byte queue is what is answered
+  pub whole : is_byte_queue ≡ true → outs ≡ answered
+
 -- The stream law of one run, for each pipe.
 pub record StreamLaw {A : Type 0} (s : State A) (xs : List (Step A × Bool)) : Type 0 where
   -- what it held and gained is what it lost and holds
@@ -56,7 +71,7 @@ pub record StreamLaw {A : Type 0} (s : State A) (xs : List (Step A × Bool)) : T
       Adds true bytes w.taken (of (OfCall c) (chunks s xs p)) (fate s xs c)
   pub waiting_read : (p c : ℕ) (w : Waiting A numbers) (fd : ℤ) (n : ℕ) →
       get nat_eq s.core.parked c ≡ Some w → w.call ≡ Call.Read fd n → Keeps s.core w.kept 0 (PipeNode p) →
-      of (OfCall c) (outs s xs p) ≡ bytes_answered (fate s xs c).ending
+      Reads n (is_byte_queue (pipe_at s.core p)) (of (OfCall c) (outs s xs p)) (bytes_answered (fate s xs c).ending)
   -- one that begins in it, after the steps `before`
   pub begun_write : (before rest : List (Step A × Bool)) (p pid : ℕ) (fd : ℤ) (bytes : List ℕ) →
       let now = after s before in
@@ -67,8 +82,9 @@ pub record StreamLaw {A : Type 0} (s : State A) (xs : List (Step A × Bool)) : T
   pub begun_read : (before rest : List (Step A × Bool)) (p pid : ℕ) (fd : ℤ) (n : ℕ) →
       let now = after s before in
       let read = Begin pid (Call.Read fd n) in
+      let tag = tag_of (length before) read (step now read).reply in
       xs ≡ before ++ (read, false) ∷ rest → IfSome (open_for reads now.core pid fd) (λ o. o.description.node ≡ PipeNode p) →
-      of (tag_of (length before) read (step now read).reply) (outs s xs p) ≡ bytes_answered (fate_begun now read rest).ending
+      Reads n (is_byte_queue (pipe_at now.core p)) (of tag (outs s xs p)) (bytes_answered (fate_begun now read rest).ending)
   -- a splice or a tee that is parked as the run begins
   pub waiting_splice : (from to : Node numbers) (p q c : ℕ) (w : Waiting A numbers) (from_fd to_fd : ℤ) (from_offset to_offset : Option ℕ) (len : ℕ) (flags : SpliceFlags) →
       get nat_eq s.core.parked c ≡ Some w → w.call ≡ Call.Splice from_fd from_offset to_fd to_offset len flags → KeepsBoth s.core w.kept from to →

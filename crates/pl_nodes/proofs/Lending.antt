@@ -1,4 +1,5 @@
 -- Slices of one pipe or file that are pushed on a pipe.
+use Rattle.pl_model.specs.Packets.{gain}
 use Rattle.std.proofs.Common.{◌≡◌, ℕ, ◌+◌, ◌-◌, ◌≤◌, ◌++◌, List, [], ◌∷◌, Some, None, sym, ◌∙◌, ap, subst, inl, inr, take, slice_set, arith}
 use Rattle.std.specs.Prelude.{IfSome}
 use Rattle.std.proofs.lemmas.Bool.{cases_lt}
@@ -85,10 +86,10 @@ module _ {A : Type 0} (k : Inside A) (sound : IsSound k) (flat : Nodes) (is : vi
     module _ (store : Segments) (ring : Ring) where
       pub pushed-ok : (bytes : List ℕ) → all_read (segment_at k.store) slices ≡ bytes → Turns (segment_at k.store) t.ring.slots (segment_at store) ring.slots
           → all_read (segment_at store) ring.slots ≡ all_read (segment_at k.store) t.ring.slots ++ all_read (segment_at k.store) slices → ring.capacity ≡ t.ring.capacity
-          → at (view_of (with_content k to (Pipe t) there sound store (Pipe (record t { ring = ring })))).pipes ≡ change_at to (λ x. record x { bytes = x.bytes ++ bytes }) (at flat.pipes)
+          → at (view_of (with_content k to (Pipe t) there sound store (Pipe (record t { ring = ring })))).pipes ≡ change_at to (gain bytes) (at flat.pipes)
       pushed-ok bytes reads turns read capacity =
-          pipe-done k to t there sound flat is store (record t { ring = ring }) turns (λ x. record x { bytes = x.bytes ++ bytes })
-          (λ i. record { bytes = (read ∙ ap (λ bs. all_read (segment_at k.store) t.ring.slots ++ bs) reads) i; capacity = capacity i; hung = t.hung })
+          pipe-done k to t there sound flat is store (record t { ring = ring }) turns (gain bytes)
+          (λ i. record { bytes = (read ∙ ap (λ bs. all_read (segment_at k.store) t.ring.slots ++ bs) reads) i; packets = None; capacity = capacity i; hung = t.hung })
 
       pub pushed-parts : (from : ℕ) (s : PipeNode A) → at k.contents.slots from ≡ Some (Pipe s) → (count : ℕ) → slices ≡ front_of count s.ring.slots
           → strange (t.ring.slots ++ slices) ring.slots ≤ 3

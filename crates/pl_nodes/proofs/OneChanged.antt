@@ -28,7 +28,7 @@ pub record Sight (A V : Type 0) : Type 0 where
 
 pub same-pipe : {A : Type 0} (m n : Map) (o : Option (Content A)) → all_read n (slots_in o) ≡ all_read m (slots_in o) → pipe_in n o ≡ pipe_in m o
 same-pipe m n None e = refl
-same-pipe m n (Some (Pipe p)) e = ap (λ bs. Some (record { bytes = bs; capacity = p.ring.capacity; hung = p.hung })) e
+same-pipe m n (Some (Pipe p)) e = ap (λ bs. Some (record { bytes = bs; packets = None; capacity = p.ring.capacity; hung = p.hung })) e
 same-pipe m n (Some (File f)) e = refl
 
 pub same-file : {A : Type 0} (m n : Map) (o : Option (Content A)) → all_read n (slots_in o) ≡ all_read m (slots_in o) → file_in n o ≡ file_in m o

@@ -16,7 +16,7 @@ use Rattle.pl_model.specs.Modes.{reads, writes}
 use Rattle.pl_model.specs.Map.{get}
 use Rattle.pl_model.specs.Keys.{Node, PipeNode, Plain, drawn, drawing_map}
 use Rattle.pl_model.specs.State.{Core, Description, Open, Waiting, described, can_wait}
-use Rattle.pl_model.specs.Trial.{Trial, Done, Wait, flowed, found, answered, tried as tried_with, Answered as Answers_now, Tried}
+use Rattle.pl_model.specs.Trial.{Trial, Done, Wait, pipe_at, flowed, found, answered, tried as tried_with, Answered as Answers_now, Tried}
 use Rattle.pl_model.specs.Transfer.{count}
 use Rattle.pl_model.specs.Begin.{open_fd, open_for, allowed, may_block, begin_read, begin_write}
 use Rattle.pl_model.specs.Step.{Stepped, try, begin, begun, happen, first_tried, parked, stepped, waiting}
@@ -28,7 +28,8 @@ use Rattle.pl_model.specs.Chunks.{Piece, Tag, OfCall, AtPlace, ForgottenAt, same
 use Rattle.pl_model.specs.Fates.{Fate, Answered, answers_count, fate, fate_answered, fate_begun, bytes_answered, taken_with}
 use Rattle.pl_model.specs.InOrder.{AreInOrder}
 use Rattle.pl_model.specs.OnNodes.{Keeps}
-use Rattle.pl_model.specs.StreamLaw.{Adds, may_wait}
+use Rattle.pl_model.specs.Packets.{is_byte_queue}
+use Rattle.pl_model.specs.StreamLaw.{Adds, Reads, may_wait}
 use Rattle.pl_model.proofs.renaming.Simulates.{below_step}
 use Rattle.pl_model.proofs.by_call.Ways.{TrialAll}
 use Rattle.pl_model.proofs.by_call.Keeps.{try-keeps, node_of, open_node}
@@ -38,7 +39,8 @@ use Rattle.pl_model.proofs.streams.Does.{Among, TrialFine, try_fine, at_its_plac
 use Rattle.pl_model.proofs.streams.Courses.{StepTo, step_to, step_order, run_rises, absent, nothing_there}
 use Rattle.pl_model.proofs.streams.Pieces.{of_append, pieces_append, other_places, added_apart, left_apart}
 use Rattle.pl_model.proofs.streams.CallRuns.{Course, course_run, own_added, own_left, own_first}
-use Rattle.pl_model.proofs.streams.WriteRuns.{adds_more, IsWrite, WriteSays, write_course, IsRead, ReadSays, ReadTry, read_try, read_course}
+use Rattle.pl_model.proofs.streams.WriteRuns.{adds_more, IsWrite, WriteSays, write_course}
+use Rattle.pl_model.proofs.streams.ReadRuns.{IsRead, ReadSays, ReadTry, read_try, read_course, reads_nothing}
 
 -- what was found open is there
 pub opened : (test : Mode → Bool) (o : Option (Open numbers)) (f : Open numbers) → allowed test o ≡ Some f → o ≡ Some f
@@ -275,13 +277,16 @@ module _ {A : Type 0} (p q : ℕ) (place : ℕ) (s : State A) (xs : List (Step A
     abbrev read : Call A
     read = Call.Read fd k
 
-    abbrev ReadFirst : List (List ℕ) → List (List ℕ) → Fate A → Type 0
-    ReadFirst ins outs end = outs ≡ bytes_answered end.ending
+    abbrev bytes_only : Bool
+    bytes_only = is_byte_queue (pipe_at s.core p)
 
-    first_read : (w : Waiting A numbers) (may : Bool) (t : Trial A numbers) → w.call ≡ read → Keeps s.core w.kept 0 (PipeNode p) → ReadTry p q fd k (held s.core p) t →
-        FirstSays p q place s xs pid read ReadFirst (IsRead p q fd k) (ReadSays p q fd k) (read_course p q fd k) w may t
+    abbrev ReadFirst : List (List ℕ) → List (List ℕ) → Fate A → Type 0
+    ReadFirst ins outs end = Reads k bytes_only outs (bytes_answered end.ending)
+
+    first_read : (w : Waiting A numbers) (may : Bool) (t : Trial A numbers) → w.call ≡ read → Keeps s.core w.kept 0 (PipeNode p) → ReadTry p q fd k bytes_only (held s.core p) t →
+        FirstSays p q place s xs pid read ReadFirst (IsRead p q fd k bytes_only) (ReadSays p q fd k bytes_only) (read_course p q fd k bytes_only) w may t
     first_read w may (Done u flow reply) is on says = says
-    first_read w may (Wait u flow to) is on says = ((is, on), (λ ins outs end rest. ap (λ b. unless_empty b ++ outs) says ∙ rest))
+    first_read w may (Wait u flow to) is on says = ((is, on, λ e. e), (λ ins outs end rest. subst (λ b. Reads k bytes_only (unless_empty b ++ outs) (bytes_answered end.ending)) (sym says) rest))
 
     pub begun_read : IfSome (open_for reads s.core pid fd) (λ o. o.description.node ≡ PipeNode p) → BegunWhole p q place s xs pid read ReadFirst
     unfolding begin begin_read
@@ -294,26 +299,26 @@ module _ {A : Type 0} (p q : ℕ) (place : ℕ) (s : State A) (xs : List (Step A
             let w : Waiting A numbers = waiting pid read (o.key ∷ []) false in
             let node : node_of s.core o.key ≡ Some o.description.node = open_node s.core pid fd o (opened reads (open_fd s.core pid fd) o e) in
             let keeps : Keeps s.core (o.key ∷ []) 0 (PipeNode p) = there s.core o.key o.description.node (PipeNode p) node is in
-            first_says p q place s xs pid read ReadFirst (IsRead p q fd k) (ReadSays p q fd k) (read_course p q fd k) w (may_block o.description && can_wait s.core)
+            first_says p q place s xs pid read ReadFirst (IsRead p q fd k bytes_only) (ReadSays p q fd k bytes_only) (read_course p q fd k bytes_only) w (may_block o.description && can_wait s.core)
             (try s.core w read (may_block o.description)) below order
             (fresh o.key s.next_description o.description.node node (omega arith)) (fresh o.key (s.next_description + 1) o.description.node node (omega arith))
             (try-keeps (among_changes (next_numbers s) s.core) s.core w read (may_block o.description) (among_same s.core order.once))
             (try_fine s.core w read (may_block o.description) tt (λ h. refl))
-            (first_read w (may_block o.description && can_wait s.core) (try s.core w read (may_block o.description)) refl keeps (read_try p q fd k s.core w (may_block o.description) keeps))
-            refl refl to
+            (first_read w (may_block o.description && can_wait s.core) (try s.core w read (may_block o.description)) refl keeps (read_try p q fd k bytes_only s.core w (may_block o.description) keeps (λ e. e)))
+            (reads_nothing k bytes_only) (reads_nothing k bytes_only) to
 
         opens : (o : Option (Open numbers)) → open_for reads s.core pid fd ≡ o → IfSome o (λ o. o.description.node ≡ PipeNode p) →
             StepTo s (Begin pid read) (drawn (next_numbers s) (drawing_map (begun s.core pid read) (found o EBADF (λ o. cond (k == 0) (answered s.core (Bytes [])) (tried_with s.core (o.key ∷ []) false (may_block o.description)))))) →
             BegunWhole p q place s xs pid read ReadFirst
-        opens None e on to = quiet_says p q place s xs pid read ReadFirst (Fault EBADF) to refl refl
+        opens None e on to = quiet_says p q place s xs pid read ReadFirst (Fault EBADF) to refl (reads_nothing k bytes_only)
         opens (Some o) e on to = sized (k == 0) to
           where
             sized : (b : Bool) → StepTo s (Begin pid read) (drawn (next_numbers s) (drawing_map (begun s.core pid read) (cond b (answered s.core (Bytes [])) (tried_with s.core (o.key ∷ []) false (may_block o.description))))) →
                 BegunWhole p q place s xs pid read ReadFirst
-            sized true h = quiet_says p q place s xs pid read ReadFirst (Bytes []) h refl refl
+            sized true h = quiet_says p q place s xs pid read ReadFirst (Bytes []) h refl (reads_nothing k bytes_only)
             sized false h = tried o e on h
 
         process : (b : Bool) → StepTo s (Begin pid read) (drawn (next_numbers s) (cond b (drawing_map (begun s.core pid read) (begin s.core pid read)) (Plain (stepped s.core NoProcess)))) →
             BegunWhole p q place s xs pid read ReadFirst
         process true to = opens (open_for reads s.core pid fd) refl on to
-        process false to = quiet_says p q place s xs pid read ReadFirst NoProcess to refl refl
+        process false to = quiet_says p q place s xs pid read ReadFirst NoProcess to refl (reads_nothing k bytes_only)

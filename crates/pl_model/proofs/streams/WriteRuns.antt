@@ -1,4 +1,4 @@
--- Writes and reads over a run.
+-- Writes over a run.
 use Rattle.std.proofs.Common.{◌≡◌, ℕ, ℤ, ◌+◌, ◌-◌, ◌≤◌, Bool, true, false, cond, Option, List, [], ◌++◌, length, refl, sym, ◌∙◌, ap, subst, nat_eq, take, drop, arith}
 use Rattle.std.specs.Prelude.{nat_lt, slice_range, IfSome}
 use Rattle.std.specs.declared.option.Option.TheVariants.{None, Some}
@@ -95,55 +95,3 @@ module _ {A : Type 0} (p q : ℕ) (fd : ℤ) (bytes : List ℕ) where
   pub write_run : (place : ℕ) (s : State A) (xs : List (Step A × Bool)) (c : ℕ) (w : Waiting A numbers) → IsBelowCounters s → AreInOrder s.core → get nat_eq s.core.parked c ≡ Some w → IsWrite s.core w →
       Adds true bytes w.taken (of (OfCall c) (pieces_from (piece_added q) place s xs)) (fate s xs c)
   write_run place s xs c w below order here is = course_run p q IsWrite WriteSays write_course place s xs c w below order here is
-
-module _ {A : Type 0} (p q : ℕ) (fd : ℤ) (k : ℕ) where
-  -- a parked read of at most k bytes, on the pipe p
-  abbrev pub IsRead : Core A numbers → Waiting A numbers → Type 0
-  IsRead s w = (w.call ≡ Call.Read fd k) × Keeps s w.kept 0 (PipeNode p)
-
-  abbrev pub ReadSays : Waiting A numbers → List (List ℕ) → List (List ℕ) → Fate A → Type 0
-  ReadSays w ins outs end = outs ≡ bytes_answered end.ending
-
-  -- what one try of a read takes from the pipe
-  abbrev pub ReadTry : List ℕ → Trial A numbers → Type 0
-  ReadTry before (Done u flow reply) = unless_empty (out_of_pipe numbers before flow.out p) ≡ bytes_answered (Answered reply)
-  ReadTry before (Wait u flow t) = out_of_pipe numbers before flow.out p ≡ []
-
-  read_row_says : (s : Core A numbers) (row : ReadCase) → ReadTry (held s p) (read_row s p (pipe_at s p) row)
-  read_row_says s (ReadCase.Gives n) = ap (λ b. unless_empty (cond b (take n (held s p)) [])) (same_number p)
-  read_row_says s ReadCase.EndOfFile = refl
-  read_row_says s ReadCase.Waits = refl
-
-  pub read_try : (s : Core A numbers) (w : Waiting A numbers) (may_wait : Bool) → Keeps s w.kept 0 (PipeNode p) → ReadTry (held s p) (try s w (Call.Read fd k) may_wait)
-  unfolding try read_pipe
-  read_try s w may_wait on = at (kept_at s w.kept 0) on
-    where
-      node : (d : ℕ) (x : Description numbers) (n : Node numbers) → n ≡ PipeNode p → ReadTry (held s p) (read_node s d x n k)
-      node d x (PipeNode z) e =
-          let same : z ≡ p = cc in
-          subst (λ y. ReadTry (held s p) (read_node s d x (PipeNode y) k)) (sym same) (read_row_says s (read_case k (length (pipe_at s p).bytes) (nat_lt 0 (writers s p))))
-      node d x (FileNode f) e = absurd (cc)
-
-      at : (o : Option (Open numbers)) → IfSome o (λ o. o.description.node ≡ PipeNode p) → ReadTry (held s p) (with_kept s o (λ o. read_node s o.key o.description o.description.node k))
-      at None on = refl
-      at (Some o) on = node o.key o.description o.description.node on
-
-  tried_read : (s : Core A numbers) (w : Waiting A numbers) (t : Trial A numbers) → IsRead s w → ReadTry (held s p) t → TrySays p q IsRead ReadSays s w t
-  tried_read s w (Done u flow reply) is says = says
-  tried_read s w (Wait u flow to) is says = (is, (λ ins outs end rest. ap (λ b. unless_empty b ++ outs) says ∙ rest))
-
-  pub read_course : Course p q IsRead ReadSays
-  read_course =
-      record {
-        stays = λ s x w first second is. (is.0, keeps_step s x w.kept 0 (PipeNode p) first second is.1);
-        met = λ s w met is. is;
-        says_met = λ w met ins outs end says. says;
-        waits = λ s w is. refl;
-        drops = λ s w is. refl;
-        interrupted = λ s w is. refl;
-        tries = λ s w is. tried_read s w (try s w w.call true) is (subst (λ z. ReadTry (held s p) (try s w z true)) (sym is.0) (read_try s w true is.1));
-      }
-
-  pub read_run : (place : ℕ) (s : State A) (xs : List (Step A × Bool)) (c : ℕ) (w : Waiting A numbers) → IsBelowCounters s → AreInOrder s.core → get nat_eq s.core.parked c ≡ Some w → IsRead s.core w →
-      of (OfCall c) (pieces_from (pieces_left p) place s xs) ≡ bytes_answered (fate s xs c).ending
-  read_run place s xs c w below order here is = course_run p q IsRead ReadSays read_course place s xs c w below order here is

@@ -57,7 +57,7 @@ pub returns-clause-ok : goal.returns-clause-ok
 returns-clause-ok g c =
     let m = segment_at c.self.inside.store in
     new-seen m c.reserve.new.self c.insert_reserved.new.self c.insert_reserved.result (new g c) c.insert_reserved.ensures.was_vacant (shared g c) (empty g c) c.insert_reserved.ensures.updates pipes_seen
-    ∙ ap (λ (r : Ring). set_at nat_eq (seen pipes_seen m c.reserve.new.self.slots) c.insert_reserved.result (Some (record { bytes = all_read m r.slots; capacity = r.capacity; hung = false }))) c.in-Ok-new.ensures
+    ∙ ap (λ (r : Ring). set_at nat_eq (seen pipes_seen m c.reserve.new.self.slots) c.insert_reserved.result (Some (record { bytes = all_read m r.slots; packets = None; capacity = r.capacity; hung = false }))) c.in-Ok-new.ensures
     ∙ ap (λ cs. set_at nat_eq (seen pipes_seen m cs) c.insert_reserved.result (Some empty_pipe)) (same g c)
     ∙ ap (λ (v : Nodes). set_at nat_eq (at v.pipes) c.insert_reserved.result (Some empty_pipe)) c.self.view_is
 

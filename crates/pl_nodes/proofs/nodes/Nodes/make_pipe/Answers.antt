@@ -39,7 +39,7 @@ returns-clause-ok g c =
     let u = c.insert_reserved.ensures.updates in
     new-seen m c.reserve.new.self c.insert_reserved.new.self c.insert_reserved.result new
     c.insert_reserved.ensures.was_vacant (came-shared k c.self.invariant c.reserve.new.self c.insert_reserved.new.self (same g c) c.insert_reserved.result new c.insert_reserved.ensures.was_vacant empty u) empty u pipes_seen
-    ∙ ap (λ (r : Ring). set_at nat_eq (seen pipes_seen m c.reserve.new.self.slots) c.insert_reserved.result (Some (record { bytes = all_read m r.slots; capacity = r.capacity; hung = false }))) c.in_ok-ring.ensures
+    ∙ ap (λ (r : Ring). set_at nat_eq (seen pipes_seen m c.reserve.new.self.slots) c.insert_reserved.result (Some (record { bytes = all_read m r.slots; packets = None; capacity = r.capacity; hung = false }))) c.in_ok-ring.ensures
     ∙ ap (λ cs. set_at nat_eq (seen pipes_seen m cs) c.insert_reserved.result (Some empty_pipe)) (same g c)
     ∙ ap (λ (v : Nodes). set_at nat_eq (at v.pipes) c.insert_reserved.result (Some empty_pipe)) c.self.view_is
 

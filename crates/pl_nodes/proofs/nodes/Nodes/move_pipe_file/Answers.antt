@@ -1,3 +1,4 @@
+use Rattle.pl_model.specs.Packets.{lose}
 use Rattle.std.proofs.Common.{◌≡◌, ◌∙◌, ap, drop, take, set, arith}
 use Rattle.pl_model.specs.Map.{change_at}
 use Rattle.pl_segments.specs.Segments.{at}
@@ -12,7 +13,7 @@ pub returns-clause-pipes : goal.returns-clause-pipes
 returns-clause-pipes g c =
     let most = ap (λ (v : Nodes). v.file_max) c.self.view_is in
     let moved : c.min-moved.result ≡ fitting c.args.count c.args.place c.args.self.now.file_max = omega (arith, most, c.min-moved.ensures) in
-    c.drop_front.ensures.ok ∙ (λ i. change_at c.args.from (λ x. record x { bytes = drop (moved i) x.bytes }) (at (c.in-Ok.ensures.pipes.pipes i)))
+    c.drop_front.ensures.ok ∙ (λ i. change_at c.args.from (lose (moved i)) (at (c.in-Ok.ensures.pipes.pipes i)))
 
 pub returns-clause-files : goal.returns-clause-files
 returns-clause-files g c =

@@ -1,3 +1,4 @@
+use Rattle.pl_model.specs.Packets.{lose, gain}
 use Rattle.std.proofs.Common.{◌≤◌, ◌++◌, ◌∙◌, sym, ap, drop, length, take}
 use Rattle.std.specs.Prelude.{IsSome, IfSome}
 use Rattle.pl_model.specs.Map.{change_at}
@@ -15,6 +16,6 @@ drop_front-requires-clause-held g c = other-still c.args.to c.args.from _ _ _ c.
 pub returns-clause-ok : goal.returns-clause-ok
 returns-clause-ok g c =
     c.drop_front.ensures.ok
-    ∙ ap (change_at c.args.from (λ x. record x { bytes = drop c.args.count x.bytes })) c.in_ok-copy_pipe_pipe.ensures.ok
-    ∙ changes-swap c.args.from c.args.to (λ x. record x { bytes = drop c.args.count x.bytes }) (λ x. record x { bytes = x.bytes ++ take c.args.count (bytes_of (at c.args.self.now.pipes c.args.from)) })
+    ∙ ap (change_at c.args.from (lose c.args.count)) c.in_ok-copy_pipe_pipe.ensures.ok
+    ∙ changes-swap c.args.from c.args.to (lose c.args.count) (gain (take c.args.count (bytes_of (at c.args.self.now.pipes c.args.from))))
     (at c.args.self.now.pipes) c.requires.other

@@ -1,3 +1,4 @@
+use Rattle.pl_model.specs.Packets.{spent, lose}
 use Rattle.std.proofs.Common.{refl, ◌≤◌, ◌∙◌, ap, drop, length, arith}
 use Rattle.std.proofs.lemmas.List.{length-take}
 use Rattle.pl_segments.specs.Segments.{Segments, segment_at}
@@ -66,7 +67,7 @@ returns-clause-ok g c =
     let node = c.in-Some.node.now in
     let there = pipe-there c.self.inside.contents.slots c.args.key c.index_mut.result.now c.in-Some.node.now c.index_mut.ensures.value c.in-Some.ensures.value in
     pipe-done c.self.inside c.args.key node there c.self.invariant c.args.self.now c.self.view_is c.pop_bytes.new.store (record node { ring = c.pop_bytes.new.self }) done.turns
-    (λ x. record x { bytes = drop c.args.count x.bytes }) (λ i. record { bytes = done.read i; capacity = done.capacity i; hung = node.hung })
+    (λ x. lose (spent x c.args.count) x) (λ i. record { bytes = done.read i; packets = None; capacity = done.capacity i; hung = node.hung })
 
 pub returns-clause-files : goal.returns-clause-files
 returns-clause-files g c =

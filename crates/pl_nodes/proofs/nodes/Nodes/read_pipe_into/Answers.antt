@@ -1,3 +1,4 @@
+use Rattle.pl_model.specs.Packets.{spent, lose}
 use Rattle.std.proofs.Common.{refl, ◌≤◌, drop, length, arith}
 use Rattle.pl_nodes.specs.declared.content.Content.TheVariants.{Pipe}
 use Rattle.pl_nodes.proofs.AtKey.{pipe-there, held, still-sound}
@@ -28,7 +29,7 @@ returns-clause-ok g c =
     let node = c.in-Some.node.now in
     let there = pipe-there c.self.inside.contents.slots c.args.key c.index_mut.result.now c.in-Some.node.now c.index_mut.ensures.value c.in-Some.ensures.value in
     pipe-done c.self.inside c.args.key node there c.self.invariant c.args.self.now c.self.view_is c.pop_into.new.store (record node { ring = c.pop_into.new.self }) done.turns
-    (λ x. record x { bytes = drop (length c.args.into.now) x.bytes }) (λ i. record { bytes = done.read i; capacity = done.capacity i; hung = node.hung })
+    (λ x. lose (spent x (length c.args.into.now)) x) (λ i. record { bytes = done.read i; packets = None; capacity = done.capacity i; hung = node.hung })
 
 pub returns-clause-files : goal.returns-clause-files
 returns-clause-files g c =

@@ -29,7 +29,7 @@ returns-clause-ok g c =
     let there = pipe-there k.contents.slots c.args.key c.index_mut.result.now node c.index_mut.ensures.value c.in-Some.ensures.value in
     pipe-done k c.args.key node there c.self.invariant c.args.self.now c.self.view_is c.reset.new.store (record node { ring = c.reset.new.self; hung = false })
     (became-none (segment_at k.store) node.ring.slots (segment_at c.reset.new.store) c.reset.new.self.slots (ap (λ (r : Ring). r.slots) c.reset.ensures.value) c.reset.ensures.turns)
-    (λ x. empty_pipe) (ap (λ (r : Ring). record { bytes = all_read (segment_at c.reset.new.store) r.slots; capacity = r.capacity; hung = false }) c.reset.ensures.value)
+    (λ x. empty_pipe) (ap (λ (r : Ring). record { bytes = all_read (segment_at c.reset.new.store) r.slots; packets = None; capacity = r.capacity; hung = false }) c.reset.ensures.value)
 
 pub returns-clause-files : goal.returns-clause-files
 returns-clause-files g c =

@@ -53,7 +53,7 @@ returns-clause-ok g c =
     on_ok_weaker c.set_capacity.result
     (λ is.
     pipe-done k c.args.key node (there g at_call) c.self.invariant c.args.self.now c.self.view_is k.store (record node { ring = c.set_capacity.new.self }) (turns g at_call)
-    (λ x. record x { capacity = c.args.capacity }) (ap (λ (r : Ring). record { bytes = all_read (segment_at k.store) r.slots; capacity = r.capacity; hung = node.hung }) is))
+    (λ x. record x { capacity = c.args.capacity }) (ap (λ (r : Ring). record { bytes = all_read (segment_at k.store) r.slots; packets = None; capacity = r.capacity; hung = node.hung }) is))
     c.set_capacity.ensures.ok
 
 pub returns-clause-busy : goal.returns-clause-busy

@@ -1,3 +1,4 @@
+use Rattle.pl_model.specs.Packets.{gain}
 use Rattle.std.proofs.Common.{refl, ◌≤◌, ◌∙◌, ◌++◌, ap, length, arith}
 use Rattle.pl_model.specs.Transfer.{room}
 use Rattle.pl_segments.specs.Segments.{Segments}
@@ -56,7 +57,7 @@ returns-clause-ok g c =
     let node = c.in-Some.node.now in
     let there = pipe-there c.self.inside.contents.slots c.args.key c.index_mut.result.now c.in-Some.node.now c.index_mut.ensures.value c.in-Some.ensures.value in
     pipe-done c.self.inside c.args.key node there c.self.invariant c.args.self.now c.self.view_is c.push_bytes.new.store (record node { ring = c.push_bytes.new.self }) done.turns
-    (λ x. record x { bytes = x.bytes ++ c.args.bytes.now }) (λ i. record { bytes = done.read i; capacity = done.capacity i; hung = node.hung })
+    (gain c.args.bytes.now) (λ i. record { bytes = done.read i; packets = None; capacity = done.capacity i; hung = node.hung })
 
 pub returns-clause-files : goal.returns-clause-files
 returns-clause-files g c =
