@@ -9,6 +9,7 @@ use Rattle.pl_model.specs.declared.replies.Reply.TheVariants.{Fault, CallsSpent}
 use Rattle.pl_model.specs.declared.replies.Errno.TheVariants.{EAGAIN}
 use Rattle.pl_model.specs.Numbers.{last_call}
 use Rattle.pl_model.specs.Map.{get, change_at}
+use Rattle.pl_model.specs.Packets.{gain}
 use Rattle.pl_parked.specs.declared.call.ParkedCall.{ParkedCall}
 use Rattle.pl_desc.specs.Rows.{at}
 use Rattle.pl_state.specs.Contents.{Contents, lets_wait, with_pipes}
@@ -38,7 +39,7 @@ module _ {A : Type 0} where
 
   -- the bytes came to the end of the pipe, and nothing else changed
   pub record Adds (old : Contents A) (pipe : ℕ) (bytes : List ℕ) (new : Contents A) : Type 0 where
-    pub pipes : at new.nodes.pipes ≡ change_at pipe (λ x. record x { bytes = x.bytes ++ bytes }) (at old.nodes.pipes)
+    pub pipes : at new.nodes.pipes ≡ change_at pipe (gain bytes) (at old.nodes.pipes)
     pub rest : new ≡ with_pipes old new.nodes
 
   -- the call of the number is a read of so many bytes, which waits on the description of the key

@@ -38,12 +38,12 @@ settle-before b c u same = λ i. record u {
   files = λ f. kept_if (is_kept u (FileNode f)) (u.files f);
 }
 
--- the bytes of a pipe are none of that
-pub had-writer-bytes : {A : Type 0} (c : Core A numbers) (p : ℕ) (x : Pipe) (bytes : List ℕ) → c.pipes p ≡ Some x → (q : ℕ) → had_writer (set_pipe c p (record x { bytes = bytes })) q ≡ had_writer c q
+-- what else a pipe is than hung is none of that
+pub had-writer-put : {A : Type 0} (c : Core A numbers) (p : ℕ) (x y : Pipe) → y.hung ≡ x.hung → c.pipes p ≡ Some x → (q : ℕ) → had_writer (set_pipe c p y) q ≡ had_writer c q
 unfolding writers in_rows in_parked pids
-had-writer-bytes c p x bytes is q = ap (λ b. b || nat_lt 0 (writers c q)) (elim (eqb_tells p q) as (λ _. is_hung (set_at nat_eq c.pipes p (Some (record x { bytes = bytes })) q) ≡ is_hung (c.pipes q)) [
-  | inl t ↦ ap (λ b. is_hung (cond b (Some (record x { bytes = bytes })) (c.pipes q))) t.0 ∙ sym (ap is_hung (ap c.pipes (sym t.1) ∙ is))
-  | inr t ↦ ap (λ b. is_hung (cond b (Some (record x { bytes = bytes })) (c.pipes q))) t.0
+had-writer-put c p x y same is q = ap (λ b. b || nat_lt 0 (writers c q)) (elim (eqb_tells p q) as (λ _. is_hung (set_at nat_eq c.pipes p (Some y) q) ≡ is_hung (c.pipes q)) [
+  | inl t ↦ ap (λ b. is_hung (cond b (Some y) (c.pipes q))) t.0 ∙ same ∙ sym (ap is_hung (ap c.pipes (sym t.1) ∙ is))
+  | inr t ↦ ap (λ b. is_hung (cond b (Some y) (c.pipes q))) t.0
 ])
 
 -- what settling looks at and the step didn't touch
@@ -97,10 +97,6 @@ module _ {A : Type 0} (c u : Core A numbers) (settled : IsSettled c) (alike : Al
 
     pub changed-settled : settle c u ≡ u
     changed-settled = tidy c u described_live kept file_kept
-
-  -- the bytes of a pipe with an end changed
-  pub moved-settled : (p : ℕ) (x : Pipe) → c.pipes p ≡ Some x → is_open c (PipeNode p) ≡ true → (bytes : List ℕ) → u.pipes ≡ set_at nat_eq c.pipes p (Some (record x { bytes = bytes })) → settle c u ≡ u
-  moved-settled p x is held bytes pipes = changed-settled p x (record x { bytes = bytes }) is held refl pipes
 
 module _ {A : Type 0} (c u : Core A numbers) (gone : ℕ) where
   -- what is left of the descriptions

@@ -1,9 +1,10 @@
 -- A pipe changes, and is hung as it was.
-use Rattle.std.proofs.Common.{◌≡◌, ℕ, List, ◌++◌, drop, Some, refl, sym, ◌∙◌, ap, nat_eq}
+use Rattle.std.proofs.Common.{◌≡◌, ℕ, List, Some, refl, sym, ◌∙◌, ap, nat_eq}
 use Rattle.std.specs.Prelude.{unwrap_or}
 use Rattle.pl_model.specs.declared.node.Node.TheVariants as node
 use Rattle.pl_model.specs.Map.{set_at, change_at}
 use Rattle.pl_model.specs.State.{Pipe, empty_pipe, set_pipe}
+use Rattle.pl_model.specs.Packets.{lose, gain}
 use Rattle.pl_model.specs.Settle.{settle}
 use Rattle.pl_model.specs.Trial.{still, loses, gains, flowed}
 use Rattle.pl_model.proofs.settling.Changes.{put-settled}
@@ -51,26 +52,26 @@ module _ {A : Type 0} (k : Contents A) (sound : IsSound A k) (d p : ℕ) (on : O
   }
 
 -- it has other bytes
-module _ {A : Type 0} (k : Contents A) (sound : IsSound A k) (d p : ℕ) (on : OpenOn k d (node.Pipe p)) (x : Pipe) (is : at k.nodes.pipes p ≡ Some x) (bytes : List ℕ) (pipes : Nodes)
-    (f : Pipe → Pipe) (gives : f x ≡ record x { bytes = bytes }) (after : at pipes.pipes ≡ change_at p f (at k.nodes.pipes)) where
-  pub changed_is : core_of (with_pipes k pipes) ≡ set_pipe (core_of k) p (record x { bytes = bytes })
-  changed_is = put_is k sound d p on x is (record x { bytes = bytes }) refl pipes f gives after
+module _ {A : Type 0} (k : Contents A) (sound : IsSound A k) (d p : ℕ) (on : OpenOn k d (node.Pipe p)) (x : Pipe) (is : at k.nodes.pipes p ≡ Some x) (pipes : Nodes)
+    (f : Pipe → Pipe) (same_hung : (f x).hung ≡ x.hung) (after : at pipes.pipes ≡ change_at p f (at k.nodes.pipes)) where
+  pub changed_is : core_of (with_pipes k pipes) ≡ set_pipe (core_of k) p (f x)
+  changed_is = put_is k sound d p on x is (f x) same_hung pipes f refl after
 
-  pub changed_core : core_of (with_pipes k pipes) ≡ settle (core_of k) (set_pipe (core_of k) p (record x { bytes = bytes }))
-  changed_core = put_core k sound d p on x is (record x { bytes = bytes }) refl pipes f gives after
+  pub changed_core : core_of (with_pipes k pipes) ≡ settle (core_of k) (set_pipe (core_of k) p (f x))
+  changed_core = put_core k sound d p on x is (f x) same_hung pipes f refl after
 
   pub changed_sound : IsSound A (with_pipes k pipes)
-  changed_sound = put_sound k sound d p on x is (record x { bytes = bytes }) refl pipes f gives after
+  changed_sound = put_sound k sound d p on x is (f x) same_hung pipes f refl after
 
 -- as a try moves them
 module _ {A : Type 0} (k : Contents A) (p : ℕ) (x : Pipe) (is : at k.nodes.pipes p ≡ Some x) where
-  pub flowed-out : (n : ℕ) → flowed (core_of k) (loses p n) ≡ set_pipe (core_of k) p (record x { bytes = drop n x.bytes })
+  pub flowed-out : (n : ℕ) → flowed (core_of k) (loses p n) ≡ set_pipe (core_of k) p (lose n x)
   unfolding flowed core_of
-  flowed-out n = ap (λ z. set_pipe (core_of k) p (record (unwrap_or z empty_pipe) { bytes = drop n (unwrap_or z empty_pipe).bytes })) is
+  flowed-out n = ap (λ z. set_pipe (core_of k) p (lose n (unwrap_or z empty_pipe))) is
 
-  pub flowed-in : (more : List ℕ) → flowed (core_of k) (gains p more) ≡ set_pipe (core_of k) p (record x { bytes = x.bytes ++ more })
+  pub flowed-in : (more : List ℕ) → flowed (core_of k) (gains p more) ≡ set_pipe (core_of k) p (gain more x)
   unfolding flowed core_of
-  flowed-in more = ap (λ z. set_pipe (core_of k) p (record (unwrap_or z empty_pipe) { bytes = (unwrap_or z empty_pipe).bytes ++ more })) is
+  flowed-in more = ap (λ z. set_pipe (core_of k) p (gain more (unwrap_or z empty_pipe))) is
 
 pub flowed-still : {A : Type 0} (k : Contents A) → flowed (core_of k) still ≡ core_of k
 unfolding flowed

@@ -13,7 +13,8 @@ use Rattle.pl_model.specs.Settle.{settle}
 use Rattle.pl_model.specs.Step.{parked}
 use Rattle.pl_model.specs.Numbered.{numbers}
 use Rattle.pl_model.proofs.settling.Members.{or_elim}
-use Rattle.pl_model.proofs.settling.FromSettled.{moved-settled}
+use Rattle.pl_model.proofs.settling.FromSettled.{changed-settled}
+use Rattle.pl_model.specs.Packets.{gain}
 use Rattle.pl_model.proofs.settling.Parking.{parked_live, park-settled}
 use Rattle.pl_parked.specs.Calls.{Calls}
 use Rattle.pl_parked.specs.declared.call.ParkedCall.{ParkedCall}
@@ -107,14 +108,11 @@ module _ {A : Type 0} (k : Contents A) (sound : IsSound A k) (key : ℕ) (o : Op
 
   -- and its pipe has other bytes
   module _ (p : ℕ) (on : OpenOn k key (node.Pipe p)) (x : Pipe) (is : at k.nodes.pipes p ≡ Some x) (more : List ℕ) (new : Contents A) (adds : Adds with_it p more new) where
-    abbrev bytes : List ℕ
-    bytes = x.bytes ++ more
-
     abbrev moved : Core A numbers
-    moved = set_pipe c p (record x { bytes = bytes })
+    moved = set_pipe c p (gain more x)
 
     moved_is : core_of (with_pipes with_it new.nodes) ≡ parked moved (waiting_of w)
-    moved_is = changed_is with_it park_sound key p (record { opened = on.opened; here = on.here; node = on.node }) x is bytes new.nodes (λ y. record y { bytes = y.bytes ++ more }) refl adds.pipes ∙ ap (λ z. set_pipe z p (record x { bytes = bytes })) park_is
+    moved_is = changed_is with_it park_sound key p (record { opened = on.opened; here = on.here; node = on.node }) x is new.nodes (gain more) refl adds.pipes ∙ ap (λ z. set_pipe z p (gain more x)) park_is
 
     moved_live : (d : ℕ) → is_live (parked moved (waiting_of w)) d ≡ is_live c d
     unfolding in_rows in_parked pids
@@ -125,10 +123,10 @@ module _ {A : Type 0} (k : Contents A) (sound : IsSound A k) (key : ℕ) (o : Op
     park_moves = ap (λ z. core_of z) adds.rest ∙ moved_is ∙ sym (settles is)
       where
         settles : at k.nodes.pipes p ≡ Some x → settle c (parked moved (waiting_of w)) ≡ parked moved (waiting_of w)
-        settles is = moved-settled c (parked moved (waiting_of w)) sound.settled (record { descriptions = refl; files = refl; names = refl }) moved_live p x is (pipe_held k sound.whole key p on) bytes refl
+        settles is = changed-settled c (parked moved (waiting_of w)) sound.settled (record { descriptions = refl; files = refl; names = refl }) moved_live p x (gain more x) is (pipe_held k sound.whole key p on) refl refl
 
     pub park_moves_sound : IsSound A new
-    park_moves_sound = subst (IsSound A) (sym adds.rest) (changed_sound with_it park_sound key p (record { opened = on.opened; here = on.here; node = on.node }) x is bytes new.nodes (λ y. record y { bytes = y.bytes ++ more }) refl adds.pipes)
+    park_moves_sound = subst (IsSound A) (sym adds.rest) (changed_sound with_it park_sound key p (record { opened = on.opened; here = on.here; node = on.node }) x is new.nodes (gain more) refl adds.pipes)
 
 -- few holds are loose
 pub few_holds : {A : Type 0} (descs : Descs) (k : Contents A) → IsSound A k → AreCounted A descs k.calls.calls → (key : ℕ) → count_at descs.loose key < 2 ^ 100

@@ -7,7 +7,8 @@ use Rattle.pl_model.specs.Live.{in_rows, in_parked, pids, is_live}
 use Rattle.pl_model.specs.Settle.{settle}
 use Rattle.pl_model.specs.Step.{parked_again}
 use Rattle.pl_model.specs.Numbered.{numbers}
-use Rattle.pl_model.proofs.settling.FromSettled.{moved-settled}
+use Rattle.pl_model.proofs.settling.FromSettled.{changed-settled}
+use Rattle.pl_model.specs.Packets.{gain}
 use Rattle.pl_model.proofs.settling.Parking.{again_live}
 use Rattle.pl_parked.specs.declared.call.ParkedCall.{ParkedCall}
 use Rattle.pl_desc.specs.Rows.{at, is_pid}
@@ -22,7 +23,7 @@ use Rattle.pl_state.proofs.holders.There.{settled_after}
 use Rattle.pl_state.proofs.by_call.Moving.{changed_is, changed_sound}
 
 -- more bytes are taken, and its pipe with other bytes
-module _ {A : Type 0} (k : Contents A) (o : CallOnPipe k) (taken : ℕ) (may : MayWait o.call.call taken) (more : List ℕ) (pipes : Nodes) (after : at pipes.pipes ≡ change_at o.pipe (λ y. record y { bytes = y.bytes ++ more }) (at k.nodes.pipes)) where
+module _ {A : Type 0} (k : Contents A) (o : CallOnPipe k) (taken : ℕ) (may : MayWait o.call.call taken) (more : List ℕ) (pipes : Nodes) (after : at pipes.pipes ≡ change_at o.pipe (gain more) (at k.nodes.pipes)) where
   open o use {sound, number as n, call as w, here, key, kept, pipe as p, on, held as x, there as is}
 
   abbrev c : Core A numbers
@@ -31,9 +32,6 @@ module _ {A : Type 0} (k : Contents A) (o : CallOnPipe k) (taken : ℕ) (may : M
   abbrev now : ParkedCall A
   now = record w { taken = taken }
 
-  abbrev bytes : List ℕ
-  bytes = x.bytes ++ more
-
   abbrev moved_k : Contents A
   moved_k = with_pipes k pipes
 
@@ -41,7 +39,7 @@ module _ {A : Type 0} (k : Contents A) (o : CallOnPipe k) (taken : ℕ) (may : M
   new = record (with_pipes k pipes) { calls = record k.calls { calls = put nat_eq k.calls.calls n now } }
 
   abbrev moved : Core A numbers
-  moved = set_pipe c p (record x { bytes = bytes })
+  moved = set_pipe c p (gain more x)
 
   waits : IsWaiting A w
   waits = subst (λ o. IfSome o (IsWaiting A)) here (sound.waiting n)
@@ -50,11 +48,11 @@ module _ {A : Type 0} (k : Contents A) (o : CallOnPipe k) (taken : ℕ) (may : M
   keeps = subst (λ o. IfSome o (KeepsNodes (at k.opened))) here (sound.on_nodes n)
 
   moved_sound : IsSound A moved_k
-  moved_sound = changed_sound k sound key p on x is bytes pipes (λ y. record y { bytes = y.bytes ++ more }) refl after
+  moved_sound = changed_sound k sound key p on x is pipes (gain more) refl after
 
   again_is : core_of new ≡ parked_again moved n (waiting_of now)
   unfolding core_of
-  again_is = with_put ∙ ap (λ z. parked_again z n (waiting_of now)) (changed_is k sound key p on x is bytes pipes (λ y. record y { bytes = y.bytes ++ more }) refl after)
+  again_is = with_put ∙ ap (λ z. parked_again z n (waiting_of now)) (changed_is k sound key p on x is pipes (gain more) refl after)
     where
       with_put : core_of new ≡ parked_again (core_of moved_k) n (waiting_of now)
       with_put = λ i. record (core_of moved_k) { parked = put-parked k.calls.calls n now i }
@@ -72,7 +70,7 @@ module _ {A : Type 0} (k : Contents A) (o : CallOnPipe k) (taken : ℕ) (may : M
   again_moves = again_is ∙ sym (settles is)
     where
       settles : at k.nodes.pipes p ≡ Some x → settle c (parked_again moved n (waiting_of now)) ≡ parked_again moved n (waiting_of now)
-      settles is = moved-settled c (parked_again moved n (waiting_of now)) sound.settled (record { descriptions = refl; files = refl; names = refl }) again_lives p x is (pipe_held k sound.whole key p on) bytes refl
+      settles is = changed-settled c (parked_again moved n (waiting_of now)) sound.settled (record { descriptions = refl; files = refl; names = refl }) again_lives p x (gain more x) is (pipe_held k sound.whole key p on) refl refl
 
   pub again_sound : IsSound A new
   again_sound = record {

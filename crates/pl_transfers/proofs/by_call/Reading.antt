@@ -14,6 +14,7 @@ use Rattle.pl_model.specs.Keys.{Plain}
 use Rattle.pl_model.specs.Memory.{is_refusal}
 use Rattle.pl_model.specs.State.{Core, Open, Pipe, Waiting, set_pipe, can_wait}
 use Rattle.pl_model.specs.Trial.{Begins, found, answered, tried, loses, still}
+use Rattle.pl_model.specs.Packets.{front, spent, lose}
 use Rattle.pl_model.specs.Transfer.{read_row, read_case}
 use Rattle.pl_model.specs.Begin.{open_for, may_block, begin_read}
 use Rattle.pl_model.specs.Step.{begin, core_step, ended, stepped, first_tried, waiting, parked}
@@ -82,7 +83,7 @@ module _ {A : Type 0} (m : Caller A) (fd : ℤ) (n : ℕ) where
       w = waiting pid call (o.key ∷ []) false
 
       abbrev case : ReadCase
-      case = read_case n (length p.bytes) (has_writer k.opened o.pipe)
+      case = read_case n (front p) (has_writer k.opened o.pipe)
 
       came : (row : ReadCase) → case ≡ row → core_step c x ≡ Plain (ended c (first_tried c w (not o.nonblock && can_wait c) (read_row c o.pipe p row)))
       came row r =
@@ -108,13 +109,13 @@ module _ {A : Type 0} (m : Caller A) (fd : ℤ) (n : ℕ) where
         read-waits-parks = parks_plain k k x _ waits refl
 
       module _ (many : ℕ) (r : case ≡ ReadCase.Gives many) where
-        gave : core_step c x ≡ Plain (ended c (record { state = set_pipe c o.pipe (record p { bytes = drop many p.bytes }); reply = Bytes (take many p.bytes); flow = loses o.pipe many }))
-        gave = came (ReadCase.Gives many) r ∙ ap (λ z. Plain (ended c (record { state = z; reply = Bytes (take many p.bytes); flow = loses o.pipe many }))) (flowed-out k o.pipe p is many)
+        gave : core_step c x ≡ Plain (ended c (record { state = set_pipe c o.pipe (lose (spent p many) p); reply = Bytes (take many p.bytes); flow = loses o.pipe (spent p many) }))
+        gave = came (ReadCase.Gives many) r ∙ ap (λ z. Plain (ended c (record { state = z; reply = Bytes (take many p.bytes); flow = loses o.pipe (spent p many) }))) (flowed-out k o.pipe p is (spent p many))
 
-        pub read-gives : (bytes : List ℕ) → bytes ≡ take many p.bytes → (pipes : Nodes) → at pipes.pipes ≡ change_at o.pipe (λ x. record x { bytes = drop many x.bytes }) (at k.nodes.pipes)
+        pub read-gives : (bytes : List ℕ) → bytes ≡ take many p.bytes → (pipes : Nodes) → at pipes.pipes ≡ change_at o.pipe (λ x. lose (spent x many) x) (at k.nodes.pipes)
             → MakesAtKeys k x (Bytes bytes) (with_pipes k pipes)
         read-gives bytes b pipes after = does_plain k (with_pipes k pipes) x _ (Bytes bytes) gave (ap (λ z. Bytes z) b)
-            (changed_core k sound o.key o.pipe opens.on p is (drop many p.bytes) pipes (λ x. record x { bytes = drop many x.bytes }) refl after)
+            (changed_core k sound o.key o.pipe opens.on p is pipes (λ x. lose (spent x many) x) refl after)
 
         pub read-wants : MayWantAtKeys k x
         read-wants = wants_plain k k x _ gave refl

@@ -16,7 +16,8 @@ use Rattle.pl_model.specs.Trial.{Done, Wait, Flow, loses, gains, flowed}
 use Rattle.pl_model.specs.Transfer.{room, count, read_row, read_case, write_row, write_case}
 use Rattle.pl_model.specs.Step.{core_step, happen, ended, stepped, interrupted, try, without_call, parked_again}
 use Rattle.pl_model.specs.Numbered.{numbers}
-use Rattle.pl_model.proofs.settling.FromSettled.{settle-before, had-writer-bytes}
+use Rattle.pl_model.proofs.settling.FromSettled.{settle-before, had-writer-put}
+use Rattle.pl_model.specs.Packets.{lose, gain, spent, front}
 use Rattle.pl_parked.specs.declared.call.ParkedCall.{ParkedCall}
 use Rattle.pl_desc.specs.Rows.{at}
 use Rattle.pl_state.specs.Contents.{Contents, Nodes, with_pipes, waiting_of, core_of}
@@ -50,9 +51,9 @@ module _ {A : Type 0} (k : Contents A) (sound : IsSound A k) (n : ℕ) where
     interrupt-ends new is = does_plain k new (Interrupt n) _ _ (ap (λ o. Plain (ended c (interrupted c n o))) (parked-is k sound n (Some w) here)) refl is
 
     -- a try that moved bytes ends the call
-    module _ (p : ℕ) (x : Pipe) (is : at k.nodes.pipes p ≡ Some x) (bytes : List ℕ) where
+    module _ (p : ℕ) (x : Pipe) (is : at k.nodes.pipes p ≡ Some x) (y : Pipe) (same_hung : y.hung ≡ x.hung) where
       abbrev moved : Core A numbers
-      moved = set_pipe c p (record x { bytes = bytes })
+      moved = set_pipe c p y
 
       pipe_is : c.pipes p ≡ Some x
       unfolding core_of
@@ -64,7 +65,7 @@ module _ {A : Type 0} (k : Contents A) (sound : IsSound A k) (n : ℕ) where
           (new_is ∙ ap (λ z. settle z (without_call z n)) between_is ∙ before is ∙ ap (λ z. settle c (without_call z n)) (sym f))
         where
           before : at k.nodes.pipes p ≡ Some x → settle moved (without_call moved n) ≡ settle c (without_call moved n)
-          before is = settle-before moved c (without_call moved n) (had-writer-bytes c p x bytes pipe_is)
+          before is = settle-before moved c (without_call moved n) (had-writer-put c p x y same_hung pipe_is)
 
 module _ {A : Type 0} (k : Contents A) (o : CallOnPipe k) where
   open o use {sound, number as n, call as w, here, key as d, kept, pipe as p, on, held as y, there as is}
@@ -74,7 +75,7 @@ module _ {A : Type 0} (k : Contents A) (o : CallOnPipe k) where
 
   module _ (fd : ℤ) (m : ℕ) (asked : w.call ≡ Read fd m) where
     abbrev read : ReadCase
-    read = read_case m (length y.bytes) (has_writer k.opened p)
+    read = read_case m (front y) (has_writer k.opened p)
 
     tries_read : (row : ReadCase) → read ≡ row → try state (waiting_of w) w.call true ≡ read_row state p y row
     tries_read row r = ap (λ z. try state (waiting_of w) z true) asked ∙ read-tries k sound d p on y is (waiting_of w) kept fd m true ∙ ap (read_row state p y) r
@@ -86,13 +87,13 @@ module _ {A : Type 0} (k : Contents A) (o : CallOnPipe k) where
     resume-read-waits r none = waits_still k sound n w here 0 none (came k sound n w here _ (tries_read ReadCase.Waits r))
 
     module _ (count_of : ℕ) (r : read ≡ ReadCase.Gives count_of) where
-      pub resume-read-gives : (bytes : List ℕ) → bytes ≡ take count_of y.bytes → (pipes : Nodes) → at pipes.pipes ≡ change_at p (λ x. record x { bytes = drop count_of x.bytes }) (at k.nodes.pipes)
+      pub resume-read-gives : (bytes : List ℕ) → bytes ≡ take count_of y.bytes → (pipes : Nodes) → at pipes.pipes ≡ change_at p (λ x. lose (spent x count_of) x) (at k.nodes.pipes)
           → (new : Contents A) → core_of new ≡ settle (core_of (with_pipes k pipes)) (without_call (core_of (with_pipes k pipes)) n) → MakesAtKeys k (Resume n) (Bytes bytes) new
       resume-read-gives bytes b pipes after new new_is =
-          ends_moved k sound n w here p y is (drop count_of y.bytes) (loses p count_of) (Bytes bytes) (with_pipes k pipes) new
-          (tries_read (ReadCase.Gives count_of) r ∙ ap (λ z. Done state (loses p count_of) (Bytes z)) (sym b))
-          (flowed-out k p y is count_of)
-          (changed_is k sound d p on y is (drop count_of y.bytes) pipes (λ x. record x { bytes = drop count_of x.bytes }) refl after) new_is
+          ends_moved k sound n w here p y is (lose (spent y count_of) y) refl (loses p (spent y count_of)) (Bytes bytes) (with_pipes k pipes) new
+          (tries_read (ReadCase.Gives count_of) r ∙ ap (λ z. Done state (loses p (spent y count_of)) (Bytes z)) (sym b))
+          (flowed-out k p y is (spent y count_of))
+          (changed_is k sound d p on y is pipes (λ x. lose (spent x count_of) x) refl after) new_is
 
       pub resume-read-wants : MayWantAtKeys k (Resume n)
       resume-read-wants = wants_plain k k (Resume n) _ (came k sound n w here _ (tries_read (ReadCase.Gives count_of) r)) refl
@@ -110,13 +111,13 @@ module _ {A : Type 0} (k : Contents A) (o : CallOnPipe k) where
     pub resume-write-cut : (new : Contents A) → Comes_to WriteCase.CutShort → core_of new ≡ settle state (without_call state n) → MakesAtKeys k (Resume n) (Count w.taken true) new
     resume-write-cut new r new_is = ends_still k sound n w here (Count w.taken true) new (came k sound n w here _ (tries_write WriteCase.CutShort r)) new_is
 
-    module _ (from to : ℕ) (part : List ℕ) (is_part : part ≡ slice_range bytes from to) (pipes : Nodes) (after : at pipes.pipes ≡ change_at p (λ x. record x { bytes = x.bytes ++ part }) (at k.nodes.pipes)) where
+    module _ (from to : ℕ) (part : List ℕ) (is_part : part ≡ slice_range bytes from to) (pipes : Nodes) (after : at pipes.pipes ≡ change_at p (gain part) (at k.nodes.pipes)) where
       pub resume-write-ends : Comes_to (WriteCase.Ends from to) → (new : Contents A) → core_of new ≡ settle (core_of (with_pipes k pipes)) (without_call (core_of (with_pipes k pipes)) n) → MakesAtKeys k (Resume n) (Count to false) new
       resume-write-ends r new new_is =
-          ends_moved k sound n w here p y is (y.bytes ++ part) (gains p part) (Count to false) (with_pipes k pipes) new
+          ends_moved k sound n w here p y is (gain part y) refl (gains p part) (Count to false) (with_pipes k pipes) new
           (tries_write (WriteCase.Ends from to) r ∙ ap (λ z. Done state (gains p z) (count to)) (sym is_part))
           (flowed-in k p y is part)
-          (changed_is k sound d p on y is (y.bytes ++ part) pipes (λ x. record x { bytes = x.bytes ++ part }) refl after) new_is
+          (changed_is k sound d p on y is pipes (gain part) refl after) new_is
 
       pub resume-write-waits : Comes_to (WriteCase.Waits from to) → MayWait w.call to → MakesAtKeys k (Resume n) (Parked n) (record (with_pipes k pipes) { calls = record k.calls { calls = put nat_eq k.calls.calls n (record w { taken = to }) } })
       resume-write-waits r may = does_plain k _ (Resume n) _ (Parked n)

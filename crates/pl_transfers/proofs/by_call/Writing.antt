@@ -98,7 +98,7 @@ module _ {A : Type 0} (m : Caller A) (fd : ℤ) (bytes : List ℕ) where
         write-refused reply h = does_same k sound x (stepped c reply) reply (came (WriteCase.Waits from to) r ∙ ap (λ z. Plain (ended c z)) (refused k w o.nonblock c (gains o.pipe part) to reply h)) refl refl
 
         module _ (left : refusal_in {A = A} k o.nonblock ≡ None) where
-          waits : core_step c x ≡ Plain (ended c (record { state = parked (set_pipe c o.pipe (record p { bytes = p.bytes ++ part })) (record w { taken = to }); reply = Parked k.calls.next; flow = gains o.pipe part }))
+          waits : core_step c x ≡ Plain (ended c (record { state = parked (set_pipe c o.pipe (gain part p)) (record w { taken = to }); reply = Parked k.calls.next; flow = gains o.pipe part }))
           waits =
               came (WriteCase.Waits from to) r
               ∙ ap (λ z. Plain (ended c z)) (parks k w o.nonblock c (gains o.pipe part) to left ∙ ap (λ z. record { state = parked z (record w { taken = to }); reply = Parked k.calls.next; flow = gains o.pipe part }) (flowed-in k o.pipe p is part))
@@ -113,13 +113,13 @@ module _ {A : Type 0} (m : Caller A) (fd : ℤ) (bytes : List ℕ) where
         abbrev more : List ℕ
         more = slice_range bytes from to
 
-        wrote : core_step c x ≡ Plain (ended c (record { state = set_pipe c o.pipe (record p { bytes = p.bytes ++ more }); reply = count to; flow = gains o.pipe more }))
+        wrote : core_step c x ≡ Plain (ended c (record { state = set_pipe c o.pipe (gain more p); reply = count to; flow = gains o.pipe more }))
         wrote = came (WriteCase.Ends from to) r ∙ ap (λ z. Plain (ended c (record { state = z; reply = count to; flow = gains o.pipe more }))) (flowed-in k o.pipe p is more)
 
-        pub write-ends : (part : List ℕ) → part ≡ more → (pipes : Nodes) → at pipes.pipes ≡ change_at o.pipe (λ x. record x { bytes = x.bytes ++ part }) (at k.nodes.pipes)
+        pub write-ends : (part : List ℕ) → part ≡ more → (pipes : Nodes) → at pipes.pipes ≡ change_at o.pipe (gain part) (at k.nodes.pipes)
             → MakesAtKeys k x (Count to false) (with_pipes k pipes)
         write-ends part b pipes after = does_plain k (with_pipes k pipes) x _ (Count to false) wrote refl
-            (changed_core k sound o.key o.pipe opens.on p is (p.bytes ++ more) pipes (λ x. record x { bytes = x.bytes ++ part }) (ap (λ z. record p { bytes = p.bytes ++ z }) b) after)
+            (changed_core k sound o.key o.pipe opens.on p is pipes (gain part) refl after ∙ ap (λ z. settle c (set_pipe c o.pipe (gain z p))) b)
 
         pub write-wants : MayWantAtKeys k x
         write-wants = wants_plain k k x _ wrote refl
