@@ -5,6 +5,7 @@ use Rattle.std.specs.List.{list_any}
 use Rattle.std.specs.declared.option.Option.TheVariants.{None, Some}
 use Rattle.std.proofs.lemmas.List.{length-take}
 use Rattle.std.proofs.Math.Nat.{min-zero, zero-min}
+use Rattle.pl_model.specs.Packets.{front}
 use Rattle.pl_model.specs.declared.calls.Call.{Call}
 use Rattle.pl_model.specs.declared.calls.Mode.{Mode}
 use Rattle.pl_model.specs.declared.calls.Step.{Step}
@@ -47,8 +48,11 @@ only_masks n = record { bytes = 0; masks = n }
 none-held : (held : ℕ) → nat_lt 0 held ≡ false → held ≡ 0
 none-held held e = grind (arith, e)
 
-all-of : (n held : ℕ) (bytes : List ℕ) → held ≡ length bytes → length (take (min n held) bytes) ≡ min n held
-all-of n held bytes e = length-take (min n held) bytes ∙ grind (arith, e)
+least : (n k held : ℕ) → min (min n k) held ≡ min n (min k held)
+least n k held = grind arith
+
+none-front : (n k held : ℕ) → k ≡ 0 → min n (min k held) ≡ 0
+none-front n k held e = grind (arith, e)
 
 -- what passes the test of a mode is open
 allowed-is : {K : Keys} (test : Mode → Bool) (x : Option (Open K)) (o : Open K) → allowed test x ≡ Some o → x ≡ Some o
@@ -127,15 +131,15 @@ module _ {A : Type 0} {K : Keys} where
   try_open-bare s w = bare_if w.met _ _ (bare_kept s _ _ (λ o. opened_by-bare s w.pid o.key (lowest s w.pid 0))) refl
 
   -- a read of n bytes answers those of them that are there
-  read_row-sizes : (s : Core A K) (p : K.Pipe) (pipe : Pipe) (n : ℕ) (some has_writer : Bool) → nat_lt 0 (length pipe.bytes) ≡ some →
-      trial_sizes (read_row s p pipe (cond some (ReadCase.Gives (min n (length pipe.bytes))) (cond (not has_writer) ReadCase.EndOfFile ReadCase.Waits))) ≡ only_bytes (min n (length pipe.bytes))
-  read_row-sizes s p pipe n true has_writer e = ap only_bytes (all-of n (length pipe.bytes) pipe.bytes refl)
-  read_row-sizes s p pipe n false true e = sym (ap (λ h. only_bytes (min n h)) (none-held (length pipe.bytes) e) ∙ ap only_bytes (min-zero n))
-  read_row-sizes s p pipe n false false e = sym (ap (λ h. only_bytes (min n h)) (none-held (length pipe.bytes) e) ∙ ap only_bytes (min-zero n))
+  read_row-sizes : (s : Core A K) (p : K.Pipe) (pipe : Pipe) (n : ℕ) (some has_writer : Bool) → nat_lt 0 (front pipe) ≡ some →
+      trial_sizes (read_row s p pipe (cond some (ReadCase.Gives (min n (front pipe))) (cond (not has_writer) ReadCase.EndOfFile ReadCase.Waits))) ≡ only_bytes (min n (min (front pipe) (length pipe.bytes)))
+  read_row-sizes s p pipe n true has_writer e = ap only_bytes (length-take (min n (front pipe)) pipe.bytes ∙ least n (front pipe) (length pipe.bytes))
+  read_row-sizes s p pipe n false true e = sym (ap only_bytes (none-front n (front pipe) (length pipe.bytes) (none-held (front pipe) e)))
+  read_row-sizes s p pipe n false false e = sym (ap only_bytes (none-front n (front pipe) (length pipe.bytes) (none-held (front pipe) e)))
 
   read_node-sizes : (s : Core A K) (d : K.Description) (description : Description K) (node : Node K) (n : ℕ) → trial_sizes (read_node s d description node n) ≡ only_bytes (min n (readable_on s description node))
   unfolding read_pipe read_file
-  read_node-sizes s d description (PipeNode p) n = read_row-sizes s p (pipe_at s p) n (nat_lt 0 (length (pipe_at s p).bytes)) _ refl
+  read_node-sizes s d description (PipeNode p) n = read_row-sizes s p (pipe_at s p) n (nat_lt 0 (front (pipe_at s p))) _ refl
   read_node-sizes s d description (FileNode f) n = ap only_bytes (length-take n (drop description.offset (file_at s f)))
 
   read_kept-sizes : (s : Core A K) (o : Option (Open K)) (n : ℕ) → trial_sizes (with_kept s o (λ o. read_node s o.key o.description o.description.node n)) ≡ only_bytes (min n (readable s o))

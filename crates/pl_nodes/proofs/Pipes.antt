@@ -31,6 +31,10 @@ module _ {A : Type 0} (k : Inside A) (key : ℕ) (p : PipeNode A) (there : at k.
   pub pipe-told : (P : PipeState → Type 0) → IfSome (at flat.pipes key) P → P (pipe_of (segment_at k.store) p)
   pipe-told P h = subst (λ o. IfSome o P) pipe-flat h
 
+  -- what is said of it says something else
+  pub pipe-told-as : (P Q : PipeState → Type 0) → (P (pipe_of (segment_at k.store) p) → Q (pipe_of (segment_at k.store) p)) → IfSome (at flat.pipes key) P → IfSome (at flat.pipes key) Q
+  pipe-told-as P Q f h = pipe-said Q (f (pipe-told P h))
+
   -- it changes, and with it the store
   module _ (store : Segments) (new : PipeNode A) (turns : Turns (segment_at k.store) p.ring.slots (segment_at store) new.ring.slots) where
     pub pipe-done : (f : PipeState → PipeState) → pipe_of (segment_at store) new ≡ f (pipe_of (segment_at k.store) p)

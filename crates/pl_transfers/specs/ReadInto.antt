@@ -7,6 +7,7 @@ use Rattle.pl_model.specs.declared.cases.ReadCase.TheVariants.{Gives}
 use Rattle.pl_model.specs.declared.replies.Reply.{Reply}
 use Rattle.pl_model.specs.declared.replies.Reply.TheVariants as reply
 use Rattle.pl_model.specs.Modes.{reads}
+use Rattle.pl_model.specs.Packets.{front}
 use Rattle.pl_model.specs.Transfer.{read_case}
 use Rattle.pl_desc.specs.Rows.{at}
 use Rattle.pl_state.specs.declared.access.OpenEnd.{OpenEnd}
@@ -38,7 +39,7 @@ module _ {A : Type 0} (k : Contents A) (pid : ℕ) (fd : ℤ) (n : ℕ) where
   pub record TakesFrom (end : OpenEnd) (count : ℕ) : Type 0 where
     pub opens : Opens k reads pid fd (of_end end)
     pub some : n ≢ 0
-    pub gives : IfSome (at k.nodes.pipes end.pipe) (λ x. Gives count ≡ read_case n (length x.bytes) (has_writer k.opened end.pipe))
+    pub gives : IfSome (at k.nodes.pipes end.pipe) (λ x. Gives count ≡ read_case n (front x) (has_writer k.opened end.pipe))
 
   -- a read of so many bytes is of a file
   pub record ReadsFrom (o : OpenNode) (file : ℕ) : Type 0 where

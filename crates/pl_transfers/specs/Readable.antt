@@ -5,15 +5,16 @@ use Rattle.pl_model.specs.declared.calls.Call.{Call}
 use Rattle.pl_model.specs.Keys.{Keys, Node, PipeNode, FileNode}
 use Rattle.pl_model.specs.State.{Core, Description, Open, Waiting}
 use Rattle.pl_model.specs.Step.{kept_at}
+use Rattle.pl_model.specs.Packets.{front}
 use Rattle.pl_model.specs.Transfer.{file_at}
 use Rattle.pl_model.specs.Trial.{pipe_at}
 use Rattle.pl_model.specs.Map.{get}
 use Rattle.pl_state.specs.Contents.{Contents, core_of}
 
 module _ {A : Type 0} {K : Keys} where
-  -- POSIX.1-2017, read: how many bytes are there to be read, all that a pipe holds, and those of a file from the offset on
+  -- POSIX.1-2017, read: how many bytes one read can get: those at the front of a pipe, and those of a file from the offset on
   abbrev pub readable_on : Core A K → Description K → Node K → ℕ
-  readable_on s description (PipeNode p) = length (pipe_at s p).bytes
+  readable_on s description (PipeNode p) = min (front (pipe_at s p)) (length (pipe_at s p).bytes)
   readable_on s description (FileNode f) = length (drop description.offset (file_at s f))
 
   -- the same of an open description, and none where nothing is open

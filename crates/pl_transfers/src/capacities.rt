@@ -53,7 +53,7 @@ pub fn slots<A: Allocator + Copy>(kernel: &KernelState<A>, pid: u32, fd: i32) ->
 /// two of at least 4,096 (fcntl(2), F_SETPIPE_SZ; pipe(7), Pipe capacity).
 ///
 /// The reply is that number, or, in this order: `EBADF` where the descriptor isn't open on a pipe, `EPERM` where the size is above
-/// 1,048,576, or what it is rounded to above the limit, `EBUSY` where the pipe holds more bytes; these and the only error, want of memory, leave all as it was.
+/// 1,048,576, or what it is rounded to above the limit, `EBUSY` where the pipe takes more of its capacity; these and the only error, want of memory, leave all as it was.
 pub fn set_pipe_sz<A: Allocator + Copy>(
     kernel: &mut KernelState<A>,
     pid: u32,
@@ -68,11 +68,11 @@ pub fn set_pipe_sz<A: Allocator + Copy>(
     let Some(pipe) = pipe_named(kernel, pid, fd) else {
         return Ok(Reply::Fault(Errno::EBADF));
     };
-    let capacity = match capacity_for(size, kernel.nodes.held(pipe), kernel.limits.capacity_max) {
+    let capacity = match capacity_for(size, kernel.nodes.used(pipe), kernel.limits.capacity_max) {
         Ok(capacity) => capacity,
         Err(errno) => return Ok(Reply::Fault(errno)),
     };
-    // The bytes that are held fit, as was just decided, so it's memory that is wanting.
+    // What the pipe takes fits, as was just decided, so it's memory that is wanting.
     let Ok(()) = kernel.nodes.set_capacity(pipe, capacity as usize) else {
         return Err(NoMemory);
     };

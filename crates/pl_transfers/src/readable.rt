@@ -20,7 +20,7 @@ fn readable<A: Allocator + Copy>(kernel: &KernelState<A>, key: usize) -> usize
     ensures { IfSome (at kernel.now.opened key) (λ o. result ≡ readable_on (core_of {A = A} kernel.now) (description_of o) (node_of o.node)) }
 {
     match kernel.descs.node(key) {
-        Node::Pipe(pipe) => kernel.nodes.held(pipe),
+        Node::Pipe(pipe) => kernel.nodes.front(pipe),
         Node::File(file) => {
             let place = place_in_file(kernel.descs.offset(key));
             kernel.nodes.file_len(file).saturating_sub(place)
@@ -54,7 +54,7 @@ pub fn bytes_to_resume<A: Allocator + Copy>(kernel: &KernelState<A>, number: u64
     match waiting_read(kernel, number) {
         Some(read) => {
             let pipe = pipe_of(kernel, read.key);
-            (read.n as usize).min(kernel.nodes.held(pipe))
+            (read.n as usize).min(kernel.nodes.front(pipe))
         }
         None => 0,
     }

@@ -102,12 +102,13 @@ pub(crate) fn case_of_read<A: Allocator + Copy>(
     n: u32,
 ) -> ReadCase
     requires { IsSome (at kernel.now.nodes.pipes pipe) }
-    ensures { IfSome (at kernel.now.nodes.pipes pipe) (λ x. result ≡ read_case n (length x.bytes) (has_writer kernel.now.opened pipe)) }
+    ensures case { IfSome (at kernel.now.nodes.pipes pipe) (λ x. result ≡ read_case n (front x) (has_writer kernel.now.opened pipe)) }
+    ensures within { IfSome (at kernel.now.nodes.pipes pipe) (λ x. front x ≤ length x.bytes) }
 {
-    let held = kernel.nodes.held(pipe);
+    let front = kernel.nodes.front(pipe);
     // Whether something writes only matters where nothing is held.
-    let has_writer = held == 0 && kernel.descs.writers(Node::Pipe(pipe)) > 0;
-    pl_decisions::case_of_read(n as usize, held, has_writer)
+    let has_writer = front == 0 && kernel.descs.writers(Node::Pipe(pipe)) > 0;
+    pl_decisions::case_of_read(n as usize, front, has_writer)
 }
 
 // What a write of bytes, not none, of which some were taken before, to a pipe comes to.

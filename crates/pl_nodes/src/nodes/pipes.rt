@@ -73,9 +73,15 @@ impl<A: Allocator + Copy> Nodes<A> {
     pub fn front(&self, key: usize) -> usize
         requires { IsSome (at self.now.pipes key) }
         ensures value { IfSome (at self.now.pipes key) (λ x. result ≡ front x) }
+        ensures within { IfSome (at self.now.pipes key) (λ x. result ≤ length x.bytes) }
         ensures few { result ≤ most_capacity }
     {
-        self.held(key)
+        let Content::Pipe(node) = &self.contents[key] else {
+            unreachable!()
+        };
+        // A proof learns here that a pipe has no greater capacity than a ring may have.
+        let _capacity = node.ring.capacity();
+        node.ring.len()
     }
 
     /// How many bytes a pipe can hold.
@@ -88,6 +94,20 @@ impl<A: Allocator + Copy> Nodes<A> {
             unreachable!()
         };
         node.ring.capacity()
+    }
+
+    /// How much of its capacity a pipe takes: as many bytes as it holds, or 4,096 for each packet.
+    pub fn used(&self, key: usize) -> usize
+        requires { IsSome (at self.now.pipes key) }
+        ensures value { IfSome (at self.now.pipes key) (λ x. result ≡ used x) }
+        ensures few { result ≤ most_capacity }
+    {
+        let Content::Pipe(node) = &self.contents[key] else {
+            unreachable!()
+        };
+        // A proof learns here that a pipe has no greater capacity than a ring may have.
+        let _capacity = node.ring.capacity();
+        node.ring.len()
     }
 
     /// How many more bytes a pipe can hold.
@@ -153,6 +173,7 @@ impl<A: Allocator + Copy> Nodes<A> {
         requires here { IsSome (at self.old.pipes key) }
         requires held { IfSome (at self.old.pipes key) (λ x. length into.old ≤ front x) }
         ensures bytes { IfSome (at self.old.pipes key) (λ x. into.new ≡ take (length into.old) x.bytes) }
+        ensures within { IfSome (at self.old.pipes key) (λ x. length into.old ≤ length x.bytes) }
         ensures ok { at self.new.pipes ≡ change_at key (λ x. lose (spent x (length into.old)) x) (at self.old.pipes) }
         ensures files { SameFiles self.old self.new }
     {

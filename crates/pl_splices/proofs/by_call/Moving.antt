@@ -2,6 +2,7 @@
 use Rattle.std.proofs.Common.{◌≡◌, ◌≢◌, ◌≤◌, ℕ, ◌+◌, ◌-◌, Bool, true, false, List, [], ◌++◌, length, take, drop, Option, Some, None, IfSome, IsSome, refl, sym, ◌∙◌, ap, subst, nat_eq, arith}
 use Rattle.std.specs.Prelude.{is_some, unwrap_or, option_map, if◌then◌else◌}
 use Rattle.std.proofs.lemmas.List.{length-drop, length-take-le}
+use Rattle.pl_model.specs.Packets.{lose, gain}
 use Rattle.pl_model.specs.declared.node.Node.{Node}
 use Rattle.pl_model.specs.declared.node.Node.TheVariants as node
 use Rattle.pl_model.specs.Map.{set_at, change_at}
@@ -77,10 +78,10 @@ module _ {A : Type 0} (k : Contents A) (sound : IsSound A k) (from to : Side) (p
   }
 
   abbrev grown : Pipe
-  grown = record v { bytes = v.bytes ++ bytes }
+  grown = gain bytes v
 
   abbrev less : Pipe
-  less = record u { bytes = drop many u.bytes }
+  less = lose many u
 
   held_p : is_open c (PipeNode p) ≡ true
   held_p = pipe_held k sound.whole from.key p on_p
@@ -97,12 +98,12 @@ module _ {A : Type 0} (k : Contents A) (sound : IsSound A k) (from to : Side) (p
   pipe_q = is_q
 
   -- the bytes are copied
-  module _ (pipes : Nodes) (after : at pipes.pipes ≡ change_at q (λ x. record x { bytes = x.bytes ++ bytes }) (at k.nodes.pipes)) where
+  module _ (pipes : Nodes) (after : at pipes.pipes ≡ change_at q (gain bytes) (at k.nodes.pipes)) where
     copied_is : core_of (with_pipes k pipes) ≡ set_pipe c q grown
-    copied_is = changed_is k sound to.key q on_q v is_q (v.bytes ++ bytes) pipes (λ x. record x { bytes = x.bytes ++ bytes }) refl after
+    copied_is = changed_is k sound to.key q on_q v is_q pipes (gain bytes) refl after
 
     pub copied_sound : IsSound A (with_pipes k pipes)
-    copied_sound = changed_sound k sound to.key q on_q v is_q (v.bytes ++ bytes) pipes (λ x. record x { bytes = x.bytes ++ bytes }) refl after
+    copied_sound = changed_sound k sound to.key q on_q v is_q pipes (gain bytes) refl after
 
     pub copied : GoesOver k from to true many (with_pipes k pipes)
     copied = said true (with_pipes k pipes) (record {
@@ -112,7 +113,7 @@ module _ {A : Type 0} (k : Contents A) (sound : IsSound A k) (from to : Side) (p
     })
 
   -- they are moved
-  module _ (pipes : Nodes) (after : at pipes.pipes ≡ change_at q (λ x. record x { bytes = x.bytes ++ bytes }) (change_at p (λ x. record x { bytes = drop many x.bytes }) (at k.nodes.pipes))) where
+  module _ (pipes : Nodes) (after : at pipes.pipes ≡ change_at q (gain bytes) (change_at p (lose many) (at k.nodes.pipes))) where
     abbrev taken : ℕ → Option Pipe
     taken = set_at nat_eq (at k.nodes.pipes) p (Some less)
 
@@ -120,8 +121,8 @@ module _ {A : Type 0} (k : Contents A) (sound : IsSound A k) (from to : Side) (p
     taken_q = at_other (at k.nodes.pipes) p q (Some less) apart ∙ is_q
 
     pipes_are : at pipes.pipes ≡ set_at nat_eq taken q (Some grown)
-    pipes_are = after ∙ ap (change_at q (λ x. record x { bytes = x.bytes ++ bytes })) (change_at-is p (λ x. record x { bytes = drop many x.bytes }) (at k.nodes.pipes) u is_p)
-        ∙ change_at-is q (λ x. record x { bytes = x.bytes ++ bytes }) taken v taken_q
+    pipes_are = after ∙ ap (change_at q (gain bytes)) (change_at-is p (lose many) (at k.nodes.pipes) u is_p)
+        ∙ change_at-is q (gain bytes) taken v taken_q
 
     abbrev between : Core A numbers
     between = set_pipe c p less
@@ -133,8 +134,8 @@ module _ {A : Type 0} (k : Contents A) (sound : IsSound A k) (from to : Side) (p
     flow_is : flowed c (flow_of false) ≡ set_pipe between q grown
     unfolding flowed core_of
     flow_is =
-        ap (λ z. gained (set_pipe (core_of k) p (record (unwrap_or z empty_pipe) { bytes = drop many (unwrap_or z empty_pipe).bytes })) (Some (q, bytes))) is_p
-        ∙ ap (λ z. set_pipe (set_pipe (core_of k) p less) q (record (unwrap_or z empty_pipe) { bytes = (unwrap_or z empty_pipe).bytes ++ bytes })) taken_q
+        ap (λ z. gained (set_pipe (core_of k) p (lose many (unwrap_or z empty_pipe))) (Some (q, bytes))) is_p
+        ∙ ap (λ z. set_pipe (set_pipe (core_of k) p less) q (gain bytes (unwrap_or z empty_pipe))) taken_q
 
     between_q : between.pipes q ≡ Some v
     unfolding core_of
@@ -149,7 +150,7 @@ module _ {A : Type 0} (k : Contents A) (sound : IsSound A k) (from to : Side) (p
     moved_sound = resembling_sound k (with_pipes k pipes) sound moved_like (λ d. fades-same (at k.opened d)) still refl
       where
         still : (n : Node) → IsThere k.nodes n → IsThere (with_pipes k pipes).nodes n
-        still (node.Pipe z) h = subst (λ (m : ℕ → Option Pipe). IsSome (m z)) (sym after) (some_changed (change_at p (λ x. record x { bytes = drop many x.bytes }) (at k.nodes.pipes)) q z (λ x. record x { bytes = x.bytes ++ bytes }) (some_changed (at k.nodes.pipes) p z (λ x. record x { bytes = drop many x.bytes }) h))
+        still (node.Pipe z) h = subst (λ (m : ℕ → Option Pipe). IsSome (m z)) (sym after) (some_changed (change_at p (lose many) (at k.nodes.pipes)) q z (gain bytes) (some_changed (at k.nodes.pipes) p z (lose many) h))
         still (node.File f) h = h
 
     pub moved_over : GoesOver k from to false many (with_pipes k pipes)
@@ -236,23 +237,23 @@ module _ {A : Type 0} (k : Contents A) (sound : IsSound A k) (from to : Side) (f
       ∙ ap (λ z. moved_on core giver taker false (FileNode f) (PipeNode q) (take many (drop start_f (unwrap_or z [])))) is_f
       ∙ ap (λ n. Done (advanced core giver n) flow_in (count n)) part_long
 
-  module _ (pipes : Nodes) (after : at pipes.pipes ≡ change_at q (λ x. record x { bytes = x.bytes ++ part }) (at k.nodes.pipes))
+  module _ (pipes : Nodes) (after : at pipes.pipes ≡ change_at q (gain part) (at k.nodes.pipes))
       (opened : List (Option Opened)) (moves : at opened ≡ (if is_some from.given then at k.opened else change_at from.key (λ x. record x { offset = start_f + many }) (at k.opened))) where
     abbrev filled : Contents A
     filled = with_pipes k pipes
 
     filled_sound : IsSound A filled
-    filled_sound = changed_sound k sound to.key q on_to v is_v (v.bytes ++ part) pipes (λ x. record x { bytes = x.bytes ++ part }) refl after
+    filled_sound = changed_sound k sound to.key q on_to v is_v pipes (gain part) refl after
 
-    filled_is : core_of filled ≡ set_pipe core q (record v { bytes = v.bytes ++ part })
-    filled_is = changed_is k sound to.key q on_to v is_v (v.bytes ++ part) pipes (λ x. record x { bytes = x.bytes ++ part }) refl after
+    filled_is : core_of filled ≡ set_pipe core q (gain part v)
+    filled_is = changed_is k sound to.key q on_to v is_v pipes (gain part) refl after
 
     pipe_v : core.pipes q ≡ Some v
     unfolding core_of
     pipe_v = is_v
 
     filled_like : Resembles core (core_of filled)
-    filled_like = subst (Resembles core) (sym filled_is) (resembles-pipe core q v (record v { bytes = v.bytes ++ part }) pipe_v refl (pipe_held k sound.whole to.key q on_to))
+    filled_like = subst (Resembles core) (sym filled_is) (resembles-pipe core q v (gain part v) pipe_v refl (pipe_held k sound.whole to.key q on_to))
 
     abbrev new_f : Contents A
     new_f = record filled { opened = opened }
@@ -263,14 +264,14 @@ module _ {A : Type 0} (k : Contents A) (sound : IsSound A k) (from to : Side) (f
     pub from_file_sound : IsSound A new_f
     from_file_sound = on.still_sound
 
-    flow_f : flowed state_f flow_in ≡ (if is_some from.given then set_pipe core q (record v { bytes = v.bytes ++ part }) else moved_to (set_pipe core q (record v { bytes = v.bytes ++ part })) from.key (description_of on_f.opened) (start_f + many))
+    flow_f : flowed state_f flow_in ≡ (if is_some from.given then set_pipe core q (gain part v) else moved_to (set_pipe core q (gain part v)) from.key (description_of on_f.opened) (start_f + many))
     unfolding flowed core_of
     flow_f = by (is_some from.given)
       where
         by : (b : Bool) → gained (if b then core_of k else moved_to (core_of k) from.key (description_of on_f.opened) (start_f + many)) (Some (q, part))
-            ≡ (if b then set_pipe (core_of k) q (record v { bytes = v.bytes ++ part }) else moved_to (set_pipe (core_of k) q (record v { bytes = v.bytes ++ part })) from.key (description_of on_f.opened) (start_f + many))
-        by true = ap (λ z. set_pipe (core_of k) q (record (unwrap_or z empty_pipe) { bytes = (unwrap_or z empty_pipe).bytes ++ part })) is_v
-        by false = ap (λ z. set_pipe (moved_to (core_of k) from.key (description_of on_f.opened) (start_f + many)) q (record (unwrap_or z empty_pipe) { bytes = (unwrap_or z empty_pipe).bytes ++ part })) is_v
+            ≡ (if b then set_pipe (core_of k) q (gain part v) else moved_to (set_pipe (core_of k) q (gain part v)) from.key (description_of on_f.opened) (start_f + many))
+        by true = ap (λ z. set_pipe (core_of k) q (gain part (unwrap_or z empty_pipe))) is_v
+        by false = ap (λ z. set_pipe (moved_to (core_of k) from.key (description_of on_f.opened) (start_f + many)) q (gain part (unwrap_or z empty_pipe))) is_v
 
     pub from_file : GoesOver k from to false many new_f
     from_file = record {
@@ -323,11 +324,11 @@ module _ {A : Type 0} (k : Contents A) (sound : IsSound A k) (from to : Side) (p
       ∙ ap (λ z. Done (advanced (set_file old_core g (put_bytes (unwrap_or z []) start_g front)) keeper (length front)) (record { out = Some (p, length front); into = None }) (count (length front))) is_g
       ∙ ap (λ n. Done (advanced (set_file old_core g put) keeper n) (record { out = Some (p, n); into = None }) (count n)) front_long
 
-  module _ (pipes : Nodes) (after : at pipes.pipes ≡ change_at p (λ x. record x { bytes = drop many x.bytes }) (at k.nodes.pipes))
+  module _ (pipes : Nodes) (after : at pipes.pipes ≡ change_at p (lose many) (at k.nodes.pipes))
       (files : List (Option (List ℕ))) (wrote : at files ≡ change_at g (written start_g front) (at k.nodes.files))
       (opened : List (Option Opened)) (moves : at opened ≡ (if is_some to.given then at k.opened else change_at to.key (λ x. record x { offset = start_g + many }) (at k.opened))) where
     abbrev shorter : Pipe
-    shorter = record u { bytes = drop many u.bytes }
+    shorter = lose many u
 
     abbrev emptied : Contents A
     emptied = with_pipes k pipes
@@ -339,7 +340,7 @@ module _ {A : Type 0} (k : Contents A) (sound : IsSound A k) (from to : Side) (p
     emptied_core = set_pipe old_core p shorter
 
     emptied_is : core_of emptied ≡ emptied_core
-    emptied_is = changed_is k sound from.key p on_from u is_u (drop many u.bytes) pipes (λ x. record x { bytes = drop many x.bytes }) refl after
+    emptied_is = changed_is k sound from.key p on_from u is_u pipes (lose many) refl after
 
     files_are : at files ≡ set_at nat_eq (at k.nodes.files) g (Some put)
     files_are = wrote ∙ change_at-is g (written start_g front) (at k.nodes.files) old is_g ∙ ap (λ z. set_at nat_eq (at k.nodes.files) g (Some z)) (written-is start_g front old (subst (λ n. 1 ≤ n) (sym front_long) some))
@@ -365,7 +366,7 @@ module _ {A : Type 0} (k : Contents A) (sound : IsSound A k) (from to : Side) (p
     wrote_sound = resembling_sound k wrote_k sound wrote_like (λ d. fades-same (at k.opened d)) still refl
       where
         still : (n : Node) → IsThere k.nodes n → IsThere wrote_k.nodes n
-        still (node.Pipe z) h = subst (λ (m : ℕ → Option Pipe). IsSome (m z)) (sym after) (some_changed (at k.nodes.pipes) p z (λ x. record x { bytes = drop many x.bytes }) h)
+        still (node.Pipe z) h = subst (λ (m : ℕ → Option Pipe). IsSome (m z)) (sym after) (some_changed (at k.nodes.pipes) p z (lose many) h)
         still (node.File z) h = subst (λ (m : ℕ → Option (List ℕ)). IsSome (m z)) (sym wrote) (some_changed (at k.nodes.files) g z (written start_g front) h)
 
     abbrev new_g : Contents A
@@ -383,8 +384,8 @@ module _ {A : Type 0} (k : Contents A) (sound : IsSound A k) (from to : Side) (p
       where
         by : (b : Bool) → lost (if b then set_file (core_of k) g put else moved_to (set_file (core_of k) g put) to.key (description_of on_g.opened) (start_g + many)) (Some (p, many))
             ≡ (if b then set_file (set_pipe (core_of k) p shorter) g put else moved_to (set_file (set_pipe (core_of k) p shorter) g put) to.key (description_of on_g.opened) (start_g + many))
-        by true = ap (λ z. set_pipe (set_file (core_of k) g put) p (record (unwrap_or z empty_pipe) { bytes = drop many (unwrap_or z empty_pipe).bytes })) is_u
-        by false = ap (λ z. set_pipe (moved_to (set_file (core_of k) g put) to.key (description_of on_g.opened) (start_g + many)) p (record (unwrap_or z empty_pipe) { bytes = drop many (unwrap_or z empty_pipe).bytes })) is_u
+        by true = ap (λ z. set_pipe (set_file (core_of k) g put) p (lose many (unwrap_or z empty_pipe))) is_u
+        by false = ap (λ z. set_pipe (moved_to (set_file (core_of k) g put) to.key (description_of on_g.opened) (start_g + many)) p (lose many (unwrap_or z empty_pipe))) is_u
 
     pub to_file : GoesOver k from to false many new_g
     to_file = record {

@@ -8,6 +8,7 @@ use Rattle.pl_model.specs.declared.node.Node.TheVariants as node
 use Rattle.pl_model.specs.Map.{get}
 use Rattle.pl_model.specs.Modes.{reads}
 use Rattle.pl_model.specs.State.{Core, Pipe, empty_pipe}
+use Rattle.pl_model.specs.Packets.{front}
 use Rattle.pl_model.specs.Begin.{open_for}
 use Rattle.pl_model.specs.Step.{kept_at}
 use Rattle.pl_model.specs.Numbered.{numbers}
@@ -35,12 +36,20 @@ module _ {A : Type 0} (k : Contents A) where
     said : (r : ℕ) → r ≡ readable_on c (description_of o) (node_of o.node) → AreReadable key r
     said r is = subst (λ z. IfSome z (λ o. r ≡ readable_on c (description_of o) (node_of o.node))) (sym here) is
 
-    pub readable-pipe : (p : ℕ) → o.node ≡ node.Pipe p → (held : ℕ) → IfSome (at k.nodes.pipes p) (λ x. held ≡ length x.bytes) → AreReadable key held
+    pub readable-pipe : (p : ℕ) → o.node ≡ node.Pipe p → (held : ℕ) → IfSome (at k.nodes.pipes p) (λ x. held ≡ min (front x) (length x.bytes)) → AreReadable key held
     unfolding core_of
     readable-pipe p is held told =
         let there = pipe_there k whole key p (record { opened = o; here = here; node = is }) in
-        let long : held ≡ length there.0.bytes = subst (λ z. IfSome z (λ (x : Pipe). held ≡ length x.bytes)) there.1 told in
-        said held (long ∙ sym (ap (λ n. readable_on c (description_of o) (node_of n)) is ∙ ap (λ z. length (unwrap_or z empty_pipe).bytes) there.1))
+        let long : held ≡ min (front there.0) (length there.0.bytes) = subst (λ z. IfSome z (λ (x : Pipe). held ≡ min (front x) (length x.bytes))) there.1 told in
+        said held (long ∙ sym (ap (λ n. readable_on c (description_of o) (node_of n)) is ∙ ap (λ z. min (front (unwrap_or z empty_pipe)) (length (unwrap_or z empty_pipe).bytes)) there.1))
+
+    -- the front of a pipe is held
+    pub readable-front : (p : ℕ) → o.node ≡ node.Pipe p → (n : ℕ) → IfSome (at k.nodes.pipes p) (λ x. n ≡ front x) → IfSome (at k.nodes.pipes p) (λ x. n ≤ length x.bytes) → AreReadable key n
+    readable-front p is n told within = readable-pipe p is n (by (at k.nodes.pipes p) told within)
+      where
+        by : (z : Option Pipe) → IfSome z (λ x. n ≡ front x) → IfSome z (λ x. n ≤ length x.bytes) → IfSome z (λ x. n ≡ min (front x) (length x.bytes))
+        by None told within = tt
+        by (Some x) told within = omega (arith, told, within)
 
     pub readable-file : (f : ℕ) → o.node ≡ node.File f → (len : ℕ) → IfSome (at k.nodes.files f) (λ bytes. len ≡ length bytes) → AreReadable key (len - o.offset)
     unfolding core_of

@@ -2,6 +2,7 @@
 use Rattle.std.proofs.Common.{◌≡◌, ℕ, Option, Some, None, refl, sym, ◌∙◌, ap, subst, length, Ok, Err, w32, FitsSigned, to_z, of_z}
 use Rattle.std.specs.Prelude.{ℤ, nat_lt, ◌||◌, unwrap_or, option_and_then}
 use Rattle.std.proofs.lemmas.Int.{to_z-of_z}
+use Rattle.pl_model.specs.Packets.{used}
 use Rattle.pl_model.specs.declared.calls.Call.{Call}
 use Rattle.pl_model.specs.declared.calls.Step.{Step}
 use Rattle.pl_model.specs.declared.calls.Step.TheVariants.{Begin}
@@ -78,7 +79,7 @@ module _ {A : Type 0} (m : Caller A) (fd : ℤ) where
 
     abbrev sets : ℕ → Pipe → Begins A numbers
     sets p y =
-        refuse_if (nat_lt most_capacity size || nat_lt c.limits.capacity_max (rounded_capacity size)) EPERM (refuse_if (nat_lt (rounded_capacity size) (length y.bytes)) EBUSY
+        refuse_if (nat_lt most_capacity size || nat_lt c.limits.capacity_max (rounded_capacity size)) EPERM (refuse_if (nat_lt (rounded_capacity size) (used y)) EBUSY
         (answered (set_pipe c p (record y { capacity = rounded_capacity size })) (Size (rounded_capacity size))))
 
     pub set-none : pipe_named c pid fd ≡ None → MakesAtKeys k x (Fault EBADF) k
@@ -97,15 +98,15 @@ module _ {A : Type 0} (m : Caller A) (fd : ℤ) where
       unfolding core_of
       limit-is = refl
 
-      came : begin c pid call ≡ or_refused (capacity_set size (length y.bytes) limits.capacity_max) set_to
+      came : begin c pid call ≡ or_refused (capacity_set size (used y) limits.capacity_max) set_to
       unfolding begin begin_set_pipe_sz
-      came = named-is (λ p. sets p (pipe_at c p)) (Some p) named ∙ ap (λ z. sets p (unwrap_or z empty_pipe)) there_core ∙ set_capacity-is size (length y.bytes) c.limits.capacity_max set_to
-          ∙ ap (λ limit. or_refused (capacity_set size (length y.bytes) limit) set_to) limit-is
+      came = named-is (λ p. sets p (pipe_at c p)) (Some p) named ∙ ap (λ z. sets p (unwrap_or z empty_pipe)) there_core ∙ set_capacity-is size (used y) c.limits.capacity_max set_to
+          ∙ ap (λ limit. or_refused (capacity_set size (used y) limit) set_to) limit-is
 
-      pub set-fault : (errno : Errno) → capacity_set size (length y.bytes) limits.capacity_max ≡ Err errno → MakesAtKeys k x (Fault errno) k
+      pub set-fault : (errno : Errno) → capacity_set size (used y) limits.capacity_max ≡ Err errno → MakesAtKeys k x (Fault errno) k
       set-fault errno is = does_same k sound x (stepped c (Fault errno)) (Fault errno) (step-refused k pid call process errno (came ∙ ap (λ r. or_refused r set_to) is)) refl refl
 
-      module _ (n : ℕ) (is : capacity_set size (length y.bytes) limits.capacity_max ≡ Ok n) where
+      module _ (n : ℕ) (is : capacity_set size (used y) limits.capacity_max ≡ Ok n) where
         answers : begin c pid call ≡ set_to n
         answers = came ∙ ap (λ r. or_refused r set_to) is
 

@@ -5,6 +5,7 @@ use Rattle.pl_model.specs.declared.node.Node.TheVariants as node
 use Rattle.pl_model.specs.declared.calls.Call.TheVariants.{Read, Write}
 use Rattle.pl_model.specs.State.{Core, Pipe, Waiting, empty_pipe}
 use Rattle.pl_model.specs.Live.{readers, writers}
+use Rattle.pl_model.specs.Packets.{front}
 use Rattle.pl_model.specs.Transfer.{room, read_row, read_case, read_pipe, read_node, write_row, write_case, write_pipe, write_node}
 use Rattle.pl_model.specs.Modes.{reads, writes as writes_mode}
 use Rattle.pl_model.specs.Step.{try, with_kept, kept_at}
@@ -22,14 +23,14 @@ module _ {A : Type 0} (k : Contents A) (sound : IsSound A k) (d p : ℕ) (on : O
   abbrev c : Core A numbers
   c = core_of k
 
-  pub read-tries : (fd : ℤ) (n : ℕ) (may_wait : Bool) → try c w (Read fd n) may_wait ≡ read_row c p y (read_case n (length y.bytes) (has_writer k.opened p))
+  pub read-tries : (fd : ℤ) (n : ℕ) (may_wait : Bool) → try c w (Read fd n) may_wait ≡ read_row c p y (read_case n (front y) (has_writer k.opened p))
   unfolding try read_pipe core_of
   read-tries fd n may_wait =
       ap (λ ks. with_kept c (kept_at c ks 0) (λ o. read_node c o.key o.description o.description.node n)) kept
       ∙ ap (λ z. with_kept c (option_map (λ y. record { key = d; description = y }) (option_map description_of z)) (λ o. read_node c o.key o.description o.description.node n)) on.here
       ∙ ap (λ z. read_node c d (description_of on.opened) (node_of z) n) on.node
-      ∙ ap (λ z. read_row c p (unwrap_or z empty_pipe) (read_case n (length (unwrap_or z empty_pipe).bytes) (nat_lt 0 (writers c p)))) is
-      ∙ ap (λ b. read_row c p y (read_case n (length y.bytes) b)) (writers-is c p ∙ ends-is k sound.whole writes_mode (node.Pipe p))
+      ∙ ap (λ z. read_row c p (unwrap_or z empty_pipe) (read_case n (front (unwrap_or z empty_pipe)) (nat_lt 0 (writers c p)))) is
+      ∙ ap (λ b. read_row c p y (read_case n (front y) b)) (writers-is c p ∙ ends-is k sound.whole writes_mode (node.Pipe p))
 
   pub write-tries : (fd : ℤ) (bytes : List ℕ) (may_wait : Bool) → try c w (Write fd bytes) may_wait ≡ write_row c p bytes w.taken (write_case (length bytes) w.taken (room y) (has_reader k.opened p) may_wait)
   unfolding try write_pipe core_of

@@ -13,6 +13,8 @@ use Rattle.pl_model.specs.Modes.{writes}
 use Rattle.pl_model.specs.Keys.{Plain}
 use Rattle.pl_model.specs.State.{Core, Open, Pipe, Waiting, set_pipe, can_wait}
 use Rattle.pl_model.specs.Trial.{Begins, found, answered, tried, gains}
+use Rattle.pl_model.specs.Packets.{gain}
+use Rattle.pl_model.specs.Settle.{settle}
 use Rattle.pl_model.specs.Transfer.{room, count, write_row, write_case}
 use Rattle.pl_model.specs.Begin.{open_for, may_block, begin_write}
 use Rattle.pl_model.specs.Step.{begin, core_step, ended, stepped, first_tried, waiting, parked}

@@ -1,5 +1,6 @@
 use Rattle.std.proofs.Common.{◌≡◌, ◌≤◌, ℕ, ◌+◌, ◌-◌, ◌++◌, false, List, [], Some, IfSome, length, take, drop, sym, subst, ◌∙◌, ap}
 use Rattle.std.specs.Prelude.{is_some, unwrap_or, if◌then◌else◌}
+use Rattle.pl_model.specs.Packets.{gain}
 use Rattle.pl_model.specs.declared.node.Node.TheVariants as node
 use Rattle.pl_model.specs.Map.{change_at}
 use Rattle.pl_model.specs.State.{Pipe}
@@ -51,8 +52,8 @@ module _ (g : Over) (c : After-advance g) where
   part_is : part_of c.start_of-start.result c.args.count (at k.nodes.files c.args.source) ≡ take c.args.count (drop start file.0)
   part_is = ap (λ z. take c.args.count (drop c.start_of-start.result (unwrap_or z []))) file.1 ∙ ap (λ n. take c.args.count (drop n file.0)) start_is
 
-  after : at c.move_file_pipe.new.self.pipes ≡ change_at c.args.target (λ x. record x { bytes = x.bytes ++ take c.args.count (drop start file.0) }) (at k.nodes.pipes)
-  after = c.in_ok-move_file_pipe.ensures.ok ∙ ap (λ z. change_at c.args.target (λ (x : Pipe). record x { bytes = x.bytes ++ z }) (at k.nodes.pipes)) part_is
+  after : at c.move_file_pipe.new.self.pipes ≡ change_at c.args.target (gain (take c.args.count (drop start file.0))) (at k.nodes.pipes)
+  after = c.in_ok-move_file_pipe.ensures.ok ∙ ap (λ z. change_at c.args.target (gain z) (at k.nodes.pipes)) part_is
 
   moves : at c.advance.new.descs.opened ≡ (if is_some c.args.from.given then at k.opened else change_at c.args.from.key (λ x. record x { offset = start + c.args.count }) (at k.opened))
   moves = c.advance.ensures.opened ∙ ap (λ n. if is_some c.args.from.given then at k.opened else change_at c.args.from.key (λ (x : Opened). record x { offset = n + c.args.count }) (at k.opened)) start_is

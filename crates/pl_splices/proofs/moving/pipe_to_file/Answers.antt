@@ -1,5 +1,6 @@
 use Rattle.std.proofs.Common.{◌≡◌, ◌≤◌, ℕ, ◌+◌, ◌-◌, false, List, Some, IfSome, length, take, drop, sym, subst, ◌∙◌, ap, arith}
 use Rattle.std.specs.Prelude.{is_some, unwrap_or, if◌then◌else◌}
+use Rattle.pl_model.specs.Packets.{lose}
 use Rattle.pl_model.specs.declared.node.Node.TheVariants as node
 use Rattle.pl_model.specs.Map.{change_at}
 use Rattle.pl_model.specs.State.{Pipe}
@@ -63,8 +64,8 @@ module _ (g : Over) (c : After-advance g) where
   fits : fitting c.args.count c.start_of-start.result most ≡ c.args.count
   fits = all_fit c.args.count c.start_of-start.result most room
 
-  after : at c.move_pipe_file.new.self.pipes ≡ change_at c.args.source (λ x. record x { bytes = drop c.args.count x.bytes }) (at k.nodes.pipes)
-  after = c.in-Ok.ensures.pipes ∙ ap (λ n. change_at c.args.source (λ (x : Pipe). record x { bytes = drop n x.bytes }) (at k.nodes.pipes)) fits
+  after : at c.move_pipe_file.new.self.pipes ≡ change_at c.args.source (lose c.args.count) (at k.nodes.pipes)
+  after = c.in-Ok.ensures.pipes ∙ ap (λ n. change_at c.args.source (lose n) (at k.nodes.pipes)) fits
 
   wrote : at c.move_pipe_file.new.self.files ≡ change_at c.args.target (written start (take c.args.count pipe.0.bytes)) (at k.nodes.files)
   wrote = c.in-Ok.ensures.files

@@ -1,4 +1,5 @@
 use Rattle.std.proofs.Common.{◌≡◌, ◌≤◌, ◌++◌, true, false, Some, IfSome, length, take, drop, sym, subst, ◌∙◌, ap}
+use Rattle.pl_model.specs.Packets.{lose, gain}
 use Rattle.pl_model.specs.declared.node.Node.TheVariants as node
 use Rattle.pl_model.specs.Map.{change_at}
 use Rattle.pl_model.specs.State.{Pipe}
@@ -44,19 +45,19 @@ module _ (g : Over) (c : After-kernel g) where
 pub invariant_of-kernel : goal.invariant_of-kernel
 invariant_of-kernel g c =
     let w = (goal.at.invariant_of-kernel g c).After-kernel in
-    let after = c.in_ok-copy_pipe_pipe.ensures.ok ∙ ap (λ z. change_at c.args.target (λ (x : Pipe). record x { bytes = x.bytes ++ z }) (at (k g w).nodes.pipes)) (front g w) in
+    let after = c.in_ok-copy_pipe_pipe.ensures.ok ∙ ap (λ z. change_at c.args.target (gain z) (at (k g w).nodes.pipes)) (front g w) in
     (subst (IsSound g.row.A.Denot) (moved_view c.kernel.inside c.copy_pipe_pipe.new.self c.in_ok-copy_pipe_pipe.ensures.files) (copied_sound (k g w) c.kernel.invariant.0 c.args.from c.args.to c.args.source c.args.target (on_p g w) (on_q g w) c.requires.apart (p g w).0 (q g w).0 (p g w).1 (q g w).1 c.args.count (held g w) (nodes_of c.copy_pipe_pipe.new.self) after), c.kernel.invariant.1)
 
 pub invariant_of-kernel-in-Continue-branch-2 : goal.invariant_of-kernel-in-Continue-branch-2
 invariant_of-kernel-in-Continue-branch-2 g c =
     let w = (goal.at.invariant_of-kernel-in-Continue-branch-2 g c).After-kernel in
-    let after = c.in_ok-move_pipe_pipe.ensures.ok ∙ ap (λ z. change_at c.args.target (λ (x : Pipe). record x { bytes = x.bytes ++ z }) (change_at c.args.source (λ (x : Pipe). record x { bytes = drop c.args.count x.bytes }) (at (k g w).nodes.pipes))) (front g w) in
+    let after = c.in_ok-move_pipe_pipe.ensures.ok ∙ ap (λ z. change_at c.args.target (gain z) (change_at c.args.source (lose c.args.count) (at (k g w).nodes.pipes))) (front g w) in
     (subst (IsSound g.row.A.Denot) (moved_view c.kernel.inside c.move_pipe_pipe.new.self c.in_ok-move_pipe_pipe.ensures.files) (moved_sound (k g w) c.kernel.invariant.0 c.args.from c.args.to c.args.source c.args.target (on_p g w) (on_q g w) c.requires.apart (p g w).0 (q g w).0 (p g w).1 (q g w).1 c.args.count (held g w) (nodes_of c.move_pipe_pipe.new.self) after), c.kernel.invariant.1)
 
 pub returns-in_ok-copy_pipe_pipe-clause-done : goal.returns-in_ok-copy_pipe_pipe-clause-done
 returns-in_ok-copy_pipe_pipe-clause-done g c =
     let w = (goal.at.returns-in_ok-copy_pipe_pipe-clause-done g c).After-kernel in
-    let after = c.in_ok-copy_pipe_pipe.ensures.ok ∙ ap (λ z. change_at c.args.target (λ (x : Pipe). record x { bytes = x.bytes ++ z }) (at (k g w).nodes.pipes)) (front g w) in
+    let after = c.in_ok-copy_pipe_pipe.ensures.ok ∙ ap (λ z. change_at c.args.target (gain z) (at (k g w).nodes.pipes)) (front g w) in
     let new = view_of (record c.kernel.inside { nodes = c.copy_pipe_pipe.new.self }) in
     let over = subst (GoesOver (k g w) c.args.from c.args.to true c.args.count) (moved_view c.kernel.inside c.copy_pipe_pipe.new.self c.in_ok-copy_pipe_pipe.ensures.files) (copied (k g w) c.kernel.invariant.0 c.args.from c.args.to c.args.source c.args.target (on_p g w) (on_q g w) c.requires.apart (p g w).0 (q g w).0 (p g w).1 (q g w).1 c.args.count (held g w) (nodes_of c.copy_pipe_pipe.new.self) after) in
     subst (λ z. GoesOver z c.args.from c.args.to c.args.is_tee c.args.count new) c.kernel.view_is (subst (λ b. GoesOver (k g w) c.args.from c.args.to b c.args.count new) (sym c.if-is_tee.true) over)
@@ -64,7 +65,7 @@ returns-in_ok-copy_pipe_pipe-clause-done g c =
 pub returns-in_ok-move_pipe_pipe-clause-done : goal.returns-in_ok-move_pipe_pipe-clause-done
 returns-in_ok-move_pipe_pipe-clause-done g c =
     let w = (goal.at.returns-in_ok-move_pipe_pipe-clause-done g c).After-kernel in
-    let after = c.in_ok-move_pipe_pipe.ensures.ok ∙ ap (λ z. change_at c.args.target (λ (x : Pipe). record x { bytes = x.bytes ++ z }) (change_at c.args.source (λ (x : Pipe). record x { bytes = drop c.args.count x.bytes }) (at (k g w).nodes.pipes))) (front g w) in
+    let after = c.in_ok-move_pipe_pipe.ensures.ok ∙ ap (λ z. change_at c.args.target (gain z) (change_at c.args.source (lose c.args.count) (at (k g w).nodes.pipes))) (front g w) in
     let new = view_of (record c.kernel.inside { nodes = c.move_pipe_pipe.new.self }) in
     let over = subst (GoesOver (k g w) c.args.from c.args.to false c.args.count) (moved_view c.kernel.inside c.move_pipe_pipe.new.self c.in_ok-move_pipe_pipe.ensures.files) (moved_over (k g w) c.kernel.invariant.0 c.args.from c.args.to c.args.source c.args.target (on_p g w) (on_q g w) c.requires.apart (p g w).0 (q g w).0 (p g w).1 (q g w).1 c.args.count (held g w) (nodes_of c.move_pipe_pipe.new.self) after) in
     subst (λ z. GoesOver z c.args.from c.args.to c.args.is_tee c.args.count new) c.kernel.view_is (subst (λ b. GoesOver (k g w) c.args.from c.args.to b c.args.count new) (sym c.if-is_tee.false) over)

@@ -1,4 +1,5 @@
 use Rattle.std.proofs.Common.{◌≡◌, Some, refl, sym, ap, subst, ◌∙◌, IfSome, length}
+use Rattle.pl_model.specs.Packets.{used}
 use Rattle.pl_model.specs.declared.calls.Call.{Call}
 use Rattle.pl_model.specs.declared.calls.Step.TheVariants.{Begin}
 use Rattle.pl_model.specs.declared.replies.Reply.TheVariants.{Size}
@@ -33,9 +34,9 @@ module _ (g : Over) (c : After-capacity_for g) where
   abbrev there : (y : Pipe) × (at (view_of c.kernel.inside).nodes.pipes c.in-Some.pipe ≡ Some y)
   there = pipe_held.1
 
-  set_to : capacity_set c.args.size (length there.0.bytes) c.kernel.inside.limits.capacity_max ≡ c.capacity_for.result
+  set_to : capacity_set c.args.size (used there.0) c.kernel.inside.limits.capacity_max ≡ c.capacity_for.result
   set_to =
-      let held : c.held.result ≡ length there.0.bytes = subst (λ z. IfSome z (λ x. c.held.result ≡ length x.bytes)) there.1 c.held.ensures.value in
+      let held : c.used.result ≡ used there.0 = subst (λ z. IfSome z (λ x. c.used.result ≡ used x)) there.1 c.used.ensures.value in
       sym (c.capacity_for.ensures.value ∙ ap (λ n. capacity_set c.args.size n c.kernel.inside.limits.capacity_max) held)
 
 pub returns-in_default-clause-done : goal.returns-in_default-clause-done

@@ -9,7 +9,7 @@ use Rattle.pl_state.specs.Sound.{IsPipe, MayKeepFile, KeepsNodes}
 use Rattle.pl_state.proofs.Known.{known, parts_of}
 use Rattle.pl_state.proofs.holders.OnNodes.{is-pipe, kept-one}
 use Rattle.pl_state.proofs.waiting.Ending.{kept_there}
-use Rattle.pl_transfers.proofs.by_call.Measuring.{readable-pipe, readable-kept, none-readable}
+use Rattle.pl_transfers.proofs.by_call.Measuring.{readable-front, readable-kept, none-readable}
 use Rattle.pl_transfers.proofs.readable.bytes_to_resume.Given.{Over}
 use Rattle.pl_transfers.proofs.readable.bytes_to_resume.Goals.{In-Some}
 use Rattle.pl_transfers.proofs.readable.bytes_to_resume.Goals as goal
@@ -45,8 +45,8 @@ returns-in-Some-clause-value g c =
     let v = (goal.at.returns-in-Some-clause-value g c).In-Some in
     let key = c.in-Some.read.key in
     let on : OpenOn (k g v) key (node.Pipe c.pipe_of-pipe.result) = subst (λ z. OpenOn z key (node.Pipe c.pipe_of-pipe.result)) (sym c.kernel.view_is) c.pipe_of-pipe.ensures in
-    let told = readable-pipe (k g v) c.kernel.invariant.0.whole key on.opened on.here c.pipe_of-pipe.result on.node c.held.result c.held.ensures.value in
-    rw (← c.kernel.view_is) (c.min.ensures ∙ readable-kept (k g v) c.kernel.invariant.0 c.args.number key c.in-Some.read.n (waits g v) on.opened on.here c.held.result told)
+    let told = readable-front (k g v) c.kernel.invariant.0.whole key on.opened on.here c.pipe_of-pipe.result on.node c.front.result c.front.ensures.value c.front.ensures.within in
+    rw (← c.kernel.view_is) (c.min.ensures ∙ readable-kept (k g v) c.kernel.invariant.0 c.args.number key c.in-Some.read.n (waits g v) on.opened on.here c.front.result told)
 
 pub returns-in-None-clause-value : goal.returns-in-None-clause-value
 returns-in-None-clause-value g c =

@@ -5,7 +5,7 @@ use Rattle.pl_desc.specs.Descs.{Opened}
 use Rattle.pl_state.specs.Contents.{Contents}
 use Rattle.pl_state.specs.KernelView.{view_of}
 use Rattle.pl_state.proofs.by_call.Begun.{there}
-use Rattle.pl_transfers.proofs.by_call.Measuring.{AreReadable, readable-pipe, readable-file}
+use Rattle.pl_transfers.proofs.by_call.Measuring.{AreReadable, readable-front, readable-file}
 use Rattle.pl_transfers.proofs.readable.readable.Given.{Over}
 use Rattle.pl_transfers.proofs.readable.readable.Goals.{After-node}
 use Rattle.pl_transfers.proofs.readable.readable.Goals as goal
@@ -24,7 +24,7 @@ module _ (g : Over) (c : After-node g) where
 pub returns-in-Pipe : goal.returns-in-Pipe
 returns-in-Pipe g c =
     let v = (goal.at.returns-in-Pipe g c).After-node in
-    rw (← c.kernel.view_is) (readable-pipe (k g v) c.kernel.invariant.0.whole c.args.key (here g v).0 (here g v).1 c.in-Pipe.pipe (on g v ∙ c.in-Pipe.is) c.held.result c.held.ensures.value)
+    rw (← c.kernel.view_is) (readable-front (k g v) c.kernel.invariant.0.whole c.args.key (here g v).0 (here g v).1 c.in-Pipe.pipe (on g v ∙ c.in-Pipe.is) c.front.result c.front.ensures.value c.front.ensures.within)
 
 pub returns-in-File : goal.returns-in-File
 returns-in-File g c =

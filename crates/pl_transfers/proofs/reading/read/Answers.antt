@@ -2,6 +2,7 @@ use Rattle.std.proofs.Common.{◌≡◌, ◌≤◌, ℕ, List, false, refl, sym,
 use Rattle.std.specs.Prelude.{◌==◌}
 use Rattle.std.proofs.lemmas.Int.{to_z-of_z}
 use Rattle.std.proofs.lemmas.Bool.{ne_eqb}
+use Rattle.pl_model.specs.Packets.{front, spent, lose}
 use Rattle.pl_model.specs.declared.node.Node.TheVariants as node
 use Rattle.pl_model.specs.declared.calls.Call.{Call}
 use Rattle.pl_model.specs.declared.calls.Step.TheVariants.{Begin}
@@ -58,11 +59,11 @@ module _ (g : Over) (c : In-Takes g) where
   on_pipe : (p : Pipe) × (at k.nodes.pipes e.pipe ≡ Some p)
   on_pipe = pipe_there k c.kernel.invariant.0.whole e.key e.pipe takes.opens.on
 
-  gives : read_case c.args.n (length on_pipe.0.bytes) (has_writer k.opened e.pipe) ≡ Gives c.in-Takes.count
-  gives = sym (subst (λ z. IfSome z (λ x. Gives c.in-Takes.count ≡ read_case c.args.n (length x.bytes) (has_writer k.opened e.pipe))) on_pipe.1 takes.gives)
+  gives : read_case c.args.n (front on_pipe.0) (has_writer k.opened e.pipe) ≡ Gives c.in-Takes.count
+  gives = sym (subst (λ z. IfSome z (λ x. Gives c.in-Takes.count ≡ read_case c.args.n (front x) (has_writer k.opened e.pipe))) on_pipe.1 takes.gives)
 
-  held_enough : c.in-Takes.count ≤ length on_pipe.0.bytes
-  held_enough = gives-held c.args.n (length on_pipe.0.bytes) (has_writer k.opened e.pipe) c.in-Takes.count gives
+  held_enough : c.in-Takes.count ≤ front on_pipe.0
+  held_enough = gives-held c.args.n (front on_pipe.0) (has_writer k.opened e.pipe) c.in-Takes.count gives
 
 -- the file that it reads
 module _ (g : Over) (c : In-Reads g) where
@@ -102,7 +103,7 @@ pub invariant_of-kernel-in-Takes : goal.invariant_of-kernel-in-Takes
 invariant_of-kernel-in-Takes g c =
     let v = (goal.at.invariant_of-kernel-in-Takes g c).In-Takes in
     let p = on_pipe g v in
-    (subst (IsSound g.row.A.Denot) (moved_view c.kernel.inside c.read_pipe.new.self c.in_ok-bytes-in-Takes.ensures.files) (changed_sound (k g v) c.kernel.invariant.0 (e g v).key (e g v).pipe (takes g v).opens.on p.0 p.1 (drop c.in-Takes.count p.0.bytes) (nodes_of c.read_pipe.new.self) (λ x. record x { bytes = drop c.in-Takes.count x.bytes }) refl c.in_ok-bytes-in-Takes.ensures.ok), c.kernel.invariant.1)
+    (subst (IsSound g.row.A.Denot) (moved_view c.kernel.inside c.read_pipe.new.self c.in_ok-bytes-in-Takes.ensures.files) (changed_sound (k g v) c.kernel.invariant.0 (e g v).key (e g v).pipe (takes g v).opens.on p.0 p.1 (nodes_of c.read_pipe.new.self) (λ x. lose (spent x c.in-Takes.count) x) refl c.in_ok-bytes-in-Takes.ensures.ok), c.kernel.invariant.1)
 
 pub returns-in_ok-bytes-in-Takes-clause-done : goal.returns-in_ok-bytes-in-Takes-clause-done
 returns-in_ok-bytes-in-Takes-clause-done g c =

@@ -3,6 +3,7 @@ use Rattle.std.specs.Prelude.{◌==◌}
 use Rattle.std.proofs.lemmas.Int.{to_z-of_z}
 use Rattle.std.proofs.lemmas.Bool.{ne_eqb}
 use Rattle.std.proofs.lemmas.List.{length-take-le, take_at}
+use Rattle.pl_model.specs.Packets.{front, spent, lose}
 use Rattle.pl_model.specs.declared.node.Node.TheVariants as node
 use Rattle.pl_model.specs.declared.calls.Call.{Call}
 use Rattle.pl_model.specs.declared.calls.Step.TheVariants.{Begin}
@@ -59,15 +60,15 @@ module _ (g : Over) (c : In-Takes g) where
   on_pipe : (p : Pipe) × (at k.nodes.pipes e.pipe ≡ Some p)
   on_pipe = pipe_there k c.kernel.invariant.0.whole e.key e.pipe takes.opens.on
 
-  gives : read_case (length c.args.into.now) (length on_pipe.0.bytes) (has_writer k.opened e.pipe) ≡ Gives c.in-Takes.count
-  gives = sym (subst (λ z. IfSome z (λ x. Gives c.in-Takes.count ≡ read_case (length c.args.into.now) (length x.bytes) (has_writer k.opened e.pipe))) on_pipe.1 takes.gives)
+  gives : read_case (length c.args.into.now) (front on_pipe.0) (has_writer k.opened e.pipe) ≡ Gives c.in-Takes.count
+  gives = sym (subst (λ z. IfSome z (λ x. Gives c.in-Takes.count ≡ read_case (length c.args.into.now) (front x) (has_writer k.opened e.pipe))) on_pipe.1 takes.gives)
 
-  held_enough : c.in-Takes.count ≤ length on_pipe.0.bytes
-  held_enough = gives-held (length c.args.into.now) (length on_pipe.0.bytes) (has_writer k.opened e.pipe) c.in-Takes.count gives
+  held_enough : c.in-Takes.count ≤ front on_pipe.0
+  held_enough = gives-held (length c.args.into.now) (front on_pipe.0) (has_writer k.opened e.pipe) c.in-Takes.count gives
 
   -- it fits, and is what the pipe held first
   fits : c.in-Takes.count ≤ length c.args.into.now
-  fits = gives-few (length c.args.into.now) (length on_pipe.0.bytes) (has_writer k.opened e.pipe) c.in-Takes.count gives
+  fits = gives-few (length c.args.into.now) (front on_pipe.0) (has_writer k.opened e.pipe) c.in-Takes.count gives
 
   size : length (take c.in-Takes.count c.args.into.now) ≡ c.in-Takes.count
   size = length-take-le c.in-Takes.count c.args.into.now fits
@@ -105,8 +106,8 @@ invariant_of-kernel g c =
     let v = (goal.at.invariant_of-kernel g c).In-Takes in
     let p = on_pipe g v in
     let m = c.in-Takes.count in
-    let changed = subst (λ z. at c.read_pipe_into.new.self.pipes ≡ change_at (e g v).pipe (λ x. record x { bytes = drop z x.bytes }) (at c.kernel.inside.nodes.pipes)) (size g v) c.read_pipe_into.ensures.ok in
-    (subst (IsSound g.row.A.Denot) (moved_view c.kernel.inside c.read_pipe_into.new.self c.read_pipe_into.ensures.files) (changed_sound (k g v) c.kernel.invariant.0 (e g v).key (e g v).pipe (takes g v).opens.on p.0 p.1 (drop m p.0.bytes) (nodes_of c.read_pipe_into.new.self) (λ x. record x { bytes = drop m x.bytes }) refl changed), c.kernel.invariant.1)
+    let changed = subst (λ z. at c.read_pipe_into.new.self.pipes ≡ change_at (e g v).pipe (λ x. lose (spent x z) x) (at c.kernel.inside.nodes.pipes)) (size g v) c.read_pipe_into.ensures.ok in
+    (subst (IsSound g.row.A.Denot) (moved_view c.kernel.inside c.read_pipe_into.new.self c.read_pipe_into.ensures.files) (changed_sound (k g v) c.kernel.invariant.0 (e g v).key (e g v).pipe (takes g v).opens.on p.0 p.1 (nodes_of c.read_pipe_into.new.self) (λ x. lose (spent x m) x) refl changed), c.kernel.invariant.1)
 
 pub returns-in-Takes-clause-done : goal.returns-in-Takes-clause-done
 returns-in-Takes-clause-done g c =
@@ -115,9 +116,10 @@ returns-in-Takes-clause-done g c =
     let n = length c.args.into.now in
     let m = c.in-Takes.count in
     let read = c.read_pipe_into.new.into in
-    let changed = subst (λ z. at c.read_pipe_into.new.self.pipes ≡ change_at (e g v).pipe (λ x. record x { bytes = drop z x.bytes }) (at c.kernel.inside.nodes.pipes)) (size g v) c.read_pipe_into.ensures.ok in
+    let changed = subst (λ z. at c.read_pipe_into.new.self.pipes ≡ change_at (e g v).pipe (λ x. lose (spent x z) x) (at c.kernel.inside.nodes.pipes)) (size g v) c.read_pipe_into.ensures.ok in
     let came : read ≡ take m p.0.bytes = subst (λ z. read ≡ take z p.0.bytes) (size g v) (subst (λ o. IfSome o (λ x. read ≡ take (length (take m c.args.into.now)) x.bytes)) p.1 c.read_pipe_into.ensures.bytes) in
-    let long : length read ≡ m = ap length came ∙ length-take-le m p.0.bytes (held_enough g v) in
+    let enough : m ≤ length p.0.bytes = subst (λ z. z ≤ length p.0.bytes) (size g v) (subst (λ o. IfSome o (λ x. length (take m c.args.into.now) ≤ length x.bytes)) p.1 c.read_pipe_into.ensures.within) in
+    let long : length read ≡ m = ap length came ∙ length-take-le m p.0.bytes enough in
     let front : take m (read ++ drop m c.args.into.now) ≡ take m p.0.bytes = take_at read (drop m c.args.into.now) m long ∙ came in
     rw (← same g v) (subst (MakesAtKeys (k g v) (Begin c.args.pid (Call.Read c.args.fd n)) (Bytes (take m (read ++ drop m c.args.into.now)))) (moved_view c.kernel.inside c.read_pipe_into.new.self c.read_pipe_into.ensures.files) (read-gives (calls_on g v) c.args.fd n (e g v) (takes g v).opens (some g v) p.0 p.1 m (gives g v) (take m (read ++ drop m c.args.into.now)) front (nodes_of c.read_pipe_into.new.self) changed))
 

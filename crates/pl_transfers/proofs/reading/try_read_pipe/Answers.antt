@@ -1,6 +1,7 @@
 use Rattle.std.proofs.Common.{◌≡◌, None, false, refl, sym, ap, subst, ◌∙◌, nat_eq, length, w32, IfSome, Some}
 use Rattle.std.proofs.lemmas.Int.{to_z-of_z}
 use Rattle.std.proofs.lemmas.Bool.{ne_eqb}
+use Rattle.pl_model.specs.Packets.{front}
 use Rattle.pl_model.specs.declared.calls.Call.{Call}
 use Rattle.pl_model.specs.declared.calls.Step.TheVariants.{Begin}
 use Rattle.pl_model.specs.declared.replies.Reply.TheVariants.{Parked, Fault, CallsSpent}
@@ -46,10 +47,10 @@ module _ (g : Over) (c : After-case_of_read g) where
   on_pipe : (p : Pipe) × (at k.nodes.pipes o.pipe ≡ Some p)
   on_pipe = pipe_there k c.kernel.invariant.0.whole o.key o.pipe on_end.on
 
-  comes_to : read_case c.args.n (length on_pipe.0.bytes) (has_writer k.opened o.pipe) ≡ c.case_of_read.result
+  comes_to : read_case c.args.n (front on_pipe.0) (has_writer k.opened o.pipe) ≡ c.case_of_read.result
   comes_to =
-      let told : IfSome (at k.nodes.pipes o.pipe) (λ x. c.case_of_read.result ≡ read_case c.args.n (length x.bytes) (has_writer k.opened o.pipe)) = subst (λ z. IfSome (at z.nodes.pipes o.pipe) (λ x. c.case_of_read.result ≡ read_case c.args.n (length x.bytes) (has_writer z.opened o.pipe))) (sym c.kernel.view_is) c.case_of_read.ensures in
-      sym (subst (λ z. IfSome z (λ x. c.case_of_read.result ≡ read_case c.args.n (length x.bytes) (has_writer k.opened o.pipe))) on_pipe.1 told)
+      let told : IfSome (at k.nodes.pipes o.pipe) (λ x. c.case_of_read.result ≡ read_case c.args.n (front x) (has_writer k.opened o.pipe)) = subst (λ z. IfSome (at z.nodes.pipes o.pipe) (λ x. c.case_of_read.result ≡ read_case c.args.n (front x) (has_writer z.opened o.pipe))) (sym c.kernel.view_is) c.case_of_read.ensures.case in
+      sym (subst (λ z. IfSome z (λ x. c.case_of_read.result ≡ read_case c.args.n (front x) (has_writer k.opened o.pipe))) on_pipe.1 told)
 
 -- why a call that may wait doesn't
 abbrev why : {A : Type 0} → Bool → Option (Reply A)
@@ -61,7 +62,7 @@ may_wait g c = ap (λ b. refusal {A = g.row.A.Denot} b (view_of c.kernel.inside)
 
 pub returns-in-Gives-clause-done : goal.returns-in-Gives-clause-done
 returns-in-Gives-clause-done g c =
-    (refl, record { opens = c.requires.opens; some = c.requires.some; gives = subst (λ r. IfSome (at c.args.kernel.now.nodes.pipes c.args.end.pipe) (λ x. r ≡ read_case c.args.n (length x.bytes) (has_writer c.args.kernel.now.opened c.args.end.pipe))) c.in-Gives.is c.case_of_read.ensures })
+    (refl, record { opens = c.requires.opens; some = c.requires.some; gives = subst (λ r. IfSome (at c.args.kernel.now.nodes.pipes c.args.end.pipe) (λ x. r ≡ read_case c.args.n (front x) (has_writer c.args.kernel.now.opened c.args.end.pipe))) c.in-Gives.is c.case_of_read.ensures.case })
 
 pub returns-in-EndOfFile-clause-done : goal.returns-in-EndOfFile-clause-done
 returns-in-EndOfFile-clause-done g c =

@@ -1,6 +1,7 @@
 use Rattle.std.proofs.Common.{◌≡◌, ◌++◌, false, refl, sym, ap, subst, ◌∙◌, length, IfSome, Some, None}
 use Rattle.std.specs.Prelude.{◌==◌, not, slice_range, Bool, Option, if◌then◌else◌, ◌||◌}
 use Rattle.std.proofs.lemmas.Bool.{ne_eqb}
+use Rattle.pl_model.specs.Packets.{gain}
 use Rattle.pl_model.specs.declared.calls.Call.{Call}
 use Rattle.pl_model.specs.declared.calls.Step.TheVariants.{Begin}
 use Rattle.pl_model.specs.declared.replies.Reply.{Reply}
@@ -71,7 +72,7 @@ pub invariant_of-kernel-in-Ends : goal.invariant_of-kernel-in-Ends
 invariant_of-kernel-in-Ends g c =
     let w = (goal.at.invariant_of-kernel-in-Ends g c).After-case_of_write in
     let p = on_pipe g w in
-    (subst (IsSound g.row.A.Denot) (moved_view c.kernel.inside c.write_pipe.new.self c.in_ok-write_pipe-in-Ends.ensures.files) (changed_sound (k g w) c.kernel.invariant.0 (o g w).key (o g w).pipe (on_end g w).on p.0 p.1 _ (nodes_of c.write_pipe.new.self) (λ x. record x { bytes = x.bytes ++ slice_range c.args.bytes.now c.in-Ends.from c.in-Ends.to }) refl c.in_ok-write_pipe-in-Ends.ensures.ok), c.kernel.invariant.1)
+    (subst (IsSound g.row.A.Denot) (moved_view c.kernel.inside c.write_pipe.new.self c.in_ok-write_pipe-in-Ends.ensures.files) (changed_sound (k g w) c.kernel.invariant.0 (o g w).key (o g w).pipe (on_end g w).on p.0 p.1 (nodes_of c.write_pipe.new.self) (gain (slice_range c.args.bytes.now c.in-Ends.from c.in-Ends.to)) refl c.in_ok-write_pipe-in-Ends.ensures.ok), c.kernel.invariant.1)
 
 pub returns-then-refuses_to_wait-clause-done : goal.returns-then-refuses_to_wait-clause-done
 returns-then-refuses_to_wait-clause-done g c =

@@ -1,5 +1,6 @@
 use Rattle.std.proofs.Common.{◌≡◌, ◌≢◌, ◌≤◌, ◌++◌, ℕ, List, Some, refl, sym, ap, subst, ◌∙◌, nat_eq, length, take, Bor}
 use Rattle.std.proofs.lemmas.List.{length-take-le}
+use Rattle.pl_model.specs.Packets.{gain}
 use Rattle.pl_model.specs.declared.node.Node.TheVariants as node
 use Rattle.pl_model.specs.Map.{get, change_at}
 use Rattle.pl_model.specs.Numbers.{last_call}
@@ -56,7 +57,7 @@ module _ (g : Over) (c : After-hold g) where
   more = take c.args.taken (written c.args.call)
 
   adds : c.bytes_of-bytes.result.now ≡ written c.args.call → Adds with_it c.args.end.pipe more (with_pipes with_it pipes)
-  adds bytes = record { pipes = c.in-Ok.ensures.ok ∙ ap (λ xs. change_at c.args.end.pipe (λ x. record x { bytes = x.bytes ++ take c.args.taken xs }) (at old.nodes.pipes)) bytes; rest = refl }
+  adds bytes = record { pipes = c.in-Ok.ensures.ok ∙ ap (λ xs. change_at c.args.end.pipe (gain (take c.args.taken xs)) (at old.nodes.pipes)) bytes; rest = refl }
 
   held_with : contents c.hold.new.self (nodes_of c.kernel.inside.nodes) with_it.calls c.kernel.inside.limits ≡ with_it
   held_with = held_is holds (call_on c.args.end.key c.args.pid c.args.call c.args.taken) c.hold.new.self c.hold.ensures.rest

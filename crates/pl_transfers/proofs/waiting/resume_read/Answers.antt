@@ -1,4 +1,5 @@
 use Rattle.std.proofs.Common.{◌≡◌, [], refl, sym, subst, ◌∙◌, take, drop, length, IfSome, IsSome}
+use Rattle.pl_model.specs.Packets.{front, spent, lose}
 use Rattle.pl_model.specs.declared.node.Node.TheVariants as node
 use Rattle.pl_model.specs.declared.calls.Step.TheVariants.{Resume}
 use Rattle.pl_model.specs.declared.replies.Reply.TheVariants.{Bytes}
@@ -52,10 +53,10 @@ module _ (g : Over) (c : After-case_of_read g) where
   abbrev w : ReadWaits k c.args.number c.args.key c.args.n
   w = read g c.before
 
-  comes_to : read_case c.args.n (length o.held.bytes) (has_writer k.opened o.pipe) ≡ c.case_of_read.result
+  comes_to : read_case c.args.n (front o.held) (has_writer k.opened o.pipe) ≡ c.case_of_read.result
   comes_to =
-      let told = subst (λ z. IfSome (at z.nodes.pipes o.pipe) (λ x. c.case_of_read.result ≡ read_case c.args.n (length x.bytes) (has_writer z.opened o.pipe))) (sym c.kernel.view_is) c.case_of_read.ensures in
-      sym (subst (λ z. IfSome z (λ x. c.case_of_read.result ≡ read_case c.args.n (length x.bytes) (has_writer k.opened o.pipe))) o.there told)
+      let told = subst (λ z. IfSome (at z.nodes.pipes o.pipe) (λ x. c.case_of_read.result ≡ read_case c.args.n (front x) (has_writer z.opened o.pipe))) (sym c.kernel.view_is) c.case_of_read.ensures.case in
+      sym (subst (λ z. IfSome z (λ x. c.case_of_read.result ≡ read_case c.args.n (front x) (has_writer k.opened o.pipe))) o.there told)
 
 pub pipe_of-pipe-requires-clause-here : goal.pipe_of-pipe-requires-clause-here
 pipe_of-pipe-requires-clause-here g c =
@@ -77,7 +78,7 @@ returns-in_err-bytes-in-Gives-clause-wanted g c =
 pub invariant_of-kernel-in-Gives : goal.invariant_of-kernel-in-Gives
 invariant_of-kernel-in-Gives g c =
     let o = o g (goal.at.invariant_of-kernel-in-Gives g c).After-case_of_read in
-    (subst (IsSound g.row.A.Denot) (moved_view c.kernel.inside c.read_pipe.new.self c.in_ok-bytes-in-Gives.ensures.files) (changed_sound (view_of c.kernel.inside) o.sound o.key o.pipe o.on o.held o.there (drop c.in-Gives.count o.held.bytes) (nodes_of c.read_pipe.new.self) (λ x. record x { bytes = drop c.in-Gives.count x.bytes }) refl c.in_ok-bytes-in-Gives.ensures.ok), c.kernel.invariant.1)
+    (subst (IsSound g.row.A.Denot) (moved_view c.kernel.inside c.read_pipe.new.self c.in_ok-bytes-in-Gives.ensures.files) (changed_sound (view_of c.kernel.inside) o.sound o.key o.pipe o.on o.held o.there (nodes_of c.read_pipe.new.self) (λ x. lose (spent x c.in-Gives.count) x) refl c.in_ok-bytes-in-Gives.ensures.ok), c.kernel.invariant.1)
 
 pub returns-in_ok-bytes-in-Gives-clause-done : goal.returns-in_ok-bytes-in-Gives-clause-done
 returns-in_ok-bytes-in-Gives-clause-done g c =

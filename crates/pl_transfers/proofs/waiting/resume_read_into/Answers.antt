@@ -1,5 +1,6 @@
 use Rattle.std.proofs.Common.{◌≡◌, ◌≤◌, ℕ, ◌++◌, [], refl, sym, ap, subst, ◌∙◌, take, drop, length, IfSome, IsSome, arith}
 use Rattle.std.proofs.lemmas.List.{length-take-le, length-append, length-drop, take_at}
+use Rattle.pl_model.specs.Packets.{front, spent, lose}
 use Rattle.pl_model.specs.Map.{change_at}
 use Rattle.pl_model.specs.declared.node.Node.TheVariants as node
 use Rattle.pl_model.specs.declared.calls.Step.TheVariants.{Resume}
@@ -22,7 +23,7 @@ use Rattle.pl_state.proofs.waiting.Ending.{kept_there}
 use Rattle.pl_state.proofs.by_call.Moving.{changed_sound}
 use Rattle.pl_transfers.specs.Readable.{gives_again}
 use Rattle.pl_transfers.proofs.by_call.Giving.{gives-few, gives-held}
-use Rattle.pl_transfers.proofs.by_call.Measuring.{readable-pipe, readable-kept}
+use Rattle.pl_transfers.proofs.by_call.Measuring.{readable-front, readable-kept}
 use Rattle.pl_transfers.proofs.by_call.Resuming.{resume-read-gives, resume-read-end, resume-read-waits}
 use Rattle.pl_state.proofs.Known.{parts_of, known, CallOnPipe, moved_view}
 use Rattle.pl_transfers.proofs.waiting.resume_read_into.Given.{Over}
@@ -49,18 +50,20 @@ module _ (g : Over) (c : After-case_of_read g) where
       let p = pipe_there k c.kernel.invariant.0.whole c.args.key c.pipe_of-pipe.result on in
       record { sound = c.kernel.invariant.0; number = c.args.number; call = w.call; here = w.here; key = c.args.key; kept = w.kept; pipe = c.pipe_of-pipe.result; on = on; held = p.0; there = p.1 }
 
-  comes_to : read_case c.args.n (length o.held.bytes) (has_writer k.opened o.pipe) ≡ c.case_of_read.result
+  comes_to : read_case c.args.n (front o.held) (has_writer k.opened o.pipe) ≡ c.case_of_read.result
   comes_to =
-      let told = subst (λ z. IfSome (at z.nodes.pipes o.pipe) (λ x. c.case_of_read.result ≡ read_case c.args.n (length x.bytes) (has_writer z.opened o.pipe))) (sym c.kernel.view_is) c.case_of_read.ensures in
-      sym (subst (λ z. IfSome z (λ x. c.case_of_read.result ≡ read_case c.args.n (length x.bytes) (has_writer k.opened o.pipe))) o.there told)
+      let told = subst (λ z. IfSome (at z.nodes.pipes o.pipe) (λ x. c.case_of_read.result ≡ read_case c.args.n (front x) (has_writer z.opened o.pipe))) (sym c.kernel.view_is) c.case_of_read.ensures.case in
+      sym (subst (λ z. IfSome z (λ x. c.case_of_read.result ≡ read_case c.args.n (front x) (has_writer k.opened o.pipe))) o.there told)
 
   -- what it gives fits the caller's bytes
-  fits : (m : ℕ) → read_case c.args.n (length o.held.bytes) (has_writer k.opened o.pipe) ≡ Gives m → m ≤ length c.args.into.now
+  fits : (m : ℕ) → read_case c.args.n (front o.held) (has_writer k.opened o.pipe) ≡ Gives m → m ≤ length c.args.into.now
   fits m row =
-      let held = length o.held.bytes in
+      let held = front o.held in
+      let within = subst (λ z. IfSome (at z.nodes.pipes o.pipe) (λ x. front x ≤ length x.bytes)) (sym c.kernel.view_is) c.case_of_read.ensures.within in
       let told =
-      readable-pipe k c.kernel.invariant.0.whole c.args.key on.opened on.here c.pipe_of-pipe.result on.node held
-      (subst (λ h. IfSome h (λ x. held ≡ length x.bytes)) (sym o.there) refl) in
+      readable-front k c.kernel.invariant.0.whole c.args.key on.opened on.here c.pipe_of-pipe.result on.node held
+      (subst (λ h. IfSome h (λ x. held ≡ front x)) (sym o.there) refl)
+      (subst (λ h. IfSome h (λ x. held ≤ length x.bytes)) (sym o.there) (subst (λ h. IfSome h (λ x. front x ≤ length x.bytes)) o.there within)) in
       let again = readable-kept k c.kernel.invariant.0 c.args.number c.args.key c.args.n w on.opened on.here held told in
       let room : gives_again k c.args.number ≤ length c.args.into.now = subst (λ (z : Contents g.row.A.Denot). gives_again z c.args.number ≤ length c.args.into.now) (sym c.kernel.view_is) c.requires.room in
       let few = gives-few c.args.n held (has_writer k.opened o.pipe) m row in
@@ -85,8 +88,8 @@ invariant_of-kernel g c =
     let o = o g v in
     let m = c.in-Gives.count in
     let size : length (take m c.args.into.now) ≡ m = length-take-le m c.args.into.now (fits g v m (comes_to g v ∙ c.in-Gives.is)) in
-    let changed = subst (λ z. at c.read_pipe_into.new.self.pipes ≡ change_at o.pipe (λ x. record x { bytes = drop z x.bytes }) (at c.kernel.inside.nodes.pipes)) size c.read_pipe_into.ensures.ok in
-    (subst (IsSound g.row.A.Denot) (moved_view c.kernel.inside c.read_pipe_into.new.self c.read_pipe_into.ensures.files) (changed_sound (view_of c.kernel.inside) o.sound o.key o.pipe o.on o.held o.there (drop m o.held.bytes) (nodes_of c.read_pipe_into.new.self) (λ x. record x { bytes = drop m x.bytes }) refl changed), c.kernel.invariant.1)
+    let changed = subst (λ z. at c.read_pipe_into.new.self.pipes ≡ change_at o.pipe (λ x. lose (spent x z) x) (at c.kernel.inside.nodes.pipes)) size c.read_pipe_into.ensures.ok in
+    (subst (IsSound g.row.A.Denot) (moved_view c.kernel.inside c.read_pipe_into.new.self c.read_pipe_into.ensures.files) (changed_sound (view_of c.kernel.inside) o.sound o.key o.pipe o.on o.held o.there (nodes_of c.read_pipe_into.new.self) (λ x. lose (spent x m) x) refl changed), c.kernel.invariant.1)
 
 pub returns-in-Gives-clause-done : goal.returns-in-Gives-clause-done
 returns-in-Gives-clause-done g c =
@@ -95,10 +98,11 @@ returns-in-Gives-clause-done g c =
     let m = c.in-Gives.count in
     let row = comes_to g v ∙ c.in-Gives.is in
     let size : length (take m c.args.into.now) ≡ m = length-take-le m c.args.into.now (fits g v m row) in
-    let changed = subst (λ z. at c.read_pipe_into.new.self.pipes ≡ change_at o.pipe (λ x. record x { bytes = drop z x.bytes }) (at c.kernel.inside.nodes.pipes)) size c.read_pipe_into.ensures.ok in
+    let changed = subst (λ z. at c.read_pipe_into.new.self.pipes ≡ change_at o.pipe (λ x. lose (spent x z) x) (at c.kernel.inside.nodes.pipes)) size c.read_pipe_into.ensures.ok in
     let read = c.read_pipe_into.new.into in
     let came : read ≡ take m o.held.bytes = subst (λ z. read ≡ take z o.held.bytes) size (subst (λ h. IfSome h (λ x. read ≡ take (length (take m c.args.into.now)) x.bytes)) o.there c.read_pipe_into.ensures.bytes) in
-    let long : length read ≡ m = ap length came ∙ length-take-le m o.held.bytes (gives-held c.args.n (length o.held.bytes) (has_writer (k g v).opened o.pipe) m row) in
+    let enough : m ≤ length o.held.bytes = subst (λ z. z ≤ length o.held.bytes) size (subst (λ h. IfSome h (λ x. length (take m c.args.into.now) ≤ length x.bytes)) o.there c.read_pipe_into.ensures.within) in
+    let long : length read ≡ m = ap length came ∙ length-take-le m o.held.bytes enough in
     let front : take m (read ++ drop m c.args.into.now) ≡ take m o.held.bytes = take_at read (drop m c.args.into.now) m long ∙ came in
     subst (λ z. MakesAtKeys z (Resume c.args.number) (Bytes (take m (read ++ drop m c.args.into.now))) c.end_call.new.kernel) c.kernel.view_is
     (resume-read-gives (k g v) o (w g v).fd c.args.n (w g v).asked m row (take m (read ++ drop m c.args.into.now)) front (nodes_of c.read_pipe_into.new.self) changed c.end_call.new.kernel

@@ -1,5 +1,6 @@
 use Rattle.std.proofs.Common.{◌≡◌, ◌≤◌, ◌++◌, true, false, refl, sym, ap, subst, ◌∙◌, nat_eq, length, ℕ, List, Option, Some, IfSome, IsSome, Bor, arith}
 use Rattle.std.specs.Prelude.{slice_range, option_map}
+use Rattle.pl_model.specs.Packets.{gain}
 use Rattle.pl_model.specs.declared.node.Node.TheVariants as node
 use Rattle.pl_model.specs.declared.cases.WriteCase.TheVariants.{Ends, Waits}
 use Rattle.pl_model.specs.declared.calls.Step.TheVariants.{Resume}
@@ -111,7 +112,7 @@ returns-in_err-write_pipe-in-Ends-clause-wanted g c =
 pub invariant_of-kernel-in-Ends : goal.invariant_of-kernel-in-Ends
 invariant_of-kernel-in-Ends g c =
     let o = o g (goal.at.invariant_of-kernel-in-Ends g c).After-case_of_write in
-    (subst (IsSound g.row.A.Denot) (moved_view c.kernel.inside c.write_pipe.new.self c.in_ok-write_pipe-in-Ends.ensures.files) (changed_sound (view_of c.kernel.inside) o.sound o.key o.pipe o.on o.held o.there _ (nodes_of c.write_pipe.new.self) (λ x. record x { bytes = x.bytes ++ slice_range c.bytes_of.result.now c.in-Ends.from c.in-Ends.to }) refl c.in_ok-write_pipe-in-Ends.ensures.ok), c.kernel.invariant.1)
+    (subst (IsSound g.row.A.Denot) (moved_view c.kernel.inside c.write_pipe.new.self c.in_ok-write_pipe-in-Ends.ensures.files) (changed_sound (view_of c.kernel.inside) o.sound o.key o.pipe o.on o.held o.there (nodes_of c.write_pipe.new.self) (gain (slice_range c.bytes_of.result.now c.in-Ends.from c.in-Ends.to)) refl c.in_ok-write_pipe-in-Ends.ensures.ok), c.kernel.invariant.1)
 
 pub overflow_cast-result : goal.overflow_cast-result
 overflow_cast-result g c =

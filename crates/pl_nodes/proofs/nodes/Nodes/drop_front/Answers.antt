@@ -1,5 +1,5 @@
 use Rattle.pl_model.specs.Packets.{lose}
-use Rattle.std.proofs.Common.{refl, ◌≡◌, ◌≤◌, ◌∙◌, ap, subst, drop, length, set, sym, List, arith}
+use Rattle.std.proofs.Common.{refl, ◌≡◌, ◌≤◌, ◌∙◌, ap, subst, drop, length, set, sym, List, arith, None}
 use Rattle.pl_segments.specs.declared.slice.Slice.{Slice}
 use Rattle.pl_segments.specs.Segments.{live_count}
 use Rattle.pl_segments.specs.Slots.{drop_bytes}

@@ -1,4 +1,4 @@
-use Rattle.std.proofs.Common.{◌≡◌, ◌∙◌, [], Some, false, true, refl, ap, subst, sym, nat_eq}
+use Rattle.std.proofs.Common.{◌≡◌, ◌∙◌, [], Some, false, true, refl, ap, subst, sym, nat_eq, None}
 use Rattle.std.specs.Prelude.{Ok, Err}
 use Rattle.std.specs.Ordering.{nat_cmp}
 use Rattle.std.specs.Cmp.Lexicographic.{slice_cmp}

@@ -1,4 +1,4 @@
-use Rattle.std.proofs.Common.{◌≡◌, ◌∙◌, Some, refl, false, ap, nat_eq}
+use Rattle.std.proofs.Common.{◌≡◌, ◌∙◌, Some, refl, false, ap, nat_eq, None}
 use Rattle.pl_model.specs.State.{empty_pipe}
 use Rattle.pl_model.specs.Map.{set_at}
 use Rattle.pl_segments.specs.Segments.{segment_at, at}

@@ -1,5 +1,5 @@
-use Rattle.pl_model.specs.Packets.{spent, lose}
-use Rattle.std.proofs.Common.{refl, ◌≤◌, ◌∙◌, ap, drop, length, arith}
+use Rattle.pl_model.specs.Packets.{front, spent, lose}
+use Rattle.std.proofs.Common.{refl, ◌≤◌, ◌∙◌, ap, drop, length, arith, None}
 use Rattle.std.proofs.lemmas.List.{length-take}
 use Rattle.pl_segments.specs.Segments.{Segments, segment_at}
 use Rattle.pl_segments.specs.Slices.{all_read}
@@ -16,7 +16,7 @@ pub pop_bytes-requires-clause-count : goal.pop_bytes-requires-clause-count
 pop_bytes-requires-clause-count g c =
     let node = c.in-Some.node.now in
     let there = pipe-there c.self.inside.contents.slots c.args.key c.index_mut.result.now c.in-Some.node.now c.index_mut.ensures.value c.in-Some.ensures.value in
-    let asked = pipe-told c.self.inside c.args.key node there c.self.invariant c.args.self.now c.self.view_is (λ x. c.args.count ≤ length x.bytes) c.requires.held in
+    let asked = pipe-told c.self.inside c.args.key node there c.self.invariant c.args.self.now c.self.view_is (λ x. c.args.count ≤ front x) c.requires.held in
     let total = pipe-total c.self.inside c.args.key node there c.self.invariant c.args.self.now c.self.view_is in
     omega (arith, asked, total)
 

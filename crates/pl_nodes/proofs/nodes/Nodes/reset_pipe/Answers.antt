@@ -1,4 +1,4 @@
-use Rattle.std.proofs.Common.{refl, false, ap, length, arith}
+use Rattle.std.proofs.Common.{refl, false, ap, length, arith, None}
 use Rattle.pl_model.specs.State.{empty_pipe}
 use Rattle.pl_segments.specs.Segments.{segment_at}
 use Rattle.pl_segments.specs.Slices.{all_read}

@@ -1,6 +1,7 @@
-use Rattle.std.proofs.Common.{◌≡◌, ◌<◌, ◌≤◌, ◌∙◌, ℕ, List, Some, refl, sym, ap, subst, length}
+use Rattle.std.proofs.Common.{◌≡◌, ◌<◌, ◌≤◌, ◌∙◌, ℕ, List, Some, refl, sym, ap, subst, length, None}
 use Rattle.std.specs.Prelude.{Result, Ok, Err, OnOk, OnErr}
 use Rattle.std.proofs.lemmas.Result.{on_ok_weaker, on_err_weaker}
+use Rattle.pl_model.specs.Packets.{used}
 use Rattle.pl_model.specs.Numbers.{most_file_bytes}
 use Rattle.pl_model.proofs.capacities.Rounding.{capacity-pages}
 use Rattle.pl_segments.specs.declared.slice.Slice.{Slice}
@@ -62,10 +63,10 @@ returns-clause-busy g c =
     let k = c.self.inside in
     let node = c.in-Some.node.now in
     let total = pipe-total k c.args.key node (there g at_call) c.self.invariant c.args.self.now c.self.view_is in (
-      λ busy. pipe-said k c.args.key node (there g at_call) c.self.invariant c.args.self.now c.self.view_is (λ x. c.args.capacity < length x.bytes)
+      λ busy. pipe-said k c.args.key node (there g at_call) c.self.invariant c.args.self.now c.self.view_is (λ x. c.args.capacity < used x)
           (subst (λ n. c.args.capacity < n) total (c.set_capacity.ensures.busy.0 busy)),
       λ more. c.set_capacity.ensures.busy.1
-          (subst (λ n. c.args.capacity < n) (sym total) (pipe-told k c.args.key node (there g at_call) c.self.invariant c.args.self.now c.self.view_is (λ x. c.args.capacity < length x.bytes) more)),
+          (subst (λ n. c.args.capacity < n) (sym total) (pipe-told k c.args.key node (there g at_call) c.self.invariant c.args.self.now c.self.view_is (λ x. c.args.capacity < used x) more)),
     )
 
 pub returns-clause-files : goal.returns-clause-files

@@ -1,5 +1,5 @@
 use Rattle.pl_model.specs.Packets.{gain}
-use Rattle.std.proofs.Common.{refl, ◌≤◌, ◌∙◌, ◌++◌, ap, length, arith}
+use Rattle.std.proofs.Common.{refl, ◌≤◌, ◌∙◌, ◌++◌, ap, length, arith, None}
 use Rattle.pl_model.specs.Transfer.{room}
 use Rattle.pl_segments.specs.Segments.{Segments}
 use Rattle.pl_nodes.specs.declared.content.Content.TheVariants.{Pipe}
