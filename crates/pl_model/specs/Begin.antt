@@ -12,11 +12,11 @@ use Rattle.pl_model.specs.declared.replies.Reply.TheVariants.{Pid, Fd, Fds, Byte
 use Rattle.pl_model.specs.declared.replies.Errno.TheVariants.{EAGAIN, EBADF, EBUSY, EEXIST, EINVAL, EMFILE, ENAMETOOLONG, ENFILE, ENOENT, ENOSPC, ENXIO, EOVERFLOW, EPERM, ESPIPE}
 use Rattle.pl_model.specs.Numbers.{last_call, open_max, most_descriptions, most_name_bytes, most_capacity, greatest_offset}
 use Rattle.pl_model.specs.Modes.{reads, writes, for_reading, for_writing}
-use Rattle.pl_model.specs.Flags.{has, creat, excl, trunc, append, nonblock, splice_nonblock, nonblock_if, status_flags}
+use Rattle.pl_model.specs.Flags.{has, creat, excl, trunc, append, nonblock, splice_nonblock, nonblock_if, write_end_flags, status_flags, flags_set}
 use Rattle.pl_model.specs.Keys.{Keys, Node, NewKeys, Draws, PipeNode, FileNode}
-use Rattle.pl_model.specs.State.{Core, Description, Open, described, named, can_name, can_wait, row, set_file, set_pipe, set_description, empty_pipe}
+use Rattle.pl_model.specs.State.{Core, Description, Open, described, named, can_name, can_wait, row, set_file, set_pipe, set_description, pipe_made}
 use Rattle.pl_model.specs.Live.{live_count}
-use Rattle.pl_model.specs.Packets.{used}
+use Rattle.pl_model.specs.Packets.{used, is_byte_queue}
 use Rattle.pl_model.specs.Trial.{Begins, Begun, Answered, Tried, pipe_at, answered, tried, refuse_if, found}
 use Rattle.pl_model.specs.Transfer.{count, file_at, moved_to}
 use Rattle.pl_model.specs.Capacity.{rounded_capacity, pipe_of, set_capacity}
@@ -93,24 +93,29 @@ module _ {A : Type 0} {K : Keys} where
   abbrev pub open_fd : Core A K → ℕ → ℤ → Option (Open K)
   open_fd s pid fd = option_and_then (described s) (row s pid fd)
 
+  -- pipe(2), O_DIRECT: the node is a packet pipe
+  abbrev pub is_packet_pipe : Core A K → Node K → Bool
+  is_packet_pipe s (PipeNode p) = not (is_byte_queue (pipe_at s p))
+  is_packet_pipe s (FileNode f) = false
+
   abbrev pub open_for : (Mode → Bool) → Core A K → ℕ → ℤ → Option (Open K)
   open_for test s pid fd = allowed test (open_fd s pid fd)
 
   -- a pipe with a read end and a write end, under new keys
-  abbrev pub make_pipe : Core A K → NewKeys K → ℕ → ℕ → ℕ → OpenFlags → Core A K
-  make_pipe s new pid first second flags =
+  abbrev pub make_pipe : Core A K → NewKeys K → (pid first second : ℕ) → (packets : Bool) → (of_reader of_writer : OpenFlags) → Core A K
+  make_pipe s new pid first second packets of_reader of_writer =
       let node = PipeNode new.pipe in
-      let with_pipe = set_pipe s new.pipe empty_pipe in
-      let with_reader = install (describe with_pipe new.description node for_reading flags) pid first new.description in
-      install (describe with_reader new.other_description node for_writing flags) pid second new.other_description
+      let with_pipe = set_pipe s new.pipe (pipe_made packets) in
+      let with_reader = install (describe with_pipe new.description node for_reading of_reader) pid first new.description in
+      install (describe with_reader new.other_description node for_writing of_writer) pid second new.other_description
 
-  -- POSIX.1-2017, pipe: EMFILE, ENFILE; pipe2(2), O_NONBLOCK.
-  unfoldable pub begin_pipe : Core A K → ℕ → Bool → Begins A K
-  begin_pipe s pid nonblocking =
+  -- POSIX.1-2017, pipe: EMFILE, ENFILE; pipe(2), O_NONBLOCK and O_DIRECT.
+  unfoldable pub begin_pipe : Core A K → ℕ → (nonblocking packets : Bool) → Begins A K
+  begin_pipe s pid nonblocking packets =
       found (lowest s pid 0) EMFILE (λ first.
       found (lowest s pid (first + 1)) EMFILE (λ second.
       refuse_if (nat_lt (most_descriptions - 2) (live_count s)) ENFILE
-      (Draws (λ new. Answered (make_pipe s new pid first second (nonblock_if nonblocking)) (Fds (pos first) (pos second))))))
+      (Draws (λ new. Answered (make_pipe s new pid first second packets (nonblock_if nonblocking) (write_end_flags nonblocking packets)) (Fds (pos first) (pos second))))))
 
   -- POSIX.1-2017, open and unlink: ENOENT of an empty name, ENAMETOOLONG. That a slash or a NUL is EINVAL is our own choice.
   abbrev pub check_name : List ℕ → Begins A K → Begins A K
@@ -183,7 +188,8 @@ module _ {A : Type 0} {K : Keys} where
       else tried s (o.key ∷ []) false (may_block o.description))
 
   -- splice(2): EBADF; ESPIPE of an offset that is given for a pipe; EINVAL of one that is too large, of two files, of the same pipe,
-  -- and of a file that is open with O_APPEND. That a splice of 0 bytes is answered before all else is our own choice.
+  -- and of a file that is open with O_APPEND. That a splice of 0 bytes is answered before all else, and that one of a packet pipe is
+  -- EINVAL, is our own choice.
   unfoldable pub begin_splice : Core A K → ℕ → (from : ℤ) → (from_offset : Option ℕ) → (to : ℤ) → (to_offset : Option ℕ) → (len : ℕ) → SpliceFlags → Begins A K
   begin_splice s pid from from_offset to to_offset len flags =
       if len == 0 then answered s (count 0) else
@@ -195,11 +201,12 @@ module _ {A : Type 0} {K : Keys} where
       (refuse_if (is_too_far from_offset || is_too_far to_offset) EINVAL
       (refuse_if (not (is_pipe a.node) && not (is_pipe b.node)) EINVAL
       (refuse_if (is_same_pipe a.node b.node) EINVAL
+      (refuse_if (is_packet_pipe s a.node || is_packet_pipe s b.node) EINVAL
       (refuse_if (not (is_pipe b.node) && has b.flags.0 append) EINVAL
-      (tried s (source.key ∷ target.key ∷ []) false (may_wait_between flags a b))))))))
+      (tried s (source.key ∷ target.key ∷ []) false (may_wait_between flags a b)))))))))
 
-  -- tee(2): EBADF; EINVAL of what is no pipe, and of the same pipe. That a tee of 0 bytes is answered before all else is our own
-  -- choice.
+  -- tee(2): EBADF; EINVAL of what is no pipe, and of the same pipe. That a tee of 0 bytes is answered before all else, and that one
+  -- of a packet pipe is EINVAL, is our own choice.
   unfoldable pub begin_tee : Core A K → ℕ → (from to : ℤ) → (len : ℕ) → SpliceFlags → Begins A K
   begin_tee s pid from to len flags =
       if len == 0 then answered s (count 0) else
@@ -209,7 +216,8 @@ module _ {A : Type 0} {K : Keys} where
       let b = target.description in
       refuse_if (not (is_pipe a.node && is_pipe b.node)) EINVAL
       (refuse_if (is_same_pipe a.node b.node) EINVAL
-      (tried s (source.key ∷ target.key ∷ []) false (may_wait_between flags a b)))))
+      (refuse_if (is_packet_pipe s a.node || is_packet_pipe s b.node) EINVAL
+      (tried s (source.key ∷ target.key ∷ []) false (may_wait_between flags a b))))))
 
   -- what the descriptors of a poll name, but for the negative ones
   abbrev pub named_by : Core A K → ℕ → List (ℤ × PollMask) → List (Option (Open K))
@@ -278,7 +286,7 @@ module _ {A : Type 0} {K : Keys} where
   unfoldable pub begin_set_fl : Core A K → ℕ → ℤ → OpenFlags → Begins A K
   begin_set_fl s pid fd flags =
       found (open_fd s pid fd) EBADF (λ o.
-      answered (set_description s o.key (record o.description { flags = status_flags flags })) Unit)
+      answered (set_description s o.key (record o.description { flags = flags_set o.description.flags flags })) Unit)
 
   -- fcntl(2), F_GETPIPE_SZ: EBADF. That it is EBADF of what is no pipe too is our own choice. Either end may be named.
   unfoldable pub begin_get_pipe_sz : Core A K → ℕ → ℤ → Begins A K

@@ -1,5 +1,5 @@
 -- The bits of flags.
-use Rattle.std.specs.Prelude.{ℕ, ◌+◌, Bool, ◌==◌, bit_and, if◌then◌else◌}
+use Rattle.std.specs.Prelude.{ℕ, ◌+◌, Bool, ◌==◌, bit_and, bit_or, if◌then◌else◌}
 use Rattle.pl_model.specs.declared.flags.OpenFlags.{OpenFlags}
 use Rattle.pl_model.specs.declared.flags.PollMask.{PollMask}
 
@@ -26,6 +26,10 @@ append = 8
 -- POSIX.1-2017, open, O_NONBLOCK: no call waits.
 abbrev pub nonblock : ℕ
 nonblock = 16
+
+-- pipe(2), O_DIRECT: the pipe is in packet mode.
+abbrev pub direct : ℕ
+direct = 32
 
 -- splice(2), SPLICE_F_MOVE: pages are moved where they can be; it has no effect (the last: our own).
 abbrev pub splice_move : ℕ
@@ -73,5 +77,13 @@ no_flags = record { 0 = 0 }
 abbrev pub no_mask : PollMask
 no_mask = record { 0 = 0 }
 
+-- POSIX.1-2017, fcntl, F_SETFL: the flags of a description that had others. That O_DIRECT stays as it was is our own choice.
+abbrev pub flags_set : (old new : OpenFlags) → OpenFlags
+flags_set old new = record { 0 = bit_or (bit_and new.0 (append + nonblock)) (bit_and old.0 direct) }
+
 abbrev pub nonblock_if : Bool → OpenFlags
 nonblock_if b = record { 0 = if b then nonblock else 0 }
+
+-- pipe(2), O_NONBLOCK and O_DIRECT: the flags of the write end. That the read end never has O_DIRECT is our own choice.
+abbrev pub write_end_flags : (nonblocking packets : Bool) → OpenFlags
+write_end_flags nonblocking packets = record { 0 = bit_or (nonblock_if nonblocking).0 (if packets then direct else 0) }

@@ -31,8 +31,8 @@ len_and_flags [] = None
 module _ {A : Type 0} where
   -- `P pipe [nonblock]`
   unfoldable pub pipe_of : List (List ℕ) → Option (Call A)
-  pipe_of [] = Some (Pipe false)
-  pipe_of (flag ∷ []) = if bytes_eq flag (codes "nonblock") then Some (Pipe true) else None
+  pipe_of [] = Some (Pipe false false)
+  pipe_of (flag ∷ []) = if bytes_eq flag (codes "nonblock") then Some (Pipe true false) else None
   pipe_of _ = None
 
   -- `P mkfifo NAME`

@@ -28,7 +28,7 @@ module _ {A : Type 0} where
   is_frugal_call (Call.GetPipeSz fd) = true
   is_frugal_call (Call.Unlink name) = true
   is_frugal_call Call.Exit = true
-  is_frugal_call (Call.Pipe nonblock) = false
+  is_frugal_call (Call.Pipe nonblock direct) = false
   is_frugal_call (Call.Mkfifo name) = false
   is_frugal_call (Call.OpenName name mode flags) = false
   is_frugal_call (Call.Read fd n) = false

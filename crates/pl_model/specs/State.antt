@@ -60,6 +60,10 @@ empty_pipe = record { bytes = []; packets = None; capacity = first_capacity; hun
 abbrev pub empty_packet_pipe : Pipe
 empty_packet_pipe = record empty_pipe { packets = Some [] }
 
+-- the pipe that is made, a packet pipe or a byte queue
+abbrev pub pipe_made : (direct : Bool) → Pipe
+pipe_made direct = record empty_pipe { packets = if direct then Some [] else None }
+
 module _ {A : Type 0} {K : Keys} where
   -- nothing has happened yet
   abbrev pub opening_core : Limits → Core A K

@@ -59,7 +59,7 @@ module _ {A : Type 0} {K : Keys} where
 
   -- the checks of a call, in order
   unfoldable pub begin : Core A K → ℕ → Call A → Begins A K
-  begin s pid (Call.Pipe nonblock) = begin_pipe s pid nonblock
+  begin s pid (Call.Pipe nonblock direct) = begin_pipe s pid nonblock direct
   begin s pid (Call.Mkfifo name) = begin_mkfifo s name
   begin s pid (Call.OpenName name mode flags) = begin_open_name s pid name mode flags
   begin s pid (Call.Read fd n) = begin_read s pid fd n

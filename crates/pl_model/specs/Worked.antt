@@ -20,10 +20,10 @@ use Rattle.pl_model.specs.Script.{output}
 module _ {A : Type 0} where
   -- what the process of pid 1 does
   abbrev pub pipe : Step A
-  pipe = Begin 1 (Call.Pipe false)
+  pipe = Begin 1 (Call.Pipe false false)
 
   abbrev pub pipe_nonblock : Step A
-  pipe_nonblock = Begin 1 (Call.Pipe true)
+  pipe_nonblock = Begin 1 (Call.Pipe true false)
 
   abbrev pub read : ℕ → ℕ → Step A
   read fd n = Begin 1 (Call.Read (pos fd) n)

@@ -62,10 +62,11 @@ impl Limits {
 /// A call of a process. A descriptor is any `i32`; one outside 0 to 255 isn't open.
 #[derive(Drop, Debug, PartialEq)]
 pub enum Call<A: Allocator = Global> {
-    /// Makes a pipe, its read end and its write end (POSIX.1-2017, pipe). With `nonblock` both ends have `NONBLOCK`,
-    /// as by Linux's pipe2(2) with `O_NONBLOCK`.
+    /// Makes a pipe, its read end and its write end (POSIX.1-2017, pipe). With `nonblock` both ends have `NONBLOCK`, as by Linux's
+    /// pipe2(2) with `O_NONBLOCK`. With `direct` it is a packet pipe, and its write end has `DIRECT` (pipe(2), O_DIRECT).
     Pipe {
         nonblock: bool,
+        direct: bool,
     },
     /// Makes a FIFO: a pipe that the name stands for (POSIX.1-2017, mkfifo).
     Mkfifo {
@@ -204,7 +205,7 @@ impl<A: Allocator> Call<A> {
             Call::Unlink { name } => Call::Unlink {
                 name: name.copy(alloc)?,
             },
-            &Call::Pipe { nonblock } => Call::Pipe { nonblock },
+            &Call::Pipe { nonblock, direct } => Call::Pipe { nonblock, direct },
             &Call::Read { fd, n } => Call::Read { fd, n },
             &Call::Dup { fd } => Call::Dup { fd },
             &Call::Dup2 { fd, target } => Call::Dup2 { fd, target },

@@ -3,7 +3,8 @@ ghost use Rattle.std.specs.Prelude.{⊤, [], ◌∷◌, codes};
 
 use bitflags::{Flag, Flags, bitflag_items};
 
-/// How a file is opened, and the status flags of an open file description (POSIX.1-2017, open). The bits are our own.
+/// How a file is opened, and the status flags of an open file description (POSIX.1-2017, open). `DIRECT` is that of the write end of a
+/// packet pipe (pipe(2), O_DIRECT). The bits are our own.
 #[derive(Clone, Copy, Debug, PartialEq, Eq)]
 pub struct OpenFlags(u8);
 
@@ -14,6 +15,7 @@ bitflag_items! {
         const TRUNC = 4;
         const APPEND = 8;
         const NONBLOCK = 16;
+        const DIRECT = 32;
     }
 }
 
@@ -22,7 +24,7 @@ impl Flags for OpenFlags {
 
     ghost exact = { ⊤ };
 
-    ghost table = { (codes "CREAT", 1) ∷ (codes "EXCL", 2) ∷ (codes "TRUNC", 4) ∷ (codes "APPEND", 8) ∷ (codes "NONBLOCK", 16) ∷ [] };
+    ghost table = { (codes "CREAT", 1) ∷ (codes "EXCL", 2) ∷ (codes "TRUNC", 4) ∷ (codes "APPEND", 8) ∷ (codes "NONBLOCK", 16) ∷ (codes "DIRECT", 32) ∷ [] };
 
     ghost set_of = { λ f. f.0 };
 

@@ -133,7 +133,7 @@ module _ {A : Type 0} {K : Keys} where
   try-fair s w (Call.Splice from from_offset to to_offset len flags) may_wait = search (fair_kept, move-fair)
   try-fair s w (Call.Tee from to len flags) may_wait = search (fair_kept, move-fair)
   try-fair s w (Call.Poll entries wait) may_wait = poll-fair s entries w.kept may_wait
-  try-fair s w (Call.Pipe nonblock) may_wait = tt
+  try-fair s w (Call.Pipe nonblock direct) may_wait = tt
   try-fair s w (Call.Mkfifo name) may_wait = tt
   try-fair s w (Call.OpenName name mode flags) may_wait = try_open-fair s w
   try-fair s w (Call.Dup fd) may_wait = tt
@@ -165,7 +165,7 @@ module _ {A : Type 0} {K : Keys} where
 
   begin-plain : (new : NewKeys K) (s : Core A K) (pid : ℕ) (call : Call A) → LeadsTo new (IsPlainBegun s pid call) (begin s pid call)
   unfolding begin begin_pipe begin_mkfifo begin_open_name begin_read begin_write begin_splice begin_tee begin_poll begin_dup begin_dup2 begin_dup_fd begin_close begin_lseek begin_get_fl begin_set_fl begin_get_pipe_sz begin_set_pipe_sz begin_unlink begin_fork
-  begin-plain new s pid (Call.Pipe nonblock) = search (ways, refusable) depth 14
+  begin-plain new s pid (Call.Pipe nonblock direct) = search (ways, refusable) depth 14
   begin-plain new s pid (Call.Mkfifo name) = search (ways, refusable) depth 14
   begin-plain new s pid (Call.OpenName name mode flags) = search (ways, refusable, open_named-plain) depth 14
   begin-plain new s pid (Call.Read fd n) = search (ways, refusable, tries-plain) depth 14
@@ -349,7 +349,7 @@ module _ {A : Type 0} {K : Keys} where
 
   begin-first : (s : Core A K) (pid : ℕ) (call : Call A) → RefusesFirst s pid call (begin s pid call)
   unfolding begin begin_pipe begin_mkfifo begin_open_name begin_read begin_write begin_splice begin_tee begin_poll begin_dup begin_dup2 begin_dup_fd begin_close begin_lseek begin_get_fl begin_set_fl begin_get_pipe_sz begin_set_pipe_sz begin_unlink begin_fork
-  begin-first s pid (Call.Pipe nonblock) = search firsts depth 14
+  begin-first s pid (Call.Pipe nonblock direct) = search firsts depth 14
   begin-first s pid (Call.Mkfifo name) = mkfifo-first s pid name
   begin-first s pid (Call.OpenName name mode flags) = search (firsts, open_named-first) depth 14
   begin-first s pid (Call.Read fd n) = search firsts depth 14

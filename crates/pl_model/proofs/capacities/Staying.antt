@@ -5,7 +5,7 @@ use Rattle.std.specs.declared.option.Option.TheVariants.{None, Some}
 use Rattle.pl_model.specs.declared.calls.Step.{Step}
 use Rattle.pl_model.specs.Keys.{NewKeys, Drawing, Plain, Draws, PipeNode, drawn}
 use Rattle.pl_model.specs.Map.{kept_if}
-use Rattle.pl_model.specs.State.{Core, Pipe, empty_pipe, set_pipe}
+use Rattle.pl_model.specs.State.{Core, Pipe, empty_pipe, pipe_made, set_pipe}
 use Rattle.pl_model.specs.Live.{is_open}
 use Rattle.pl_model.specs.Settle.{settle, settled_pipe, is_kept}
 use Rattle.pl_model.specs.Trial.{Flow, pipe_at, lost, gained, flowed}
@@ -63,7 +63,7 @@ module _ {A : Type 0} where
         describe_other = λ s n mode flags h. h;
         describe = λ s n mode flags h. h;
         set_description = λ s k x on h. h;
-        new_pipe = λ s h. put_capacity s new.pipe empty_pipe first-capacity h;
+        new_pipe = λ s direct h. put_capacity s new.pipe (pipe_made direct) first-capacity h;
         set_capacity = λ s p size h. put_capacity s p _ (rounded-capacity size) h;
         set_file = λ s f bytes h. h;
         create_file = λ s name h. h;

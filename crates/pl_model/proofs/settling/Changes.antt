@@ -12,7 +12,7 @@ use Rattle.pl_model.specs.Numbers.{open_max, most_processes}
 use Rattle.pl_model.specs.Modes.{any_mode, reads, writes}
 use Rattle.pl_model.specs.Map.{set_at}
 use Rattle.pl_model.specs.Keys.{Node, NewKeys, PipeNode, FileNode, same_node}
-use Rattle.pl_model.specs.State.{Core, Description, Pipe, empty_pipe, set_pipe, set_description}
+use Rattle.pl_model.specs.State.{Core, Description, Pipe, empty_pipe, pipe_made, set_pipe, set_description}
 use Rattle.pl_model.specs.Live.{in_rows, in_parked, pids, in_use, is_live, is_end, is_open, has_name}
 use Rattle.pl_model.specs.Settle.{settle, settled_pipe, is_kept, is_hung, with_ends}
 use Rattle.pl_model.specs.Tables.{install, close_row}
@@ -124,18 +124,18 @@ module _ {A : Type 0} (c : Core A numbers) (settled : IsSettled c) (d : ℕ) (x 
       ])
 
 -- a pipe is made, its ends at two free descriptors of a process
-module _ {A : Type 0} (c : Core A numbers) (settled : IsSettled c) (new : NewKeys numbers) (unused : AreUnused c new) (pid first second : ℕ) (flags : OpenFlags)
+module _ {A : Type 0} (c : Core A numbers) (settled : IsSettled c) (new : NewKeys numbers) (unused : AreUnused c new) (pid first second : ℕ) (packets : Bool) (of_reader of_writer : OpenFlags)
     (low : 1 ≤ pid) (high : pid < 1 + most_processes) (process : c.processes pid ≡ true)
     (first_within : first < open_max) (second_within : second < open_max) (apart : first ≢ second)
     (first_free : c.rows pid first ≡ None) (second_free : c.rows pid second ≡ None) where
   abbrev made : Core A numbers
-  made = make_pipe c new pid first second flags
+  made = make_pipe c new pid first second packets of_reader of_writer
 
   abbrev node : Node numbers
   node = PipeNode new.pipe
 
-  abbrev end_of : Mode → Description numbers
-  end_of m = record { node = node; mode = m; flags = flags; offset = 0 }
+  abbrev end_of : Mode → OpenFlags → Description numbers
+  end_of m flags = record { node = node; mode = m; flags = flags; offset = 0 }
 
   -- a row of before stands
   row_stands : (q k : ℕ) (d : ℕ) → c.rows q k ≡ Some d → made.rows q k ≡ Some d
@@ -184,16 +184,16 @@ module _ {A : Type 0} (c : Core A numbers) (settled : IsSettled c) (new : NewKey
   second_live = row_live made new.other_description (record { pid = pid; fd = second; low = low; high = high; process = process; within = second_within; names = second_row })
 
   abbrev first_map : ℕ → Option (Description numbers)
-  first_map = set_at nat_eq c.descriptions new.description (Some (end_of mode.Read))
+  first_map = set_at nat_eq c.descriptions new.description (Some (end_of mode.Read of_reader))
 
-  second_described : made.descriptions new.other_description ≡ Some (end_of mode.Write)
-  second_described = at_key first_map new.other_description (Some (end_of mode.Write))
+  second_described : made.descriptions new.other_description ≡ Some (end_of mode.Write of_writer)
+  second_described = at_key first_map new.other_description (Some (end_of mode.Write of_writer))
 
-  first_described : made.descriptions new.description ≡ Some (end_of mode.Read)
-  first_described = at_other first_map new.other_description new.description (Some (end_of mode.Write)) (λ e. unused.apart (sym e)) ∙ at_key c.descriptions new.description (Some (end_of mode.Read))
+  first_described : made.descriptions new.description ≡ Some (end_of mode.Read of_reader)
+  first_described = at_other first_map new.other_description new.description (Some (end_of mode.Write of_writer)) (λ e. unused.apart (sym e)) ∙ at_key c.descriptions new.description (Some (end_of mode.Read of_reader))
 
   other_described : (d : ℕ) → d ≢ new.description → d ≢ new.other_description → made.descriptions d ≡ c.descriptions d
-  other_described d n m = at_other first_map new.other_description d (Some (end_of mode.Write)) (λ e. m (sym e)) ∙ at_other c.descriptions new.description d (Some (end_of mode.Read)) (λ e. n (sym e))
+  other_described d n m = at_other first_map new.other_description d (Some (end_of mode.Write of_writer)) (λ e. m (sym e)) ∙ at_other c.descriptions new.description d (Some (end_of mode.Read of_reader)) (λ e. n (sym e))
 
   -- one of the new descriptions, or an old one
   data Which (d : ℕ) : Type 0 where
@@ -214,8 +214,8 @@ module _ {A : Type 0} (c : Core A numbers) (settled : IsSettled c) (new : NewKey
       gone : (d : ℕ) → c.descriptions d ≡ None → is_on old (c.descriptions d) ≡ true → ⊥
       gone d e o = (let f : false ≡ true = sym (ap (is_on old) e) ∙ o in cc)
 
-      elsewhere : (m : Mode) (d : ℕ) → made.descriptions d ≡ Some (end_of m) → is_on old (made.descriptions d) ≡ true → ⊥
-      elsewhere m d e o = (let f : false ≡ true = sym ((λ i. off i && true)) ∙ sym (ap (is_on old) e) ∙ o in cc)
+      elsewhere : (m : Mode) (flags : OpenFlags) (d : ℕ) → made.descriptions d ≡ Some (end_of m flags) → is_on old (made.descriptions d) ≡ true → ⊥
+      elsewhere m flags d e o = (let f : false ≡ true = sym ((λ i. off i && true)) ∙ sym (ap (is_on old) e) ∙ o in cc)
 
       forth : (d : ℕ) → Which d → is_live c d ≡ true → is_on old (c.descriptions d) ≡ true → (is_live made d ≡ true) × (made.descriptions d ≡ c.descriptions d)
       forth d (First e) l o = absurd (gone d (ap c.descriptions e ∙ unused.description.descriptions) o)
@@ -223,12 +223,12 @@ module _ {A : Type 0} (c : Core A numbers) (settled : IsSettled c) (new : NewKey
       forth d (Old n m) l o = (made_live d n m ∙ l, other_described d n m)
 
       back : (d : ℕ) → Which d → is_live made d ≡ true → is_on old (made.descriptions d) ≡ true → (is_live c d ≡ true) × (made.descriptions d ≡ c.descriptions d)
-      back d (First e) l o = absurd (elsewhere mode.Read d (ap made.descriptions e ∙ first_described) o)
-      back d (Second e) l o = absurd (elsewhere mode.Write d (ap made.descriptions e ∙ second_described) o)
+      back d (First e) l o = absurd (elsewhere mode.Read of_reader d (ap made.descriptions e ∙ first_described) o)
+      back d (Second e) l o = absurd (elsewhere mode.Write of_writer d (ap made.descriptions e ∙ second_described) o)
       back d (Old n m) l o = (sym (made_live d n m) ∙ l, other_described d n m)
 
-  on_new : (test : Mode → Bool) (m : Mode) (d : ℕ) → made.descriptions d ≡ Some (end_of m) → test m ≡ true → is_end test node (made.descriptions d) ≡ true
-  on_new test m d e h = ap (is_end test node) e ∙ (λ i. eq-eqb new.pipe new.pipe refl i && h i)
+  on_new : (test : Mode → Bool) (m : Mode) (flags : OpenFlags) (d : ℕ) → made.descriptions d ≡ Some (end_of m flags) → test m ≡ true → is_end test node (made.descriptions d) ≡ true
+  on_new test m flags d e h = ap (is_end test node) e ∙ (λ i. eq-eqb new.pipe new.pipe refl i && h i)
 
   pub pipe-settled : settle c made ≡ made
   pipe-settled = tidy c made (λ d x e. live d x (which d) e) kept (λ f x e. kept-same c made refl (FileNode f) (made_ends (FileNode f) refl) ∙ settled-file c settled f x e)
@@ -239,26 +239,26 @@ module _ {A : Type 0} (c : Core A numbers) (settled : IsSettled c) (new : NewKey
       live d x (Old n m) is = made_live d n m ∙ settled-live c settled d x (sym (other_described d n m) ∙ is)
 
       has_reader : has_end made reads node ≡ true
-      has_reader = end_passes made reads node new.description first_live (on_new reads mode.Read new.description first_described refl)
+      has_reader = end_passes made reads node new.description first_live (on_new reads mode.Read of_reader new.description first_described refl)
 
       has_writer : has_end made writes node ≡ true
-      has_writer = end_passes made writes node new.other_description second_live (on_new writes mode.Write new.other_description second_described refl)
+      has_writer = end_passes made writes node new.other_description second_live (on_new writes mode.Write of_writer new.other_description second_described refl)
 
       has_any : has_end made any_mode node ≡ true
-      has_any = end_passes made any_mode node new.description first_live (on_new any_mode mode.Read new.description first_described refl)
+      has_any = end_passes made any_mode node new.description first_live (on_new any_mode mode.Read of_reader new.description first_described refl)
 
-      here : settled_pipe c made new.pipe empty_pipe ≡ empty_pipe
+      here : settled_pipe c made new.pipe (pipe_made packets) ≡ pipe_made packets
       here =
-          settled_pipe-is c made new.pipe empty_pipe
-          ∙ (λ i. with_ends (has_any i) (has_reader i) (has_writer i) (is_hung (c.pipes new.pipe) || has_end c writes node) empty_pipe)
+          settled_pipe-is c made new.pipe (pipe_made packets)
+          ∙ (λ i. with_ends (has_any i) (has_reader i) (has_writer i) (is_hung (c.pipes new.pipe) || has_end c writes node) (pipe_made packets))
 
       kept : (p : ℕ) (x : Pipe) → made.pipes p ≡ Some x → (is_kept made (PipeNode p) ≡ true) × (settled_pipe c made p x ≡ x)
       kept p x e = elim (eqb_tells new.pipe p) as (λ _. (is_kept made (PipeNode p) ≡ true) × (settled_pipe c made p x ≡ x)) [
         | inl t ↦
-            let x_is : empty_pipe ≡ x = (let s : Some empty_pipe ≡ Some x = ap (λ b. cond b (Some empty_pipe) (c.pipes p)) (sym t.0) ∙ e in cc) in
+            let x_is : pipe_made packets ≡ x = (let s : Some (pipe_made packets) ≡ Some x = ap (λ b. cond b (Some (pipe_made packets)) (c.pipes p)) (sym t.0) ∙ e in cc) in
             (ap (λ k. is_kept made (PipeNode k)) (sym t.1) ∙ or_left (has_end made any_mode node) _ has_any, ap (λ k. settled_pipe c made k x) (sym t.1) ∙ ap (settled_pipe c made new.pipe) (sym x_is) ∙ here ∙ x_is)
         | inr t ↦
-            let was : c.pipes p ≡ Some x = sym (at_other c.pipes new.pipe p (Some empty_pipe) t.1) ∙ e in
+            let was : c.pipes p ≡ Some x = sym (at_other c.pipes new.pipe p (Some (pipe_made packets)) t.1) ∙ e in
             let same = made_ends (PipeNode p) t.0 in
             (kept-same c made refl (PipeNode p) same ∙ (settled-kept c settled p x was).0, settled_pipe-same c made refl p x same ∙ (settled-kept c settled p x was).1)
       ]

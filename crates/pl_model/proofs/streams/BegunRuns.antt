@@ -40,7 +40,7 @@ use Rattle.pl_model.proofs.streams.Courses.{StepTo, step_to, step_order, run_ris
 use Rattle.pl_model.proofs.streams.Pieces.{of_append, pieces_append, other_places, added_apart, left_apart}
 use Rattle.pl_model.proofs.streams.CallRuns.{Course, course_run, own_added, own_left, own_first}
 use Rattle.pl_model.proofs.streams.WriteRuns.{adds_more, IsWrite, WriteSays, write_course}
-use Rattle.pl_model.proofs.streams.ReadRuns.{IsRead, ReadSays, ReadTry, read_try, read_course, reads_nothing}
+use Rattle.pl_model.proofs.streams.ReadRuns.{KeepsQueue, keeps_queue, IsRead, ReadSays, ReadTry, read_try, read_course, reads_nothing}
 
 -- what was found open is there
 pub opened : (test : Mode → Bool) (o : Option (Open numbers)) (f : Open numbers) → allowed test o ≡ Some f → o ≡ Some f
@@ -161,7 +161,7 @@ module _ {A : Type 0} (p q place : ℕ) (s : State A) (xs : List (Step A × Bool
             ∙ ap (λ b. cond b (Some (record w { taken = t })) None) (ap (λ n. nat_eq n s.core.next_call) a.next ∙ same_number s.core.next_call)) in
             parked_says _ to refl
             (says.1 _ _ _ (course_run p q Inv Says course (place + 1) (step s x).state xs s.core.next_call (record w { taken = t }) (below_step s x below) (step_order s x order) here
-            (course.stays s x (record w { taken = t }) f g says.0)))
+            (course.stays s x (record w { taken = t }) below f g says.0)))
 
 -- the parts of a run: what a call that begins in it says, it says in the whole run
 module _ {A : Type 0} (p q : ℕ) (s : State A) (xs before rest : List (Step A × Bool)) (pid : ℕ) (call : Call A) (SaysFirst : List (List ℕ) → List (List ℕ) → Fate A → Type 0) where
@@ -283,10 +283,10 @@ module _ {A : Type 0} (p q : ℕ) (place : ℕ) (s : State A) (xs : List (Step A
     abbrev ReadFirst : List (List ℕ) → List (List ℕ) → Fate A → Type 0
     ReadFirst ins outs end = Reads k bytes_only outs (bytes_answered end.ending)
 
-    first_read : (w : Waiting A numbers) (may : Bool) (t : Trial A numbers) → w.call ≡ read → Keeps s.core w.kept 0 (PipeNode p) → ReadTry p q fd k bytes_only (held s.core p) t →
+    first_read : (w : Waiting A numbers) (may : Bool) (t : Trial A numbers) → w.call ≡ read → KeepsQueue p bytes_only s.core w.kept → ReadTry p q fd k bytes_only (held s.core p) t →
         FirstSays p q place s xs pid read ReadFirst (IsRead p q fd k bytes_only) (ReadSays p q fd k bytes_only) (read_course p q fd k bytes_only) w may t
     first_read w may (Done u flow reply) is on says = says
-    first_read w may (Wait u flow to) is on says = ((is, on, λ e. e), (λ ins outs end rest. subst (λ b. Reads k bytes_only (unless_empty b ++ outs) (bytes_answered end.ending)) (sym says) rest))
+    first_read w may (Wait u flow to) is on says = ((is, on), (λ ins outs end rest. subst (λ b. Reads k bytes_only (unless_empty b ++ outs) (bytes_answered end.ending)) (sym says) rest))
 
     pub begun_read : IfSome (open_for reads s.core pid fd) (λ o. o.description.node ≡ PipeNode p) → BegunWhole p q place s xs pid read ReadFirst
     unfolding begin begin_read
@@ -298,13 +298,13 @@ module _ {A : Type 0} (p q : ℕ) (place : ℕ) (s : State A) (xs : List (Step A
         tried o e is to =
             let w : Waiting A numbers = waiting pid read (o.key ∷ []) false in
             let node : node_of s.core o.key ≡ Some o.description.node = open_node s.core pid fd o (opened reads (open_fd s.core pid fd) o e) in
-            let keeps : Keeps s.core (o.key ∷ []) 0 (PipeNode p) = there s.core o.key o.description.node (PipeNode p) node is in
+            let queue : KeepsQueue p bytes_only s.core (o.key ∷ []) = keeps_queue p s.core (o.key ∷ []) (there s.core o.key o.description.node (PipeNode p) node is) in
             first_says p q place s xs pid read ReadFirst (IsRead p q fd k bytes_only) (ReadSays p q fd k bytes_only) (read_course p q fd k bytes_only) w (may_block o.description && can_wait s.core)
             (try s.core w read (may_block o.description)) below order
             (fresh o.key s.next_description o.description.node node (omega arith)) (fresh o.key (s.next_description + 1) o.description.node node (omega arith))
             (try-keeps (among_changes (next_numbers s) s.core) s.core w read (may_block o.description) (among_same s.core order.once))
             (try_fine s.core w read (may_block o.description) tt (λ h. refl))
-            (first_read w (may_block o.description && can_wait s.core) (try s.core w read (may_block o.description)) refl keeps (read_try p q fd k bytes_only s.core w (may_block o.description) keeps (λ e. e)))
+            (first_read w (may_block o.description && can_wait s.core) (try s.core w read (may_block o.description)) refl queue (read_try p q fd k bytes_only s.core w (may_block o.description) queue))
             (reads_nothing k bytes_only) (reads_nothing k bytes_only) to
 
         opens : (o : Option (Open numbers)) → open_for reads s.core pid fd ≡ o → IfSome o (λ o. o.description.node ≡ PipeNode p) →

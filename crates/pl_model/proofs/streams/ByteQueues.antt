@@ -1,12 +1,12 @@
 -- A byte queue stays one.
-use Rattle.std.proofs.Common.{◌≡◌, ℕ, Bool, true, false, cond, Option, List, nat_eq, refl, sym, subst, unwrap_or, option_map}
+use Rattle.std.proofs.Common.{◌≡◌, ◌≢◌, ℕ, Bool, true, false, cond, Option, List, nat_eq, refl, sym, subst, unwrap_or, option_map}
 use Rattle.std.specs.Prelude.{is_none}
 use Rattle.std.proofs.lemmas.Bool.{eqb-true}
 use Rattle.std.specs.declared.option.Option.TheVariants.{None, Some}
 use Rattle.pl_model.specs.declared.calls.Step.{Step}
 use Rattle.pl_model.specs.Keys.{NewKeys, Drawing, Plain, Draws, PipeNode, drawn}
 use Rattle.pl_model.specs.Map.{kept_if}
-use Rattle.pl_model.specs.State.{Core, Pipe, empty_pipe, set_pipe}
+use Rattle.pl_model.specs.State.{Core, Pipe, empty_pipe, pipe_made, set_pipe}
 use Rattle.pl_model.specs.Packets.{is_byte_queue, lose, gain}
 use Rattle.pl_model.specs.Live.{is_open}
 use Rattle.pl_model.specs.Settle.{settle, settled_pipe, is_kept}
@@ -14,6 +14,7 @@ use Rattle.pl_model.specs.Trial.{Flow, pipe_at, lost, gained, flowed}
 use Rattle.pl_model.specs.Capacity.{rounded_capacity}
 use Rattle.pl_model.specs.Step.{Stepped, core_step}
 use Rattle.pl_model.specs.Numbered.{numbers, State, next_numbers, step_of, step}
+use Rattle.pl_model.proofs.streams.Maps.{differ}
 use Rattle.pl_model.proofs.by_call.Keeps as all_keep
 use Rattle.pl_model.proofs.by_call.Keeps.{Changes, step-keeps}
 
@@ -31,6 +32,9 @@ module _ {A : Type 0} (p : ℕ) where
     at : (b : Bool) → nat_eq k p ≡ b → is_byte_queue (unwrap_or (cond b (Some x) (s.pipes p)) empty_pipe) ≡ true
     at true e = same (subst (λ q. is_byte_queue (pipe_at s q) ≡ true) (sym (eqb-true k p e)) h)
     at false e = h
+
+  put_other : (s : Core A numbers) (k : ℕ) (x : Pipe) → k ≢ p → IsBytes s → IsBytes (set_pipe s k x)
+  put_other s k x apart h = subst (λ b. is_byte_queue (unwrap_or (cond b (Some x) (s.pipes p)) empty_pipe) ≡ true) (sym (differ k p apart)) h
 
   bytes_flowed : (s : Core A numbers) (flow : Flow numbers) → IsBytes s → IsBytes (flowed s flow)
   unfolding flowed
@@ -55,8 +59,8 @@ module _ {A : Type 0} (p : ℕ) where
     at true (Some x) h = ended (is_open s (PipeNode p)) x _ h
     at false o h = refl
 
-  bytes_kept : (new : NewKeys numbers) → all_keep.Keeps {A = A} new IsBytes
-  bytes_kept new =
+  bytes_kept : (new : NewKeys numbers) → new.pipe ≢ p → all_keep.Keeps {A = A} new IsBytes
+  bytes_kept new apart =
       let changes : Changes new IsBytes = record {
         one = eqb-true;
         install = λ s pid fd k h. h;
@@ -64,7 +68,7 @@ module _ {A : Type 0} (p : ℕ) where
         describe_other = λ s n mode flags h. h;
         describe = λ s n mode flags h. h;
         set_description = λ s k x on h. h;
-        new_pipe = λ s h. put s new.pipe empty_pipe (λ k. refl) h;
+        new_pipe = λ s direct h. put_other s new.pipe (pipe_made direct) apart h;
         set_capacity = λ s k size h. put s k (record (pipe_at s k) { capacity = rounded_capacity size }) (λ e. e) h;
         set_file = λ s f bytes h. h;
         create_file = λ s name h. h;
@@ -85,9 +89,9 @@ module _ {A : Type 0} (p : ℕ) where
       }
 
   -- through a step
-  pub bytes_step : (s : State A) (x : Step A) → is_byte_queue (pipe_at s.core p) ≡ true → is_byte_queue (pipe_at (step s x).state.core p) ≡ true
+  pub bytes_step : (s : State A) (x : Step A) → p ≢ s.next_pipe → is_byte_queue (pipe_at s.core p) ≡ true → is_byte_queue (pipe_at (step s x).state.core p) ≡ true
   unfolding step
-  bytes_step s x h = at (core_step s.core x) (step-keeps (bytes_kept (next_numbers s)) s.core x h) where
+  bytes_step s x apart h = at (core_step s.core x) (step-keeps (bytes_kept (next_numbers s) (λ e. apart (sym e))) s.core x h) where
     at : (y : Drawing numbers (Stepped A numbers)) → IsBytes (drawn (next_numbers s) y).state → IsBytes (step_of s y).state.core
     at (Plain y) h = h
     at (Draws f) h = h

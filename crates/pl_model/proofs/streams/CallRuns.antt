@@ -92,7 +92,7 @@ module _ {A : Type 0} (p q : ℕ) (Inv : Core A numbers → Waiting A numbers �
 
   -- What has to be known of a kind of call, for pipes p (out) and q (in).
   pub record Course : Type 0 where
-    pub stays : (s : State A) (x : Step A) (w : Waiting A numbers) → All (λ k. k ≢ s.next_description) w.kept → All (λ k. k ≢ s.next_description + 1) w.kept → Inv s.core w → Inv (step s x).state.core w
+    pub stays : (s : State A) (x : Step A) (w : Waiting A numbers) → IsBelowCounters s → All (λ k. k ≢ s.next_description) w.kept → All (λ k. k ≢ s.next_description + 1) w.kept → Inv s.core w → Inv (step s x).state.core w
     pub met : (s : Core A numbers) (w : Waiting A numbers) (met : Bool) → Inv s w → Inv s (record w { met = met })
     pub says_met : (w : Waiting A numbers) (met : Bool) (ins outs : List (List ℕ)) (end : Fate A) → Says w ins outs end → Says (record w { met = met }) ins outs end
     pub waits : (s : Core A numbers) (w : Waiting A numbers) → Inv s w → Says w [] [] (record { ending = Waits; taken = w.taken })
@@ -119,7 +119,7 @@ module _ {A : Type 0} (p q : ℕ) (Inv : Core A numbers → Waiting A numbers �
 
       stays_so : (x : Step A) (v : Waiting A numbers) → v.kept ≡ w.kept → Inv s.core v → Inv (step s x).state.core v
       stays_so x v same i =
-          course.stays s x v
+          course.stays s x v below
           (subst (λ ks. All (λ k. k ≢ s.next_description) ks) (sym same) (unused s c w s.next_description below here (omega arith)))
           (subst (λ ks. All (λ k. k ≢ s.next_description + 1) ks) (sym same) (unused s c w (s.next_description + 1) below here (omega arith)))
           i

@@ -161,7 +161,7 @@ module _ {A : Type 0} (p q : ℕ) (is_tee : Bool) (from to : Node numbers) where
     pub move_course : Course p q IsMove MoveSays
     move_course =
         record {
-          stays = λ s x w first second is. (is.0, (keeps_step s x w.kept 0 from first second is.1.0, keeps_step s x w.kept 1 to first second is.1.1));
+          stays = λ s x w below first second is. (is.0, (keeps_step s x w.kept 0 from first second is.1.0, keeps_step s x w.kept 1 to first second is.1.1));
           met = λ s w met is. is;
           says_met = λ w met ins outs end says. says;
           waits = λ s w is. carries_none Waits refl;

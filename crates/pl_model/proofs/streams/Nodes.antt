@@ -5,17 +5,18 @@ use Rattle.std.specs.declared.option.Option.TheVariants.{None, Some}
 use Rattle.std.proofs.lemmas.Bool.{eqb-true}
 use Rattle.std.proofs.lemmas.Option.{slice_get_within, get_or_from_slice_get}
 use Rattle.pl_model.specs.declared.calls.Step.{Step}
-use Rattle.pl_model.specs.Keys.{Node, NewKeys, Drawing, Plain, Draws, drawn}
+use Rattle.pl_model.specs.Keys.{Node, NewKeys, Drawing, Plain, Draws, PipeNode, drawn}
 use Rattle.pl_model.specs.Map.{kept_if}
 use Rattle.pl_model.specs.State.{Core, Description, Open, described}
 use Rattle.pl_model.specs.Live.{is_live}
 use Rattle.pl_model.specs.Settle.{settle}
 use Rattle.pl_model.specs.Trial.{Flow, lost, gained, flowed}
-use Rattle.pl_model.specs.Step.{Stepped, core_step}
+use Rattle.pl_model.specs.Step.{Stepped, core_step, kept_at}
 use Rattle.pl_model.specs.Numbered.{numbers, State, next_numbers, step_of, step}
 use Rattle.pl_model.specs.OnNodes.{Keeps}
+use Rattle.pl_model.specs.StandsFor.{IsUnusedNode}
 use Rattle.pl_model.proofs.by_call.Keeps as all_keep
-use Rattle.pl_model.proofs.by_call.Keeps.{Changes, node_of, step-keeps}
+use Rattle.pl_model.proofs.by_call.Keeps.{Changes, node_of, kept_node, step-keeps}
 use Rattle.pl_model.proofs.streams.Maps.{differ}
 
 -- the description is on the node, if it is there
@@ -71,7 +72,7 @@ module _ {A : Type 0} (d : ℕ) (node : Node numbers) where
         describe_other = λ s n mode flags h. on_other s new.other_description _ other h;
         describe = λ s n mode flags h. on_other s new.description _ apart h;
         set_description = λ s k x on h. on_set s k x on h;
-        new_pipe = λ s h. h;
+        new_pipe = λ s direct h. h;
         set_capacity = λ s p size h. h;
         set_file = λ s f bytes h. h;
         create_file = λ s name h. h;
@@ -114,3 +115,25 @@ module _ {A : Type 0} where
       at (Some d) e h =
           back_or d node ((step s x).state.core.descriptions d)
           (on_step d node s x (apart d s.next_description e first) (apart d (s.next_description + 1) e second) (there_or d node (s.core.descriptions d) h))
+
+  -- one that isn't there doesn't come back, as its number isn't given anew
+  pub stays_none : (s : State A) (x : Step A) (kept : List ℕ) (place : ℕ) → All (λ k. k ≢ s.next_description) kept → All (λ k. k ≢ s.next_description + 1) kept →
+      kept_at s.core kept place ≡ None → (y : Open numbers) → kept_at (step s x).state.core kept place ≡ Some y → ⊥
+  stays_none s x kept place first second none y now =
+      both y.description.node (there (PipeNode 0)) (there (PipeNode 1))
+    where
+      there : (node : Node numbers) → y.description.node ≡ node
+      there node = subst (λ o. IfSome o (λ z. z.description.node ≡ node)) now (keeps_step s x kept place node first second (subst (λ o. IfSome o (λ z. z.description.node ≡ node)) (sym none) tt))
+
+      both : (n : Node numbers) → n ≡ PipeNode 0 → n ≡ PipeNode 1 → ⊥
+      both n a b = absurd (cc)
+
+  -- one that is on a node is on no unused one
+  pub given_node : (s : State A) (kept : List ℕ) (place : ℕ) (o : Open numbers) (node : Node numbers) → kept_at s.core kept place ≡ Some o → o.description.node ≡ node → IsUnusedNode s.core node → ⊥
+  given_node s kept place o node here on unused =
+      let was = kept_node s.core kept place o here in
+      at (s.core.descriptions o.key) was (unused.descriptions o.key)
+    where
+      at : (x : Option (Description numbers)) → option_map (λ x. x.node) x ≡ Some o.description.node → IfSome x (λ x. x.node ≢ node) → ⊥
+      at None e h = absurd (cc)
+      at (Some x) e h = h (let same : x.node ≡ o.description.node = cc in same ∙ on)

@@ -78,7 +78,7 @@ module _ {A : Type 0} (p q : ℕ) (entries : List (ℤ × PollMask)) (wait : Boo
   poll_course : Course p q IsPoll PollSays
   poll_course =
       record {
-        stays = λ s x w first second is. is;
+        stays = λ s x w below first second is. is;
         met = λ s w met is. is;
         says_met = λ w met ins outs end says. says;
         waits = λ s w is. (refl, refl);

@@ -1,6 +1,6 @@
 -- Reads over a run.
-use Rattle.std.proofs.Common.{◌≡◌, ℕ, ℤ, ◌<◌, ◌≤◌, zero, suc, Bool, true, false, not, cond, Option, List, [], ◌∷◌, ◌++◌, length, refl, sym, ◌∙◌, ap, subst, nat_eq, take, ltb-true, arith}
-use Rattle.std.specs.Prelude.{nat_lt, min, IfSome, is_none}
+use Rattle.std.proofs.Common.{◌≡◌, ◌≢◌, ℕ, ℤ, ◌+◌, ◌<◌, ◌≤◌, zero, suc, Bool, true, false, not, cond, Option, List, [], ◌∷◌, ◌++◌, length, refl, sym, ◌∙◌, ap, subst, nat_eq, take, ltb-true, arith}
+use Rattle.std.specs.Prelude.{nat_lt, min, All, IfSome, is_none}
 use Rattle.std.specs.declared.option.Option.TheVariants.{None, Some}
 use Rattle.pl_model.specs.declared.calls.Call.{Call}
 use Rattle.pl_model.specs.declared.calls.Step.{Step}
@@ -13,7 +13,7 @@ use Rattle.pl_model.specs.Live.{writers}
 use Rattle.pl_model.specs.Trial.{Trial, Done, Wait, pipe_at}
 use Rattle.pl_model.specs.Transfer.{read_case, read_row, read_pipe, read_node}
 use Rattle.pl_model.specs.Step.{try, with_kept, kept_at}
-use Rattle.pl_model.specs.Numbered.{numbers, State}
+use Rattle.pl_model.specs.Numbered.{numbers, State, step}
 use Rattle.pl_model.specs.StandsFor.{IsBelowCounters}
 use Rattle.pl_model.specs.Stream.{held, out_of_pipe}
 use Rattle.pl_model.specs.Chunks.{OfCall, unless_empty, of, pieces_left, pieces_from}
@@ -22,7 +22,7 @@ use Rattle.pl_model.specs.InOrder.{AreInOrder}
 use Rattle.pl_model.specs.OnNodes.{Keeps}
 use Rattle.pl_model.specs.StreamLaw.{FrontOf, Reads}
 use Rattle.pl_model.proofs.streams.Writes.{same_number}
-use Rattle.pl_model.proofs.streams.Nodes.{keeps_step}
+use Rattle.pl_model.proofs.streams.Nodes.{keeps_step, stays_none, given_node}
 use Rattle.pl_model.proofs.streams.ByteQueues.{bytes_step}
 use Rattle.pl_model.proofs.streams.CallRuns.{Course, TrySays, course_run}
 
@@ -74,10 +74,45 @@ module _ (k : ℕ) (bytes_only : Bool) where
         whole = λ e. ap (λ m. unless_empty (take m x.bytes)) (spends_all n x.packets (queue e));
       }
 
+module _ {A : Type 0} (p : ℕ) (bytes_only : Bool) where
+  -- what a parked read keeps is on the pipe, which is a byte queue where that was said of it
+  abbrev pub KeepsQueue : Core A numbers → List ℕ → Type 0
+  KeepsQueue s kept = IfSome (kept_at s kept 0) (λ o. (o.description.node ≡ PipeNode p) × (bytes_only ≡ true → is_byte_queue (pipe_at s p) ≡ true))
+
+  pub queue_step : (s : State A) (x : Step A) (kept : List ℕ) → IsBelowCounters s → All (λ k. k ≢ s.next_description) kept → All (λ k. k ≢ s.next_description + 1) kept →
+      KeepsQueue s.core kept → KeepsQueue (step s x).state.core kept
+  queue_step s x kept below first second is = at (kept_at (step s x).state.core kept 0) refl (keeps_step s x kept 0 (PipeNode p) first second (on (kept_at s.core kept 0) is))
+    where
+      on : (o : Option (Open numbers)) → IfSome o (λ o. (o.description.node ≡ PipeNode p) × (bytes_only ≡ true → is_byte_queue (pipe_at s.core p) ≡ true)) → IfSome o (λ o. o.description.node ≡ PipeNode p)
+      on None h = tt
+      on (Some o) h = h.0
+
+      -- the pipe was there before, so its number isn't given anew
+      queue : (o : Option (Open numbers)) → kept_at s.core kept 0 ≡ o → IfSome o (λ o. (o.description.node ≡ PipeNode p) × (bytes_only ≡ true → is_byte_queue (pipe_at s.core p) ≡ true)) →
+          (y : Open numbers) → kept_at (step s x).state.core kept 0 ≡ Some y → bytes_only ≡ true → is_byte_queue (pipe_at (step s x).state.core p) ≡ true
+      queue None none h y now b = absurd (stays_none s x kept 0 first second none y now)
+      queue (Some o) was h y now b = bytes_step p s x (λ e. apart (sym e)) (h.1 b)
+        where
+          apart : s.next_pipe ≡ p → ⊥
+          apart e = given_node s kept 0 o (PipeNode p) was h.0 (below.pipes p (omega (arith, e))).node
+
+      at : (o : Option (Open numbers)) → kept_at (step s x).state.core kept 0 ≡ o → IfSome o (λ o. o.description.node ≡ PipeNode p) →
+          IfSome o (λ o. (o.description.node ≡ PipeNode p) × (bytes_only ≡ true → is_byte_queue (pipe_at (step s x).state.core p) ≡ true))
+      at None e h = tt
+      at (Some y) e h = (h, queue (kept_at s.core kept 0) refl is y e)
+
+-- what is on the pipe is on a byte queue, where that is one
+pub keeps_queue : {A : Type 0} (p : ℕ) (s : Core A numbers) (kept : List ℕ) → Keeps s kept 0 (PipeNode p) → KeepsQueue p (is_byte_queue (pipe_at s p)) s kept
+keeps_queue p s kept on = at (kept_at s kept 0) on
+  where
+    at : (o : Option (Open numbers)) → IfSome o (λ o. o.description.node ≡ PipeNode p) → IfSome o (λ o. (o.description.node ≡ PipeNode p) × (is_byte_queue (pipe_at s p) ≡ true → is_byte_queue (pipe_at s p) ≡ true))
+    at None h = tt
+    at (Some o) h = (h, λ e. e)
+
 module _ {A : Type 0} (p q : ℕ) (fd : ℤ) (k : ℕ) (bytes_only : Bool) where
   -- a parked read of at most k bytes, on the pipe p
   abbrev pub IsRead : Core A numbers → Waiting A numbers → Type 0
-  IsRead s w = (w.call ≡ Call.Read fd k) × Keeps s w.kept 0 (PipeNode p) × (bytes_only ≡ true → is_byte_queue (pipe_at s p) ≡ true)
+  IsRead s w = (w.call ≡ Call.Read fd k) × KeepsQueue p bytes_only s w.kept
 
   abbrev pub ReadSays : Waiting A numbers → List (List ℕ) → List (List ℕ) → Fate A → Type 0
   ReadSays w ins outs end = Reads k bytes_only outs (bytes_answered end.ending)
@@ -93,20 +128,20 @@ module _ {A : Type 0} (p q : ℕ) (fd : ℤ) (k : ℕ) (bytes_only : Bool) where
   read_row_says s ReadCase.EndOfFile fits queue = reads_nothing k bytes_only
   read_row_says s ReadCase.Waits fits queue = refl
 
-  pub read_try : (s : Core A numbers) (w : Waiting A numbers) (may_wait : Bool) → Keeps s w.kept 0 (PipeNode p) → (bytes_only ≡ true → is_byte_queue (pipe_at s p) ≡ true) → ReadTry (held s p) (try s w (Call.Read fd k) may_wait)
+  pub read_try : (s : Core A numbers) (w : Waiting A numbers) (may_wait : Bool) → KeepsQueue p bytes_only s w.kept → ReadTry (held s p) (try s w (Call.Read fd k) may_wait)
   unfolding try read_pipe
-  read_try s w may_wait on queue = at (kept_at s w.kept 0) on
+  read_try s w may_wait on = at (kept_at s w.kept 0) on
     where
-      node : (d : ℕ) (x : Description numbers) (n : Node numbers) → n ≡ PipeNode p → ReadTry (held s p) (read_node s d x n k)
-      node d x (PipeNode z) e =
+      node : (d : ℕ) (x : Description numbers) (n : Node numbers) → n ≡ PipeNode p → (bytes_only ≡ true → is_byte_queue (pipe_at s p) ≡ true) → ReadTry (held s p) (read_node s d x n k)
+      node d x (PipeNode z) e queue =
           let same : z ≡ p = cc in
           let has = nat_lt 0 (writers s p) in
           subst (λ y. ReadTry (held s p) (read_node s d x (PipeNode y) k)) (sym same) (read_row_says s (read_case k (front (pipe_at s p)) has) (case_fits k (front (pipe_at s p)) has) queue)
-      node d x (FileNode f) e = absurd (cc)
+      node d x (FileNode f) e queue = absurd (cc)
 
-      at : (o : Option (Open numbers)) → IfSome o (λ o. o.description.node ≡ PipeNode p) → ReadTry (held s p) (with_kept s o (λ o. read_node s o.key o.description o.description.node k))
+      at : (o : Option (Open numbers)) → IfSome o (λ o. (o.description.node ≡ PipeNode p) × (bytes_only ≡ true → is_byte_queue (pipe_at s p) ≡ true)) → ReadTry (held s p) (with_kept s o (λ o. read_node s o.key o.description o.description.node k))
       at None on = reads_nothing k bytes_only
-      at (Some o) on = node o.key o.description o.description.node on
+      at (Some o) on = node o.key o.description o.description.node on.0 on.1
 
   tried_read : (s : Core A numbers) (w : Waiting A numbers) (t : Trial A numbers) → IsRead s w → ReadTry (held s p) t → TrySays p q IsRead ReadSays s w t
   tried_read s w (Done u flow reply) is says = says
@@ -115,13 +150,13 @@ module _ {A : Type 0} (p q : ℕ) (fd : ℤ) (k : ℕ) (bytes_only : Bool) where
   pub read_course : Course p q IsRead ReadSays
   read_course =
       record {
-        stays = λ s x w first second is. (is.0, keeps_step s x w.kept 0 (PipeNode p) first second is.1, λ e. bytes_step p s x (is.2 e));
+        stays = λ s x w below first second is. (is.0, queue_step p bytes_only s x w.kept below first second is.1);
         met = λ s w met is. is;
         says_met = λ w met ins outs end says. says;
         waits = λ s w is. reads_nothing k bytes_only;
         drops = λ s w is. reads_nothing k bytes_only;
         interrupted = λ s w is. reads_nothing k bytes_only;
-        tries = λ s w is. tried_read s w (try s w w.call true) is (subst (λ z. ReadTry (held s p) (try s w z true)) (sym is.0) (read_try s w true is.1 is.2));
+        tries = λ s w is. tried_read s w (try s w w.call true) is (subst (λ z. ReadTry (held s p) (try s w z true)) (sym is.0) (read_try s w true is.1));
       }
 
   pub read_run : (place : ℕ) (s : State A) (xs : List (Step A × Bool)) (c : ℕ) (w : Waiting A numbers) → IsBelowCounters s → AreInOrder s.core → get nat_eq s.core.parked c ≡ Some w → IsRead s.core w →

@@ -70,7 +70,7 @@ module _ {A : Type 0} (n : ℕ) where
           describe_other = λ u node mode flags h. h;
           describe = λ u node mode flags h. h;
           set_description = λ u d x on h. h;
-          new_pipe = λ u h. h;
+          new_pipe = λ u direct h. h;
           set_capacity = λ u p size h. h;
           set_file = λ u f bytes h. h;
           create_file = λ u name h. h;

@@ -17,7 +17,7 @@ use Rattle.pl_model.proofs.streams.StreamRuns.{stream-run}
 use Rattle.pl_model.proofs.streams.Pieces.{joined_chunks, joined_outs}
 use Rattle.pl_model.proofs.streams.Courses.{run_order}
 use Rattle.pl_model.proofs.streams.WriteRuns.{write_run}
-use Rattle.pl_model.proofs.streams.ReadRuns.{read_run}
+use Rattle.pl_model.proofs.streams.ReadRuns.{keeps_queue, read_run}
 use Rattle.pl_model.proofs.streams.MoveRuns.{move_run, splice_moves, tee_moves}
 use Rattle.pl_model.proofs.streams.MoveBegins.{FirstCarries, splice_begins, tee_begins, begun_move, step_adds}
 use Rattle.pl_model.proofs.streams.MoveMoments.{waiting_adds, begun_adds}
@@ -29,7 +29,7 @@ stream_law s xs below order =
     record {
       stream = λ p. ap (λ b. held s.core p ++ b) (joined_chunks 0 s xs p) ∙ (stream-run s xs p below ∙ ap (λ b. b ++ held (after s xs).core p) (sym (joined_outs 0 s xs p)));
       waiting_write = λ p c w fd bytes here is on. write_run p p fd bytes 0 s xs c w below order here (is, subst (λ z. HasTaken z w.taken) is (order.taken c w here), on);
-      waiting_read = λ p c w fd n here is on. read_run p p fd n (is_byte_queue (pipe_at s.core p)) 0 s xs c w below order here (is, on, λ e. e);
+      waiting_read = λ p c w fd n here is on. read_run p p fd n (is_byte_queue (pipe_at s.core p)) 0 s xs c w below order here (is, keeps_queue p s.core w.kept on);
       begun_write = λ before rest p pid fd bytes e on.
           in_whole p p s xs before rest pid (Call.Write fd bytes) (λ ins outs end. Adds (may_wait (open_for writes (after s before).core pid fd)) bytes 0 ins end) e order
           (begun_write p p (length before) (after s before) rest pid (run_below s before below) (run_order s before order) fd bytes on);

@@ -81,7 +81,7 @@ module _ {A : Type 0} (p q : ℕ) (fd : ℤ) (bytes : List ℕ) where
   pub write_course : Course p q IsWrite WriteSays
   write_course =
       record {
-        stays = λ s x w first second is. (is.0, is.1, keeps_step s x w.kept 0 (PipeNode q) first second is.2);
+        stays = λ s x w below first second is. (is.0, is.1, keeps_step s x w.kept 0 (PipeNode q) first second is.2);
         met = λ s w met is. is;
         says_met = λ w met ins outs end says. says;
         waits = λ s w is. adds_no true bytes w.taken w.taken Waits is.1.0 refl refl (λ n e. cc);
