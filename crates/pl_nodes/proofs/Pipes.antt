@@ -1,6 +1,7 @@
 -- A call on the pipe under a key.
-use Rattle.std.proofs.Common.{◌≡◌, ℕ, Some, refl, sym, ◌∙◌, ap, subst, length}
-use Rattle.std.specs.Prelude.{IfSome}
+use Rattle.std.proofs.Common.{◌≡◌, ℕ, Option, Some, None, refl, sym, ◌∙◌, ap, subst, length}
+use Rattle.std.specs.Prelude.{IfSome, option_map}
+use Rattle.pl_model.specs.Packets.{lose}
 use Rattle.pl_model.specs.Map.{change_at}
 use Rattle.pl_model.specs.State.{Pipe as PipeState}
 use Rattle.pl_segments.specs.Segments.{Segments, segment_at, at}
@@ -9,7 +10,9 @@ use Rattle.pl_segments.specs.Turns.{Turns}
 use Rattle.pl_segments.specs.Slots.{total}
 use Rattle.pl_segments.proofs.SlotLemmas.{total-read}
 use Rattle.pl_nodes.specs.declared.content.PipeNode.{PipeNode}
-use Rattle.pl_nodes.specs.declared.content.Content.TheVariants.{Pipe}
+use Rattle.pl_nodes.specs.declared.content.Content.{Content}
+use Rattle.pl_nodes.specs.declared.content.Content.TheVariants.{Pipe, File}
+use Rattle.pl_nodes.proofs.Keyed.{is_change_at}
 use Rattle.pl_nodes.specs.declared.nodes.Nodes.TheInside.{Inside}
 use Rattle.pl_nodes.specs.Nodes.{Nodes, SameFiles}
 use Rattle.pl_nodes.specs.NodesView.{pipe_of, pipe_in, view_of, IsSound}
@@ -57,3 +60,18 @@ module _ {A : Type 0} (k : Inside A) (key : ℕ) (p : PipeNode A) (there : at k.
   pipe-refused store kept new same =
       let e : view_of (with_content k key (Pipe p) there sound store (Pipe new)) ≡ flat = refused-seen k key (Pipe p) there sound store kept (Pipe new) (λ i. Pipe (same i)) ∙ is in
       record { files = ap (λ (v : Nodes). v.files) e; names = ap (λ (v : Nodes). v.names) e; file_max = ap (λ (v : Nodes). v.file_max) e }
+
+-- a pipe that loses nothing stays as it is
+pub lose-none : {A : Type 0} (k : Inside A) (flat : Nodes) → view_of k ≡ flat → (key n : ℕ) → n ≡ 0 → at flat.pipes ≡ change_at key (lose n) (at flat.pipes)
+lose-none {A} k flat is key n none = is_change_at (at flat.pipes) (at flat.pipes) key (lose n) (subst (λ m. at flat.pipes key ≡ option_map (lose m) (at flat.pipes key)) (sym none) here) (λ q other. refl)
+  where
+    same : (o : Option (Content A)) → pipe_in (segment_at k.store) o ≡ option_map (lose 0) (pipe_in (segment_at k.store) o)
+    same None = refl
+    same (Some (Pipe p)) = refl
+    same (Some (File f)) = refl
+
+    seen : at flat.pipes key ≡ pipe_in (segment_at k.store) (at k.contents.slots key)
+    seen = ap (λ (v : Nodes). at v.pipes key) (sym is) ∙ seen-at pipes_seen (segment_at k.store) k.contents.slots key
+
+    here : at flat.pipes key ≡ option_map (lose 0) (at flat.pipes key)
+    here = seen ∙ same (at k.contents.slots key) ∙ ap (option_map (lose 0)) (sym seen)

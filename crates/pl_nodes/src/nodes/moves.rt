@@ -133,6 +133,8 @@ impl<A: Allocator + Copy> Nodes<A> {
         ensures none_added { OnOk result (IfSome (at self.old.files to) (λ bytes. place ≤ length bytes) → (key : ℕ) → 1 ≤ named self.new.slots key → 1 ≤ named self.old.slots key) }
         ensures err { OnErr result (self.new ≡ self.old) }
     {
+        // A proof learns here that a pipe that loses nothing stays as it is.
+        let _most = self.contents.capacity();
         if count == 0 {
             return Ok(0);
         }
