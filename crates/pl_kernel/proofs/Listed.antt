@@ -16,7 +16,7 @@ use Rattle.pl_model.specs.declared.cases.MoveCase.{MoveCase}
 use Rattle.pl_model.specs.declared.flags.OpenFlags.{OpenFlags}
 use Rattle.pl_model.specs.declared.flags.PollMask.{PollMask}
 use Rattle.pl_model.specs.declared.replies.Reply.TheVariants.{Bytes, Fault, NoProcess, CallsSpent, Parked}
-use Rattle.pl_model.specs.declared.replies.Errno.TheVariants.{EBADF, EINTR}
+use Rattle.pl_model.specs.declared.replies.Errno.TheVariants.{EBADF, EINTR, EINVAL}
 use Rattle.pl_model.specs.Numbers.{last_call, open_max}
 use Rattle.pl_model.specs.Map.{get}
 use Rattle.pl_model.specs.Memory.{is_frugal, is_frugal_call}
@@ -25,7 +25,7 @@ use Rattle.pl_model.specs.Keys.{Keys, Node, NewKeys, PipeNode, FileNode, Plain, 
 use Rattle.pl_model.specs.State.{Core, Pipe, Description, Open, Waiting, can_wait, described}
 use Rattle.pl_model.specs.Trial.{Trial, Done, Wait, still, flowed, pipe_at, Begun, Begins, Tried, found, answered, tried}
 use Rattle.pl_model.specs.Transfer.{count, file_at, read_row, write_row, write_case, read_pipe, write_pipe, read_file, write_file, read_node, write_node}
-use Rattle.pl_model.specs.Splice.{Side, move_case, move_row, source_of, target_of, try_move}
+use Rattle.pl_model.specs.Splice.{Side, is_packet_pipe, move_case, move_row, source_of, target_of, try_move}
 use Rattle.pl_model.specs.Poll.{masks, masks_reply, is_ready, try_poll}
 use Rattle.pl_model.specs.Tables.{lowest, lowest_pid}
 use Rattle.pl_model.specs.Begin.{open_fd, open_for, allowed, named_by, may_block, open_named, begin_pipe, begin_mkfifo, begin_open_name, begin_read, begin_write, begin_splice, begin_tee, begin_dup, begin_dup2, begin_dup_fd, begin_close, begin_lseek, begin_get_fl, begin_set_fl, begin_get_pipe_sz, begin_set_pipe_sz, begin_unlink, begin_fork}
@@ -121,7 +121,11 @@ module _ {A : Type 0} {K : Keys} where
 
   move-bare : (s : Core A K) (from to : Side K) (len : ℕ) (is_tee : Bool) → IsBare (try_move s from to len is_tee)
   unfolding try_move
-  move-bare s from to len is_tee = move_row-bare s from to is_tee (move_case (source_of s from from.description.node) (target_of s to to.description.node) len)
+  move-bare s from to len is_tee = at (is_packet_pipe s from.description.node || is_packet_pipe s to.description.node)
+    where
+      at : (packets : Bool) → IsBare (cond packets (Done s still (Fault EINVAL)) (move_row s from to is_tee (move_case (source_of s from from.description.node) (target_of s to to.description.node) len)))
+      at true = refl
+      at false = move_row-bare s from to is_tee (move_case (source_of s from from.description.node) (target_of s to to.description.node) len)
 
   opened_by-bare : (s : Core A K) (pid : ℕ) (d : K.Description) (place : Option ℕ) → IsBare (opened_by s pid d place)
   opened_by-bare s pid d None = refl
@@ -160,7 +164,7 @@ module _ {A : Type 0} {K : Keys} where
   unfolding try
   try-bare s w (Call.Read fd n) may_wait other = absurd other
   try-bare s w (Call.Poll entries wait) may_wait other = absurd other
-  try-bare s w (Call.Pipe nonblock) may_wait other = refl
+  try-bare s w (Call.Pipe nonblock direct) may_wait other = refl
   try-bare s w (Call.Mkfifo name) may_wait other = refl
   try-bare s w (Call.OpenName name mode flags) may_wait other = try_open-bare s w
   try-bare s w (Call.Write fd bytes) may_wait other = bare_kept s _ _ (λ o. write_node-bare s o.key o.description o.description.node bytes w.taken may_wait)
@@ -187,7 +191,7 @@ module _ {A : Type 0} {K : Keys} where
   unfolding try
   try-sizes s w (Call.Read fd n) = read_kept-sizes s (kept_at s w.kept 0) n
   try-sizes s w (Call.Poll entries wait) = poll-sizes s entries w.kept true
-  try-sizes s w (Call.Pipe nonblock) = try-bare s w (Call.Pipe nonblock) true tt
+  try-sizes s w (Call.Pipe nonblock direct) = try-bare s w (Call.Pipe nonblock direct) true tt
   try-sizes s w (Call.Mkfifo name) = try-bare s w (Call.Mkfifo name) true tt
   try-sizes s w (Call.OpenName name mode flags) = try-bare s w (Call.OpenName name mode flags) true tt
   try-sizes s w (Call.Write fd bytes) = try-bare s w (Call.Write fd bytes) true tt
@@ -234,7 +238,7 @@ module _ {A : Type 0} {K : Keys} where
   unfolding begin begin_pipe begin_mkfifo begin_open_name begin_write begin_splice begin_tee begin_dup begin_dup2 begin_dup_fd begin_close begin_lseek begin_get_fl begin_set_fl begin_get_pipe_sz begin_set_pipe_sz begin_unlink begin_fork
   begin-bare new s pid (Call.Read fd n) other = absurd other
   begin-bare new s pid (Call.Poll entries wait) other = absurd other
-  begin-bare new s pid (Call.Pipe nonblock) other = search (ways, refusable) depth 14
+  begin-bare new s pid (Call.Pipe nonblock direct) other = search (ways, refusable) depth 14
   begin-bare new s pid (Call.Mkfifo name) other = search (ways, refusable) depth 14
   begin-bare new s pid (Call.OpenName name mode flags) other = search (ways, refusable, open_named-bare) depth 14
   begin-bare new s pid (Call.Write fd bytes) other = search (ways, refusable, tries-bare) depth 14
@@ -320,7 +324,7 @@ module _ {A : Type 0} {K : Keys} where
   begun-sizes : (new : NewKeys K) (s : Core A K) (pid : ℕ) (call : Call A) → s.processes pid ≡ true → sizes_of (drawn new (core_step s (Begin pid call))).reply ≡ sizes_begun s pid call
   begun-sizes new s pid (Call.Read fd n) process = led new s pid (Call.Read fd n) _ process (begin_read-sizes new s pid fd n)
   begun-sizes new s pid (Call.Poll entries wait) process = begin_poll-sizes new s pid entries wait process
-  begun-sizes new s pid (Call.Pipe nonblock) process = led-bare new s pid (Call.Pipe nonblock) process tt
+  begun-sizes new s pid (Call.Pipe nonblock direct) process = led-bare new s pid (Call.Pipe nonblock direct) process tt
   begun-sizes new s pid (Call.Mkfifo name) process = led-bare new s pid (Call.Mkfifo name) process tt
   begun-sizes new s pid (Call.OpenName name mode flags) process = led-bare new s pid (Call.OpenName name mode flags) process tt
   begun-sizes new s pid (Call.Write fd bytes) process = led-bare new s pid (Call.Write fd bytes) process tt
@@ -370,7 +374,7 @@ module _ {A : Type 0} {K : Keys} where
   frugal-call : (s : Core A K) (pid : ℕ) (call : Call A) → is_frugal_call call ≡ true → sizes_begun s pid call ≡ no_list
   frugal-call s pid (Call.Read fd n) h = absurd (cc)
   frugal-call s pid (Call.Poll entries wait) h = absurd (cc)
-  frugal-call s pid (Call.Pipe nonblock) h = refl
+  frugal-call s pid (Call.Pipe nonblock direct) h = refl
   frugal-call s pid (Call.Mkfifo name) h = refl
   frugal-call s pid (Call.OpenName name mode flags) h = refl
   frugal-call s pid (Call.Write fd bytes) h = refl

@@ -39,7 +39,7 @@ fn begin<A: Allocator + Copy>(
     ensures frugal { is_frugal_call call ≡ true → IsOk result }
 {
     match call {
-        Call::Pipe { nonblock } => pipe(kernel, pid, nonblock),
+        Call::Pipe { nonblock, direct } => pipe(kernel, pid, nonblock, direct),
         Call::Mkfifo { name } => mkfifo(kernel, pid, &name),
         Call::OpenName { name, mode, flags } => open_name(kernel, pid, name, mode, flags),
         Call::Read { fd, n } => read(kernel, pid, fd, n),

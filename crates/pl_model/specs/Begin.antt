@@ -16,7 +16,7 @@ use Rattle.pl_model.specs.Flags.{has, creat, excl, trunc, append, nonblock, spli
 use Rattle.pl_model.specs.Keys.{Keys, Node, NewKeys, Draws, PipeNode, FileNode}
 use Rattle.pl_model.specs.State.{Core, Description, Open, described, named, can_name, can_wait, row, set_file, set_pipe, set_description, pipe_made}
 use Rattle.pl_model.specs.Live.{live_count}
-use Rattle.pl_model.specs.Packets.{used, is_byte_queue}
+use Rattle.pl_model.specs.Packets.{used}
 use Rattle.pl_model.specs.Trial.{Begins, Begun, Answered, Tried, pipe_at, answered, tried, refuse_if, found}
 use Rattle.pl_model.specs.Transfer.{count, file_at, moved_to}
 use Rattle.pl_model.specs.Capacity.{rounded_capacity, pipe_of, set_capacity}
@@ -92,11 +92,6 @@ module _ {A : Type 0} {K : Keys} where
   -- what the descriptor names
   abbrev pub open_fd : Core A K → ℕ → ℤ → Option (Open K)
   open_fd s pid fd = option_and_then (described s) (row s pid fd)
-
-  -- pipe(2), O_DIRECT: the node is a packet pipe
-  abbrev pub is_packet_pipe : Core A K → Node K → Bool
-  is_packet_pipe s (PipeNode p) = not (is_byte_queue (pipe_at s p))
-  is_packet_pipe s (FileNode f) = false
 
   abbrev pub open_for : (Mode → Bool) → Core A K → ℕ → ℤ → Option (Open K)
   open_for test s pid fd = allowed test (open_fd s pid fd)
@@ -188,8 +183,7 @@ module _ {A : Type 0} {K : Keys} where
       else tried s (o.key ∷ []) false (may_block o.description))
 
   -- splice(2): EBADF; ESPIPE of an offset that is given for a pipe; EINVAL of one that is too large, of two files, of the same pipe,
-  -- and of a file that is open with O_APPEND. That a splice of 0 bytes is answered before all else, and that one of a packet pipe is
-  -- EINVAL, is our own choice.
+  -- and of a file that is open with O_APPEND. That a splice of 0 bytes is answered before all else is our own choice.
   unfoldable pub begin_splice : Core A K → ℕ → (from : ℤ) → (from_offset : Option ℕ) → (to : ℤ) → (to_offset : Option ℕ) → (len : ℕ) → SpliceFlags → Begins A K
   begin_splice s pid from from_offset to to_offset len flags =
       if len == 0 then answered s (count 0) else
@@ -201,12 +195,11 @@ module _ {A : Type 0} {K : Keys} where
       (refuse_if (is_too_far from_offset || is_too_far to_offset) EINVAL
       (refuse_if (not (is_pipe a.node) && not (is_pipe b.node)) EINVAL
       (refuse_if (is_same_pipe a.node b.node) EINVAL
-      (refuse_if (is_packet_pipe s a.node || is_packet_pipe s b.node) EINVAL
       (refuse_if (not (is_pipe b.node) && has b.flags.0 append) EINVAL
-      (tried s (source.key ∷ target.key ∷ []) false (may_wait_between flags a b)))))))))
+      (tried s (source.key ∷ target.key ∷ []) false (may_wait_between flags a b))))))))
 
-  -- tee(2): EBADF; EINVAL of what is no pipe, and of the same pipe. That a tee of 0 bytes is answered before all else, and that one
-  -- of a packet pipe is EINVAL, is our own choice.
+  -- tee(2): EBADF; EINVAL of what is no pipe, and of the same pipe. That a tee of 0 bytes is answered before all else is our own
+  -- choice.
   unfoldable pub begin_tee : Core A K → ℕ → (from to : ℤ) → (len : ℕ) → SpliceFlags → Begins A K
   begin_tee s pid from to len flags =
       if len == 0 then answered s (count 0) else
@@ -216,8 +209,7 @@ module _ {A : Type 0} {K : Keys} where
       let b = target.description in
       refuse_if (not (is_pipe a.node && is_pipe b.node)) EINVAL
       (refuse_if (is_same_pipe a.node b.node) EINVAL
-      (refuse_if (is_packet_pipe s a.node || is_packet_pipe s b.node) EINVAL
-      (tried s (source.key ∷ target.key ∷ []) false (may_wait_between flags a b))))))
+      (tried s (source.key ∷ target.key ∷ []) false (may_wait_between flags a b)))))
 
   -- what the descriptors of a poll name, but for the negative ones
   abbrev pub named_by : Core A K → ℕ → List (ℤ × PollMask) → List (Option (Open K))

@@ -1,13 +1,14 @@
 -- Splice and tee: bytes that go from one description to another.
-use Rattle.std.specs.Prelude.{ℕ, ◌+◌, ◌-◌, Bool, true, false, not, ◌==◌, ◌&&◌, nat_lt, min, List, length, take, drop, Option, is_some, unwrap_or, if◌then◌else◌}
+use Rattle.std.specs.Prelude.{ℕ, ◌+◌, ◌-◌, Bool, true, false, not, ◌==◌, ◌&&◌, ◌||◌, nat_lt, min, List, length, take, drop, Option, is_some, unwrap_or, if◌then◌else◌}
 use Rattle.std.specs.declared.option.Option.TheVariants.{None, Some}
 use Rattle.pl_model.specs.declared.cases.Source.{Source}
 use Rattle.pl_model.specs.declared.cases.Target.{Target}
 use Rattle.pl_model.specs.declared.cases.MoveCase.{MoveCase}
 use Rattle.pl_model.specs.declared.replies.Reply.TheVariants.{Fault}
-use Rattle.pl_model.specs.declared.replies.Errno.TheVariants.{EFBIG, EPIPE}
+use Rattle.pl_model.specs.declared.replies.Errno.TheVariants.{EFBIG, EINVAL, EPIPE}
 use Rattle.pl_model.specs.Keys.{Keys, Node, PipeNode, FileNode}
 use Rattle.pl_model.specs.State.{Core, Description, Open, set_file}
+use Rattle.pl_model.specs.Packets.{is_byte_queue}
 use Rattle.pl_model.specs.Live.{readers, writers}
 use Rattle.pl_model.specs.Trial.{Trial, Done, Wait, still, pipe_at}
 use Rattle.pl_model.specs.Transfer.{room, put_bytes, count, file_at, moved_to}
@@ -109,7 +110,13 @@ module _ {A : Type 0} {K : Keys} where
   move_row s from to is_tee MoveCase.TooBig = Done s still (Fault EFBIG)
   move_row s from to is_tee (MoveCase.Moves k) = moved s from to is_tee (take k (bytes_from s from from.description.node))
 
-  -- splice(2), tee(2): one try, which moves, or copies, at most len bytes.
+  -- pipe(2), O_DIRECT: the node is a packet pipe.
+  abbrev pub is_packet_pipe : Core A K → Node K → Bool
+  is_packet_pipe s (PipeNode p) = not (is_byte_queue (pipe_at s p))
+  is_packet_pipe s (FileNode f) = false
+
+  -- splice(2), tee(2): one try, which moves, or copies, at most len bytes. That one of a packet pipe is EINVAL is our own choice.
   unfoldable pub try_move : Core A K → (from to : Side K) → (len : ℕ) → (is_tee : Bool) → Trial A K
   try_move s from to len is_tee =
-      move_row s from to is_tee (move_case (source_of s from from.description.node) (target_of s to to.description.node) len)
+      if is_packet_pipe s from.description.node || is_packet_pipe s to.description.node then Done s still (Fault EINVAL)
+      else move_row s from to is_tee (move_case (source_of s from from.description.node) (target_of s to to.description.node) len)

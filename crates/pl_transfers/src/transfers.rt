@@ -1,6 +1,6 @@
 //! Writes, what a descriptor names, and how pipes are made.
 ghost use Rattle.std.specs.Prelude.{◌≡◌, ◌≢◌, ◌≤◌, [], length, IfOk, OnErr, IsSome, IfSome, IfNone, None, Some};
-ghost use Rattle.pl_model.specs.Flags.{nonblock_if};
+ghost use Rattle.pl_model.specs.Flags.{nonblock_if, write_end_flags};
 ghost use Rattle.pl_model.specs.Modes.{writes};
 ghost use Rattle.pl_model.specs.Numbers.{most_bytes};
 ghost use Rattle.pl_model.specs.Transfer.{read_case, write_case, room};
@@ -40,7 +40,19 @@ fn flags_of(nonblock: bool) -> OpenFlags
     }
 }
 
-/// Makes a pipe, and opens its read end and its write end on the two least free descriptors (POSIX.1-2017, pipe; pipe2(2)).
+/// The status flags of the write end of a new pipe (pipe(2), O_DIRECT).
+fn flags_of_writer(nonblock: bool, direct: bool) -> OpenFlags
+    ensures { result ≡ write_end_flags nonblock direct }
+{
+    if direct {
+        flags_of(nonblock).union(OpenFlags::DIRECT)
+    } else {
+        flags_of(nonblock)
+    }
+}
+
+/// Makes a pipe, and opens its read end and its write end on the two least free descriptors (POSIX.1-2017, pipe; pipe(2)). With
+/// `direct` it is a packet pipe.
 ///
 /// The reply is the two, or `EMFILE` where fewer are free, or `ENFILE` above 4,094 descriptions. The only error is want of memory. All of
 /// these leave all as it was.
@@ -48,11 +60,12 @@ pub fn pipe<A: Allocator + Copy>(
     kernel: &mut KernelState<A>,
     pid: u32,
     nonblock: bool,
+    direct: bool,
 ) -> Result<Reply<A>, NoMemory>
     requires { IsProcess kernel.old pid }
-    ensures done { IfOk result (λ reply. MakesAtKeys kernel.old (Step.Begin pid (Call.Pipe nonblock)) reply kernel.new) }
+    ensures done { IfOk result (λ reply. MakesAtKeys kernel.old (Step.Begin pid (Call.Pipe nonblock direct)) reply kernel.new) }
     ensures undone { OnErr result (kernel.new ≡ kernel.old) }
-    ensures wanted { OnErr result (MayWantAtKeys {A = A} kernel.old (Step.Begin pid (Call.Pipe nonblock))) }
+    ensures wanted { OnErr result (MayWantAtKeys {A = A} kernel.old (Step.Begin pid (Call.Pipe nonblock direct))) }
 {
     let Some(first) = kernel.descs.lowest(pid, 0) else {
         return Ok(Reply::Fault(Errno::EMFILE));
@@ -66,9 +79,17 @@ pub fn pipe<A: Allocator + Copy>(
     let flags = flags_of(nonblock);
     let node = Node::Pipe(kernel.nodes.next_key());
     kernel.descs.reserve(node, 2)?;
-    kernel.nodes.make_pipe()?;
+    kernel.nodes.make(direct)?;
     open_at(&mut kernel.descs, pid, first, node, Mode::Read, flags);
-    open_at(&mut kernel.descs, pid, second, node, Mode::Write, flags);
+    let flags_of_writer = flags_of_writer(nonblock, direct);
+    open_at(
+        &mut kernel.descs,
+        pid,
+        second,
+        node,
+        Mode::Write,
+        flags_of_writer,
+    );
     Ok(Reply::Fds(first as i32, second as i32))
 }
 

@@ -13,7 +13,7 @@ use Rattle.pl_model.specs.declared.flags.OpenFlags.{OpenFlags}
 use Rattle.pl_model.specs.declared.flags.PollMask.{PollMask}
 use Rattle.pl_model.specs.declared.replies.Reply.{Reply}
 use Rattle.pl_model.specs.declared.replies.Reply.TheVariants.{Fault, NoProcess, NoCall, CallsSpent, Parked}
-use Rattle.pl_model.specs.declared.replies.Errno.TheVariants.{EAGAIN, EEXIST, EINTR, ENOSPC}
+use Rattle.pl_model.specs.declared.replies.Errno.TheVariants.{EAGAIN, EEXIST, EINTR, ENOSPC, EINVAL}
 use Rattle.pl_model.specs.declared.replies.Errno.{Errno}
 use Rattle.pl_model.specs.Numbers.{last_call}
 use Rattle.pl_model.specs.Map.{get}
@@ -23,7 +23,7 @@ use Rattle.pl_model.specs.State.{Core, Pipe, Description, Open, Waiting, named, 
 use Rattle.pl_model.specs.Settle.{settle}
 use Rattle.pl_model.specs.Trial.{Trial, Done, Wait, Flow, still, flowed, pipe_at, Begun, Begins, Refused, Answered, Tried, found, refuse_if}
 use Rattle.pl_model.specs.Transfer.{count, read_row, write_row, read_case, write_case, read_pipe, write_pipe, read_file, write_file, read_node, write_node}
-use Rattle.pl_model.specs.Splice.{Side, move_case, move_row, source_of, target_of, try_move}
+use Rattle.pl_model.specs.Splice.{Side, is_packet_pipe, move_case, move_row, source_of, target_of, try_move}
 use Rattle.pl_model.specs.Poll.{try_poll}
 use Rattle.pl_model.specs.Tables.{lowest, lowest_pid, describe}
 use Rattle.pl_model.specs.Flags.{status_flags}
@@ -113,7 +113,11 @@ module _ {A : Type 0} {K : Keys} where
 
   move-fair : (s : Core A K) (from to : Side K) (len : ℕ) (is_tee : Bool) → IsFair s (try_move s from to len is_tee)
   unfolding try_move
-  move-fair s from to len is_tee = move_row-fair s from to is_tee (move_case (source_of s from from.description.node) (target_of s to to.description.node) len)
+  move-fair s from to len is_tee = at (is_packet_pipe s from.description.node || is_packet_pipe s to.description.node)
+    where
+      at : (b : Bool) → IsFair s (cond b (Done s still (Fault EINVAL)) (move_row s from to is_tee (move_case (source_of s from from.description.node) (target_of s to to.description.node) len)))
+      at true = (refl, refl)
+      at false = move_row-fair s from to is_tee (move_case (source_of s from from.description.node) (target_of s to to.description.node) len)
 
   poll-fair : (s : Core A K) (entries : List (ℤ × PollMask)) (kept : List K.Description) (may_wait : Bool) → IsFair s (try_poll s entries kept may_wait)
   unfolding try_poll

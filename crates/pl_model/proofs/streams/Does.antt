@@ -1,9 +1,10 @@
 -- What one step does to the parked calls, and whose bytes it moves.
 use Rattle.std.proofs.lemmas.Bool.{eqb-true}
 use Rattle.std.proofs.Common.{◌≡◌, ℕ, ℤ, ◌+◌, Bool, true, false, cond, Option, List, [], ◌∷◌, ◌++◌, length, refl, sym, ◌∙◌, ap, subst, nat_eq, arith}
-use Rattle.std.specs.Prelude.{◌==◌, nat_lt, not, map, ◌&&◌}
+use Rattle.std.specs.Prelude.{◌==◌, nat_lt, not, map, ◌&&◌, ◌||◌}
 use Rattle.std.specs.declared.option.Option.TheVariants.{None, Some}
 use Rattle.std.specs.List.{filter}
+use Rattle.pl_model.specs.declared.replies.Errno.TheVariants.{EINVAL}
 use Rattle.pl_model.specs.declared.calls.Call.{Call}
 use Rattle.pl_model.specs.declared.calls.Step.{Step}
 use Rattle.pl_model.specs.declared.calls.Step.TheVariants.{Start, Begin, Resume, Interrupt}
@@ -12,7 +13,7 @@ use Rattle.pl_model.specs.declared.cases.WriteCase.{WriteCase}
 use Rattle.pl_model.specs.declared.cases.MoveCase.{MoveCase}
 use Rattle.pl_model.specs.declared.flags.PollMask.{PollMask}
 use Rattle.pl_model.specs.declared.replies.Reply.{Reply}
-use Rattle.pl_model.specs.declared.replies.Reply.TheVariants.{NoProcess, CallsSpent, Parked}
+use Rattle.pl_model.specs.declared.replies.Reply.TheVariants.{NoProcess, CallsSpent, Parked, Fault}
 use Rattle.pl_model.specs.Numbers.{last_call}
 use Rattle.pl_model.specs.Map.{Map, get, put, EachOnce}
 use Rattle.pl_model.specs.Keys.{Node, NewKeys, Plain, Draws, PipeNode, FileNode, drawn, drawing_map}
@@ -20,7 +21,7 @@ use Rattle.pl_model.specs.State.{Core, Description, Open, Waiting, can_wait}
 use Rattle.pl_model.specs.Live.{readers}
 use Rattle.pl_model.specs.Trial.{Trial, Done, Wait, Flow, still, flowed, lost, gained, pipe_at, Begun, Begins, Refused, Answered, Tried}
 use Rattle.pl_model.specs.Transfer.{room, read_case, read_row, read_pipe, read_file, write_case, write_row, write_pipe, write_file, write_node, read_node}
-use Rattle.pl_model.specs.Splice.{Side, move_case, move_row, source_of, target_of, try_move}
+use Rattle.pl_model.specs.Splice.{Side, is_packet_pipe, move_case, move_row, source_of, target_of, try_move}
 use Rattle.pl_model.specs.Poll.{try_poll}
 use Rattle.pl_model.specs.Tables.{lowest, lowest_pid}
 use Rattle.pl_model.specs.Fifo.{meets}
@@ -192,7 +193,11 @@ module _ {A : Type 0} where
 
   move_fine : (s : Core A numbers) (from to : Side numbers) (len : ℕ) (is_tee : Bool) (call : Call A) → HasTaken call 0 → TrialFine call (try_move s from to len is_tee)
   unfolding try_move
-  move_fine s from to len is_tee call has = move_row_fine s from to is_tee (move_case (source_of s from from.description.node) (target_of s to to.description.node) len) call has
+  move_fine s from to len is_tee call has = at (is_packet_pipe s from.description.node || is_packet_pipe s to.description.node)
+    where
+      at : (packets : Bool) → TrialFine call (cond packets (Done s still (Fault EINVAL)) (move_row s from to is_tee (move_case (source_of s from from.description.node) (target_of s to to.description.node) len)))
+      at true = refl
+      at false = move_row_fine s from to is_tee (move_case (source_of s from from.description.node) (target_of s to to.description.node) len) call has
 
   poll_fine : (s : Core A numbers) (entries : List (ℤ × PollMask)) (kept : List ℕ) (may_wait : Bool) (call : Call A) → HasTaken call 0 → TrialFine call (try_poll s entries kept may_wait)
   unfolding try_poll

@@ -1,9 +1,11 @@
 -- Splices and tees over a run.
 use Rattle.std.proofs.Common.{◌≡◌, ◌≢◌, ℕ, ℤ, Bool, true, false, cond, Option, List, [], ◌++◌, length, refl, sym, ◌∙◌, ap, subst, nat_eq, take}
-use Rattle.std.specs.Prelude.{IfSome}
+use Rattle.std.specs.Prelude.{IfSome, ◌||◌}
 use Rattle.std.specs.declared.option.Option.TheVariants.{None, Some}
 use Rattle.std.proofs.lemmas.List.{length-take, take_min}
 use Rattle.std.proofs.lemmas.Bool.{eq-eqb}
+use Rattle.pl_model.specs.declared.replies.Reply.TheVariants.{Fault}
+use Rattle.pl_model.specs.declared.replies.Errno.TheVariants.{EINVAL}
 use Rattle.pl_model.specs.declared.calls.Call.{Call}
 use Rattle.pl_model.specs.declared.calls.Step.{Step}
 use Rattle.pl_model.specs.declared.cases.MoveCase.{MoveCase}
@@ -12,7 +14,7 @@ use Rattle.pl_model.specs.Map.{get}
 use Rattle.pl_model.specs.Keys.{Node, PipeNode, FileNode}
 use Rattle.pl_model.specs.State.{Core, Open, Waiting}
 use Rattle.pl_model.specs.Trial.{Trial, Done, Wait, Flow, still}
-use Rattle.pl_model.specs.Splice.{Side, side, bytes_from, enters, leaves, move_case, move_row, source_of, target_of, try_move}
+use Rattle.pl_model.specs.Splice.{Side, side, bytes_from, enters, leaves, is_packet_pipe, move_case, move_row, source_of, target_of, try_move}
 use Rattle.pl_model.specs.Step.{try, with_kept, with_both, kept_at}
 use Rattle.pl_model.specs.Numbered.{numbers, State}
 use Rattle.pl_model.specs.StandsFor.{IsBelowCounters}
@@ -109,7 +111,11 @@ module _ {A : Type 0} (p q : ℕ) (is_tee : Bool) (from to : Node numbers) where
 
   move_moves : (s : Core A numbers) (x y : Side numbers) (len : ℕ) → x.description.node ≡ from → y.description.node ≡ to → MoveTry s (try_move s x y len is_tee)
   unfolding try_move
-  move_moves s x y len a b = row_moves s x y (move_case (source_of s x x.description.node) (target_of s y y.description.node) len) a b
+  move_moves s x y len a b = at (is_packet_pipe s x.description.node || is_packet_pipe s y.description.node)
+    where
+      at : (packets : Bool) → MoveTry s (cond packets (Done s still (Fault EINVAL)) (move_row s x y is_tee (move_case (source_of s x x.description.node) (target_of s y y.description.node) len)))
+      at true = moves_none s
+      at false = row_moves s x y (move_case (source_of s x x.description.node) (target_of s y y.description.node) len) a b
 
   both_moves : (s : Core A numbers) (kept : List ℕ) (next : Open numbers → Open numbers → Trial A numbers) → KeepsBoth s kept from to →
       ((x y : Open numbers) → x.description.node ≡ from → y.description.node ≡ to → MoveTry s (next x y)) → MoveTry s (with_both s kept next)

@@ -13,14 +13,14 @@ use Rattle.pl_model.specs.declared.calls.Step.TheVariants.{Begin}
 use Rattle.pl_model.specs.declared.replies.Reply.TheVariants.{Fds, Fault}
 use Rattle.pl_model.specs.declared.replies.Errno.TheVariants.{EMFILE, ENFILE}
 use Rattle.pl_model.specs.Numbers.{open_max, most_descriptions}
-use Rattle.pl_model.specs.Flags.{nonblock_if}
+use Rattle.pl_model.specs.Flags.{nonblock_if, write_end_flags}
 use Rattle.pl_model.specs.Map.{set_at, EachOnce}
 use Rattle.std.specs.Cmp.Lexicographic.{pointwise}
 use Rattle.pl_model.specs.Keys.{Node as KeyNode}
 use Rattle.pl_model.specs.Keys.{NewKeys, Drawing, Draws, drawn}
 use Rattle.std.specs.Prelude.{All, slice_index_or}
 use Rattle.std.proofs.lemmas.List.Folds.{list_any_at}
-use Rattle.pl_model.specs.State.{Core, Waiting, Description, Pipe, empty_pipe}
+use Rattle.pl_model.specs.State.{Core, Waiting, Description, Pipe, pipe_made}
 use Rattle.pl_model.specs.Live.{live_count, in_rows}
 use Rattle.std.specs.List.{list_any}
 use Rattle.std.specs.Set.{is_member}
@@ -112,7 +112,7 @@ module _ {A : Type 0} (k : Contents A) (there : AreThere (at k.opened) k.nodes) 
       off None h = tt
       off (Some o) h = differ o.node h
 
-module _ {A : Type 0} (m : Caller A) (nonblock : Bool) where
+module _ {A : Type 0} (m : Caller A) (nonblock direct : Bool) where
   open m use {kernel, descs, nodes, calls, limits, sound, are, pid, process}
 
   abbrev k : Contents A
@@ -122,7 +122,7 @@ module _ {A : Type 0} (m : Caller A) (nonblock : Bool) where
   c = core_of k
 
   abbrev call : Call A
-  call = Call.Pipe nonblock
+  call = Call.Pipe nonblock direct
 
   abbrev x : Step A
   x = Begin pid call
@@ -132,7 +132,7 @@ module _ {A : Type 0} (m : Caller A) (nonblock : Bool) where
   lowest-is least = refl
 
   abbrev makes : ℕ → ℕ → NewKeys numbers → Begun A numbers
-  makes first second new = Answered (make_pipe c new pid first second (nonblock_if nonblock)) (Fds (pos first) (pos second))
+  makes first second new = Answered (make_pipe c new pid first second direct (nonblock_if nonblock) (write_end_flags nonblock direct)) (Fds (pos first) (pos second))
 
   abbrev second_found : ℕ → Option ℕ → Begins A numbers
   second_found first o = found o EMFILE (λ second. refuse_if (nat_lt (most_descriptions - 2) (live_count c)) ENFILE (Draws (makes first second)))
@@ -185,8 +185,8 @@ module _ {A : Type 0} (m : Caller A) (nonblock : Bool) where
         -- the ends and the pipe stand under keys that were vacant
         module _ (p d d' : ℕ) (vacant_pipe : at k.nodes.pipes p ≡ None) (vacant : at k.opened d ≡ None) (vacant' : at k.opened d' ≡ None) (apart : d ≢ d') (descs' : Descs) (nodes' : Nodes) (pids : is_pid descs'.tables ≡ is_pid k.tables)
             (rows : row_at descs'.tables ≡ with_row (with_row (row_at k.tables) pid first (Some d)) pid second (Some d'))
-            (opened : at descs'.opened ≡ set_at nat_eq (set_at nat_eq (at k.opened) d (Some (fresh (node.Pipe p) mode.Read (nonblock_if nonblock)))) d' (Some (fresh (node.Pipe p) mode.Write (nonblock_if nonblock))))
-            (pipes_are : at nodes'.pipes ≡ set_at nat_eq (at k.nodes.pipes) p (Some empty_pipe)) (files_are : at nodes'.files ≡ at k.nodes.files) (names_are : nodes'.names ≡ k.nodes.names) (file_max_is : nodes'.file_max ≡ k.nodes.file_max) where
+            (opened : at descs'.opened ≡ set_at nat_eq (set_at nat_eq (at k.opened) d (Some (fresh (node.Pipe p) mode.Read (nonblock_if nonblock)))) d' (Some (fresh (node.Pipe p) mode.Write (write_end_flags nonblock direct))))
+            (pipes_are : at nodes'.pipes ≡ set_at nat_eq (at k.nodes.pipes) p (Some (pipe_made direct))) (files_are : at nodes'.files ≡ at k.nodes.files) (names_are : nodes'.names ≡ k.nodes.names) (file_max_is : nodes'.file_max ≡ k.nodes.file_max) where
           abbrev new : Contents A
           new = contents descs' nodes' calls limits
 
@@ -194,7 +194,7 @@ module _ {A : Type 0} (m : Caller A) (nonblock : Bool) where
           reader = fresh (node.Pipe p) mode.Read (nonblock_if nonblock)
 
           abbrev writer : Opened
-          writer = fresh (node.Pipe p) mode.Write (nonblock_if nonblock)
+          writer = fresh (node.Pipe p) mode.Write (write_end_flags nonblock direct)
 
           abbrev keys : NewKeys numbers
           keys = record { description = d; other_description = d'; pipe = p; file = length k.nodes.files }
@@ -219,7 +219,7 @@ module _ {A : Type 0} (m : Caller A) (nonblock : Bool) where
               no_row : (d : ℕ) → at k.opened d ≡ None → (q j : ℕ) → row_at k.tables q j ≡ Some d → ⊥
               no_row d v q j e = no_value (at k.opened d) v (are.tidy.named q j d e)
 
-          core_is : core_of {A = A} new ≡ make_pipe c keys pid first second (nonblock_if nonblock)
+          core_is : core_of {A = A} new ≡ make_pipe c keys pid first second direct (nonblock_if nonblock) (write_end_flags nonblock direct)
           unfolding core_of
           core_is = λ i. record {
             processes = pids i;
@@ -239,9 +239,9 @@ module _ {A : Type 0} (m : Caller A) (nonblock : Bool) where
                   ∙ map-set_at description_of (set_at nat_eq (at k.opened) d (Some reader)) d' (Some writer)
                   ∙ ap (λ (m : ℕ → Option (Description numbers)). set_at nat_eq m d' (Some (description_of writer))) (map-set_at description_of (at k.opened) d (Some reader))
 
-          high : core_of {A = A} new ≡ settle c (make_pipe c keys pid first second (nonblock_if nonblock))
+          high : core_of {A = A} new ≡ settle c (make_pipe c keys pid first second direct (nonblock_if nonblock) (write_end_flags nonblock direct))
           unfolding core_of
-          high = core_is ∙ sym (pipe-settled (core_of {A = A} k) sound.settled keys unused pid first second (nonblock_if nonblock)
+          high = core_is ∙ sym (pipe-settled (core_of {A = A} k) sound.settled keys unused pid first second direct (nonblock_if nonblock) (write_end_flags nonblock direct)
               (pid_in descs.tables pid process).0 (let h = (pid_in descs.tables pid process).1 in omega (arith, h, are.tidy.few)) process first_free.1 second_free.1 (λ e. absurd (omega (arith, second_free.2, e))) first_free.0 second_free.0)
 
           pipe-makes : MakesAtKeys k x (Fds (pos first) (pos second)) new
@@ -249,8 +249,8 @@ module _ {A : Type 0} (m : Caller A) (nonblock : Bool) where
 
           pipe-sound : IsSound A new
           pipe-sound =
-              let here : IsSome (at nodes'.pipes p) = subst (λ (m : ℕ → Option Pipe). IsSome (m p)) (sym pipes_are) (subst (λ o. IsSome o) (sym (at_key (at k.nodes.pipes) p (Some empty_pipe))) refl) in
-              let one = there-added (at k.opened) nodes' (there-put (at k.opened) nodes nodes' p empty_pipe pipes_are files_are names_are sound.there) d reader here in
+              let here : IsSome (at nodes'.pipes p) = subst (λ (m : ℕ → Option Pipe). IsSome (m p)) (sym pipes_are) (subst (λ o. IsSome o) (sym (at_key (at k.nodes.pipes) p (Some (pipe_made direct)))) refl) in
+              let one = there-added (at k.opened) nodes' (there-put (at k.opened) nodes nodes' p (pipe_made direct) pipes_are files_are names_are sound.there) d reader here in
               let both = there-added (set_at nat_eq (at k.opened) d (Some reader)) nodes' one d' writer here in
               record {
                 whole = record {
@@ -259,7 +259,7 @@ module _ {A : Type 0} (m : Caller A) (nonblock : Bool) where
                   there = subst (λ m. AreThere m nodes') (sym opened) both;
                   limit = file_max_is ∙ sound.limit;
                   once = subst (EachOnce (pointwise nat_eq)) (sym names_are) sound.once;
-                  settled = settled_after (core_of {A = A} new) c (make_pipe c keys pid first second (nonblock_if nonblock)) high;
+                  settled = settled_after (core_of {A = A} new) c (make_pipe c keys pid first second direct (nonblock_if nonblock) (write_end_flags nonblock direct)) high;
                 };
                 waiting = sound.waiting;
                 belong = belong-same calls.calls (is_pid k.tables) (is_pid new.tables) sound.belong pids;

@@ -7,7 +7,7 @@ use Rattle.pl_model.specs.declared.replies.Reply.TheVariants.{Fds}
 use Rattle.pl_model.specs.declared.node.Node.TheVariants as node
 use Rattle.pl_model.specs.Numbers.{most_descriptions, open_max}
 use Rattle.pl_model.specs.Map.{set_at}
-use Rattle.pl_model.specs.State.{empty_pipe}
+use Rattle.pl_model.specs.State.{pipe_made}
 use Rattle.pl_desc.specs.Rows.{Tables, at, is_pid, row_at, with_row, count_at, lowest_of}
 use Rattle.pl_desc.specs.Descs.{Descs, fresh, live_count}
 use Rattle.pl_state.specs.Contents.{contents, nodes_of}
@@ -38,7 +38,7 @@ module _ (g : Over) (c : In-Some g) where
   at_first = sym c.lowest.ensures ∙ c.in-Some.is
 
   free_first : (row_at tables c.args.pid c.in-Some.first ≡ None) × (c.in-Some.first < open_max)
-  free_first = first_free caller_first c.args.nonblock c.in-Some.first at_first
+  free_first = first_free caller_first c.args.nonblock c.args.direct c.in-Some.first at_first
 
 -- the second free descriptor
 module _ (g : Over) (c : In-Some-lowest g) where
@@ -49,19 +49,19 @@ module _ (g : Over) (c : In-Some-lowest g) where
   at_second = sym c.lowest-2.ensures ∙ c.in-Some-lowest.is
 
   free_second : (row_at (tables g with_first) c.args.pid c.in-Some-lowest.second ≡ None) × (c.in-Some-lowest.second < open_max) × (c.in-Some.first < c.in-Some-lowest.second)
-  free_second = second_free (caller_first g with_first) c.args.nonblock c.in-Some.first (at_first g with_first) c.in-Some-lowest.second at_second
+  free_second = second_free (caller_first g with_first) c.args.nonblock c.args.direct c.in-Some.first (at_first g with_first) c.in-Some-lowest.second at_second
 
 -- there is room for two descriptions, so memory may be wanted
-wants : (g : Over) (c : Else-live g) → (live_count c.kernel.inside.descs.opened ≤ most_descriptions - 2) × (MayWantAtKeys (view_of c.kernel.inside) (Begin c.args.pid (Call.Pipe c.args.nonblock)))
+wants : (g : Over) (c : Else-live g) → (live_count c.kernel.inside.descs.opened ≤ most_descriptions - 2) × (MayWantAtKeys (view_of c.kernel.inside) (Begin c.args.pid (Call.Pipe c.args.nonblock c.args.direct)))
 wants g c =
     let w = c.before.before in
     let few : live_count c.kernel.inside.descs.opened ≤ most_descriptions - 2 = omega (arith, c.live.ensures.value, c.if-live.false) in
-    (few, pipe-wants (caller_first g (with_first g w)) c.args.nonblock c.in-Some.first (at_first g (with_first g w)) c.in-Some-lowest.second (at_second g w) few)
+    (few, pipe-wants (caller_first g (with_first g w)) c.args.nonblock c.args.direct c.in-Some.first (at_first g (with_first g w)) c.in-Some-lowest.second (at_second g w) few)
 
 pub returns-in_default-clause-done : goal.returns-in_default-clause-done
 returns-in_default-clause-done g c =
     let m = calls g (goal.at.returns-in_default-clause-done g c).After-kernel in
-    rw (← c.kernel.view_is) (pipe-none m c.args.nonblock (sym c.lowest.ensures ∙ c.in_default.is))
+    rw (← c.kernel.view_is) (pipe-none m c.args.nonblock c.args.direct (sym c.lowest.ensures ∙ c.in_default.is))
 
 pub overflow_add-first : goal.overflow_add-first
 overflow_add-first g c = omega (arith, (free_first g c).1)
@@ -72,24 +72,24 @@ lowest-requires-2-clause-least g c = omega (arith, (free_first g c).1)
 pub returns-in_default-lowest-clause-done : goal.returns-in_default-lowest-clause-done
 returns-in_default-lowest-clause-done g c =
     let w = (goal.at.returns-in_default-lowest-clause-done g c).In-Some in
-    rw (← c.kernel.view_is) (pipe-one (caller_first g w) c.args.nonblock c.in-Some.first (at_first g w) (sym c.lowest-2.ensures ∙ c.in_default-lowest.is))
+    rw (← c.kernel.view_is) (pipe-one (caller_first g w) c.args.nonblock c.args.direct c.in-Some.first (at_first g w) (sym c.lowest-2.ensures ∙ c.in_default-lowest.is))
 
 pub returns-then-live-clause-done : goal.returns-then-live-clause-done
 returns-then-live-clause-done g c =
     let w = (goal.at.returns-then-live-clause-done g c).In-Some-lowest in
     let v = with_first g w in
     let many : most_descriptions - 2 < live_count c.kernel.inside.descs.opened = omega (arith, c.live.ensures.value, c.if-live.true) in
-    rw (← c.kernel.view_is) (pipe-many (caller_first g v) c.args.nonblock c.in-Some.first (at_first g v) c.in-Some-lowest.second (at_second g w) many)
+    rw (← c.kernel.view_is) (pipe-many (caller_first g v) c.args.nonblock c.args.direct c.in-Some.first (at_first g v) c.in-Some-lowest.second (at_second g w) many)
 
 pub returns-in_err-reserve-clause-wanted : goal.returns-in_err-reserve-clause-wanted
 returns-in_err-reserve-clause-wanted g c =
     let w = (goal.at.returns-in_err-reserve-clause-wanted g c).Else-live in
     on_err c.from_residual.result _ (rw (← c.kernel.view_is) (wants g w).1)
 
-pub returns-in_err-make_pipe-clause-wanted : goal.returns-in_err-make_pipe-clause-wanted
-returns-in_err-make_pipe-clause-wanted g c =
-    let w = (goal.at.returns-in_err-make_pipe-clause-wanted g c).Else-live in
-    on_err c.from_residual-in_err-make_pipe.result _ (rw (← c.kernel.view_is) (wants g w).1)
+pub returns-in_err-make-clause-wanted : goal.returns-in_err-make-clause-wanted
+returns-in_err-make-clause-wanted g c =
+    let w = (goal.at.returns-in_err-make-clause-wanted g c).Else-live in
+    on_err c.from_residual-in_err-make.result _ (rw (← c.kernel.view_is) (wants g w).1)
 
 pub open_at-requires-clause-place : goal.open_at-requires-clause-place
 open_at-requires-clause-place g c = (free_first g (goal.at.open_at-requires-clause-place g c).In-Some).1
@@ -122,26 +122,27 @@ overflow_cast-result-2 g c = fits_place c.in-Some-lowest.second (free_second g (
 -- what making the pipe and both its ends comes to
 made : (g : Over) (c : After-open_at-2 g) → lowest_of c.kernel.inside.descs.tables c.args.pid 0 ≡ Some c.in-Some.first → lowest_of c.kernel.inside.descs.tables c.args.pid (c.in-Some.first + 1) ≡ Some c.in-Some-lowest.second
     → live_count c.kernel.inside.descs.opened ≤ most_descriptions - 2
-    → (IsSound g.row.A.Denot (contents c.open_at-2.new.descs (nodes_of c.make_pipe.new.self) c.kernel.inside.parked c.kernel.inside.limits)) × (AreCounted g.row.A.Denot c.open_at-2.new.descs c.kernel.inside.parked.calls)
-    × (MakesAtKeys (view_of c.kernel.inside) (Begin c.args.pid (Call.Pipe c.args.nonblock)) (Fds (pos c.in-Some.first) (pos c.in-Some-lowest.second)) (contents c.open_at-2.new.descs (nodes_of c.make_pipe.new.self) c.kernel.inside.parked c.kernel.inside.limits))
+    → (IsSound g.row.A.Denot (contents c.open_at-2.new.descs (nodes_of c.make.new.self) c.kernel.inside.parked c.kernel.inside.limits)) × (AreCounted g.row.A.Denot c.open_at-2.new.descs c.kernel.inside.parked.calls)
+    × (MakesAtKeys (view_of c.kernel.inside) (Begin c.args.pid (Call.Pipe c.args.nonblock c.args.direct)) (Fds (pos c.in-Some.first) (pos c.in-Some-lowest.second)) (contents c.open_at-2.new.descs (nodes_of c.make.new.self) c.kernel.inside.parked c.kernel.inside.limits))
 made g c first second few =
     let m = caller c.kernel.inside c.kernel.invariant c.args.kernel.now c.kernel.view_is c.args.pid c.requires in
     let kept = c.reserve.ensures.kept in
     let d = c.open_at.result in
     let d' = c.open_at-2.result in
     let p = c.next_key.result in
-    let same : c.in_ok-make_pipe.field-0 ≡ p = c.in_ok-make_pipe.ensures.key ∙ sym c.next_key.ensures in
-    let vacant_pipe = subst (λ q. at m.nodes.pipes q ≡ None) same c.in_ok-make_pipe.ensures.vacant.0 in
-    let made = subst (λ q. at c.make_pipe.new.self.pipes ≡ set_at nat_eq (at m.nodes.pipes) q (Some empty_pipe)) same c.in_ok-make_pipe.ensures.ok in
+    let same : c.in_ok-make.field-0 ≡ p = c.in_ok-make.ensures.key ∙ sym c.next_key.ensures in
+    let vacant_pipe = subst (λ q. at m.nodes.pipes q ≡ None) same c.in_ok-make.ensures.vacant.0 in
+    let made = subst (λ q. at c.make.new.self.pipes ≡ set_at nat_eq (at m.nodes.pipes) q (Some (pipe_made c.args.direct))) same c.in_ok-make.ensures.ok in
     let flags = c.flags_of-flags.ensures in
+    let writer_flags = c.flags_of_writer-flags_of_writer.ensures in
     let vacant : at m.descs.opened d ≡ None = ap (λ (z : Descs). at z.opened d) (sym kept) ∙ c.open_at.ensures.vacant in
     let opened_one = c.open_at.ensures.opened ∙ (λ i. set_at nat_eq (at (kept i).opened) d (Some (fresh (node.Pipe p) mode.Read (flags i)))) in
     let other = vacant_other (at m.descs.opened) (at c.open_at.new.descs.opened) d d' _ opened_one c.open_at-2.ensures.vacant in
-    let opened_both = c.open_at-2.ensures.opened ∙ (λ i. set_at nat_eq (opened_one i) d' (Some (fresh (node.Pipe p) mode.Write (flags i)))) in
+    let opened_both = c.open_at-2.ensures.opened ∙ (λ i. set_at nat_eq (opened_one i) d' (Some (fresh (node.Pipe p) mode.Write (writer_flags i)))) in
     let rows = c.open_at-2.ensures.rows ∙ ap (λ z. with_row z c.args.pid c.in-Some-lowest.second (Some d')) (c.open_at.ensures.rows ∙ ap (λ (z : Descs). with_row (row_at z.tables) c.args.pid c.in-Some.first (Some d)) kept) in
     let pids = c.open_at-2.ensures.pids ∙ c.open_at.ensures.pids ∙ ap (λ (z : Descs). is_pid z.tables) kept in
     let same_ends : (q : ℕ) → count_at c.open_at-2.new.descs.loose q ≡ count_at m.descs.loose q = λ q. (λ i. c.open_at-2.ensures.loose i q) ∙ (λ i. c.open_at.ensures.loose i q) ∙ ap (λ (z : Descs). count_at z.loose q) kept in
-    let both = pipe-made m c.args.nonblock c.in-Some.first first c.in-Some-lowest.second second few p d d' vacant_pipe vacant other.0 other.1 c.open_at-2.new.descs (nodes_of c.make_pipe.new.self) pids rows opened_both made c.in_ok-make_pipe.ensures.files c.in_ok-make_pipe.ensures.names c.in_ok-make_pipe.ensures.file_max in
+    let both = pipe-made m c.args.nonblock c.args.direct c.in-Some.first first c.in-Some-lowest.second second few p d d' vacant_pipe vacant other.0 other.1 c.open_at-2.new.descs (nodes_of c.make.new.self) pids rows opened_both made c.in_ok-make.ensures.files c.in_ok-make.ensures.names c.in_ok-make.ensures.file_max in
     (both.0, record { tidy = c.open_at-2.ensures.tidy; counted = λ q. same_ends q ∙ m.are.counted q }, both.1)
 
 pub invariant_of-kernel-2 : goal.invariant_of-kernel-2
