@@ -25,7 +25,7 @@ pub record Cuts (lengths : List ℕ) (held : ℕ) : Type 0 where
 abbrev pub AreCut : Pipe → Type 0
 AreCut pipe = IfSome pipe.packets (λ lengths. Cuts lengths (length pipe.bytes))
 
--- a packet pipe, as all are in a state that a run comes to
+-- a packet pipe whose bytes are cut into packets, as those of each are in a state that a run comes to
 pub record IsPacketPipe (pipe : Pipe) : Type 0 where
   pub kind : is_byte_queue pipe ≡ false
   pub cut : AreCut pipe
