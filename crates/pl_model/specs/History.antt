@@ -4,7 +4,7 @@ use Rattle.pl_model.specs.declared.calls.Limits.{Limits}
 use Rattle.pl_model.specs.declared.calls.Step.{Step}
 use Rattle.pl_model.specs.declared.history.Entry.{Entry}
 use Rattle.pl_model.specs.declared.replies.Reply.{Reply}
-use Rattle.pl_model.specs.Numbered.{State, opening, step}
+use Rattle.pl_model.specs.Numbered.{State, opening}
 use Rattle.pl_model.specs.Run.{replies, state_after}
 
 module _ {A : Type 0} where

@@ -1,5 +1,5 @@
 -- Pipes in packet mode (pipe(2), O_DIRECT): a write makes packets, and a read takes one.
-use Rattle.std.specs.Prelude.{◌≡◌, ℕ, zero, suc, ◌+◌, ◌-◌, ◌*◌, ◌/◌, ◌%◌, Bool, nat_le, List, [], ◌∷◌, ◌++◌, length, take, drop, replicate, Option, option_map, is_none, if◌then◌else◌}
+use Rattle.std.specs.Prelude.{ℕ, zero, suc, ◌-◌, ◌*◌, ◌/◌, ◌%◌, Bool, nat_le, List, [], ◌∷◌, ◌++◌, length, take, drop, replicate, Option, option_map, is_none, if◌then◌else◌}
 use Rattle.std.specs.declared.option.Option.TheVariants.{None, Some}
 use Rattle.pl_model.specs.Numbers.{pipe_buf}
 use Rattle.pl_model.specs.State.{Pipe}

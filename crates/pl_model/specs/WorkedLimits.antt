@@ -1,5 +1,5 @@
 -- What the definitions answer in small examples at the limits that are chosen when a kernel is made.
-use Rattle.std.specs.Prelude.{◌≡◌, ℕ, pos, negsuc, [], ◌∷◌, List, true, false, replicate, codes, None}
+use Rattle.std.specs.Prelude.{◌≡◌, ℕ, pos, [], ◌∷◌, List, false, replicate, codes, None}
 use Rattle.pl_model.specs.declared.calls.Limits.{Limits}
 use Rattle.pl_model.specs.declared.calls.Mode.{Mode}
 use Rattle.pl_model.specs.declared.calls.Step.{Step}

@@ -4,6 +4,7 @@ ghost use Rattle.pl_model.specs.WorkedFiles.{EndOfAFile, BadNames, RefusalsOfAnO
 ghost use Rattle.pl_model.specs.WorkedCapacity.{SizesAreRoundedUp, OnlyPipesHaveACapacity, CapacityIsRoom, WaitingWriteGetsRoom, ScriptOfCapacities, LinesOfCapacities};
 ghost use Rattle.pl_model.specs.WorkedFifo.{UnusedFifoForgets, OpensWithoutTheOtherEnd, ReadersWaitForAWriter, InterruptedOpen, MetThoughClosed, LastOpenThatWaits, LinesOfFifos};
 ghost use Rattle.pl_model.specs.WorkedLimits.{NamesUpToTheLimit, WaitingCallsUpToTheLimit, NoCallMayWait, CapacitiesUpToTheLimit};
+ghost use Rattle.pl_model.specs.WorkedPackets.{SmallWritesStayApart, LongWriteIsCut, ReadDropsTheRest};
 ghost use Rattle.pl_model.specs.WorkedPoll.{PollsOfAPipe, EndsThatLeave, HangingUpAFifo, FilesAndBothEnds, PollsThatDontWait, PollsKeepTheirEnds, PollWithoutANumber, ScriptOfPolls, LinesOfPolls};
 ghost use Rattle.pl_model.specs.WorkedSpliceLines.{LinesOfSplices};
 ghost use Rattle.pl_model.specs.WorkedStream.{RunsInPieces};
@@ -57,6 +58,13 @@ pub fn capacities<A: Allocator>()
     ensures only_pipes_have_a_capacity { OnlyPipesHaveACapacity A }
     ensures capacity_is_room { CapacityIsRoom A }
     ensures waiting_write_gets_room { WaitingWriteGetsRoom A }
+{}
+
+/// What packet pipes hold after writes and reads.
+pub fn packet_pipes()
+    ensures small_writes_stay_apart { SmallWritesStayApart }
+    ensures long_write_is_cut { LongWriteIsCut }
+    ensures read_drops_the_rest { ReadDropsTheRest }
 {}
 
 /// FIFOs, their names and their ends.

@@ -1,5 +1,5 @@
 -- The stream law of whole runs.
-use Rattle.std.proofs.Common.{◌≡◌, Bool, true, false, List, ◌++◌, length, sym, ◌∙◌, ap, subst}
+use Rattle.std.proofs.Common.{Bool, true, false, List, ◌++◌, length, sym, ◌∙◌, ap, subst}
 use Rattle.pl_model.specs.declared.calls.Call.{Call}
 use Rattle.pl_model.specs.declared.calls.Step.{Step}
 use Rattle.pl_model.specs.Modes.{writes}

@@ -1,33 +1,31 @@
 -- Writes over a run.
-use Rattle.std.proofs.Common.{◌≡◌, ℕ, ℤ, ◌+◌, ◌-◌, ◌≤◌, Bool, true, false, cond, Option, List, [], ◌++◌, length, refl, sym, ◌∙◌, ap, subst, nat_eq, take, drop, arith}
-use Rattle.std.specs.Prelude.{nat_lt, slice_range, IfSome}
-use Rattle.std.specs.declared.option.Option.TheVariants.{None, Some}
+use Rattle.std.proofs.Common.{◌≡◌, ℕ, ℤ, ◌+◌, ◌-◌, ◌≤◌, Bool, true, false, cond, List, ◌++◌, length, refl, sym, ◌∙◌, ap, subst, nat_eq, take, drop, arith}
+use Rattle.std.specs.Prelude.{nat_lt, slice_range}
+use Rattle.std.specs.declared.option.Option.TheVariants.{Some}
 use Rattle.std.specs.List.{concat}
 use Rattle.std.proofs.lemmas.List.{drop-drop}
 use Rattle.std.proofs.lemmas.List.Folds.{concat-append}
 use Rattle.std.proofs.Math.Seq.{take-add}
 use Rattle.pl_model.specs.declared.calls.Call.{Call}
 use Rattle.pl_model.specs.declared.calls.Step.{Step}
-use Rattle.pl_model.specs.declared.cases.ReadCase.{ReadCase}
 use Rattle.pl_model.specs.declared.replies.Reply.TheVariants.{Fault}
 use Rattle.pl_model.specs.declared.replies.Errno.TheVariants.{EINTR}
 use Rattle.pl_model.specs.Numbers.{pipe_buf}
 use Rattle.pl_model.specs.Map.{get}
-use Rattle.pl_model.specs.Keys.{Node, PipeNode, FileNode}
-use Rattle.pl_model.specs.State.{Core, Description, Open, Waiting}
-use Rattle.pl_model.specs.Live.{writers}
-use Rattle.pl_model.specs.Trial.{Trial, Done, Wait, pipe_at}
-use Rattle.pl_model.specs.Transfer.{count, read_case, read_row, read_pipe, read_node}
-use Rattle.pl_model.specs.Step.{try, with_kept, kept_at}
+use Rattle.pl_model.specs.Keys.{PipeNode}
+use Rattle.pl_model.specs.State.{Core, Waiting}
+use Rattle.pl_model.specs.Trial.{Trial, Done, Wait}
+use Rattle.pl_model.specs.Transfer.{count}
+use Rattle.pl_model.specs.Step.{try}
 use Rattle.pl_model.specs.Numbered.{numbers, State}
 use Rattle.pl_model.specs.StandsFor.{IsBelowCounters}
-use Rattle.pl_model.specs.Stream.{held, into_pipe, out_of_pipe}
-use Rattle.pl_model.specs.Chunks.{OfCall, unless_empty, of, piece_added, pieces_left, pieces_from}
-use Rattle.pl_model.specs.Fates.{Fate, Answered, Interrupted, Dropped, Waits, fate, bytes_answered, taken_with}
+use Rattle.pl_model.specs.Stream.{into_pipe}
+use Rattle.pl_model.specs.Chunks.{OfCall, unless_empty, of, piece_added, pieces_from}
+use Rattle.pl_model.specs.Fates.{Fate, Interrupted, Dropped, Waits, fate, taken_with}
 use Rattle.pl_model.specs.InOrder.{AreInOrder, HasTaken}
 use Rattle.pl_model.specs.OnNodes.{Keeps}
 use Rattle.pl_model.specs.StreamLaw.{Adds}
-use Rattle.pl_model.proofs.streams.Writes.{WriteTry, write_try, adds_no, join_unless_empty, no_slice, same_number}
+use Rattle.pl_model.proofs.streams.Writes.{WriteTry, write_try, adds_no, join_unless_empty, no_slice}
 use Rattle.pl_model.proofs.streams.Nodes.{keeps_step}
 use Rattle.pl_model.proofs.streams.CallRuns.{Course, TrySays, course_run, interrupt_reply}
 
