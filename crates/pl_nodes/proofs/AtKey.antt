@@ -1,5 +1,5 @@
 -- A call on what is under one key, with the store of all.
-use Rattle.std.proofs.Common.{◌≡◌, ◌≤◌, ℕ, ◌<◌, ◌^◌, List, [], Option, Some, None, refl, sym, ◌∙◌, ap, subst, slice_set, length, map, set, inl, inr, arith}
+use Rattle.std.proofs.Common.{◌≡◌, ◌≤◌, ℕ, false, ◌<◌, ◌^◌, List, [], Option, Some, None, refl, sym, ◌∙◌, ap, subst, slice_set, length, map, set, inl, inr, arith}
 use Rattle.std.specs.Prelude.{option_map}
 use Rattle.std.proofs.lemmas.Bool.Decides.{eqb_tells}
 use Rattle.std.proofs.lemmas.List.{get_or-set_same, get_or-set_other}
@@ -12,14 +12,14 @@ use Rattle.pl_nodes.specs.declared.content.PipeNode.{PipeNode}
 use Rattle.pl_nodes.specs.declared.content.FileNode.{FileNode}
 use Rattle.pl_nodes.specs.declared.content.Content.{Content}
 use Rattle.pl_nodes.specs.declared.content.Content.TheVariants.{Pipe, File}
-use Rattle.pl_nodes.specs.Contents.{as_pipe, as_file}
 use Rattle.pl_nodes.specs.declared.nodes.Nodes.TheInside.{Inside}
+use Rattle.pl_nodes.specs.Contents.{as_pipe, as_file}
 use Rattle.pl_nodes.specs.Nodes.{Nodes, Shrinks, memory_of}
-use Rattle.pl_nodes.specs.NodesView.{pipe_in, file_in, slots_in, lists, names_of, one_if, AreNamed, view_of, IsSound}
+use Rattle.pl_nodes.specs.NodesView.{pipe_in, file_in, slots_in, lists, names_of, one_if, is_packet, named_packet, AreNamed, view_of, IsSound}
 use Rattle.pl_nodes.proofs.Keyed.{put-back, put-alike, within}
 use Rattle.pl_nodes.proofs.Lists.{lists-at, lists-length, lists-set, named-few}
 use Rattle.pl_nodes.proofs.Slices.{all-lost}
-use Rattle.pl_nodes.proofs.Named.{NamedAlike, put-named, named-none}
+use Rattle.pl_nodes.proofs.Named.{NamedAlike, put-named, put-plain, named-none}
 use Rattle.pl_nodes.proofs.OneChanged.{content-held, changed-shared}
 
 -- what turned out to be a pipe, or a file, stands there as that
@@ -60,11 +60,12 @@ module _ {A : Type 0} (k : Inside A) (key : ℕ) (old : Content A) (there : at k
     ]
 
     pub still-sound : Turns (segment_at k.store) (slots_in (Some old)) (segment_at store) (slots_in (Some new)) → length (slots_in (Some new)) ≤ most_file_bytes → NamedAlike (Some old) (Some new)
-        → store.room ≤ most_spare → IsSound (with_content store new)
-    still-sound turns few alike spare = record {
+        → is_packet (Some new) ≡ is_packet (Some old) → store.room ≤ most_spare → IsSound (with_content store new)
+    still-sound turns few alike kind spare = record {
       shared = changed-shared (segment_at k.store) k.contents.slots key old there sound.shared (segment_at store) (slots_in (Some new)) turns new refl;
       short = still-short few;
       named = put-named k.contents.slots key old new there alike k.names.entries sound.named;
+      plain = put-plain k.contents.slots key old new there alike kind sound.plain;
       most = sound.most;
       spare = spare;
     }
@@ -93,6 +94,7 @@ module _ {A : Type 0} (k : Inside A) (key : ℕ) (old : Content A) (there : at k
       shared = subst (λ m. AreShared m (lists (slice_set k.contents.slots key (Some new)))) (sym (ap at kept)) (subst (λ cs. AreShared (segment_at k.store) (lists cs)) (sym refused-contents) sound.shared);
       short = subst (λ cs. (q : ℕ) → length (slots_at (lists cs) q) ≤ most_file_bytes) (sym refused-contents) sound.short;
       named = subst (λ cs. AreNamed k.names.entries cs) (sym refused-contents) sound.named;
+      plain = subst (λ cs. (q : ℕ) → named_packet (at cs q) ≡ false) (sym refused-contents) sound.plain;
       most = sound.most;
       spare = spare;
     }
@@ -121,6 +123,7 @@ pub empty-sound : {A : Type 0} (k : Inside A) → k.store.held ≡ [] → k.stor
 empty-sound {A} k none spare nothing nobody most = record {
   shared = subst (λ cs. AreShared (segment_at k.store) (lists cs)) (sym nothing) (record { counted = λ key. ap (λ held. holders (at held) key) none; lie = λ q. tt });
   short = λ q. subst (λ cs. length (slots_at (lists cs) q) ≤ most_file_bytes) (sym nothing) (omega arith);
+  plain = λ q. ap (λ cs. named_packet (at cs q)) nothing;
   named = subst (λ es. AreNamed es k.contents.slots) (sym nobody) (subst (λ cs. AreNamed [] cs) (sym nothing) (λ n. ap one_if (sym (named-none A n))));
   most = most;
   spare = omega (arith, spare);

@@ -1,5 +1,5 @@
 -- What comes under a free key, and what goes.
-use Rattle.std.proofs.Common.{◌≡◌, ◌≤◌, ℕ, false, List, [], Some, None, sym, ◌∙◌, ap, subst, inl, inr, length, set, arith}
+use Rattle.std.proofs.Common.{◌≡◌, ◌≤◌, ℕ, false, List, [], Some, None, refl, sym, ◌∙◌, ap, subst, inl, inr, length, set, arith}
 use Rattle.std.proofs.lemmas.Bool.Decides.{eqb_tells}
 use Rattle.std.proofs.lemmas.List.{get_or-set_same, get_or-set_other}
 use Rattle.std.specs.declared.vec.Vec.{Vec}
@@ -15,9 +15,9 @@ use Rattle.slab.specs.Slab.{Slab, Updates}
 use Rattle.pl_nodes.specs.declared.content.Content.{Content}
 use Rattle.pl_nodes.specs.declared.nodes.Nodes.TheInside.{Inside}
 use Rattle.pl_nodes.specs.Nodes.{Nodes, Shrinks, memory_of}
-use Rattle.pl_nodes.specs.NodesView.{slots_in, lists, named_as, AreNamed, view_of, IsSound}
+use Rattle.pl_nodes.specs.NodesView.{slots_in, lists, named_as, named_packet, AreNamed, view_of, IsSound}
 use Rattle.pl_nodes.proofs.Slices.{all-lost}
-use Rattle.pl_nodes.proofs.Named.{NamedAlike, still-named, named-is}
+use Rattle.pl_nodes.proofs.Named.{NamedAlike, still-named, still-plain, named-is}
 use Rattle.pl_nodes.proofs.OneChanged.{pipes_seen, files_seen, seen-at, within-lists, gone-lists, gone-shared, new-lists, new-shared}
 
 module _ {A : Type 0} (k : Inside A) (sound : IsSound k) where
@@ -43,6 +43,7 @@ module _ {A : Type 0} (k : Inside A) (sound : IsSound k) where
       shared = gone-shared (segment_at k.store) (segment_at store) k.contents after key old there sound.shared turned u;
       short = λ q. subst (λ (xs : List Slice). length xs ≤ most_file_bytes) (sym (gone-lists (segment_at k.store) (segment_at store) k.contents after key old there sound.shared turned u q)) (gone-short q);
       named = still-named k.contents.slots after.slots key u.others (Some old) None there u.changed alike k.names.entries sound.named;
+      plain = still-plain k.contents.slots after.slots key u.others None u.changed refl sound.plain;
       most = sound.most;
       spare = spare;
     }
@@ -71,13 +72,14 @@ module _ {A : Type 0} (k : Inside A) (sound : IsSound k) where
     pub came-unnamed : NamedAlike None (Some new) → AreNamed k.names.entries after.slots
     came-unnamed alike = still-named before.slots after.slots key u.others None (Some new) free u.changed alike k.names.entries (subst (λ cs. AreNamed k.names.entries cs) (sym same) sound.named)
 
-    pub came-sound : (names : BTreeMap (Vec ℕ A) Node) → AreNamed names.entries after.slots → IsSound (record k { contents = after; names = names })
-    came-sound names named = record {
+    pub came-sound : (names : BTreeMap (Vec ℕ A) Node) → AreNamed names.entries after.slots → named_packet (Some new) ≡ false → IsSound (record k { contents = after; names = names })
+    came-sound names named is = record {
       shared = new-shared (segment_at k.store) before after key new free came-shared empty u;
       short = λ q.
           subst (λ (xs : List Slice). length xs ≤ most_file_bytes) (sym (new-lists (segment_at k.store) before after key new free came-shared empty u q ∙ ap (λ cs. slots_at (lists cs) q) same))
           (sound.short q);
       named = named;
+      plain = still-plain before.slots after.slots key u.others (Some new) u.changed is (subst (λ cs. (q : ℕ) → named_packet (at cs q) ≡ false) (sym same) sound.plain);
       most = sound.most;
       spare = sound.spare;
     }

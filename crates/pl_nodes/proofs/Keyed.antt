@@ -1,7 +1,7 @@
 -- Lists by key, and maps that change at one key.
 use Rattle.std.proofs.Common.{◌≡◌, ◌≢◌, ℕ, zero, suc, ◌<◌, Bool, true, false, List, [], ◌∷◌, Option, Some, None, refl, sym, ◌∙◌, ap, subst, inl, inr, nat_eq, length, map, slice_set, arith}
 use Rattle.std.proofs.Math.Path.{fun_ext}
-use Rattle.std.specs.Prelude.{if◌then◌else◌, option_map, Result, Ok, Err, IfOk, OnErr}
+use Rattle.std.specs.Prelude.{if◌then◌else◌, option_map, Result, Ok, Err, IfOk, OnErr, IfSome}
 use Rattle.std.proofs.lemmas.Bool.{eq-eqb, ne_eqb, eqb-true}
 use Rattle.std.proofs.lemmas.Bool.Decides.{eqb_tells}
 use Rattle.pl_model.specs.Map.{set_at, change_at}
@@ -93,3 +93,22 @@ at-other k q f m d = ap (λ b. if b then option_map f (m q) else m q) (ne_eqb k 
 
 pub other-still : {V : Type 0} (k q : ℕ) (f : V → V) (m n : ℕ → Option V) → n ≡ change_at k f m → k ≢ q → (P : Option V → Type 0) → P (m q) → P (n q)
 other-still k q f m n is d P h = subst P (sym (ap (λ (h : ℕ → Option _). h q) is ∙ at-other k q f m d)) h
+
+-- what follows from two facts of a `Some`
+pub if_both : {V : Type 0} {P Q R : V → Type 0} (o : Option V) → ((x : V) → P x → Q x → R x) → IfSome o P → IfSome o Q → IfSome o R
+if_both None f p q = tt
+if_both (Some x) f p q = f x p q
+
+-- changes that agree at the key
+same-map : {V : Type 0} (f g : V → V) (o : Option V) → IfSome o (λ x. f x ≡ g x) → option_map f o ≡ option_map g o
+same-map f g None same = refl
+same-map f g (Some x) same = ap (λ y. Some y) same
+
+pub change-alike : {V : Type 0} (k : ℕ) (f g : V → V) (m : ℕ → Option V) → IfSome (m k) (λ x. f x ≡ g x) → change_at k f m ≡ change_at k g m
+change-alike k f g m same = fun_ext (λ q. at_q q)
+  where
+    at_q : (q : ℕ) → (if nat_eq k q then option_map f (m q) else m q) ≡ (if nat_eq k q then option_map g (m q) else m q)
+    at_q q = elim (eqb_tells k q) as (λ _. (if nat_eq k q then option_map f (m q) else m q) ≡ (if nat_eq k q then option_map g (m q) else m q)) [
+      | inl e ↦ ap (λ o. if nat_eq k q then o else m q) (same-map f g (m q) (subst (λ j. IfSome (m j) (λ x. f x ≡ g x)) e.1 same))
+      | inr e ↦ ap (λ b. if b then option_map f (m q) else m q) e.0 ∙ sym (ap (λ b. if b then option_map g (m q) else m q) e.0)
+    ]

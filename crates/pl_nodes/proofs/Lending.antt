@@ -1,11 +1,11 @@
 -- Slices of one pipe or file that are pushed on a pipe.
-use Rattle.pl_model.specs.Packets.{gain}
-use Rattle.std.proofs.Common.{◌≡◌, ℕ, ◌+◌, ◌-◌, ◌≤◌, ◌++◌, List, [], ◌∷◌, Some, None, sym, ◌∙◌, ap, subst, inl, inr, take, slice_set, arith}
-use Rattle.std.specs.Prelude.{IfSome}
+use Rattle.std.proofs.Common.{◌≡◌, ℕ, ◌+◌, ◌-◌, ◌≤◌, ◌++◌, List, [], ◌∷◌, Some, None, sym, ◌∙◌, ap, subst, inl, inr, take, length, slice_set, arith}
+use Rattle.std.specs.Prelude.{IfSome, option_map}
 use Rattle.std.proofs.lemmas.Bool.{cases_lt}
 use Rattle.std.proofs.lemmas.Bool.Decides.{eqb_tells}
 use Rattle.std.proofs.lemmas.List.{get_or-set_same}
 use Rattle.pl_model.specs.Map.{change_at}
+use Rattle.pl_model.specs.Packets.{piece_lengths, used_of, gain}
 use Rattle.pl_model.specs.Transfer.{room}
 use Rattle.pl_segments.specs.declared.slice.Slice.{Slice}
 use Rattle.pl_segments.specs.Segments.{Segments, segment_at, at}
@@ -14,15 +14,16 @@ use Rattle.pl_segments.specs.Turns.{Turns}
 use Rattle.pl_segments.specs.Slots.{total, drop_bytes, front_of}
 use Rattle.pl_segments.specs.Sharing.{slots_at}
 use Rattle.pl_segments.proofs.Fronting.{front-whole, front-part, front-none, front-lie, front-read}
-use Rattle.pl_ring.specs.Ring.{Ring}
 use Rattle.pl_ring.specs.Parts.{strange}
 use Rattle.pl_file.proofs.Editing.{lie-drop, drop-read}
+use Rattle.pl_nodes.specs.declared.queue.Queue.{Queue}
 use Rattle.pl_nodes.specs.declared.content.PipeNode.{PipeNode}
 use Rattle.pl_nodes.specs.declared.content.FileNode.{FileNode}
 use Rattle.pl_nodes.specs.declared.content.Content.TheVariants.{Pipe, File}
 use Rattle.pl_nodes.specs.declared.nodes.Nodes.TheInside.{Inside}
 use Rattle.pl_nodes.specs.Nodes.{Nodes, bytes_of, part_of}
 use Rattle.pl_nodes.specs.NodesView.{slots_in, lists, view_of, IsSound}
+use Rattle.pl_nodes.specs.Queue.{slots_of, capacity_of, packets_of}
 use Rattle.pl_nodes.proofs.Keyed.{within}
 use Rattle.pl_nodes.proofs.Lists.{lists-at}
 use Rattle.pl_nodes.proofs.Slices.{strange-front}
@@ -43,18 +44,18 @@ front-most n (x ∷ xs) = elim (cases_lt x.len n) as (λ _. total (front_of n (x
 
 module _ {A : Type 0} (k : Inside A) (sound : IsSound k) (flat : Nodes) (is : view_of k ≡ flat) where
   -- the first bytes of a pipe
-  module _ (from : ℕ) (s : PipeNode A) (there : at k.contents.slots from ≡ Some (Pipe s)) (count : ℕ) (slices : List Slice) (front : slices ≡ front_of count s.ring.slots) where
+  module _ (from : ℕ) (s : PipeNode A) (there : at k.contents.slots from ≡ Some (Pipe s)) (count : ℕ) (slices : List Slice) (front : slices ≡ front_of count (slots_of s.queue)) where
     pub front-lies : AllLie (segment_at k.store) slices
-    front-lies = subst (AllLie (segment_at k.store)) (sym front) (front-lie (segment_at k.store) s.ring.slots count (held k from (Pipe s) there sound).lie)
+    front-lies = subst (AllLie (segment_at k.store)) (sym front) (front-lie (segment_at k.store) (slots_of s.queue) count (held k from (Pipe s) there sound).lie)
 
     pub front-bytes : all_read (segment_at k.store) slices ≡ take count (bytes_of (at flat.pipes from))
     front-bytes =
         ap (all_read (segment_at k.store)) front
-        ∙ front-read (segment_at k.store) s.ring.slots count (held k from (Pipe s) there sound).lie
+        ∙ front-read (segment_at k.store) (slots_of s.queue) count (held k from (Pipe s) there sound).lie
         ∙ ap (λ o. take count (bytes_of o)) (sym (pipe-flat k from s there sound flat is))
 
     pub front-few : total slices ≤ count
-    front-few = subst (λ ys. total ys ≤ count) (sym front) (front-most count s.ring.slots)
+    front-few = subst (λ ys. total ys ≤ count) (sym front) (front-most count (slots_of s.queue))
 
   -- the bytes of a file from a place on
   module _ (from : ℕ) (f : FileNode A) (there : at k.contents.slots from ≡ Some (File f)) (place count : ℕ) (slices : List Slice) (part : slices ≡ front_of count (drop_bytes place f.file)) where
@@ -76,30 +77,31 @@ module _ {A : Type 0} (k : Inside A) (sound : IsSound k) (flat : Nodes) (is : vi
 
   -- they are pushed
   module _ (to : ℕ) (t : PipeNode A) (there : at k.contents.slots to ≡ Some (Pipe t)) (slices : List Slice) where
-    pub push-fits : (count : ℕ) → total slices ≤ count → IfSome (at flat.pipes to) (λ x. count ≤ room x) → total t.ring.slots ≤ t.ring.capacity
-        → total t.ring.slots + total slices ≤ t.ring.capacity
-    push-fits count few asked fits =
-        let told = pipe-told k to t there sound flat is (λ x. count ≤ room x) asked in
+    pub push-fits : (count : ℕ) → total slices ≤ count → IfSome (at flat.pipes to) (λ x. count ≤ room x) → total (slots_of t.queue) ≤ capacity_of t.queue
+        → packets_of t.queue ≡ None → total (slots_of t.queue) + total slices ≤ capacity_of t.queue
+    push-fits count few asked fits bytes =
+        let told : count ≤ capacity_of t.queue - length (all_read (segment_at k.store) (slots_of t.queue)) =
+        subst (λ o. count ≤ capacity_of t.queue - used_of o (length (all_read (segment_at k.store) (slots_of t.queue)))) bytes (pipe-told k to t there sound flat is (λ x. count ≤ room x) asked) in
         let sum = pipe-total k to t there sound flat is in
         omega (arith, few, told, sum, fits)
 
-    module _ (store : Segments) (ring : Ring) where
-      pub pushed-ok : (bytes : List ℕ) → all_read (segment_at k.store) slices ≡ bytes → Turns (segment_at k.store) t.ring.slots (segment_at store) ring.slots
-          → all_read (segment_at store) ring.slots ≡ all_read (segment_at k.store) t.ring.slots ++ all_read (segment_at k.store) slices → ring.capacity ≡ t.ring.capacity
-          → at (view_of (with_content k to (Pipe t) there sound store (Pipe (record t { ring = ring })))).pipes ≡ change_at to (gain bytes) (at flat.pipes)
-      pushed-ok bytes reads turns read capacity =
-          pipe-done k to t there sound flat is store (record t { ring = ring }) turns (gain bytes)
-          (λ i. record { bytes = (read ∙ ap (λ bs. all_read (segment_at k.store) t.ring.slots ++ bs) reads) i; packets = None; capacity = capacity i; hung = t.hung })
+    module _ (store : Segments) (q : Queue A) where
+      pub pushed-ok : (bytes : List ℕ) → all_read (segment_at k.store) slices ≡ bytes → Turns (segment_at k.store) (slots_of t.queue) (segment_at store) (slots_of q)
+          → all_read (segment_at store) (slots_of q) ≡ all_read (segment_at k.store) (slots_of t.queue) ++ all_read (segment_at k.store) slices → capacity_of q ≡ capacity_of t.queue → packets_of t.queue ≡ None → packets_of q ≡ None
+          → at (view_of (with_content k to (Pipe t) there sound store (Pipe (record t { queue = q })))).pipes ≡ change_at to (gain bytes) (at flat.pipes)
+      pushed-ok bytes reads turns read capacity was now =
+          pipe-done k to t there sound flat is store (record t { queue = q }) turns (gain bytes)
+          (λ i. record { bytes = (read ∙ ap (λ bs. all_read (segment_at k.store) (slots_of t.queue) ++ bs) reads) i; packets = (now ∙ sym (ap (option_map (λ lengths. lengths ++ piece_lengths (length bytes))) was)) i; capacity = capacity i; hung = t.hung })
 
-      pub pushed-parts : (from : ℕ) (s : PipeNode A) → at k.contents.slots from ≡ Some (Pipe s) → (count : ℕ) → slices ≡ front_of count s.ring.slots
-          → strange (t.ring.slots ++ slices) ring.slots ≤ 3
-          → strange (slots_at flat.slots to ++ slots_at flat.slots from) (slots_at (lists (slice_set k.contents.slots to (Some (Pipe (record t { ring = ring }))))) to) ≤ 3
+      pub pushed-parts : (from : ℕ) (s : PipeNode A) → at k.contents.slots from ≡ Some (Pipe s) → (count : ℕ) → slices ≡ front_of count (slots_of s.queue)
+          → strange (slots_of t.queue ++ slices) (slots_of q) ≤ 3
+          → strange (slots_at flat.slots to ++ slots_at flat.slots from) (slots_at (lists (slice_set k.contents.slots to (Some (Pipe (record t { queue = q }))))) to) ≤ 3
       pushed-parts from s source count front few =
           let was = slots-flat k to (Pipe t) there sound flat is in
           let lent = slots-flat k from (Pipe s) source sound flat is in
-          let now = lists-at (slice_set k.contents.slots to (Some (Pipe (record t { ring = ring })))) to
-          ∙ ap slots_in (get_or-set_same k.contents.slots to (Some (Pipe (record t { ring = ring }))) None (within k.contents.slots to (Pipe t) there)) in
-          let e : strange (slots_at flat.slots to ++ slots_at flat.slots from) (slots_at (lists (slice_set k.contents.slots to (Some (Pipe (record t { ring = ring }))))) to) ≡ strange (t.ring.slots ++ s.ring.slots) ring.slots = (λ i. strange (was i ++ lent i) (now i)) in
-          let less = strange-front t.ring.slots s.ring.slots count ring.slots in
-          let f : strange (t.ring.slots ++ slices) ring.slots ≡ strange (t.ring.slots ++ front_of count s.ring.slots) ring.slots = ap (λ ys. strange (t.ring.slots ++ ys) ring.slots) front in
+          let now = lists-at (slice_set k.contents.slots to (Some (Pipe (record t { queue = q })))) to
+          ∙ ap slots_in (get_or-set_same k.contents.slots to (Some (Pipe (record t { queue = q }))) None (within k.contents.slots to (Pipe t) there)) in
+          let e : strange (slots_at flat.slots to ++ slots_at flat.slots from) (slots_at (lists (slice_set k.contents.slots to (Some (Pipe (record t { queue = q }))))) to) ≡ strange (slots_of t.queue ++ slots_of s.queue) (slots_of q) = (λ i. strange (was i ++ lent i) (now i)) in
+          let less = strange-front (slots_of t.queue) (slots_of s.queue) count (slots_of q) in
+          let f : strange (slots_of t.queue ++ slices) (slots_of q) ≡ strange (slots_of t.queue ++ front_of count (slots_of s.queue)) (slots_of q) = ap (λ ys. strange (slots_of t.queue ++ ys) (slots_of q)) front in
           omega (arith, e, less, f, few)

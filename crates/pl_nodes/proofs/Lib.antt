@@ -1,3 +1,4 @@
+pub mod Queues
 pub mod Keyed
 pub mod Lists
 pub mod Slices

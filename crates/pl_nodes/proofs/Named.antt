@@ -1,6 +1,6 @@
 -- Whether a name stands for what is under a key.
 use Rattle.std.proofs.Common.{◌≡◌, ◌≢◌, ℕ, ◌+◌, Bool, true, false, cond, List, [], ◌∷◌, Option, Some, None, IsSome, refl, sym, ◌∙◌, ap, subst, inl, inr, nat_lt, slice_set, arith}
-use Rattle.std.specs.Prelude.{is_some, unwrap_or, ◌||◌}
+use Rattle.std.specs.Prelude.{is_some, unwrap_or, ◌||◌, ◌&&◌}
 use Rattle.std.specs.declared.vec.Vec.{Vec}
 use Rattle.std.specs.declared.cmp.Ordering.{Ordering}
 use Rattle.std.specs.declared.cmp.Ordering.TheVariants.{Less, Equal, Greater}
@@ -22,7 +22,7 @@ use Rattle.pl_segments.specs.Segments.{at}
 use Rattle.pl_nodes.specs.declared.content.Content.{Content}
 use Rattle.pl_nodes.specs.declared.content.Content.TheVariants.{Pipe, File}
 use Rattle.pl_nodes.specs.Contents.{with_named}
-use Rattle.pl_nodes.specs.NodesView.{one_if, names_of, names_on, pipe_named, file_named, named_as, AreNamed}
+use Rattle.pl_nodes.specs.NodesView.{one_if, names_of, names_on, pipe_named, file_named, is_packet, named_packet, named_as, AreNamed}
 use Rattle.pl_nodes.proofs.Keyed.{within}
 use Rattle.pl_nodes.proofs.Names.{compares, past-head}
 
@@ -71,6 +71,20 @@ module _ {A : Type 0} where
   put-named contents key old new there =
       still-named contents (slice_set contents key (Some new)) key (λ q d. get_or-set_other contents key q (Some new) None d)
       (Some old) (Some new) there (get_or-set_same contents key (Some new) None (within contents key old there))
+
+  -- where one thing changed, and isn't a packet pipe with a name, none is
+  pub still-plain : (before after : List (Option (Content A))) (key : ℕ) (others : (q : ℕ) → q ≢ key → at after q ≡ at before q) (new : Option (Content A)) (now : at after key ≡ new)
+      → named_packet new ≡ false → ((q : ℕ) → named_packet (at before q) ≡ false) → (q : ℕ) → named_packet (at after q) ≡ false
+  still-plain before after key others new now is plain q = elim (eqb_tells q key) as (λ _. named_packet (at after q) ≡ false) [
+    | inl e ↦ ap (λ j. named_packet (at after j)) e.1 ∙ ap named_packet now ∙ is
+    | inr e ↦ ap named_packet (others q e.1) ∙ plain q
+  ]
+
+  pub put-plain : (contents : List (Option (Content A))) (key : ℕ) (old new : Content A) → at contents key ≡ Some old → NamedAlike (Some old) (Some new) → is_packet (Some new) ≡ is_packet (Some old)
+      → ((q : ℕ) → named_packet (at contents q) ≡ false) → (q : ℕ) → named_packet (at (slice_set contents key (Some new)) q) ≡ false
+  put-plain contents key old new there alike kind plain =
+      still-plain contents (slice_set contents key (Some new)) key (λ q d. get_or-set_other contents key q (Some new) None d)
+      (Some new) (get_or-set_same contents key (Some new) None (within contents key old there)) ((λ i. alike.0 i && kind i) ∙ ap named_packet (sym there) ∙ plain key) plain
 
   module _ (n : Node) where
     came-head : (o : Ordering) (d e : Vec ℕ A × Node) (es rest : List (Vec ℕ A × Node)) (found : Option Node) → cond (is_eq o) (Some e.1) found ≡ None

@@ -17,6 +17,7 @@ use Rattle.slab.specs.Slab.{Slab, Updates}
 use Rattle.pl_nodes.specs.declared.content.Content.{Content}
 use Rattle.pl_nodes.specs.declared.content.Content.TheVariants.{Pipe, File}
 use Rattle.pl_nodes.specs.NodesView.{pipe_in, file_in, slots_in, lists}
+use Rattle.pl_nodes.specs.Queue.{capacity_of, packets_of}
 use Rattle.pl_nodes.proofs.Keyed.{within, is_set_at, is_change_at, same-list}
 use Rattle.pl_nodes.proofs.Lists.{lists-at, lists-length, lists-set, same-shared}
 
@@ -28,7 +29,7 @@ pub record Sight (A V : Type 0) : Type 0 where
 
 pub same-pipe : {A : Type 0} (m n : Map) (o : Option (Content A)) → all_read n (slots_in o) ≡ all_read m (slots_in o) → pipe_in n o ≡ pipe_in m o
 same-pipe m n None e = refl
-same-pipe m n (Some (Pipe p)) e = ap (λ bs. Some (record { bytes = bs; packets = None; capacity = p.ring.capacity; hung = p.hung })) e
+same-pipe m n (Some (Pipe p)) e = ap (λ bs. Some (record { bytes = bs; packets = packets_of p.queue; capacity = capacity_of p.queue; hung = p.hung })) e
 same-pipe m n (Some (File f)) e = refl
 
 pub same-file : {A : Type 0} (m n : Map) (o : Option (Content A)) → all_read n (slots_in o) ≡ all_read m (slots_in o) → file_in n o ≡ file_in m o

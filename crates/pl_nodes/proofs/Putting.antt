@@ -20,6 +20,7 @@ use Rattle.pl_nodes.specs.declared.content.Content.TheVariants.{Pipe, File}
 use Rattle.pl_nodes.specs.declared.nodes.Nodes.TheInside.{Inside}
 use Rattle.pl_nodes.specs.Nodes.{Nodes, bytes_of}
 use Rattle.pl_nodes.specs.NodesView.{lists, view_of, IsSound}
+use Rattle.pl_nodes.specs.Queue.{slots_of}
 use Rattle.pl_nodes.proofs.Slices.{naming-front, naming-solid, naming-drop}
 use Rattle.pl_nodes.proofs.AtKey.{held, with_content}
 use Rattle.pl_nodes.proofs.Pipes.{pipe-total, pipe-told}
@@ -38,7 +39,7 @@ naming-put file slices place moved key =
     omega (arith, a, c, d, e, f)
 
 module _ {A : Type 0} (k : Inside A) (sound : IsSound k) (flat : Nodes) (is : view_of k ≡ flat)
-    (from : ℕ) (s : PipeNode A) (source : at k.contents.slots from ≡ Some (Pipe s)) (count : ℕ) (slices : List Slice) (front : slices ≡ front_of count s.ring.slots)
+    (from : ℕ) (s : PipeNode A) (source : at k.contents.slots from ≡ Some (Pipe s)) (count : ℕ) (slices : List Slice) (front : slices ≡ front_of count (slots_of s.queue))
     (to : ℕ) (f : FileNode A) (there : at k.contents.slots to ≡ Some (File f)) (place : ℕ) (fits : place + count ≤ flat.file_max) where
   -- they fit the file
   most-is : k.file_max ≡ flat.file_max
@@ -55,7 +56,7 @@ module _ {A : Type 0} (k : Inside A) (sound : IsSound k) (flat : Nodes) (is : vi
   put-some asked some moved e =
       let told = pipe-told k from s source sound flat is (λ x. count ≤ length x.bytes) asked in
       let sum = pipe-total k from s source sound flat is in
-      let all : total slices ≡ count = ap total front ∙ front-total s.ring.slots count (omega (arith, told, sum)) in
+      let all : total slices ≡ count = ap total front ∙ front-total (slots_of s.queue) count (omega (arith, told, sum)) in
       let m = most-is in
       omega (arith, all, m, e, some, fits)
 
@@ -89,6 +90,6 @@ module _ {A : Type 0} (k : Inside A) (sound : IsSound k) (flat : Nodes) (is : vi
         let a = (held k to (File f) there sound).few key in
         let b = (held k from (Pipe s) source sound).few key in
         let n : naming file key ≤ naming f.file key + naming slices key + naming f.file key = subst (λ ys. naming ys key ≤ naming f.file key + naming slices key + naming f.file key) (sym e) (naming-put f.file slices place moved key) in
-        let l : naming slices key ≤ naming s.ring.slots key = subst (λ ys. naming ys key ≤ naming s.ring.slots key) (sym front) (naming-front count s.ring.slots key) in
+        let l : naming slices key ≤ naming (slots_of s.queue) key = subst (λ ys. naming ys key ≤ naming (slots_of s.queue) key) (sym front) (naming-front count (slots_of s.queue) key) in
         let seen : named (lists k.contents.slots) key ≡ named flat.slots key = ap (λ (v : Nodes). named v.slots key) is in
         omega (arith, one, now, was, t, a, b, n, l, seen)

@@ -1,7 +1,8 @@
 -- A name goes from what it stood for.
-use Rattle.std.proofs.Common.{◌≡◌, ◌≤◌, ℕ, false, Option, Some, refl, sym, ◌∙◌, ap, subst, length, map, slice_set}
+use Rattle.std.proofs.Common.{◌≡◌, ◌≤◌, ℕ, false, Option, Some, None, refl, sym, ◌∙◌, ap, subst, length, map, slice_set}
 use Rattle.std.specs.declared.vec.Vec.{Vec}
 use Rattle.std.specs.BTreeMap.{BTreeMap}
+use Rattle.std.proofs.lemmas.List.{get_or-set_same, get_or-set_other}
 use Rattle.pl_model.specs.Numbers.{most_file_bytes}
 use Rattle.pl_model.specs.declared.node.Node.{Node}
 use Rattle.pl_segments.specs.Segments.{Map, segment_at, at, live_count}
@@ -10,8 +11,9 @@ use Rattle.pl_nodes.specs.declared.content.Content.{Content}
 use Rattle.pl_nodes.specs.declared.content.Content.TheVariants.{Pipe, File}
 use Rattle.pl_nodes.specs.declared.nodes.Nodes.TheInside.{Inside}
 use Rattle.pl_nodes.specs.Contents.{with_named}
-use Rattle.pl_nodes.specs.NodesView.{pipe_in, file_in, slots_in, names_of, AreNamed, view_of, IsSound}
-use Rattle.pl_nodes.proofs.Keyed.{put-alike}
+use Rattle.pl_nodes.specs.NodesView.{pipe_in, file_in, slots_in, names_of, named_packet, AreNamed, view_of, IsSound}
+use Rattle.pl_nodes.proofs.Keyed.{put-alike, within}
+use Rattle.pl_nodes.proofs.Named.{still-plain}
 
 module _ {A : Type 0} where
   same-pipe : (m : Map) (x : Content A) → pipe_in m (Some (with_named false x)) ≡ pipe_in m (Some x)
@@ -26,6 +28,10 @@ module _ {A : Type 0} where
   same-slots (Pipe p) = refl
   same-slots (File f) = refl
 
+  not-named : (x : Content A) → named_packet (Some (with_named false x)) ≡ false
+  not-named (Pipe p) = refl
+  not-named (File f) = refl
+
 module _ {A : Type 0} (k : Inside A) (sound : IsSound k) (key : ℕ) (x new : Content A) (there : at k.contents.slots key ≡ Some x) (is : new ≡ with_named false x) (names : BTreeMap (Vec ℕ A) Node) where
   abbrev pub without_name : Inside A
   without_name = record k { names = names; contents = record k.contents { slots = slice_set k.contents.slots key (Some new) } }
@@ -38,6 +44,8 @@ module _ {A : Type 0} (k : Inside A) (sound : IsSound k) (key : ℕ) (x new : Co
     shared = subst (AreShared (segment_at k.store)) (sym (kept slots_in (same-slots x))) sound.shared;
     short = subst (λ ls. (q : ℕ) → length (slots_at ls q) ≤ most_file_bytes) (sym (kept slots_in (same-slots x))) sound.short;
     named = subst (λ y. AreNamed names.entries (slice_set k.contents.slots key (Some y))) (sym is) named;
+    plain = still-plain k.contents.slots (slice_set k.contents.slots key (Some new)) key (λ q d. get_or-set_other k.contents.slots key q (Some new) None d)
+        (Some new) (get_or-set_same k.contents.slots key (Some new) None (within k.contents.slots key x there)) (ap (λ y. named_packet (Some y)) is ∙ not-named x) sound.plain;
     most = sound.most;
     spare = sound.spare;
   }

@@ -1,4 +1,5 @@
 pub mod Nodes
 pub mod NodesView
 pub mod Contents
+pub mod Queue
 pub mod Lent

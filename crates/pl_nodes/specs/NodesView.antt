@@ -1,5 +1,5 @@
 -- The fields of the nodes, as what they hold.
-use Rattle.std.specs.Prelude.{◌≡◌, ℕ, ◌≤◌, Bool, false, List, [], length, map, Option, None, Some, count_by, if◌then◌else◌}
+use Rattle.std.specs.Prelude.{◌≡◌, ℕ, ◌≤◌, Bool, false, List, [], length, map, Option, None, Some, is_some, ◌&&◌, count_by, if◌then◌else◌}
 use Rattle.std.specs.declared.vec.Vec.{Vec}
 use Rattle.pl_model.specs.Numbers.{most_file_bytes}
 use Rattle.pl_model.specs.declared.node.Node.{Node}
@@ -16,6 +16,7 @@ use Rattle.pl_nodes.specs.declared.content.Content.{Content}
 use Rattle.pl_nodes.specs.declared.content.Content.TheVariants.{Pipe, File}
 use Rattle.pl_nodes.specs.declared.nodes.Nodes.TheInside.{Inside}
 use Rattle.pl_nodes.specs.Nodes.{Nodes}
+use Rattle.pl_nodes.specs.Queue.{slots_of, capacity_of, packets_of}
 
 -- 1 where the test holds, else 0
 abbrev pub one_if : Bool → ℕ
@@ -23,7 +24,7 @@ one_if b = if b then 1 else 0
 
 -- a pipe has the bytes that its slots read
 abbrev pub pipe_of : {A : Type 0} → Map → PipeNode A → PipeState
-pipe_of m p = record { bytes = all_read m p.ring.slots; packets = None; capacity = p.ring.capacity; hung = p.hung }
+pipe_of m p = record { bytes = all_read m (slots_of p.queue); packets = packets_of p.queue; capacity = capacity_of p.queue; hung = p.hung }
 
 module _ {A : Type 0} where
   -- the pipe under a key
@@ -41,7 +42,7 @@ module _ {A : Type 0} where
   -- the slots of what is under a key
   abbrev pub slots_in : Option (Content A) → List Slice
   slots_in None = []
-  slots_in (Some (Pipe p)) = p.ring.slots
+  slots_in (Some (Pipe p)) = slots_of p.queue
   slots_in (Some (File f)) = f.file
 
   abbrev pub lists : List (Option (Content A)) → List (List Slice)
@@ -66,6 +67,16 @@ module _ {A : Type 0} where
   file_named (Some (Pipe p)) = false
   file_named (Some (File f)) = f.named
 
+  -- whether it is a packet pipe
+  abbrev pub is_packet : Option (Content A) → Bool
+  is_packet None = false
+  is_packet (Some (Pipe p)) = is_some (packets_of p.queue)
+  is_packet (Some (File f)) = false
+
+  -- whether it is a packet pipe with a name
+  abbrev pub named_packet : Option (Content A) → Bool
+  named_packet o = pipe_named o && is_packet o
+
   -- whether a name stands for it as a node of this kind
   abbrev pub named_as : Node → Option (Content A) → Bool
   named_as (node.Pipe p) = pipe_named
@@ -89,10 +100,11 @@ module _ {A : Type 0} where
       }
 
   -- each segment has as many holders as slots name it, and nothing has more slots than the longest file has bytes; what has a
-  -- name says so; and few segments are kept that nobody holds
+  -- name says so, and is no packet pipe; and few segments are kept that nobody holds
   pub record IsSound (k : Inside A) : Type 0 where
     pub shared : AreShared (segment_at k.store) (lists k.contents.slots)
     pub short : (q : ℕ) → length (slots_at (lists k.contents.slots) q) ≤ most_file_bytes
     pub named : AreNamed k.names.entries k.contents.slots
+    pub plain : (q : ℕ) → named_packet (at k.contents.slots q) ≡ false
     pub most : k.file_max ≤ most_file_bytes
     pub spare : k.store.room ≤ most_spare

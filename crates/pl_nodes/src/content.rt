@@ -5,15 +5,15 @@ ghost use Rattle.pl_nodes.specs.Contents.{as_pipe, as_file, with_named};
 ghost use Rattle.pl_nodes.specs.Lent.{lends_pipe, lends_file};
 ghost use Rattle.pl_nodes.specs.NodesView.{named_as};
 
+use crate::queue::Queue;
 use pl_file::File;
 use pl_model::Node;
-use pl_ring::Ring;
 use std::alloc::Allocator;
 
-/// A pipe: its bytes, whether it is hung, and whether a name stands for it.
+/// A pipe: its queue, whether it is hung, and whether a name stands for it.
 #[derive(Drop)]
 pub(crate) struct PipeNode<A: Allocator> {
-    pub(crate) ring: Ring<A>,
+    pub(crate) queue: Queue<A>,
     pub(crate) hung: bool,
     pub(crate) named: bool,
 }

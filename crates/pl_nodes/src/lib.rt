@@ -8,6 +8,7 @@
 mod content;
 mod fault;
 mod nodes;
+mod queue;
 
 pub use fault::{MakeFault, NoSuchName};
 pub use nodes::Nodes;

@@ -16,6 +16,7 @@ mod fifos;
 mod files;
 mod moves;
 mod names;
+mod packets;
 mod pipes;
 
 /// Pipes and regular files, by key, and what the names stand for. Contracts see the list of each, the slots in which their

@@ -4,6 +4,7 @@ use Rattle.std.specs.Prelude.{replicate, slice_get}
 use Rattle.std.specs.Option.{IsSome, option_copied}
 use Rattle.std.proofs.lemmas.Bool.{cases_lt}
 use Rattle.std.proofs.lemmas.List.{length-append, length-replicate, take-append-le}
+use Rattle.pl_model.specs.Packets.{one_length, piece_lengths}
 use Rattle.pl_segments.specs.declared.slice.Slice.{Slice}
 use Rattle.pl_segments.specs.Segments.{segment_size, Map}
 use Rattle.pl_segments.specs.Slices.{Lies, reads, all_read}
@@ -11,7 +12,7 @@ use Rattle.pl_segments.specs.Slots.{total}
 use Rattle.pl_segments.specs.Turns.{Holds, Turns}
 use Rattle.pl_segments.proofs.Changing.{length-reads}
 use Rattle.pl_segments.proofs.Fronting.{gone-turns, gone-read}
-use Rattle.pl_packets.specs.Packets.{packet_size, one_length, piece_lengths, first_len, AllFit}
+use Rattle.pl_packets.specs.Packets.{packet_size, first_len, AllFit}
 
 one-length : (n : ℕ) → 1 ≤ n → one_length n ≡ n ∷ []
 one-length zero l = absurd (omega (arith, l))

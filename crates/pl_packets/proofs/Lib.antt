@@ -1,1 +1,1 @@
-mod Cutting
+pub mod Cutting

@@ -1,5 +1,5 @@
 -- A ring of packets as contracts see it.
-use Rattle.std.specs.Prelude.{◌≤◌, ℕ, zero, suc, ◌/◌, ◌%◌, List, [], ◌∷◌, ◌++◌, replicate}
+use Rattle.std.specs.Prelude.{◌≤◌, ℕ, List, [], ◌∷◌}
 use Rattle.pl_segments.specs.declared.slice.Slice.{Slice}
 use Rattle.pl_segments.specs.Segments.{segment_size}
 
@@ -11,15 +11,6 @@ pub record PacketRing : Type 0 where
 -- pipe(2), O_DIRECT: the most bytes of a packet
 abbrev pub packet_size : ℕ
 packet_size = 4096
-
--- a length, but not that of nothing
-abbrev pub one_length : ℕ → List ℕ
-one_length zero = []
-one_length (suc n) = suc n ∷ []
-
--- pipe(2), O_DIRECT: a write of more bytes is split into packets of 4,096 bytes, and a last one of the bytes that are left
-abbrev pub piece_lengths : ℕ → List ℕ
-piece_lengths n = replicate (n / packet_size) packet_size ++ one_length (n % packet_size)
 
 -- how many bytes the first packet has, 0 if there is none
 abbrev pub first_len : List Slice → ℕ

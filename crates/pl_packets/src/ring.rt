@@ -1,13 +1,14 @@
 //! The ring of a packet pipe.
 ghost use Rattle.std.specs.Prelude.{◌≡◌, ◌+◌, ◌-◌, ◌*◌, ◌/◌, ◌<◌, ◌≤◌, ◌↔◌, [], ◌∷◌, ◌++◌, length, min, take, drop, IfOk, OnOk, OnErr, Err};
 ghost use Rattle.circular_buffer.specs.Buffer.{buffer};
+ghost use Rattle.pl_model.specs.Packets.{piece_lengths};
 ghost use Rattle.pl_segments.specs.Segments.{most_spare, segment_at, live_count};
 ghost use Rattle.pl_segments.specs.Slices.{all_read};
 ghost use Rattle.pl_segments.specs.Turns.{Holds, Turns};
 ghost use Rattle.pl_segments.specs.Slots.{total, AllSolid};
 ghost use Rattle.pl_ring.specs.Merging.{lens};
 ghost use Rattle.pl_ring.specs.Ring.{IsCapacity};
-ghost use Rattle.pl_packets.specs.Packets.{packet_size, piece_lengths, first_len, AllFit};
+ghost use Rattle.pl_packets.specs.Packets.{packet_size, first_len, AllFit};
 
 use circular_buffer::HeapCircularBuffer;
 use pl_ring::CapacityFault;

@@ -10,6 +10,7 @@ ghost use Rattle.pl_segments.specs.Sharing.{slots_at};
 use super::Nodes;
 use crate::content::{Content, PipeNode};
 use crate::fault::MakeFault;
+use crate::queue::Queue;
 use pl_model::Node;
 use pl_model::numbers::FIRST_CAPACITY;
 use pl_ring::Ring;
@@ -51,7 +52,7 @@ impl<A: Allocator + Copy> Nodes<A> {
         };
         Ok(
             self.contents.insert_reserved(Content::Pipe(PipeNode {
-                ring,
+                queue: Queue::Bytes(ring),
                 hung: false,
                 named: true,
             })),

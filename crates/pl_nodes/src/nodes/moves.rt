@@ -1,5 +1,5 @@
 //! Bytes that go from one pipe or file to another, or are copied, by sharing the segments in which they stand.
-ghost use Rattle.std.specs.Prelude.{◌≡◌, ◌≢◌, ◌↔◌, ℕ, ◌+◌, ◌≤◌, ◌++◌, length, take, drop, slice_set, IfOk, OnErr, OnOk, IsSome, IfSome, Err};
+ghost use Rattle.std.specs.Prelude.{◌≡◌, ◌≢◌, ◌↔◌, ℕ, ◌+◌, ◌≤◌, ◌++◌, length, take, drop, slice_set, IfOk, OnErr, OnOk, IsSome, IfSome, None, Err};
 ghost use Rattle.pl_model.specs.Packets.{lose, gain};
 ghost use Rattle.pl_model.specs.Transfer.{room};
 ghost use Rattle.pl_model.specs.Map.{change_at};
@@ -24,6 +24,8 @@ impl<A: Allocator + Copy> Nodes<A> {
         requires from { IsSome (at self.old.pipes from) }
         requires to { IsSome (at self.old.pipes to) }
         requires other { from ≢ to }
+        requires from_bytes { IfSome (at self.old.pipes from) (λ x. x.packets ≡ None) }
+        requires to_bytes { IfSome (at self.old.pipes to) (λ x. x.packets ≡ None) }
         requires held { IfSome (at self.old.pipes from) (λ x. count ≤ length x.bytes) }
         requires room { IfSome (at self.old.pipes to) (λ x. count ≤ room x) }
         ensures ok { OnOk result (at self.new.pipes ≡ change_at to (gain (take count (bytes_of (at self.old.pipes from)))) (at self.old.pipes)) }
@@ -37,19 +39,15 @@ impl<A: Allocator + Copy> Nodes<A> {
         let Content::Pipe(source) = &self.contents[from] else {
             unreachable!()
         };
-        // And here that what is pushed is the front of a ring.
-        let _len = source.ring.len();
-        let _merged = source.ring.slots();
-        let slices = source.ring.front_slices(count)?;
+        let slices = source.queue.front_slices(count)?;
         let Some(target) = self.contents[to].as_pipe_mut() else {
             unreachable!()
         };
         // And here that the pipe holds no more than its capacity.
-        let _held = target.ring.len();
-        target.ring.push_slices(&mut self.store, &slices)?;
+        let _held = target.queue.len();
+        target.queue.push_slices(&mut self.store, &slices)?;
         // And here that it has few slots.
-        let _capacity = target.ring.capacity();
-        let _slots = target.ring.slots();
+        let _slots = target.queue.slots();
         Ok(())
     }
 
@@ -60,6 +58,8 @@ impl<A: Allocator + Copy> Nodes<A> {
         requires from { IsSome (at self.old.pipes from) }
         requires to { IsSome (at self.old.pipes to) }
         requires other { from ≢ to }
+        requires from_bytes { IfSome (at self.old.pipes from) (λ x. x.packets ≡ None) }
+        requires to_bytes { IfSome (at self.old.pipes to) (λ x. x.packets ≡ None) }
         requires held { IfSome (at self.old.pipes from) (λ x. count ≤ length x.bytes) }
         requires room { IfSome (at self.old.pipes to) (λ x. count ≤ room x) }
         ensures ok { OnOk result (at self.new.pipes ≡ change_at to (gain (take count (bytes_of (at self.old.pipes from)))) (change_at from (lose count) (at self.old.pipes))) }
@@ -84,6 +84,7 @@ impl<A: Allocator + Copy> Nodes<A> {
     ) -> Result<(), NoMemory>
         requires from { IsSome (at self.old.files from) }
         requires to { IsSome (at self.old.pipes to) }
+        requires bytes { IfSome (at self.old.pipes to) (λ x. x.packets ≡ None) }
         requires room { IfSome (at self.old.pipes to) (λ x. count ≤ room x) }
         ensures ok { OnOk result (at self.new.pipes ≡ change_at to (gain (part_of place count (at self.old.files from))) (at self.old.pipes)) }
         ensures files { SameFiles self.old self.new }
@@ -98,10 +99,9 @@ impl<A: Allocator + Copy> Nodes<A> {
         let Some(pipe) = self.contents[to].as_pipe_mut() else {
             unreachable!()
         };
-        let _held = pipe.ring.len();
-        pipe.ring.push_slices(&mut self.store, &slices)?;
-        let _capacity = pipe.ring.capacity();
-        let _slots = pipe.ring.slots();
+        let _held = pipe.queue.len();
+        pipe.queue.push_slices(&mut self.store, &slices)?;
+        let _slots = pipe.queue.slots();
         Ok(())
     }
 
@@ -122,6 +122,7 @@ impl<A: Allocator + Copy> Nodes<A> {
     ) -> Result<usize, WriteFault>
         requires from { IsSome (at self.old.pipes from) }
         requires to { IsSome (at self.old.files to) }
+        requires bytes { IfSome (at self.old.pipes from) (λ x. x.packets ≡ None) }
         requires held { IfSome (at self.old.pipes from) (λ x. count ≤ length x.bytes) }
         ensures count { IfOk result (λ moved. moved ≡ fitting count place self.old.file_max) }
         ensures big { (result ≡ Err WriteFault.TooBig) ↔ ((1 ≤ count) × (self.old.file_max ≤ place)) }
@@ -133,8 +134,6 @@ impl<A: Allocator + Copy> Nodes<A> {
         ensures none_added { OnOk result (IfSome (at self.old.files to) (λ bytes. place ≤ length bytes) → (key : ℕ) → 1 ≤ named self.new.slots key → 1 ≤ named self.old.slots key) }
         ensures err { OnErr result (self.new ≡ self.old) }
     {
-        // A proof learns here that a pipe that loses nothing stays as it is.
-        let _most = self.contents.capacity();
         if count == 0 {
             return Ok(0);
         }
@@ -160,6 +159,7 @@ impl<A: Allocator + Copy> Nodes<A> {
     ) -> Result<(), NoMemory>
         requires from { IsSome (at self.old.pipes from) }
         requires to { IsSome (at self.old.files to) }
+        requires bytes { IfSome (at self.old.pipes from) (λ x. x.packets ≡ None) }
         requires held { IfSome (at self.old.pipes from) (λ x. count ≤ length x.bytes) }
         requires some { 1 ≤ count }
         requires fits { place + count ≤ self.old.file_max }
@@ -174,7 +174,7 @@ impl<A: Allocator + Copy> Nodes<A> {
         let Content::Pipe(pipe) = &self.contents[from] else {
             unreachable!()
         };
-        let slices = pipe.ring.front_slices(count)?;
+        let slices = pipe.queue.front_slices(count)?;
         let Some(file) = self.contents[to].as_file_mut() else {
             unreachable!()
         };
@@ -192,6 +192,7 @@ impl<A: Allocator + Copy> Nodes<A> {
     // Lets the first bytes of a pipe go. It takes no memory.
     fn drop_front(&mut self, key: usize, count: usize)
         requires here { IsSome (at self.old.pipes key) }
+        requires bytes { IfSome (at self.old.pipes key) (λ x. x.packets ≡ None) }
         requires held { IfSome (at self.old.pipes key) (λ x. count ≤ length x.bytes) }
         ensures ok { at self.new.pipes ≡ change_at key (lose count) (at self.old.pipes) }
         ensures files { SameFiles self.old self.new }
@@ -201,10 +202,9 @@ impl<A: Allocator + Copy> Nodes<A> {
         let Some(node) = self.contents[key].as_pipe_mut() else {
             unreachable!()
         };
-        node.ring.drop_front(&mut self.store, count);
+        node.queue.drop_front(&mut self.store, count);
         // A proof learns here that the pipe has few slots, and that a segment that is there is held.
-        let _capacity = node.ring.capacity();
-        let _slots = node.ring.slots();
+        let _slots = node.queue.slots();
         let _segments = self.store.in_use();
     }
 }

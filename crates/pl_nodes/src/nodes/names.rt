@@ -1,5 +1,5 @@
 //! Names of what is under a key, looked up by their bytes.
-ghost use Rattle.std.specs.Prelude.{◌≡◌, ◌↔◌, ℕ, [], IfOk, OnErr, IsErr, IsSome, Some, None, Err, nat_eq, length};
+ghost use Rattle.std.specs.Prelude.{◌≡◌, ◌↔◌, ℕ, [], IfOk, OnErr, IsErr, IsSome, IfSome, Some, None, Err, true, nat_eq, length};
 ghost use Rattle.std.specs.Ordering.{nat_cmp};
 ghost use Rattle.std.specs.Cmp.Lexicographic.{slice_cmp, pointwise};
 ghost use Rattle.pl_model.specs.Map.{set_at, get, without, put_in_order};
@@ -67,9 +67,11 @@ impl<A: Allocator + Copy> Nodes<A> {
         self.names.len()
     }
 
-    /// Whether a name stands for a pipe or a file, however many names there are. Of what isn't there no name does.
+    /// Whether a name stands for a pipe or a file, however many names there are. Of what isn't there no name does, and of a packet
+    /// pipe neither.
     pub fn has_name(&self, node: Node) -> bool
-        ensures { result ≡ has_name self.now.names node }
+        ensures value { result ≡ has_name self.now.names node }
+        ensures bytes { (key : ℕ) → node ≡ Node.Pipe key → result ≡ true → IfSome (at self.now.pipes key) (λ x. x.packets ≡ None) }
     {
         match self.contents.get(node.key()) {
             Some(content) => content.is_named_as(node),

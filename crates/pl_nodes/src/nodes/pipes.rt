@@ -7,28 +7,18 @@ ghost use Rattle.pl_model.specs.Packets.{used, front, spent, lose, gain};
 ghost use Rattle.pl_model.specs.Transfer.{room};
 ghost use Rattle.pl_model.specs.Map.{set_at, change_at};
 ghost use Rattle.pl_model.specs.Nodes.{has_name};
-ghost use Rattle.pl_segments.specs.Segments.{segment_size, most_spare, segment_at, at};
-ghost use Rattle.pl_segments.specs.Turns.{Holds, Turns};
+ghost use Rattle.pl_segments.specs.Segments.{segment_size, at};
 ghost use Rattle.pl_segments.specs.Sharing.{slots_at};
 ghost use Rattle.pl_nodes.specs.Nodes.{SameFiles, Shrinks, memory_of};
 
 use super::Nodes;
 use crate::content::{Content, PipeNode};
+use crate::queue::Queue;
 use pl_model::Node;
 use pl_model::numbers::FIRST_CAPACITY;
 use pl_ring::{CapacityFault, Ring};
-use pl_segments::{NoMemory, Store};
+use pl_segments::NoMemory;
 use std::alloc::Allocator;
-
-// Lets the slots of a ring go that nobody needs any more. It takes no memory.
-fn let_go<A: Allocator + Copy>(store: &mut Store<A>, ring: Ring<A>)
-    requires { Holds (segment_at store.old) ring.slots }
-    ensures turns { Turns (segment_at store.old) ring.slots (segment_at store.new) [] }
-    ensures spare { store.old.room ≤ most_spare → store.new.room ≤ most_spare }
-{
-    let mut ring = ring;
-    ring.reset(store);
-}
 
 impl<A: Allocator + Copy> Nodes<A> {
     /// Makes an empty pipe of 65,536 bytes of capacity (pipe(7), Pipe capacity), and answers its key. It has no slots, and all others
@@ -48,7 +38,7 @@ impl<A: Allocator + Copy> Nodes<A> {
         let ring = Ring::new(self.alloc, FIRST_CAPACITY)?;
         Ok(
             self.contents.insert_reserved(Content::Pipe(PipeNode {
-                ring,
+                queue: Queue::Bytes(ring),
                 hung: false,
                 named: false,
             })),
@@ -64,9 +54,7 @@ impl<A: Allocator + Copy> Nodes<A> {
         let Content::Pipe(node) = &self.contents[key] else {
             unreachable!()
         };
-        // A proof learns here that a pipe has no greater capacity than a ring may have.
-        let _capacity = node.ring.capacity();
-        node.ring.len()
+        node.queue.len()
     }
 
     /// How many bytes of a pipe the next read can get.
@@ -79,9 +67,7 @@ impl<A: Allocator + Copy> Nodes<A> {
         let Content::Pipe(node) = &self.contents[key] else {
             unreachable!()
         };
-        // A proof learns here that a pipe has no greater capacity than a ring may have.
-        let _capacity = node.ring.capacity();
-        node.ring.len()
+        node.queue.front()
     }
 
     /// How many bytes a pipe can hold.
@@ -93,7 +79,7 @@ impl<A: Allocator + Copy> Nodes<A> {
         let Content::Pipe(node) = &self.contents[key] else {
             unreachable!()
         };
-        node.ring.capacity()
+        node.queue.capacity()
     }
 
     /// How much of its capacity a pipe takes: as many bytes as it holds, or 4,096 for each packet.
@@ -105,9 +91,7 @@ impl<A: Allocator + Copy> Nodes<A> {
         let Content::Pipe(node) = &self.contents[key] else {
             unreachable!()
         };
-        // A proof learns here that a pipe has no greater capacity than a ring may have.
-        let _capacity = node.ring.capacity();
-        node.ring.len()
+        node.queue.used()
     }
 
     /// How many more bytes a pipe can hold.
@@ -119,9 +103,7 @@ impl<A: Allocator + Copy> Nodes<A> {
         let Content::Pipe(node) = &self.contents[key] else {
             unreachable!()
         };
-        // A proof learns here that a pipe has no greater capacity than a ring may have.
-        let _capacity = node.ring.capacity();
-        node.ring.room()
+        node.queue.room()
     }
 
     /// Whether a pipe is hung.
@@ -141,7 +123,7 @@ impl<A: Allocator + Copy> Nodes<A> {
         let Content::Pipe(node) = &self.contents[key] else {
             unreachable!()
         };
-        node.ring.slots()
+        node.queue.slots()
     }
 
     /// Takes bytes out of a pipe, of which a read can get so many. An error leaves all as it was.
@@ -158,12 +140,11 @@ impl<A: Allocator + Copy> Nodes<A> {
         let Some(node) = self.contents[key].as_pipe_mut() else {
             unreachable!()
         };
-        // A proof learns here that a pipe holds no more than its capacity, and that this is what a ring may have.
-        let _capacity = node.ring.capacity();
-        let _held = node.ring.len();
-        let bytes = node.ring.pop_bytes(&mut self.store, count)?;
+        // A proof learns here that a pipe holds few bytes.
+        let _held = node.queue.len();
+        let bytes = node.queue.pop(self.alloc, &mut self.store, count)?;
         // And here that it has few slots.
-        let _slots = node.ring.slots();
+        let _slots = node.queue.slots();
         Ok(bytes)
     }
 
@@ -180,10 +161,9 @@ impl<A: Allocator + Copy> Nodes<A> {
         let Some(node) = self.contents[key].as_pipe_mut() else {
             unreachable!()
         };
-        node.ring.pop_into(&mut self.store, into);
+        node.queue.pop_into(&mut self.store, into);
         // A proof learns here that a pipe has few slots.
-        let _capacity = node.ring.capacity();
-        let _slots = node.ring.slots();
+        let _slots = node.queue.slots();
     }
 
     /// Adds bytes at the end of a pipe that has room for them. An error leaves all as it was.
@@ -198,12 +178,9 @@ impl<A: Allocator + Copy> Nodes<A> {
         let Some(node) = self.contents[key].as_pipe_mut() else {
             unreachable!()
         };
-        // A proof learns here that a pipe holds no more than its capacity.
-        let _held = node.ring.len();
-        node.ring.push_bytes(&mut self.store, bytes)?;
-        // And here that it has few slots.
-        let _capacity = node.ring.capacity();
-        let _slots = node.ring.slots();
+        node.queue.push(&mut self.store, bytes)?;
+        // A proof learns here that a pipe has few slots.
+        let _slots = node.queue.slots();
         Ok(())
     }
 
@@ -226,13 +203,14 @@ impl<A: Allocator + Copy> Nodes<A> {
         let Some(node) = self.contents[key].as_pipe_mut() else {
             unreachable!()
         };
-        node.ring.set_capacity(capacity)
+        node.queue.set_capacity(capacity)
     }
 
-    /// Makes a pipe what a new one is: empty, of 65,536 bytes of capacity, and not hung. So is a FIFO left by its last end, since
+    /// Makes a byte queue what a new pipe is: empty, of 65,536 bytes of capacity, and not hung. So is a FIFO left by its last end, since
     /// it keeps nothing for the next (POSIX.1-2017, close). It takes no memory, and no slot and no segment comes.
     pub fn reset_pipe(&mut self, key: usize)
-        requires { IsSome (at self.old.pipes key) }
+        requires here { IsSome (at self.old.pipes key) }
+        requires bytes { IfSome (at self.old.pipes key) (λ x. x.packets ≡ None) }
         ensures ok { at self.new.pipes ≡ change_at key (λ x. empty_pipe) (at self.old.pipes) }
         ensures files { SameFiles self.old self.new }
         ensures shrinks { Shrinks (memory_of self.old) (memory_of self.new) }
@@ -240,7 +218,7 @@ impl<A: Allocator + Copy> Nodes<A> {
         let Some(node) = self.contents[key].as_pipe_mut() else {
             unreachable!()
         };
-        node.ring.reset(&mut self.store);
+        node.queue.reset(&mut self.store);
         node.hung = false;
         // A proof learns here that a segment that is there is held.
         let _segments = self.store.in_use();
@@ -257,7 +235,7 @@ impl<A: Allocator + Copy> Nodes<A> {
         let Content::Pipe(gone) = self.contents.remove(key) else {
             unreachable!()
         };
-        let_go(&mut self.store, gone.ring);
+        gone.queue.let_go(&mut self.store);
         // A proof learns here that a segment that is there is held.
         let _segments = self.store.in_use();
     }

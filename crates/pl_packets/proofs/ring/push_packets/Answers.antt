@@ -1,5 +1,6 @@
 use Rattle.std.proofs.Common.{◌≡◌, ◌+◌, ◌-◌, ◌++◌, ◌∷◌, [], ◌∙◌, refl, ap, sym, subst, length, arith}
 use Rattle.std.proofs.lemmas.List.{append_assoc, take-append-drop, length-take, length-drop, length_push}
+use Rattle.pl_model.specs.Packets.{piece_lengths}
 use Rattle.pl_segments.specs.declared.slice.Slice.{Slice}
 use Rattle.pl_segments.specs.Segments.{Segments, segment_at, live_count}
 use Rattle.pl_segments.specs.Slices.{all_read}
@@ -10,7 +11,7 @@ use Rattle.pl_segments.proofs.SlotLemmas.{solid-append}
 use Rattle.pl_segments.proofs.Pushing.{push-turns, push-read}
 use Rattle.pl_ring.specs.Merging.{lens}
 use Rattle.pl_ring.proofs.Placing.{lens-append}
-use Rattle.pl_packets.specs.Packets.{piece_lengths, AllFit}
+use Rattle.pl_packets.specs.Packets.{AllFit}
 use Rattle.pl_packets.proofs.Cutting.{many-pieces, next-piece, fit-push}
 use Rattle.pl_packets.proofs.ring.push_packets.Given.{Over}
 use Rattle.pl_packets.proofs.ring.push_packets.Goals.{After-put_last}

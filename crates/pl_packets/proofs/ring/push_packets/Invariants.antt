@@ -1,10 +1,11 @@
 use Rattle.std.proofs.Common.{◌≡◌, ◌≤◌, ◌+◌, ◌*◌, ◌++◌, length}
+use Rattle.pl_model.specs.Packets.{piece_lengths}
 use Rattle.pl_segments.specs.Segments.{most_spare, segment_at, live_count}
 use Rattle.pl_segments.specs.Slices.{all_read}
 use Rattle.pl_segments.specs.Turns.{Turns}
 use Rattle.pl_segments.specs.Slots.{AllSolid}
 use Rattle.pl_ring.specs.Merging.{lens}
-use Rattle.pl_packets.specs.Packets.{packet_size, piece_lengths, AllFit}
+use Rattle.pl_packets.specs.Packets.{packet_size, AllFit}
 use Rattle.pl_packets.proofs.ring.push_packets.Given as goal
 
 -- the packets so far, and those of the rest of the bytes, are what was asked; and there is room for the rest

@@ -5,6 +5,7 @@ use Rattle.pl_segments.specs.Segments.{segment_at, at}
 use Rattle.pl_nodes.specs.declared.content.Content.TheVariants.{Pipe}
 use Rattle.pl_nodes.specs.Nodes.{Nodes}
 use Rattle.pl_nodes.specs.NodesView.{pipe_named}
+use Rattle.pl_nodes.specs.Queue.{slots_of}
 use Rattle.pl_nodes.proofs.AtKey.{held}
 use Rattle.pl_nodes.proofs.OneChanged.{pipes_seen, files_seen, gone-seen, gone-list}
 use Rattle.pl_nodes.proofs.Slices.{none-left}
@@ -45,4 +46,4 @@ returns-clause-shrinks g c =
     let k = c.self.inside in
     let there = c.remove.ensures.value ∙ ap (λ x. Some x) c.in-Pipe.is in
     gone-shrinks k c.self.invariant c.let_go.new.store c.remove.new.self c.args.key (Pipe c.in-Pipe.gone) there c.let_go.ensures.turns c.remove.ensures.updates
-    (none-left k.store.held c.let_go.new.store.held c.in-Pipe.gone.ring.slots c.in_use-segments.ensures.good c.let_go.ensures.turns) c.args.self.now c.self.view_is
+    (none-left k.store.held c.let_go.new.store.held (slots_of c.in-Pipe.gone.queue) c.in_use-segments.ensures.good c.let_go.ensures.turns) c.args.self.now c.self.view_is

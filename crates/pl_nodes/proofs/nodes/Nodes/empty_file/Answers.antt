@@ -17,7 +17,7 @@ invariant_of-self g c =
     let k = c.self.inside in
     let there = file-there k.contents.slots c.args.key c.index_mut.result.now c.in-Some.node.now c.index_mut.ensures.value c.in-Some.ensures.value in
     let none = ap length c.truncate.ensures.value in
-    still-sound k c.args.key (File c.in-Some.node.now) there c.self.invariant c.truncate.new.store (File (record c.in-Some.node.now { file = c.truncate.new.self })) (became-none (segment_at k.store) c.in-Some.node.now.file (segment_at c.truncate.new.store) c.truncate.new.self c.truncate.ensures.value c.truncate.ensures.turns) (omega (arith, none)) (refl, refl) (c.truncate.ensures.spare c.self.invariant.spare)
+    still-sound k c.args.key (File c.in-Some.node.now) there c.self.invariant c.truncate.new.store (File (record c.in-Some.node.now { file = c.truncate.new.self })) (became-none (segment_at k.store) c.in-Some.node.now.file (segment_at c.truncate.new.store) c.truncate.new.self c.truncate.ensures.value c.truncate.ensures.turns) (omega (arith, none)) (refl, refl) refl (c.truncate.ensures.spare c.self.invariant.spare)
 
 pub returns-clause-ok : goal.returns-clause-ok
 returns-clause-ok g c =

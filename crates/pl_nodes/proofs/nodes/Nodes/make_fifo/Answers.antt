@@ -1,4 +1,4 @@
-use Rattle.std.proofs.Common.{◌≡◌, ◌∙◌, [], Some, false, true, refl, ap, subst, sym, nat_eq, None}
+use Rattle.std.proofs.Common.{◌≡◌, ◌∙◌, [], Some, None, false, true, refl, ap, subst, sym, nat_eq}
 use Rattle.std.specs.Prelude.{Ok, Err}
 use Rattle.std.specs.Ordering.{nat_cmp}
 use Rattle.std.specs.Cmp.Lexicographic.{slice_cmp}
@@ -15,6 +15,7 @@ use Rattle.pl_ring.specs.Ring.{Ring}
 use Rattle.pl_nodes.specs.declared.content.Content.{Content}
 use Rattle.pl_nodes.specs.declared.content.Content.TheVariants.{Pipe}
 use Rattle.pl_nodes.specs.declared.fault.MakeFault.TheVariants.{Exists, NoMemory}
+use Rattle.pl_nodes.specs.declared.queue.Queue.TheVariants.{Bytes}
 use Rattle.pl_nodes.specs.Nodes.{Nodes}
 use Rattle.pl_nodes.specs.NodesView.{names_of, slots_in, lists, AreNamed}
 use Rattle.pl_nodes.proofs.OneChanged.{pipes_seen, files_seen, seen, new-seen, new-unseen}
@@ -31,7 +32,7 @@ module _ (g : Over) (c : After-insert_reserved g) where
   same = ap (λ (s : Slab _). s.slots) c.in-Ok.ensures.rest_kept
 
   abbrev new : Content g.row.A.Denot
-  new = Pipe (record { ring = c.in-Ok-new.ring; hung = false; named = true })
+  new = Pipe (record { queue = Bytes c.in-Ok-new.ring; hung = false; named = true })
 
   empty : slots_in (Some new) ≡ []
   empty = ap (λ (r : Ring). r.slots) c.in-Ok-new.ensures
@@ -51,7 +52,7 @@ invariant_of-self-2 g c =
     c.in-Ok-insert.ensures.entries ∙ ap (λ key. insert_entry (λ x y. slice_cmp nat_cmp x.items y.items) k.names.entries c.args.name (node.Pipe key)) (c.vacant_key-key.ensures.value ∙ sym c.insert_reserved.ensures.key) in
     let named = subst (λ cs. AreNamed k.names.entries cs) (sym (same g c)) c.self.invariant.named in
     came-sound k c.self.invariant c.reserve.new.self c.insert_reserved.new.self (same g c) c.insert_reserved.result (new g c) c.insert_reserved.ensures.was_vacant (empty g c) u
-    c.insert.new.self (subst (λ es. AreNamed es c.insert_reserved.new.self.slots) (sym entries) (new-named k.names.entries c.args.name c.reserve.new.self.slots c.insert_reserved.new.self.slots (node.Pipe c.insert_reserved.result) (new g c) vacant u.others c.insert_reserved.ensures.was_vacant u.changed refl named))
+    c.insert.new.self (subst (λ es. AreNamed es c.insert_reserved.new.self.slots) (sym entries) (new-named k.names.entries c.args.name c.reserve.new.self.slots c.insert_reserved.new.self.slots (node.Pipe c.insert_reserved.result) (new g c) vacant u.others c.insert_reserved.ensures.was_vacant u.changed refl named)) refl
 
 pub returns-clause-ok : goal.returns-clause-ok
 returns-clause-ok g c =

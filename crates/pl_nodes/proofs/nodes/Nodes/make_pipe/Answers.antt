@@ -1,4 +1,4 @@
-use Rattle.std.proofs.Common.{◌≡◌, ◌∙◌, Some, refl, false, ap, nat_eq, None}
+use Rattle.std.proofs.Common.{◌≡◌, ◌∙◌, Some, None, refl, false, ap, nat_eq}
 use Rattle.pl_model.specs.State.{empty_pipe}
 use Rattle.pl_model.specs.Map.{set_at}
 use Rattle.pl_segments.specs.Segments.{segment_at, at}
@@ -6,6 +6,7 @@ use Rattle.pl_segments.specs.Slices.{all_read}
 use Rattle.slab.specs.Slab.{Slab}
 use Rattle.pl_ring.specs.Ring.{Ring}
 use Rattle.pl_nodes.specs.declared.content.Content.TheVariants.{Pipe}
+use Rattle.pl_nodes.specs.declared.queue.Queue.TheVariants.{Bytes}
 use Rattle.pl_nodes.specs.Nodes.{Nodes}
 use Rattle.pl_nodes.proofs.OneChanged.{pipes_seen, files_seen, seen, new-seen, new-unseen}
 use Rattle.pl_nodes.proofs.Coming.{came-shared, came-unnamed, came-sound, came-slots, vacant-seen}
@@ -24,17 +25,17 @@ returns-clause-vacant g c = vacant-seen c.self.inside c.self.invariant c.reserve
 pub invariant_of-self-2 : goal.invariant_of-self-2
 invariant_of-self-2 g c =
     let k = c.self.inside in
-    let new = Pipe (record { ring = c.in_ok-ring.ring; hung = false; named = false }) in
+    let new = Pipe (record { queue = Bytes c.in_ok-ring.ring; hung = false; named = false }) in
     let empty = ap (λ (r : Ring). r.slots) c.in_ok-ring.ensures in
     let u = c.insert_reserved.ensures.updates in
     came-sound k c.self.invariant c.reserve.new.self c.insert_reserved.new.self (same g c) c.insert_reserved.result new c.insert_reserved.ensures.was_vacant empty u
-    k.names (came-unnamed k c.self.invariant c.reserve.new.self c.insert_reserved.new.self (same g c) c.insert_reserved.result new c.insert_reserved.ensures.was_vacant empty u (refl, refl))
+    k.names (came-unnamed k c.self.invariant c.reserve.new.self c.insert_reserved.new.self (same g c) c.insert_reserved.result new c.insert_reserved.ensures.was_vacant empty u (refl, refl)) refl
 
 pub returns-clause-ok : goal.returns-clause-ok
 returns-clause-ok g c =
     let k = c.self.inside in
     let m = segment_at k.store in
-    let new = Pipe (record { ring = c.in_ok-ring.ring; hung = false; named = false }) in
+    let new = Pipe (record { queue = Bytes c.in_ok-ring.ring; hung = false; named = false }) in
     let empty = ap (λ (r : Ring). r.slots) c.in_ok-ring.ensures in
     let u = c.insert_reserved.ensures.updates in
     new-seen m c.reserve.new.self c.insert_reserved.new.self c.insert_reserved.result new
@@ -47,7 +48,7 @@ pub returns-clause-files : goal.returns-clause-files
 returns-clause-files g c =
     let k = c.self.inside in
     let m = segment_at k.store in
-    let new = Pipe (record { ring = c.in_ok-ring.ring; hung = false; named = false }) in
+    let new = Pipe (record { queue = Bytes c.in_ok-ring.ring; hung = false; named = false }) in
     let empty = ap (λ (r : Ring). r.slots) c.in_ok-ring.ensures in
     let u = c.insert_reserved.ensures.updates in
     new-unseen m c.reserve.new.self c.insert_reserved.new.self c.insert_reserved.result new
@@ -57,5 +58,5 @@ returns-clause-files g c =
 
 pub returns-clause-slots : goal.returns-clause-slots
 returns-clause-slots g c =
-    came-slots c.self.inside c.self.invariant c.reserve.new.self c.insert_reserved.new.self (same g c) c.insert_reserved.result (Pipe (record { ring = c.in_ok-ring.ring; hung = false; named = false }))
+    came-slots c.self.inside c.self.invariant c.reserve.new.self c.insert_reserved.new.self (same g c) c.insert_reserved.result (Pipe (record { queue = Bytes c.in_ok-ring.ring; hung = false; named = false }))
     c.insert_reserved.ensures.was_vacant (ap (λ (r : Ring). r.slots) c.in_ok-ring.ensures) c.insert_reserved.ensures.updates c.args.self.now c.self.view_is

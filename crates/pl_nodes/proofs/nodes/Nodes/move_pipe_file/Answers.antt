@@ -1,6 +1,5 @@
-use Rattle.pl_model.specs.Packets.{lose}
 use Rattle.std.proofs.Common.{◌≡◌, ◌∙◌, ap, take, set, arith}
-use Rattle.pl_nodes.proofs.Pipes.{lose-none}
+use Rattle.pl_model.specs.Packets.{lose}
 use Rattle.pl_model.specs.Map.{change_at}
 use Rattle.pl_segments.specs.Segments.{at}
 use Rattle.pl_segments.specs.Slots.{drop_bytes}
@@ -9,11 +8,6 @@ use Rattle.pl_file.specs.File.{written, fitting}
 use Rattle.pl_nodes.specs.Nodes.{Nodes, bytes_of}
 use Rattle.pl_nodes.proofs.Slices.{naming-drop, named-fewer}
 use Rattle.pl_nodes.proofs.nodes.Nodes.move_pipe_file.Goals as goal
-
-pub returns-then-count-eq0-clause-pipes : goal.returns-then-count-eq0-clause-pipes
-returns-then-count-eq0-clause-pipes g c =
-    let none : c.args.count ≡ 0 = c.if-count-eq0.true in
-    lose-none c.self.inside c.args.self.now c.self.view_is c.args.from (fitting c.args.count c.args.place c.args.self.now.file_max) (omega (arith, none))
 
 pub returns-clause-pipes : goal.returns-clause-pipes
 returns-clause-pipes g c =

@@ -1,6 +1,6 @@
-use Rattle.pl_model.specs.Packets.{lose, gain}
-use Rattle.std.proofs.Common.{◌≤◌, ◌++◌, ◌∙◌, sym, ap, drop, length, take}
+use Rattle.std.proofs.Common.{◌≡◌, ◌≤◌, ◌∙◌, None, sym, ap, length, take}
 use Rattle.std.specs.Prelude.{IsSome, IfSome}
+use Rattle.pl_model.specs.Packets.{lose, gain}
 use Rattle.pl_model.specs.Map.{change_at}
 use Rattle.pl_segments.specs.Segments.{at}
 use Rattle.pl_nodes.specs.Nodes.{bytes_of}
@@ -9,6 +9,9 @@ use Rattle.pl_nodes.proofs.nodes.Nodes.move_pipe_pipe.Goals as goal
 
 pub drop_front-requires-clause-here : goal.drop_front-requires-clause-here
 drop_front-requires-clause-here g c = other-still c.args.to c.args.from _ _ _ c.in_ok-copy_pipe_pipe.ensures.ok (λ e. c.requires.other (sym e)) IsSome c.requires.from
+
+pub drop_front-requires-clause-bytes : goal.drop_front-requires-clause-bytes
+drop_front-requires-clause-bytes g c = other-still c.args.to c.args.from _ _ _ c.in_ok-copy_pipe_pipe.ensures.ok (λ e. c.requires.other (sym e)) (λ o. IfSome o (λ x. x.packets ≡ None)) c.requires.from_bytes
 
 pub drop_front-requires-clause-held : goal.drop_front-requires-clause-held
 drop_front-requires-clause-held g c = other-still c.args.to c.args.from _ _ _ c.in_ok-copy_pipe_pipe.ensures.ok (λ e. c.requires.other (sym e)) (λ o. IfSome o (λ x. c.args.count ≤ length x.bytes)) c.requires.held

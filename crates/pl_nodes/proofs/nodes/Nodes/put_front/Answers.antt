@@ -1,17 +1,22 @@
-use Rattle.std.proofs.Common.{refl, ◌≡◌, ◌∙◌, Some, ap, arith}
+use Rattle.std.proofs.Common.{refl, ◌≡◌, ◌∙◌, Some, None, ap, arith}
 use Rattle.pl_segments.specs.Segments.{Segments, live_count}
 use Rattle.pl_file.proofs.Editing.{solid-length}
 use Rattle.pl_nodes.specs.declared.content.Content.TheVariants.{File}
 use Rattle.pl_nodes.specs.Nodes.{Nodes}
 use Rattle.pl_nodes.proofs.AtKey.{file-there, held, few-holders, still-sound, refused-sound, refused-seen}
+use Rattle.pl_nodes.proofs.Pipes.{pipe-told}
 use Rattle.pl_nodes.proofs.Files.{file-pipes, file-refused}
 use Rattle.pl_nodes.proofs.Lending.{front-lies}
 use Rattle.pl_nodes.proofs.Putting.{put-long, put-some, put-within, put-ok, put-named}
 use Rattle.pl_nodes.proofs.nodes.Nodes.put_front.Goals as goal
 
+pub front_slices-requires : goal.front_slices-requires
+front_slices-requires g c =
+    pipe-told c.self.inside c.args.from c.in-Pipe.pipe (c.index.ensures ∙ ap (λ x. Some x) c.in-Pipe.is) c.self.invariant c.args.self.now c.self.view_is (λ x. x.packets ≡ None) c.requires.bytes
+
 pub put_slices_at-requires-clause-lie : goal.put_slices_at-requires-clause-lie
 put_slices_at-requires-clause-lie g c =
-    front-lies c.self.inside c.self.invariant c.args.self.now c.self.view_is c.args.from c.in-Pipe.pipe (c.index.ensures ∙ ap (λ x. Some x) c.in-Pipe.is) c.args.count c.in_ok-slices.slices c.in_ok-slices.ensures
+    front-lies c.self.inside c.self.invariant c.args.self.now c.self.view_is c.args.from c.in-Pipe.pipe (c.index.ensures ∙ ap (λ x. Some x) c.in-Pipe.is) c.args.count c.in_ok-slices.slices c.in_ok-slices.ensures.value
 
 pub put_slices_at-requires-clause-long : goal.put_slices_at-requires-clause-long
 put_slices_at-requires-clause-long g c =
@@ -19,7 +24,7 @@ put_slices_at-requires-clause-long g c =
     let source = c.index.ensures ∙ ap (λ x. Some x) c.in-Pipe.is in
     let target = c.in-Some.file.now in
     let there = file-there k.contents.slots c.args.to c.index_mut.result.now target c.index_mut.ensures.value c.in-Some.ensures.value in
-    put-long k c.self.invariant c.args.self.now c.self.view_is c.args.from c.in-Pipe.pipe source c.args.count c.in_ok-slices.slices c.in_ok-slices.ensures
+    put-long k c.self.invariant c.args.self.now c.self.view_is c.args.from c.in-Pipe.pipe source c.args.count c.in_ok-slices.slices c.in_ok-slices.ensures.value
     c.args.to target there c.args.place c.requires.fits
 
 pub put_slices_at-requires-clause-held : goal.put_slices_at-requires-clause-held
@@ -66,7 +71,7 @@ invariant_of-self-2 g c =
     let there = file-there k.contents.slots c.args.to c.index_mut.result.now target c.index_mut.ensures.value c.in-Some.ensures.value in
     let long = solid-length c.put_slices_at.new.self c.len-end.ensures.solid in
     still-sound k c.args.to (File target) there c.self.invariant c.put_slices_at.new.store (File (record target { file = c.put_slices_at.new.self })) c.in-Ok.ensures.turns
-    (omega (arith, long, c.len-end.ensures.value, c.len-end.ensures.most)) (refl, refl) (c.in-Ok.ensures.spare c.self.invariant.spare)
+    (omega (arith, long, c.len-end.ensures.value, c.len-end.ensures.most)) (refl, refl) refl (c.in-Ok.ensures.spare c.self.invariant.spare)
 
 pub returns-clause-ok : goal.returns-clause-ok
 returns-clause-ok g c =
@@ -74,7 +79,7 @@ returns-clause-ok g c =
     let source = c.index.ensures ∙ ap (λ x. Some x) c.in-Pipe.is in
     let target = c.in-Some.file.now in
     let there = file-there k.contents.slots c.args.to c.index_mut.result.now target c.index_mut.ensures.value c.in-Some.ensures.value in
-    put-ok k c.self.invariant c.args.self.now c.self.view_is c.args.from c.in-Pipe.pipe source c.args.count c.in_ok-slices.slices c.in_ok-slices.ensures
+    put-ok k c.self.invariant c.args.self.now c.self.view_is c.args.from c.in-Pipe.pipe source c.args.count c.in_ok-slices.slices c.in_ok-slices.ensures.value
     c.args.to target there c.args.place c.requires.fits
     c.put_slices_at.new.store c.put_slices_at.new.self c.in-Ok.ensures.turns c.in-Ok.ensures.read
 
@@ -91,7 +96,7 @@ returns-clause-segments g c = λ asked.
     let source = c.index.ensures ∙ ap (λ x. Some x) c.in-Pipe.is in
     let target = c.in-Some.file.now in
     let there = file-there k.contents.slots c.args.to c.index_mut.result.now target c.index_mut.ensures.value c.in-Some.ensures.value in
-    let within = put-within k c.self.invariant c.args.self.now c.self.view_is c.args.from c.in-Pipe.pipe source c.args.count c.in_ok-slices.slices c.in_ok-slices.ensures
+    let within = put-within k c.self.invariant c.args.self.now c.self.view_is c.args.from c.in-Pipe.pipe source c.args.count c.in_ok-slices.slices c.in_ok-slices.ensures.value
     c.args.to target there c.args.place c.requires.fits asked in
     let fewer = c.in-Ok.ensures.in_use within in
     let seen : live_count k.store.held ≡ c.args.self.now.segments = ap (λ (v : Nodes). v.segments) c.self.view_is in
@@ -105,11 +110,11 @@ returns-clause-none_added g c = λ asked.
     let there = file-there k.contents.slots c.args.to c.index_mut.result.now target c.index_mut.ensures.value c.in-Some.ensures.value in
     let long = solid-length c.put_slices_at.new.self c.len-end.ensures.solid in
     let now = still-sound k c.args.to (File target) there c.self.invariant c.put_slices_at.new.store (File (record target { file = c.put_slices_at.new.self })) c.in-Ok.ensures.turns
-    (omega (arith, long, c.len-end.ensures.value, c.len-end.ensures.most)) (refl, refl) (c.in-Ok.ensures.spare c.self.invariant.spare) in
-    let within = put-within k c.self.invariant c.args.self.now c.self.view_is c.args.from c.in-Pipe.pipe source c.args.count c.in_ok-slices.slices c.in_ok-slices.ensures
+    (omega (arith, long, c.len-end.ensures.value, c.len-end.ensures.most)) (refl, refl) refl (c.in-Ok.ensures.spare c.self.invariant.spare) in
+    let within = put-within k c.self.invariant c.args.self.now c.self.view_is c.args.from c.in-Pipe.pipe source c.args.count c.in_ok-slices.slices c.in_ok-slices.ensures.value
     c.args.to target there c.args.place c.requires.fits asked in
-    let some = put-some k c.self.invariant c.args.self.now c.self.view_is c.args.from c.in-Pipe.pipe source c.args.count c.in_ok-slices.slices c.in_ok-slices.ensures
+    let some = put-some k c.self.invariant c.args.self.now c.self.view_is c.args.from c.in-Pipe.pipe source c.args.count c.in_ok-slices.slices c.in_ok-slices.ensures.value
     c.args.to target there c.args.place c.requires.fits c.requires.held c.requires.some c.in-Ok._moved c.in-Ok.ensures.count in
-    put-named k c.self.invariant c.args.self.now c.self.view_is c.args.from c.in-Pipe.pipe source c.args.count c.in_ok-slices.slices c.in_ok-slices.ensures
+    put-named k c.self.invariant c.args.self.now c.self.view_is c.args.from c.in-Pipe.pipe source c.args.count c.in_ok-slices.slices c.in_ok-slices.ensures.value
     c.args.to target there c.args.place c.requires.fits
     c.put_slices_at.new.store c.put_slices_at.new.self c.in-Ok.ensures.turns now.shared c.in-Ok._moved (c.in-Ok.ensures.slots some within)

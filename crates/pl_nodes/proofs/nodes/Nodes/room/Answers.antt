@@ -1,5 +1,7 @@
 use Rattle.std.proofs.Common.{◌≡◌, ◌-◌, ◌∙◌, Some, ap}
 use Rattle.pl_model.specs.Transfer.{room}
+use Rattle.pl_model.specs.Packets.{used_of}
+use Rattle.pl_nodes.specs.Queue.{capacity_of, packets_of}
 use Rattle.pl_nodes.proofs.Pipes.{pipe-total, pipe-said}
 use Rattle.pl_nodes.proofs.nodes.Nodes.room.Goals as goal
 
@@ -8,4 +10,4 @@ returns-clause-value g c =
     let node = c.in-Pipe.node in
     let there = c.index.ensures ∙ ap (λ x. Some x) c.in-Pipe.is in
     pipe-said c.self.inside c.args.key node there c.self.invariant c.args.self.now c.self.view_is (λ x. c.room.result ≡ room x)
-    (c.room.ensures ∙ ap (λ n. node.ring.capacity - n) (pipe-total c.self.inside c.args.key node there c.self.invariant c.args.self.now c.self.view_is))
+    (c.room.ensures.value ∙ ap (λ n. capacity_of node.queue - used_of (packets_of node.queue) n) (pipe-total c.self.inside c.args.key node there c.self.invariant c.args.self.now c.self.view_is))

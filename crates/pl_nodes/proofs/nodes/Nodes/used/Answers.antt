@@ -1,10 +1,12 @@
 use Rattle.std.proofs.Common.{◌≡◌, ◌∙◌, Some, ap}
-use Rattle.pl_model.specs.Packets.{used}
+use Rattle.pl_model.specs.Packets.{used, used_of}
+use Rattle.pl_nodes.specs.Queue.{packets_of}
 use Rattle.pl_nodes.proofs.Pipes.{pipe-total, pipe-said}
 use Rattle.pl_nodes.proofs.nodes.Nodes.used.Goals as goal
 
 pub returns-clause-value : goal.returns-clause-value
 returns-clause-value g c =
+    let node = c.in-Pipe.node in
     let there = c.index.ensures ∙ ap (λ x. Some x) c.in-Pipe.is in
-    pipe-said c.self.inside c.args.key c.in-Pipe.node there c.self.invariant c.args.self.now c.self.view_is (λ x. c.len.result ≡ used x)
-    (c.len.ensures.value ∙ pipe-total c.self.inside c.args.key c.in-Pipe.node there c.self.invariant c.args.self.now c.self.view_is)
+    pipe-said c.self.inside c.args.key node there c.self.invariant c.args.self.now c.self.view_is (λ x. c.used.result ≡ used x)
+    (c.used.ensures.value ∙ ap (used_of (packets_of node.queue)) (pipe-total c.self.inside c.args.key node there c.self.invariant c.args.self.now c.self.view_is))

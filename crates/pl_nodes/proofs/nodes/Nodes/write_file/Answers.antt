@@ -4,10 +4,10 @@ use Rattle.pl_segments.specs.Segments.{Segments, at}
 use Rattle.pl_file.specs.File.{written}
 use Rattle.pl_file.proofs.Editing.{solid-length}
 use Rattle.pl_nodes.specs.declared.content.Content.TheVariants.{File}
+use Rattle.pl_nodes.specs.Nodes.{Nodes}
 use Rattle.pl_nodes.proofs.Keyed.{on_err}
 use Rattle.pl_nodes.proofs.AtKey.{file-there, held, few-holders, still-sound, refused-seen}
 use Rattle.pl_nodes.proofs.Files.{file-done, file-pipes}
-use Rattle.pl_nodes.specs.Nodes.{Nodes}
 use Rattle.pl_nodes.proofs.nodes.Nodes.write_file.Goals as goal
 
 pub write_at-requires-clause-held : goal.write_at-requires-clause-held
@@ -33,7 +33,7 @@ invariant_of-self-2 g c =
     let there = file-there k.contents.slots c.args.key c.index_mut.result.now c.in-Some.node.now c.index_mut.ensures.value c.in-Some.ensures.value in
     let long = solid-length c.write_at.new.self c.len-len.ensures.solid in
     still-sound k c.args.key (File c.in-Some.node.now) there c.self.invariant c.write_at.new.store (File (record c.in-Some.node.now { file = c.write_at.new.self })) c.in_ok-written.ensures.turns
-    (omega (arith, long, c.len-len.ensures.value, c.len-len.ensures.most)) (refl, refl) (c.in_ok-written.ensures.spare c.self.invariant.spare)
+    (omega (arith, long, c.len-len.ensures.value, c.len-len.ensures.most)) (refl, refl) refl (c.in_ok-written.ensures.spare c.self.invariant.spare)
 
 pub returns-clause-ok : goal.returns-clause-ok
 returns-clause-ok g c =
