@@ -123,7 +123,10 @@ pub fn set_fl<A: Allocator + Copy>(
         return Reply::Fault(Errno::EBADF);
     };
     let status = OpenFlags::APPEND.union(OpenFlags::NONBLOCK);
-    kernel.descs.set_flags(key, flags.intersection(status));
+    let asked = flags.intersection(status);
+    let kept = kernel.descs.flags(key).intersection(OpenFlags::DIRECT);
+    let set = asked.union(kept);
+    kernel.descs.set_flags(key, set);
     Reply::Unit
 }
 

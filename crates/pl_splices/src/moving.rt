@@ -1,12 +1,13 @@
 //! One try of a splice or a tee.
-ghost use Rattle.std.specs.Prelude.{◌≡◌, ◌≢◌, ◌≤◌, IfOk, OnOk, OnErr, IfSome, length, unwrap_or, ◌-◌, false};
+ghost use Rattle.std.specs.Prelude.{◌≡◌, ◌≢◌, ◌≤◌, IfOk, OnOk, OnErr, IfSome, None, length, unwrap_or, ◌-◌, false};
 ghost use Rattle.pl_model.specs.Transfer.{room};
 ghost use Rattle.pl_desc.specs.Rows.{at};
 ghost use Rattle.pl_state.specs.Opens.{OpenOn};
+ghost use Rattle.pl_splices.specs.Sides.{either_is_packets};
 ghost use Rattle.pl_splices.specs.Moves.{Goes, Fits, GoesOver, Tries, WouldMove};
 ghost use Rattle.pl_splices.specs.Shares.{SharesSlots, AddsNone, SharesBetween, place_in};
 
-use crate::sides::{Side, advance, source_of, start_of, target_of};
+use crate::sides::{Side, advance, either_is_packet, source_of, start_of, target_of};
 use pl_decisions::case_of_move;
 use pl_model::{Errno, MoveCase, Node, Reply};
 use pl_state::{KernelState, NoMemory};
@@ -27,6 +28,8 @@ fn pipe_to_pipe<A: Allocator + Copy>(
     requires apart { source ≢ target }
     requires held { IfSome (at kernel.old.nodes.pipes source) (λ x. count ≤ length x.bytes) }
     requires room { IfSome (at kernel.old.nodes.pipes target) (λ x. count ≤ room x) }
+    requires from_bytes { IfSome (at kernel.old.nodes.pipes source) (λ x. x.packets ≡ None) }
+    requires to_bytes { IfSome (at kernel.old.nodes.pipes target) (λ x. x.packets ≡ None) }
     ensures done { OnOk result (GoesOver kernel.old from to is_tee count kernel.new) }
     ensures shares { OnOk result (SharesSlots kernel.old.nodes.memory kernel.new.nodes.memory source target) }
     ensures undone { OnErr result (kernel.new ≡ kernel.old) }
@@ -55,6 +58,7 @@ fn file_to_pipe<A: Allocator + Copy>(
     requires some { 1 ≤ count }
     requires left { IfSome (at kernel.old.opened from.key) (λ o. IfSome (at kernel.old.nodes.files source) (λ bytes. count ≤ length bytes - unwrap_or from.given o.offset)) }
     requires room { IfSome (at kernel.old.nodes.pipes target) (λ x. count ≤ room x) }
+    requires to_bytes { IfSome (at kernel.old.nodes.pipes target) (λ x. x.packets ≡ None) }
     ensures done { OnOk result (GoesOver kernel.old from to false count kernel.new) }
     ensures undone { OnErr result (kernel.new ≡ kernel.old) }
 {
@@ -80,6 +84,7 @@ fn pipe_to_file<A: Allocator + Copy>(
     requires some { 1 ≤ count }
     requires held { IfSome (at kernel.old.nodes.pipes source) (λ x. count ≤ length x.bytes) }
     requires room { IfSome (at kernel.old.opened to.key) (λ o. count ≤ kernel.old.limits.file_max - unwrap_or to.given o.offset) }
+    requires from_bytes { IfSome (at kernel.old.nodes.pipes source) (λ x. x.packets ≡ None) }
     ensures done { OnOk result (GoesOver kernel.old from to false count kernel.new) }
     ensures shares { OnOk result (IfSome (at kernel.old.nodes.files target) (λ bytes. place_in (at kernel.old.opened to.key) to.given ≤ length bytes) → AddsNone kernel.old.nodes.memory kernel.new.nodes.memory) }
     ensures undone { OnErr result (kernel.new ≡ kernel.old) }
@@ -103,6 +108,7 @@ fn move_bytes<A: Allocator + Copy>(
     requires goes { Goes kernel.old from to is_tee }
     requires some { 1 ≤ count }
     requires fits { Fits kernel.old from to count }
+    requires bytes { either_is_packets {A = A} kernel.old from.node to.node ≡ false }
     ensures done { OnOk result (GoesOver kernel.old from to is_tee count kernel.new) }
     ensures shares { SharesBetween kernel.old from to kernel.new }
     ensures undone { OnErr result (kernel.new ≡ kernel.old) }
@@ -137,6 +143,9 @@ pub(crate) fn try_move<A: Allocator + Copy>(
     ensures undone { OnErr result (kernel.new ≡ kernel.old) }
     ensures wanted { OnErr result (WouldMove {A = A} kernel.old from to len is_tee) }
 {
+    if either_is_packet(kernel, from, to) {
+        return Ok(Some(Reply::Fault(Errno::EINVAL)));
+    }
     let source = source_of(kernel, from);
     let target = target_of(kernel, to);
     match case_of_move(source, target, len as usize) {

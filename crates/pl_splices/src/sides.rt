@@ -1,12 +1,12 @@
 //! The two sides of a splice or a tee.
 ghost use Rattle.std.specs.Prelude.{◌≡◌, ◌-◌, is_some, unwrap_or, IfSome, IsSome, Some, if◌then◌else◌};
 ghost use Rattle.pl_model.specs.Map.{change_at};
-ghost use Rattle.pl_model.specs.Splice.{source_of as machine_source, target_of as machine_target};
+ghost use Rattle.pl_model.specs.Splice.{source_of as machine_source, target_of as machine_target, is_packet_pipe};
 ghost use Rattle.pl_desc.specs.Rows.{at};
 ghost use Rattle.pl_desc.specs.Descs.{IsTidy};
 ghost use Rattle.pl_state.specs.Contents.{core_of, node_of};
 ghost use Rattle.pl_state.specs.Opens.{OpenOn};
-ghost use Rattle.pl_splices.specs.Sides.{side_of};
+ghost use Rattle.pl_splices.specs.Sides.{side_of, either_is_packets};
 
 use pl_decisions::place_in_file;
 use pl_desc::Descs;
@@ -52,6 +52,34 @@ pub(crate) fn source_of<A: Allocator + Copy>(kernel: &KernelState<A>, side: Side
                 left: kernel.nodes.file_len(file).saturating_sub(start),
             }
         }
+    }
+}
+
+// Whether a side is a packet pipe (pipe(2), O_DIRECT).
+fn is_packet<A: Allocator + Copy>(kernel: &KernelState<A>, side: Side) -> bool
+    requires { OpenOn kernel.now side.key side.node }
+    ensures { result ≡ is_packet_pipe (core_of {A = A} kernel.now) (node_of side.node) }
+{
+    match side.node {
+        Node::Pipe(pipe) => kernel.nodes.is_packet(pipe),
+        Node::File(_) => false,
+    }
+}
+
+// Whether a side of the two is a packet pipe.
+pub(crate) fn either_is_packet<A: Allocator + Copy>(
+    kernel: &KernelState<A>,
+    from: Side,
+    to: Side,
+) -> bool
+    requires from { OpenOn kernel.now from.key from.node }
+    requires to { OpenOn kernel.now to.key to.node }
+    ensures { result ≡ either_is_packets {A = A} kernel.now from.node to.node }
+{
+    if is_packet(kernel, from) {
+        true
+    } else {
+        is_packet(kernel, to)
     }
 }
 

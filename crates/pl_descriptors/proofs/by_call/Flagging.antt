@@ -7,7 +7,7 @@ use Rattle.pl_model.specs.declared.flags.OpenFlags.{OpenFlags}
 use Rattle.pl_model.specs.declared.replies.Reply.TheVariants.{Flags, Fault}
 use Rattle.pl_model.specs.declared.replies.Reply.TheVariants as reply
 use Rattle.pl_model.specs.declared.replies.Errno.TheVariants.{EBADF}
-use Rattle.pl_model.specs.Flags.{status_flags}
+use Rattle.pl_model.specs.Flags.{flags_set}
 use Rattle.pl_model.specs.Map.{set_at, change_at}
 use Rattle.pl_model.specs.State.{Core, Open, set_description}
 use Rattle.pl_model.specs.Settle.{settle}
@@ -54,25 +54,25 @@ module _ {A : Type 0} (m : Caller A) (fd : ℤ) where
     call = Call.SetFl fd flags
 
     abbrev sets : Option (Open numbers) → Begins A numbers
-    sets o = found o EBADF (λ o. answered (set_description c o.key (record o.description { flags = status_flags flags })) reply.Unit)
+    sets o = found o EBADF (λ o. answered (set_description c o.key (record o.description { flags = flags_set o.description.flags flags })) reply.Unit)
 
     pub set-closed : row_of descs.tables pid fd ≡ None → MakesAtKeys k (Begin pid call) (Fault EBADF) k
     unfolding begin begin_set_fl
     set-closed none = does_same k sound (Begin pid call) (stepped c (Fault EBADF)) (Fault EBADF) (step-refused k pid call process EBADF (ap sets (open-none k pid fd none))) refl refl
 
     module _ (d : ℕ) (row : row_of descs.tables pid fd ≡ Some d) (o : Opened) (here : at descs.opened d ≡ Some o)
-        (descs' : Descs) (opened : at descs'.opened ≡ change_at d (λ o. record o { flags = status_flags flags }) (at descs.opened)) (rest : descs' ≡ record descs { opened = descs'.opened }) where
+        (f : OpenFlags) (is_set : f ≡ flags_set o.flags flags) (descs' : Descs) (opened : at descs'.opened ≡ change_at d (λ o. record o { flags = f }) (at descs.opened)) (rest : descs' ≡ record descs { opened = descs'.opened }) where
       abbrev new : Contents A
       new = contents descs' nodes calls limits
 
       abbrev now : Opened
-      now = record o { flags = status_flags flags }
+      now = record o { flags = f }
 
       abbrev u : Core A numbers
       u = set_description c d (description_of now)
 
       opened_is : at descs'.opened ≡ set_at nat_eq (at descs.opened) d (Some now)
-      opened_is = opened ∙ change_at-is d (λ o. record o { flags = status_flags flags }) (at descs.opened) o here
+      opened_is = opened ∙ change_at-is d (λ o. record o { flags = f }) (at descs.opened) o here
 
       is : core_of new ≡ u
       unfolding core_of
@@ -89,7 +89,7 @@ module _ {A : Type 0} (m : Caller A) (fd : ℤ) where
 
       pub set-sets : MakesAtKeys k (Begin pid call) reply.Unit new
       unfolding begin begin_set_fl
-      set-sets = does_plain k new (Begin pid call) (ended c (stepped u reply.Unit)) reply.Unit (step-answered k pid call process u reply.Unit (ap sets (open-is k pid fd d o row here))) refl settles
+      set-sets = does_plain k new (Begin pid call) (ended c (stepped u reply.Unit)) reply.Unit (step-answered k pid call process u reply.Unit (ap sets (open-is k pid fd d o row here) ∙ ap (λ z. answered (set_description c d (record (description_of o) { flags = z })) reply.Unit) (sym is_set))) refl settles
 
       pub set-sound : IsSound A new
       set-sound = record {
@@ -103,7 +103,7 @@ module _ {A : Type 0} (m : Caller A) (fd : ℤ) where
         };
         waiting = sound.waiting;
         belong = belong-same calls.calls (is_pid descs.tables) (is_pid descs'.tables) sound.belong (ap (λ (z : Descs). is_pid z.tables) rest);
-        on_nodes = wait-changed calls.calls (at descs.opened) (at descs'.opened) d (λ o. record o { flags = status_flags flags }) (λ o. refl) opened sound.on_nodes;
+        on_nodes = wait-changed calls.calls (at descs.opened) (at descs'.opened) d (λ o. record o { flags = f }) (λ o. refl) opened sound.on_nodes;
       }
 
       pub set-held : IsTidy descs' → AreCounted A descs' calls.calls

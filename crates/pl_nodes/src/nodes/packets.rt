@@ -1,7 +1,7 @@
 //! Packet pipes.
 ghost use Rattle.std.specs.Prelude.{◌≡◌, ◌-◌, ◌/◌, ◌≤◌, ℕ, length, min, take, IfOk, OnErr, OnOk, IsSome, IfSome, Some, None, is_some, nat_eq};
 ghost use Rattle.pl_model.specs.Numbers.{pipe_buf, most_capacity};
-ghost use Rattle.pl_model.specs.State.{empty_packet_pipe};
+ghost use Rattle.pl_model.specs.State.{empty_packet_pipe, pipe_made};
 ghost use Rattle.pl_model.specs.Packets.{front, lose, gain};
 ghost use Rattle.pl_model.specs.Transfer.{room};
 ghost use Rattle.pl_model.specs.Map.{set_at, change_at};
@@ -40,6 +40,26 @@ impl<A: Allocator + Copy> Nodes<A> {
                 named: false,
             })),
         )
+    }
+
+    /// Makes an empty pipe, a packet pipe (pipe(2), `O_DIRECT`) or a byte queue, of 65,536 bytes of capacity, and answers its key. It has
+    /// no slots, and all others keep theirs. An error leaves all as it was.
+    pub fn make(&mut self, packets: bool) -> Result<usize, NoMemory>
+        ensures vacant { IfOk result (λ key. (at self.old.pipes key ≡ None) × (at self.old.files key ≡ None)) }
+        ensures key { IfOk result (λ key. key ≡ self.old.next) }
+        ensures ok { IfOk result (λ key. at self.new.pipes ≡ set_at nat_eq (at self.old.pipes) key (Some (pipe_made packets))) }
+        ensures files { at self.new.files ≡ at self.old.files }
+        ensures names { self.new.names ≡ self.old.names }
+        ensures file_max { self.new.file_max ≡ self.old.file_max }
+        ensures slots { (key : ℕ) → slots_at self.new.slots key ≡ slots_at self.old.slots key }
+        ensures segments { self.new.segments ≡ self.old.segments }
+        ensures err { OnErr result (self.new ≡ self.old) }
+    {
+        if packets {
+            self.make_packet_pipe()
+        } else {
+            self.make_pipe()
+        }
     }
 
     /// Whether a pipe is a packet pipe.

@@ -1,18 +1,21 @@
 -- What a side has to give, and has room for, at the kernel's keys.
-use Rattle.std.proofs.Common.{◌≡◌, ℕ, Bool, List, [], Option, Some, None, IfSome, refl, sym, ◌∙◌, ap, subst, length, take}
-use Rattle.std.specs.Prelude.{◌-◌, ◌≤◌, nat_lt, unwrap_or}
+use Rattle.std.proofs.Common.{◌≡◌, ℕ, Bool, true, false, not, List, [], Option, Some, None, IfSome, refl, sym, ◌∙◌, ap, subst, length, take}
+use Rattle.std.specs.Prelude.{◌-◌, ◌≤◌, ◌||◌, nat_lt, unwrap_or, is_none, is_some}
 use Rattle.pl_model.specs.declared.node.Node.{Node}
 use Rattle.pl_model.specs.declared.node.Node.TheVariants as node
 use Rattle.pl_model.specs.declared.cases.MoveCase.{MoveCase}
 use Rattle.pl_model.specs.declared.cases.Source.{Source}
 use Rattle.pl_model.specs.declared.cases.Target.{Target}
 use Rattle.pl_model.specs.declared.replies.Reply.{Reply}
+use Rattle.pl_model.specs.declared.replies.Reply.TheVariants.{Fault}
+use Rattle.pl_model.specs.declared.replies.Errno.TheVariants.{EINVAL}
+use Rattle.pl_model.specs.Packets.{is_byte_queue}
 use Rattle.pl_model.specs.State.{Core, Pipe, empty_pipe}
 use Rattle.pl_model.specs.Live.{readers, writers}
 use Rattle.pl_model.specs.Modes.{reads, writes as writes_mode}
 use Rattle.pl_model.specs.Trial.{Done, Wait, still}
 use Rattle.pl_model.specs.Transfer.{room, count}
-use Rattle.pl_model.specs.Splice.{Side as MachineSide, source_of, target_of, to_be_had, room_of, move_case, move_row, moved, bytes_from, leaves, enters, source_advanced, target_put}
+use Rattle.pl_model.specs.Splice.{Side as MachineSide, source_of, target_of, to_be_had, room_of, is_packet_pipe, move_case, move_row, moved, bytes_from, leaves, enters, source_advanced, target_put}
 use Rattle.pl_model.specs.Numbered.{numbers}
 use Rattle.pl_model.proofs.settling.WhoIsLive.{readers-is, writers-is}
 use Rattle.pl_desc.specs.Rows.{at}
@@ -23,9 +26,9 @@ use Rattle.pl_state.specs.Sound.{IsWhole}
 use Rattle.pl_state.proofs.by_call.Begun.{ends-is, pipe_there, file_there}
 use Rattle.pl_state.proofs.by_call.Moving.{flowed-still}
 use Rattle.pl_splices.specs.declared.sides.Side.{Side}
-use Rattle.pl_splices.specs.Sides.{side_of}
+use Rattle.pl_splices.specs.Sides.{side_of, either_is_packets}
 use Rattle.pl_splices.specs.Moves.{Goes, Fits, GoesOver, Ends, StillWaits, WouldMove, trial}
-use Rattle.pl_splices.proofs.by_call.Trying.{of_one, say_one, of_both, source_side, target_side, trial-is}
+use Rattle.pl_splices.proofs.by_call.Trying.{of_one, say_one, of_both, source_side, target_side, trial-is, packets-refused}
 use Rattle.pl_splices.proofs.Resembling.{resembles-refl}
 
 -- what is said of what is there, or else of another, holds where it is there
@@ -81,6 +84,17 @@ module _ {A : Type 0} (k now : Contents A) (whole : IsWhole A k) (view : k ≡ n
         ∙ ap (λ z. Target.Pipe (room (unwrap_or z empty_pipe)) (nat_lt 0 (readers core p))) there.1
         ∙ ap (λ b. Target.Pipe (room there.0) b) (readers-is core p ∙ ends-is k whole reads (node.Pipe p))))
 
+    pub packet_told : (b : Bool) → IfSome (at k.nodes.pipes p) (λ x. b ≡ is_some x.packets) → b ≡ is_packet_pipe (core_of now) (node_of s.node)
+    unfolding core_of
+    packet_told b h = subst (λ (z : Contents A). b ≡ is_packet_pipe (core_of z) (node_of s.node)) view (
+        of_one (at k.nodes.pipes p) there.0 (λ x. b ≡ is_some x.packets) there.1 h
+        ∙ kind there.0.packets
+        ∙ sym (ap (λ n. is_packet_pipe core (node_of n)) is ∙ ap (λ z. not (is_byte_queue (unwrap_or z empty_pipe))) there.1))
+      where
+        kind : (o : Option (List ℕ)) → is_some o ≡ not (is_none o)
+        kind None = refl
+        kind (Some ls) = refl
+
   -- a file
   module _ (f : ℕ) (is : s.node ≡ node.File f) (start : ℕ) (starts : IfSome (at now.opened s.key) (λ o. start ≡ unwrap_or s.given o.offset)) where
     abbrev file : (y : List ℕ) × (at k.nodes.files f ≡ Some y)
@@ -132,11 +146,44 @@ module _ {A : Type 0} (k : Contents A) (from to : Side) (is_tee : Bool) (goes : 
   unfolding core_of
   file_room f is = say_one (at k.opened to.key) goes.target.opened (λ o. many ≤ k.limits.file_max - unwrap_or to.given o.offset) goes.target.here (free (node.File f) is)
 
+-- a packet pipe is refused, and nothing moves
+pub packets_end : {A : Type 0} (k : Contents A) (from to : Side) (is_tee : Bool) (goes : Goes k from to is_tee) (len : ℕ) → either_is_packets k from.node to.node ≡ true → Ends k from to len is_tee (Fault EINVAL) k
+packets_end k from to is_tee goes len some = record {
+  state = core_of k;
+  flow = still;
+  came = packets-refused k from to is_tee goes len some;
+  leaves = record { left = sym (flowed-still k); like = resembles-refl (core_of k); calls = refl };
+}
+
+-- both sides are byte queues, where they are pipes
+module _ {A : Type 0} (k : Contents A) (from to : Node) (none : either_is_packets k from to ≡ false) where
+  neither : (a b : Bool) → (a || b) ≡ false → (a ≡ false) × (b ≡ false)
+  neither true b h = absurd (cc)
+  neither false b h = (refl, h)
+
+  is_bytes : (o : Option Pipe) → not (is_byte_queue (unwrap_or o empty_pipe)) ≡ false → IfSome o (λ x. x.packets ≡ None)
+  is_bytes None h = tt
+  is_bytes (Some x) h = at x.packets h
+    where
+      at : (ls : Option (List ℕ)) → not (is_none ls) ≡ false → ls ≡ None
+      at None h = refl
+      at (Some l) h = absurd (cc)
+
+  bytes_on : (n : Node) (p : ℕ) → n ≡ node.Pipe p → is_packet_pipe (core_of k) (node_of n) ≡ false → IfSome (at k.nodes.pipes p) (λ x. x.packets ≡ None)
+  unfolding core_of
+  bytes_on n p is h = is_bytes (at k.nodes.pipes p) (subst (λ z. is_packet_pipe (core_of k) (node_of z) ≡ false) is h)
+
+  pub from_is_bytes : (p : ℕ) → from ≡ node.Pipe p → IfSome (at k.nodes.pipes p) (λ x. x.packets ≡ None)
+  from_is_bytes p is = bytes_on from p is (neither _ _ none).0
+
+  pub to_is_bytes : (p : ℕ) → to ≡ node.Pipe p → IfSome (at k.nodes.pipes p) (λ x. x.packets ≡ None)
+  to_is_bytes p is = bytes_on to p is (neither _ _ none).1
+
 -- what was decided of both sides is what the machine decides
 module _ {A : Type 0} (k : Contents A) (from to : Side) (is_tee : Bool) (goes : Goes k from to is_tee) (len : ℕ) (source : Source) (target : Target)
     (gives : IfSome (at k.opened from.key) (λ o. source ≡ source_of (core_of k) (side_of from o) (node_of from.node)))
     (takes : IfSome (at k.opened to.key) (λ o. target ≡ target_of (core_of k) (side_of to o) (node_of to.node)))
-    (row : MoveCase) (decided : row ≡ move_case source target len) where
+    (row : MoveCase) (decided : row ≡ move_case source target len) (none : either_is_packets k from.node to.node ≡ false) where
   abbrev a : MachineSide numbers
   a = source_side k from to is_tee goes
 
@@ -150,7 +197,7 @@ module _ {A : Type 0} (k : Contents A) (from to : Side) (is_tee : Bool) (goes : 
   target_is = of_one (at k.opened to.key) goes.target.opened (λ o. target ≡ target_of (core_of k) (side_of to o) (node_of to.node)) goes.target.here takes
 
   pub decided-is : trial k from to len is_tee ≡ move_row (core_of k) a b is_tee row
-  decided-is = trial-is k from to is_tee goes len row (sym (decided ∙ (λ i. move_case (source_is i) (target_is i) len)))
+  decided-is = trial-is k from to is_tee goes len none row (sym (decided ∙ (λ i. move_case (source_is i) (target_is i) len)))
 
   -- a row that moves nothing
   pub ends_still : (reply : Reply A) → move_row (core_of k) a b is_tee row ≡ Done (core_of k) still reply → Ends k from to len is_tee reply k

@@ -74,3 +74,6 @@ returns-clause-done g c =
     let new = contents c.advance.new.descs (nodes_of c.move_file_pipe.new.self) c.kernel.inside.parked c.kernel.inside.limits in
     subst (λ z. GoesOver z c.args.from c.args.to false c.args.count new) c.kernel.view_is
     (subst (GoesOver (k g c) c.args.from c.args.to false c.args.count) (new_is g c) (from_file (k g c) c.kernel.invariant.0 c.args.from c.args.to c.args.source c.args.target (on_f g c) (on_q g c) (file g c).0 (pipe g c).0 (file g c).1 (pipe g c).1 c.args.count (left g c) (nodes_of c.move_file_pipe.new.self) (after g c) c.advance.new.descs.opened (moves g c)))
+
+pub move_file_pipe-requires-clause-bytes : goal.move_file_pipe-requires-clause-bytes
+move_file_pipe-requires-clause-bytes g c = subst (λ (z : Contents g.row.A.Denot). IfSome (at z.nodes.pipes c.args.target) (λ x. x.packets ≡ None)) (sym c.kernel.view_is) c.requires.to_bytes

@@ -1,6 +1,6 @@
 use Rattle.pl_model.specs.declared.node.Node.TheVariants.{Pipe, File}
 use Rattle.pl_splices.proofs.by_call.Sharing.{between, from_a_file}
-use Rattle.pl_splices.proofs.by_call.Sizing.{pipe_held, pipe_room, file_left, file_room}
+use Rattle.pl_splices.proofs.by_call.Sizing.{pipe_held, pipe_room, file_left, file_room, from_is_bytes, to_is_bytes}
 use Rattle.pl_splices.proofs.moving.move_bytes.Goals as goal
 
 pub pipe_to_pipe-requires-clause-held : goal.pipe_to_pipe-requires-clause-held
@@ -31,3 +31,15 @@ returns-in-Pipe-File-clause-shares g c =
 
 pub returns-in-File-Pipe-clause-shares : goal.returns-in-File-Pipe-clause-shares
 returns-in-File-Pipe-clause-shares g c = from_a_file c.args.kernel.now c.file_to_pipe.new.kernel c.args.from c.args.to c.in-File-Pipe.source c.in-File-Pipe.is-0
+
+pub pipe_to_pipe-requires-clause-from_bytes : goal.pipe_to_pipe-requires-clause-from_bytes
+pipe_to_pipe-requires-clause-from_bytes g c = from_is_bytes c.args.kernel.now c.args.from.node c.args.to.node c.requires.bytes c.in-Pipe-Pipe.source c.in-Pipe-Pipe.is-0
+
+pub pipe_to_pipe-requires-clause-to_bytes : goal.pipe_to_pipe-requires-clause-to_bytes
+pipe_to_pipe-requires-clause-to_bytes g c = to_is_bytes c.args.kernel.now c.args.from.node c.args.to.node c.requires.bytes c.in-Pipe-Pipe.target c.in-Pipe-Pipe.is-1
+
+pub pipe_to_file-requires-clause-from_bytes : goal.pipe_to_file-requires-clause-from_bytes
+pipe_to_file-requires-clause-from_bytes g c = from_is_bytes c.args.kernel.now c.args.from.node c.args.to.node c.requires.bytes c.in-Pipe-File.source c.in-Pipe-File.is-0
+
+pub file_to_pipe-requires-clause-to_bytes : goal.file_to_pipe-requires-clause-to_bytes
+file_to_pipe-requires-clause-to_bytes g c = to_is_bytes c.args.kernel.now c.args.from.node c.args.to.node c.requires.bytes c.in-File-Pipe.target c.in-File-Pipe.is-1

@@ -102,3 +102,6 @@ returns-clause-shares g c =
     (λ within.
     let here = subst (λ n. IfSome (at (k g c).nodes.files c.args.target) (λ (bytes : List ℕ). n ≤ length bytes)) (sym begins) within in
     record { fewer = c.in-Ok.ensures.segments here; named_before = c.in-Ok.ensures.none_added here })
+
+pub move_pipe_file-requires-clause-bytes : goal.move_pipe_file-requires-clause-bytes
+move_pipe_file-requires-clause-bytes g c = subst (λ (z : Contents g.row.A.Denot). IfSome (at z.nodes.pipes c.args.source) (λ x. x.packets ≡ None)) (sym c.kernel.view_is) c.requires.from_bytes

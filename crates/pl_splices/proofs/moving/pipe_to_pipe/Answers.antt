@@ -79,3 +79,15 @@ pub returns-in_ok-move_pipe_pipe-clause-shares : goal.returns-in_ok-move_pipe_pi
 returns-in_ok-move_pipe_pipe-clause-shares g c =
     subst (λ (z : Contents g.row.A.Denot). SharesSlots z.nodes.memory (memory_of c.move_pipe_pipe.new.self) c.args.source c.args.target) c.kernel.view_is
     (record { few = c.in_ok-move_pipe_pipe.ensures.segments; parts = c.in_ok-move_pipe_pipe.ensures.parts })
+
+pub copy_pipe_pipe-requires-clause-from_bytes : goal.copy_pipe_pipe-requires-clause-from_bytes
+copy_pipe_pipe-requires-clause-from_bytes g c = subst (λ (z : Contents g.row.A.Denot). IfSome (at z.nodes.pipes c.args.source) (λ x. x.packets ≡ None)) (sym c.kernel.view_is) c.requires.from_bytes
+
+pub copy_pipe_pipe-requires-clause-to_bytes : goal.copy_pipe_pipe-requires-clause-to_bytes
+copy_pipe_pipe-requires-clause-to_bytes g c = subst (λ (z : Contents g.row.A.Denot). IfSome (at z.nodes.pipes c.args.target) (λ x. x.packets ≡ None)) (sym c.kernel.view_is) c.requires.to_bytes
+
+pub move_pipe_pipe-requires-clause-from_bytes : goal.move_pipe_pipe-requires-clause-from_bytes
+move_pipe_pipe-requires-clause-from_bytes g c = subst (λ (z : Contents g.row.A.Denot). IfSome (at z.nodes.pipes c.args.source) (λ x. x.packets ≡ None)) (sym c.kernel.view_is) c.requires.from_bytes
+
+pub move_pipe_pipe-requires-clause-to_bytes : goal.move_pipe_pipe-requires-clause-to_bytes
+move_pipe_pipe-requires-clause-to_bytes g c = subst (λ (z : Contents g.row.A.Denot). IfSome (at z.nodes.pipes c.args.target) (λ x. x.packets ≡ None)) (sym c.kernel.view_is) c.requires.to_bytes

@@ -12,12 +12,12 @@ returns-in-Some-clause-pipes g c =
 pub returns-then-has_name-clause-pipes : goal.returns-then-has_name-clause-pipes
 returns-then-has_name-clause-pipes g c =
     left_reset c.args.pipe c.args.nodes.now c.reset_pipe.new.self c.args.has_reader c.args.has_writer c.is_hung-was_hung.result c.args.had_writer c.is_hung-was_hung.ensures
-    (sym c.hung_after_close.ensures ∙ c.in-None.is) (sym c.has_name.ensures ∙ c.if-has_name.true) c.reset_pipe.ensures.ok
+    (sym c.hung_after_close.ensures ∙ c.in-None.is) (sym c.has_name.ensures.value ∙ c.if-has_name.true) c.reset_pipe.ensures.ok
 
 pub returns-else-has_name-clause-pipes : goal.returns-else-has_name-clause-pipes
 returns-else-has_name-clause-pipes g c =
     left_none c.args.pipe c.args.nodes.now c.discard_pipe.new.self c.args.has_reader c.args.has_writer c.is_hung-was_hung.result c.args.had_writer c.is_hung-was_hung.ensures
-    (sym c.hung_after_close.ensures ∙ c.in-None.is) (sym c.has_name.ensures ∙ c.if-has_name.false) c.discard_pipe.ensures.ok
+    (sym c.hung_after_close.ensures ∙ c.in-None.is) (sym c.has_name.ensures.value ∙ c.if-has_name.false) c.discard_pipe.ensures.ok
 
 pub returns-in-Some-clause-shrinks : goal.returns-in-Some-clause-shrinks
 returns-in-Some-clause-shrinks g c = subst (Shrinks (memory_of c.args.nodes.now)) (sym c.set_hung.ensures.memory) (shrinks-same (memory_of c.args.nodes.now))
