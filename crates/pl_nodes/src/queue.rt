@@ -119,6 +119,7 @@ impl<A: Allocator + Copy> Queue<A> {
     }
 
     /// Takes bytes out, of which a read can get so many. An error leaves all as it was.
+    #[inline(always)]
     pub(crate) fn pop(
         &mut self,
         alloc: A,
@@ -143,6 +144,7 @@ impl<A: Allocator + Copy> Queue<A> {
     }
 
     /// Takes bytes out, of which a read can get so many, into a list. It takes no memory.
+    #[inline(always)]
     pub(crate) fn pop_into(&mut self, store: &mut Store<A>, into: &mut [u8])
         requires held { Holds (segment_at store.old) (slots_of self.old) }
         requires count { length into.old ≤ front_by self.old }
@@ -160,6 +162,7 @@ impl<A: Allocator + Copy> Queue<A> {
     }
 
     /// Adds bytes at the end, which fit. An error leaves all as it was.
+    #[inline(always)]
     pub(crate) fn push(&mut self, store: &mut Store<A>, bytes: &[u8]) -> Result<(), NoMemory>
         requires held { Holds (segment_at store.old) (slots_of self.old) }
         requires room { length bytes.now ≤ capacity_of self.old - used_by self.old }
@@ -336,6 +339,7 @@ fn pop_packet_into<A: Allocator + Copy>(
 }
 
 // Adds bytes to a ring of bytes that has room for them.
+#[inline(always)]
 fn push_bytes<A: Allocator + Copy>(
     ring: &mut Ring<A>,
     store: &mut Store<A>,
