@@ -85,22 +85,6 @@ fn mode_text(mode: Mode) -> &'static str
     }
 }
 
-/// The status flags that are set, or `-` for none.
-#[tactic(auto, unfolding(pl_model::specs::Shown::flags_text))]
-fn flags_text(flags: OpenFlags) -> &'static str
-    ensures { result.now ≡ flags_text flags }
-{
-    match (
-        flags.contains(OpenFlags::APPEND),
-        flags.contains(OpenFlags::NONBLOCK),
-    ) {
-        (true, true) => "append,nonblock",
-        (true, false) => "append",
-        (false, true) => "nonblock",
-        (false, false) => "-",
-    }
-}
-
 fn push_fds<A: Allocator + Copy>(
     text: &mut String<A>,
     reader: i32,
@@ -120,27 +104,6 @@ fn push_broken_count<A: Allocator + Copy>(text: &mut String<A>, n: u32) -> Resul
     text.push_str(" sigpipe")
 }
 
-fn push_flags<A: Allocator + Copy>(
-    text: &mut String<A>,
-    mode: Mode,
-    flags: OpenFlags,
-) -> Result<(), AllocError>
-    ensures { Pushes result (string_bytes text.old) (string_bytes text.new)
-        (codes "flags " ++ (mode_text mode ++ (codes " " ++ flags_text flags))) }
-{
-    push_two(text, "flags ", mode_text(mode))?;
-    push_two(text, " ", flags_text(flags))
-}
-
-/// What a mask may have, in the order in which it is shown.
-const MASK_NAMES: &[(PollMask, &str)] = &[
-    (PollMask::IN, "in"),
-    (PollMask::OUT, "out"),
-    (PollMask::ERR, "err"),
-    (PollMask::HUP, "hup"),
-    (PollMask::NVAL, "nval"),
-];
-
 /// Adds a name, behind a comma where another stands before it.
 fn push_name<A: Allocator + Copy>(
     text: &mut String<A>,
@@ -156,23 +119,64 @@ fn push_name<A: Allocator + Copy>(
     }
 }
 
-/// Adds the names of what the mask has of these, joined by commas, or `-` for none.
-fn push_names<A: Allocator + Copy>(
+/// Adds the names of what the set has of these, joined by commas, or `-` for none.
+fn push_names<A: Allocator + Copy, F: Flags + Copy>(
     text: &mut String<A>,
-    mask: PollMask,
-    names: &[(PollMask, &str)],
+    set: F,
+    names: &[(F, &str)],
 ) -> Result<(), AllocError>
-    ensures { Pushes result (string_bytes text.old) (string_bytes text.new) (names_text (map (λ n. n.1.now) (filter (λ n. has mask.0 n.0.0) names.now))) }
+    requires { F.exact }
+    ensures { Pushes result (string_bytes text.old) (string_bytes text.new) (names_text (map (λ n. n.1.now) (filter (λ n. has (F.set_of set) (F.set_of n.0)) names.now))) }
 {
     let mut others = false;
     for (flag, name) in names {
-        if mask.contains(*flag) {
+        if set.contains(*flag) {
             push_name(text, others, name)?;
             others = true;
         }
     }
     if others { Ok(()) } else { text.push_str("-") }
 }
+
+/// The status flags that a description may have, in the order in which they are shown.
+const STATUS_NAMES: &[(OpenFlags, &str)] = &[
+    (OpenFlags::APPEND, "append"),
+    (OpenFlags::NONBLOCK, "nonblock"),
+    (OpenFlags::DIRECT, "direct"),
+];
+
+/// Adds the status flags that are set, behind a blank.
+#[tactic(auto, unfolding(pl_model::specs::Shown::flags_text))]
+fn push_status<A: Allocator + Copy>(
+    text: &mut String<A>,
+    flags: OpenFlags,
+) -> Result<(), AllocError>
+    ensures { Pushes result (string_bytes text.old) (string_bytes text.new) (codes " " ++ flags_text flags) }
+{
+    text.push_str(" ")?;
+    push_names(text, flags, STATUS_NAMES)
+}
+
+fn push_flags<A: Allocator + Copy>(
+    text: &mut String<A>,
+    mode: Mode,
+    flags: OpenFlags,
+) -> Result<(), AllocError>
+    ensures { Pushes result (string_bytes text.old) (string_bytes text.new)
+        (codes "flags " ++ (mode_text mode ++ (codes " " ++ flags_text flags))) }
+{
+    push_two(text, "flags ", mode_text(mode))?;
+    push_status(text, flags)
+}
+
+/// What a mask may have, in the order in which it is shown.
+const MASK_NAMES: &[(PollMask, &str)] = &[
+    (PollMask::IN, "in"),
+    (PollMask::OUT, "out"),
+    (PollMask::ERR, "err"),
+    (PollMask::HUP, "hup"),
+    (PollMask::NVAL, "nval"),
+];
 
 #[tactic(auto, unfolding(pl_model::specs::Shown::mask_text))]
 fn push_mask<A: Allocator + Copy>(text: &mut String<A>, mask: PollMask) -> Result<(), AllocError>

@@ -16,5 +16,7 @@ pub mod SpliceExamples
 pub mod SpliceLineExamples
 -- The small examples of polls, computed from the definitions.
 pub mod PollExamples
+-- The small examples of packet pipes, computed from the definitions.
+pub mod PacketExamples
 -- The small examples of limits, computed from the definitions.
 pub mod LimitExamples

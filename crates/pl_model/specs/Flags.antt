@@ -1,5 +1,5 @@
--- The bits of flags.
-use Rattle.std.specs.Prelude.{ℕ, ◌+◌, Bool, ◌==◌, bit_and, bit_or, if◌then◌else◌}
+-- The bits of flags, and the names of those of an open.
+use Rattle.std.specs.Prelude.{ℕ, ◌+◌, List, [], ◌∷◌, ◌++◌, Bool, ◌==◌, codes, bit_and, bit_or, if◌then◌else◌}
 use Rattle.pl_model.specs.declared.flags.OpenFlags.{OpenFlags}
 use Rattle.pl_model.specs.declared.flags.PollMask.{PollMask}
 
@@ -30,6 +30,18 @@ nonblock = 16
 -- pipe(2), O_DIRECT: the pipe is in packet mode.
 abbrev pub direct : ℕ
 direct = 32
+
+-- Of flags and their names in scripts (our own): those that both a line and a reply name.
+abbrev pub names_of_both : List (ℕ × List ℕ)
+names_of_both = (append, codes "append") ∷ (nonblock, codes "nonblock") ∷ []
+
+-- what a line may name, as a file is opened and as flags are set; `direct` is not among them
+abbrev pub open_names : List (ℕ × List ℕ)
+open_names = (creat, codes "creat") ∷ (excl, codes "excl") ∷ (trunc, codes "trunc") ∷ names_of_both
+
+-- what a description can have, in the order in which it is shown
+abbrev pub status_names : List (ℕ × List ℕ)
+status_names = names_of_both ++ ((direct, codes "direct") ∷ [])
 
 -- splice(2), SPLICE_F_MOVE: pages are moved where they can be; it has no effect (the last: our own).
 abbrev pub splice_move : ℕ

@@ -1,5 +1,5 @@
 -- The text of a reply (our own).
-use Rattle.std.specs.Prelude.{ℕ, ◌/◌, ◌%◌, List, [], ◌∷◌, ◌++◌, Bool, true, false, Option, Some, None, codes, slice_index, map}
+use Rattle.std.specs.Prelude.{ℕ, ◌/◌, ◌%◌, List, [], ◌∷◌, ◌++◌, true, false, Option, Some, None, codes, slice_index, map}
 use Rattle.std.specs.List.{filter, flat_map}
 use Rattle.std.specs.Fmt.{decimal, signed_decimal}
 use Rattle.pl_model.specs.declared.calls.Mode.{Mode}
@@ -11,7 +11,7 @@ use Rattle.pl_model.specs.declared.replies.Reply.{Reply}
 use Rattle.pl_model.specs.declared.replies.Reply.TheVariants.{Pid, Fd, Fds, Count, Bytes, Offset, Flags, Size, Masks, Unit, Fault, Parked, NoProcess, NoCall, CallsSpent}
 use Rattle.pl_model.specs.declared.replies.Outcome.{Outcome}
 use Rattle.pl_model.specs.declared.replies.Outcome.TheVariants.{Replied, NoMemory}
-use Rattle.pl_model.specs.Flags.{has, append, nonblock, poll_in, poll_out, poll_err, poll_hup, poll_nval}
+use Rattle.pl_model.specs.Flags.{has, status_names, poll_in, poll_out, poll_err, poll_hup, poll_nval}
 
 abbrev pub lower_digits : List ℕ
 lower_digits = codes "0123456789abcdef"
@@ -57,28 +57,26 @@ mode_text Mode.Read = codes "r"
 mode_text Mode.Write = codes "w"
 mode_text Mode.Both = codes "rw"
 
-abbrev pub append_and_nonblock : Bool → Bool → List ℕ
-append_and_nonblock true true = codes "append,nonblock"
-append_and_nonblock true false = codes "append"
-append_and_nonblock false true = codes "nonblock"
-append_and_nonblock false false = codes "-"
-
--- the names of the status flags that are set, or `-` for none
-unfoldable pub flags_text : OpenFlags → List ℕ
-flags_text flags = append_and_nonblock (has flags.0 append) (has flags.0 nonblock)
-
--- what a mask can have, in the order in which it is shown
-abbrev pub mask_names : List (ℕ × List ℕ)
-mask_names = (poll_in, codes "in") ∷ (poll_out, codes "out") ∷ (poll_err, codes "err") ∷ (poll_hup, codes "hup") ∷ (poll_nval, codes "nval") ∷ []
-
 -- the names joined by commas, or `-` for none
 unfoldable pub names_text : List (List ℕ) → List ℕ
 names_text [] = codes "-"
 names_text (name ∷ []) = name
 names_text (name ∷ next ∷ names) = name ++ (codes "," ++ names_text (next ∷ names))
 
+-- the names of what the set has of these
+abbrev pub names_within : ℕ → List (ℕ × List ℕ) → List ℕ
+names_within set table = names_text (map (λ n. n.1) (filter (λ n. has set n.0) table))
+
+-- the names of the status flags that are set, or `-` for none
+unfoldable pub flags_text : OpenFlags → List ℕ
+flags_text flags = names_within flags.0 status_names
+
+-- what a mask can have, in the order in which it is shown
+abbrev pub mask_names : List (ℕ × List ℕ)
+mask_names = (poll_in, codes "in") ∷ (poll_out, codes "out") ∷ (poll_err, codes "err") ∷ (poll_hup, codes "hup") ∷ (poll_nval, codes "nval") ∷ []
+
 unfoldable pub mask_text : PollMask → List ℕ
-mask_text mask = names_text (map (λ n. n.1) (filter (λ n. has mask.0 n.0) mask_names))
+mask_text mask = names_within mask.0 mask_names
 
 module _ {A : Type 0} where
   -- the line of a reply, without its line feed

@@ -9,7 +9,7 @@ use Rattle.pl_model.specs.declared.flags.OpenFlags.{OpenFlags}
 use Rattle.pl_model.specs.declared.flags.SpliceFlags.{SpliceFlags}
 use Rattle.pl_model.specs.declared.flags.PollMask.{PollMask}
 use Rattle.pl_model.specs.Numbers.{most_bytes}
-use Rattle.pl_model.specs.Flags.{creat, excl, trunc, append, nonblock, splice_move, splice_nonblock, splice_more, splice_gift, poll_in, poll_out, poll_err, poll_hup, poll_nval, no_flags, no_mask}
+use Rattle.pl_model.specs.Flags.{open_names, splice_move, splice_nonblock, splice_more, splice_gift, poll_in, poll_out, poll_err, poll_hup, poll_nval, no_flags, no_mask}
 
 -- what the second says of what the first gives, if it gives anything
 infixl 10 ◌>>=◌
@@ -145,15 +145,14 @@ whence_of word =
     else if bytes_eq word (codes "end") then Some Whence.End
     else None
 
+-- the bit of the flag of this name
+abbrev pub flag_named : List (ℕ × List ℕ) → List ℕ → Option ℕ
+flag_named [] name = None
+flag_named (flag ∷ flags) name = if bytes_eq name flag.1 then Some flag.0 else flag_named flags name
+
 -- a flag by its name, as a file is opened: its bit
 unfoldable pub open_flag : List ℕ → Option ℕ
-open_flag name =
-    if bytes_eq name (codes "creat") then Some creat
-    else if bytes_eq name (codes "excl") then Some excl
-    else if bytes_eq name (codes "trunc") then Some trunc
-    else if bytes_eq name (codes "append") then Some append
-    else if bytes_eq name (codes "nonblock") then Some nonblock
-    else None
+open_flag name = flag_named open_names name
 
 -- a flag by its name, as bytes are spliced: its bit
 unfoldable pub splice_flag : List ℕ → Option ℕ

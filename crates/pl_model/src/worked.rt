@@ -4,7 +4,8 @@ ghost use Rattle.pl_model.specs.WorkedFiles.{EndOfAFile, BadNames, RefusalsOfAnO
 ghost use Rattle.pl_model.specs.WorkedCapacity.{SizesAreRoundedUp, OnlyPipesHaveACapacity, CapacityIsRoom, WaitingWriteGetsRoom, ScriptOfCapacities, LinesOfCapacities};
 ghost use Rattle.pl_model.specs.WorkedFifo.{UnusedFifoForgets, OpensWithoutTheOtherEnd, ReadersWaitForAWriter, InterruptedOpen, MetThoughClosed, LastOpenThatWaits, LinesOfFifos};
 ghost use Rattle.pl_model.specs.WorkedLimits.{NamesUpToTheLimit, WaitingCallsUpToTheLimit, NoCallMayWait, CapacitiesUpToTheLimit};
-ghost use Rattle.pl_model.specs.WorkedPackets.{SmallWritesStayApart, LongWriteIsCut, ReadDropsTheRest};
+ghost use Rattle.pl_model.specs.WorkedPacketPipes.{SmallWritesStayApart, LongWriteIsCut, ReadDropsTheRest};
+ghost use Rattle.pl_model.specs.WorkedPackets.{PacketsAreReadOneByOne, PacketPipeAtItsLimits, NoPacketIsEmpty, EndsOfAPacketPipe, InterruptedWriteOfPackets, OnlyPipeMakesPackets, PacketPipesAreNotSpliced, StatusFlagsInWords, LinesWithoutPackets};
 ghost use Rattle.pl_model.specs.WorkedPoll.{PollsOfAPipe, EndsThatLeave, HangingUpAFifo, FilesAndBothEnds, PollsThatDontWait, PollsKeepTheirEnds, PollWithoutANumber, ScriptOfPolls, LinesOfPolls};
 ghost use Rattle.pl_model.specs.WorkedSpliceLines.{LinesOfSplices};
 ghost use Rattle.pl_model.specs.WorkedStream.{RunsInPieces};
@@ -99,6 +100,17 @@ pub fn polls<A: Allocator>()
     ensures poll_without_a_number { PollWithoutANumber A }
 {}
 
+/// Packet pipes.
+pub fn packets<A: Allocator>()
+    ensures packets_are_read_one_by_one { PacketsAreReadOneByOne A }
+    ensures packet_pipe_at_its_limits { PacketPipeAtItsLimits A }
+    ensures no_packet_is_empty { NoPacketIsEmpty A }
+    ensures ends_of_a_packet_pipe { EndsOfAPacketPipe A }
+    ensures interrupted_write_of_packets { InterruptedWriteOfPackets A }
+    ensures only_pipe_makes_packets { OnlyPipeMakesPackets A }
+    ensures packet_pipes_are_not_spliced { PacketPipesAreNotSpliced A }
+{}
+
 /// Calls at the limits that are chosen when a kernel is made.
 pub fn limits<A: Allocator>()
     ensures names_up_to_the_limit { NamesUpToTheLimit A }
@@ -132,4 +144,6 @@ pub fn scripts<A: Allocator>()
     ensures lines_of_splices { LinesOfSplices A }
     ensures polls { ScriptOfPolls A }
     ensures lines_of_polls { LinesOfPolls A }
+    ensures status_flags { StatusFlagsInWords }
+    ensures lines_without_packets { LinesWithoutPackets A }
 {}

@@ -12,7 +12,7 @@ use Rattle.pl_model.specs.Step.{try, begin, happen, core_step}
 use Rattle.pl_model.specs.Numbered.{step}
 use Rattle.pl_model.specs.Words.{words, without_return, number, signed_below, hex_bytes, repeated, digits_or_repeated, bytes_of, open_flag, with_flags, flags_of, flags_or_none}
 use Rattle.pl_model.specs.Lines.{pipe_of, read_of, write_of, dup_of, dup2_of, close_of, get_fl_of, set_fl_of, call_of, start_of, resume_of, interrupt_of, begin_of, words_line, line_of_words, line}
-use Rattle.pl_model.specs.Shown.{hex_text, bytes_text, flags_text, reply_text, outcome_text}
+use Rattle.pl_model.specs.Shown.{hex_text, bytes_text, names_text, flags_text, reply_text, outcome_text}
 use Rattle.pl_model.specs.Script.{lines, asked, answers}
 use Rattle.pl_model.specs.Worked.{BytesBeforeEndOfFile, PartialAndWholeNotWaiting, ReadOfNothing, WriteOfNothing, LastWriterCloses, SmallWriteAtItsBoundary, InterruptedLargeWrite, ParkedCallKeepsItsEnd, LastReaderLeaves, CallNumbersSpent, InterleavingWithALargeWrite, ThreeNamesOfOneWriteEnd, FlagsOfSharedDescriptions, FullTable, DescriptorsThatAreNotOpen, ExitDropsParkedCalls, TableOfWrites, ScriptOfBytesBeforeEndOfFile, ScriptOfFlags, EmptyScript, ScriptWithoutLineFeed, ScriptOfNoProcess}
 
@@ -82,7 +82,7 @@ module _ (A : Type 0) where
   exit_drops_parked_calls file_max = refl
 
   pub script_of_flags : ScriptOfFlags A
-  unfolding first_from numbers_from pids in_rows in_parked readers writers settle flowed read_pipe write_pipe lowest lowest_pid begin_pipe begin_read begin_write begin_dup begin_dup2 begin_dup_fd begin_close begin_get_fl begin_set_fl begin_fork try begin happen core_step step words without_return number signed_below open_flag with_flags flags_of flags_or_none pipe_of read_of dup_of dup2_of get_fl_of set_fl_of call_of start_of begin_of words_line line_of_words line flags_text reply_text outcome_text lines asked answers digits
+  unfolding first_from numbers_from pids in_rows in_parked readers writers settle flowed read_pipe write_pipe lowest lowest_pid begin_pipe begin_read begin_write begin_dup begin_dup2 begin_dup_fd begin_close begin_get_fl begin_set_fl begin_fork try begin happen core_step step words without_return number signed_below open_flag with_flags flags_of flags_or_none pipe_of read_of dup_of dup2_of get_fl_of set_fl_of call_of start_of begin_of words_line line_of_words line names_text flags_text reply_text outcome_text lines asked answers digits
   script_of_flags limits = refl
 
   pub script_of_bytes_before_end_of_file : ScriptOfBytesBeforeEndOfFile A

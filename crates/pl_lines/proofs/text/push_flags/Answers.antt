@@ -9,4 +9,4 @@ returns-in_err-push_two g c =
     front _ _ is.1 c.in_err-push_two.ensures
 
 pub returns : goal.returns
-returns g c = rw (← c.mode_text.ensures, ← c.flags_text.ensures) (behind_both (codes "flags ") _ _ c.in_ok-push_two.was c.push_two.ensures c.push_two-2.ensures)
+returns g c = rw (← c.mode_text.ensures) (behind_both (codes "flags ") _ _ c.in_ok-push_two.was c.push_two.ensures c.push_status.ensures)

@@ -5,12 +5,12 @@ use Rattle.pl_lines.proofs.text.push_names.Goals as goal
 use Rattle.pl_lines.proofs.text.push_names.Goals.{then-contains+in_ok-push_name, else-contains}
 
 pub loop-flag-init : goal.loop-flag-init
-loop-flag-init g c = no_name_yet _ _ c.args.mask c.args.names.now _
+loop-flag-init g c = no_name_yet _ _ (g.F.Flags.set_of c.args.set) c.args.names.now _
 
 pub loop-flag-preserved : goal.loop-flag-preserved
 loop-flag-preserved g c = elim c.if-contains.branch [
-  | then-contains+in_ok-push_name w ↦ rw (w.text-is, w.others-is) (name_put _ _ c.args.mask c.args.names.now _ _ c.loop-flag.invariant c.loop-flag-test.true _ (sym (w.if-contains.ensures tt)) w.in_ok-push_name.was w.push_name.ensures)
-  | else-contains w ↦ rw (w.text-is, w.others-is) (name_left_out _ _ c.args.mask c.args.names.now _ _ c.loop-flag.invariant c.loop-flag-test.true (sym (w.if-contains.ensures tt)))
+  | then-contains+in_ok-push_name w ↦ rw (w.text-is, w.others-is) (name_put _ _ (g.F.Flags.set_of c.args.set) c.args.names.now _ _ c.loop-flag.invariant c.loop-flag-test.true c.loop-flag-item.is _ (sym (w.if-contains.ensures c.requires)) w.in_ok-push_name.was w.push_name.ensures)
+  | else-contains w ↦ rw (w.text-is, w.others-is) (name_left_out _ _ (g.F.Flags.set_of c.args.set) c.args.names.now _ _ c.loop-flag.invariant c.loop-flag-test.true c.loop-flag-item.is (sym (w.if-contains.ensures c.requires)))
 ]
 
 pub returns-in_err-push_name : goal.returns-in_err-push_name

@@ -4,6 +4,7 @@ use Rattle.pl_model.proofs.computed.CapacityExamples.{script_of_capacities, line
 use Rattle.pl_model.proofs.computed.FifoExamples.{lines_of_fifos}
 use Rattle.pl_model.proofs.computed.SpliceLineExamples.{lines_of_splices}
 use Rattle.pl_model.proofs.computed.PollExamples.{script_of_polls, lines_of_polls}
+use Rattle.pl_model.proofs.computed.PacketExamples.{status_flags_in_words, lines_without_packets}
 use Rattle.pl_model.proofs.worked.scripts.Goals as goal
 
 pub returns-clause-bytes_before_end_of_file : goal.returns-clause-bytes_before_end_of_file
@@ -44,3 +45,9 @@ returns-clause-polls g c = script_of_polls _
 
 pub returns-clause-lines_of_polls : goal.returns-clause-lines_of_polls
 returns-clause-lines_of_polls g c = lines_of_polls _
+
+pub returns-clause-status_flags : goal.returns-clause-status_flags
+returns-clause-status_flags g c = status_flags_in_words
+
+pub returns-clause-lines_without_packets : goal.returns-clause-lines_without_packets
+returns-clause-lines_without_packets g c = lines_without_packets _
