@@ -1,6 +1,6 @@
 -- What is there under a key stays there, where something is made or changes.
 use Rattle.std.proofs.Common.{◌≡◌, ℕ, Bool, true, false, List, Option, Some, None, sym, subst, nat_eq, refl, ap, ◌∙◌}
-use Rattle.std.specs.Prelude.{IsSome, Result, Ok, Err, IfOk, OnOk, OnErr, option_map, if◌then◌else◌}
+use Rattle.std.specs.Prelude.{IsSome, IfSome, Result, Ok, Err, IfOk, OnOk, OnErr, option_map, is_some, if◌then◌else◌}
 use Rattle.std.proofs.lemmas.Bool.{eq-eqb}
 use Rattle.pl_model.specs.Map.{set_at, change_at}
 use Rattle.pl_model.specs.State.{Pipe}
@@ -63,3 +63,12 @@ none-there (Some x) e h = absurd (cc)
 
 pub elsewhere : {V : Type 0} (m : ℕ → Option V) (key other : ℕ) → IsSome (m key) → m other ≡ None → key ≡ other → ⊥
 elsewhere m key other there none same = none-there (m other) none (subst (λ k. IsSome (m k)) same there)
+
+-- a pipe that isn't one of packets is a byte queue
+pub is-bytes : (o : Option Pipe) (b : Bool) → IfSome o (λ x. b ≡ is_some x.packets) → b ≡ false → IfSome o (λ x. x.packets ≡ None)
+is-bytes None b h f = tt
+is-bytes (Some x) b h f = at x.packets (sym h ∙ f)
+  where
+    at : (ls : Option (List ℕ)) → is_some ls ≡ false → ls ≡ None
+    at None e = refl
+    at (Some l) e = absurd (cc)

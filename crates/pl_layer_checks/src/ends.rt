@@ -84,6 +84,8 @@ pub(crate) enum Answer {
     Exists,
     /// The name stands for nothing.
     NoSuchName,
+    /// The pipe is one of packets.
+    Packets,
     NoMemory,
 }
 
@@ -198,7 +200,9 @@ impl<A: Allocator + Copy> Ends<A> {
     }
 
     fn reset(&mut self) {
-        self.nodes.reset_pipe(self.first);
+        if !self.nodes.is_packet(self.first) {
+            self.nodes.reset_pipe(self.first);
+        }
     }
 
     fn turn(&mut self) {
@@ -206,18 +210,34 @@ impl<A: Allocator + Copy> Ends<A> {
     }
 
     fn copy(&mut self, count: usize) -> Answer {
+        // Only byte queues give and take bytes so.
+        if self.nodes.is_packet(self.first) {
+            return Answer::Packets;
+        }
+        if self.nodes.is_packet(self.second) {
+            return Answer::Packets;
+        }
         let held = self.nodes.held(self.first);
         let count = count.min(held).min(self.nodes.room(self.second));
         moved(self.nodes.copy_pipe_pipe(self.first, self.second, count))
     }
 
     fn pass_on(&mut self, count: usize) -> Answer {
+        if self.nodes.is_packet(self.first) {
+            return Answer::Packets;
+        }
+        if self.nodes.is_packet(self.second) {
+            return Answer::Packets;
+        }
         let held = self.nodes.held(self.first);
         let count = count.min(held).min(self.nodes.room(self.second));
         moved(self.nodes.move_pipe_pipe(self.first, self.second, count))
     }
 
     fn move_to_file(&mut self, place: usize, count: usize) -> Answer {
+        if self.nodes.is_packet(self.second) {
+            return Answer::Packets;
+        }
         let count = count.min(self.nodes.held(self.second));
         written(
             self.nodes
@@ -226,6 +246,9 @@ impl<A: Allocator + Copy> Ends<A> {
     }
 
     fn take_from_file(&mut self, place: usize, count: usize) -> Answer {
+        if self.nodes.is_packet(self.first) {
+            return Answer::Packets;
+        }
         let count = count.min(self.nodes.room(self.first));
         moved(
             self.nodes

@@ -1,5 +1,6 @@
 //! Writes, what a descriptor names, and how pipes are made.
 ghost use Rattle.std.specs.Prelude.{◌≡◌, ◌≢◌, ◌≤◌, [], length, IfOk, OnErr, IsSome, IfSome, IfNone, None, Some};
+ghost use Rattle.pl_model.specs.Packets.{front};
 ghost use Rattle.pl_model.specs.Flags.{nonblock_if, write_end_flags};
 ghost use Rattle.pl_model.specs.Modes.{writes};
 ghost use Rattle.pl_model.specs.Numbers.{most_bytes};

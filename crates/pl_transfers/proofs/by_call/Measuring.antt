@@ -1,5 +1,5 @@
 -- How many bytes a read gives, at the kernel's keys.
-use Rattle.std.proofs.Common.{◌≡◌, ◌-◌, ℕ, [], List, Option, Some, None, IfSome, refl, sym, ◌∙◌, ap, subst, nat_eq, length, drop, min}
+use Rattle.std.proofs.Common.{◌≡◌, ◌≤◌, ◌-◌, arith, ℕ, [], List, Option, Some, None, IfSome, refl, sym, ◌∙◌, ap, subst, nat_eq, length, drop, min}
 use Rattle.std.specs.Prelude.{ℤ, unwrap_or, option_map}
 use Rattle.std.proofs.lemmas.List.{length-drop}
 use Rattle.pl_model.specs.declared.calls.Call.{Call}

@@ -1,7 +1,7 @@
 use Rattle.std.proofs.Common.{ap}
 use Rattle.pl_model.specs.State.{Pipe, empty_pipe}
 use Rattle.pl_segments.specs.Segments.{at}
-use Rattle.pl_layer_checks.proofs.Staying.{stays-changed, stays-same}
+use Rattle.pl_layer_checks.proofs.Staying.{is-bytes, stays-changed, stays-same}
 use Rattle.pl_layer_checks.proofs.ends.Ends.reset.Goals as goal
 
 pub invariant_of-self : goal.invariant_of-self
@@ -14,3 +14,6 @@ invariant_of-self g c =
       stays-same (at k.nodes.files) (at new.files) (ap at c.reset_pipe.ensures.files.files) k.file c.self.invariant.2,
       c.self.invariant.3,
     )
+
+pub reset_pipe-requires-clause-bytes : goal.reset_pipe-requires-clause-bytes
+reset_pipe-requires-clause-bytes g c = is-bytes (at c.self.inside.nodes.pipes c.self.inside.first) c.is_packet.result c.is_packet.ensures c.if-is_packet.false
