@@ -1,5 +1,5 @@
 //! Descriptors, and what they name.
-ghost use Rattle.std.specs.Prelude.{◌≡◌, ⊤, MatchOption};
+ghost use Rattle.std.specs.Prelude.{◌≡◌, ⊤, false, MatchOption};
 ghost use Rattle.pl_model.specs.declared.replies.Errno.TheVariants.{EINVAL};
 ghost use Rattle.pl_numbers.specs.Answers.{faulty, ends_after};
 ghost use Rattle.pl_numbers.specs.Flags.{open_flags_of_bits};
@@ -18,9 +18,9 @@ pub extern "C" fn bindingclay_pipe(
     nonblock: bool,
     ends: &mut Ends,
 ) -> Answer
-    ensures says { Says handle.layer.kernel (Step.Begin pid (Call.Pipe nonblock)) result }
-    ensures wants { Wants handle.layer.kernel (Step.Begin pid (Call.Pipe nonblock)) result }
-    ensures ends { Replied handle.layer.kernel (Step.Begin pid (Call.Pipe nonblock)) result (λ reply. ends.new ≡ ends_after ends.old reply) }
+    ensures says { Says handle.layer.kernel (Step.Begin pid (Call.Pipe nonblock false)) result }
+    ensures wants { Wants handle.layer.kernel (Step.Begin pid (Call.Pipe nonblock false)) result }
+    ensures ends { Replied handle.layer.kernel (Step.Begin pid (Call.Pipe nonblock false)) result (λ reply. ends.new ≡ ends_after ends.old reply) }
     ensures untold { result.kind ≡ 6 → ends.new ≡ ends.old }
 {
     let mut layer = handle.into_box();

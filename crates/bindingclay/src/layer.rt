@@ -4,7 +4,7 @@ mod names;
 mod transfers;
 mod waiting;
 
-ghost use Rattle.std.specs.Prelude.{◌≡◌, ◌≤◌, ⊤, MatchOption};
+ghost use Rattle.std.specs.Prelude.{◌≡◌, ◌≤◌, ⊤, false, MatchOption};
 ghost use Rattle.bindingclay.specs.Heap.{InBudget};
 ghost use Rattle.pl_model.specs.Numbers.{most_file_bytes};
 ghost use Rattle.pl_model.specs.Numbered.{opening};
@@ -64,12 +64,18 @@ impl Layer {
 
     /// Makes a pipe, and tells its ends.
     pub fn pipe(&mut self, pid: u32, nonblock: bool, ends: &mut Ends) -> Answer
-        ensures makes { Makes self.old.kernel (Step.Begin pid (Call.Pipe nonblock)) result self.new.kernel }
-        ensures wants { Wants self.old.kernel (Step.Begin pid (Call.Pipe nonblock)) result }
-        ensures ends { Replied self.old.kernel (Step.Begin pid (Call.Pipe nonblock)) result (λ reply. ends.new ≡ ends_after ends.old reply) }
+        ensures makes { Makes self.old.kernel (Step.Begin pid (Call.Pipe nonblock false)) result self.new.kernel }
+        ensures wants { Wants self.old.kernel (Step.Begin pid (Call.Pipe nonblock false)) result }
+        ensures ends { Replied self.old.kernel (Step.Begin pid (Call.Pipe nonblock false)) result (λ reply. ends.new ≡ ends_after ends.old reply) }
         ensures untold { result.kind ≡ 6 → ends.new ≡ ends.old }
     {
-        match self.kernel.step(Step::Begin(pid, Call::Pipe { nonblock })) {
+        match self.kernel.step(Step::Begin(
+            pid,
+            Call::Pipe {
+                nonblock,
+                direct: false,
+            },
+        )) {
             Ok(reply) => {
                 tell_ends(&reply, ends);
                 answer_of(&reply)

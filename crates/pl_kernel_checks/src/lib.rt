@@ -1,11 +1,15 @@
-//! What the kernel answers where no script can say it: large bytes and files of few bytes, a hundred rounds, what memory bytes take, runs,
-//! replies that are given twice, and the kernel as a newcomer uses it.
+//! What the kernel answers where no script can say it: packets, large bytes and files of few bytes, a hundred rounds, what memory bytes
+//! take, runs, replies that are given twice, and the kernel as a newcomer uses it.
 #![tactic(auto)]
 
 #[cfg(test)]
 mod first_use;
 #[cfg(test)]
 mod large;
+#[cfg(test)]
+mod packet_ends;
+#[cfg(test)]
+mod packets;
 #[cfg(test)]
 mod pairs;
 #[cfg(test)]

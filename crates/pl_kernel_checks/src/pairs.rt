@@ -21,12 +21,23 @@ enum Found {
     Other,
 }
 
-/// Process 1 has a pipe on which no call waits, whose ends are descriptors 0 and 1, and one on which calls wait, whose ends are 2 and 3.
+/// Process 1 makes a pipe.
+fn make_pipe<A: Allocator + Copy>(
+    kernel: &mut Kernel<A>,
+    nonblock: bool,
+    direct: bool,
+) -> Result<(), NoMemory> {
+    kernel.step(Step::Begin(1, Call::Pipe { nonblock, direct }))?;
+    Ok(())
+}
+
+/// Process 1 has a pipe on which no call waits, whose ends are descriptors 0 and 1, one on which calls wait, whose ends are 2 and 3, and a
+/// packet pipe on which none does, whose ends are 4 and 5.
 fn make_pipes<A: Allocator + Copy>(kernel: &mut Kernel<A>) -> Result<(), NoMemory> {
     kernel.step(Step::Start)?;
-    kernel.step(Step::Begin(1, Call::Pipe { nonblock: true }))?;
-    kernel.step(Step::Begin(1, Call::Pipe { nonblock: false }))?;
-    Ok(())
+    make_pipe(kernel, true, false)?;
+    make_pipe(kernel, false, false)?;
+    make_pipe(kernel, true, true)
 }
 
 /// Writes "a" to the first pipe.
@@ -43,9 +54,9 @@ fn found_in<A: Allocator>(reply: &Reply<A>) -> Found {
     }
 }
 
-/// Reads so many bytes of the first pipe, and answers what both replies are.
-fn read_twice<A: Allocator + Copy>(kernel: &mut Kernel<A>, n: u32) -> Found {
-    let Ok((first, second)) = kernel.step_pair(Step::Begin(1, Call::Read { fd: 0, n })) else {
+/// Reads so many bytes by the descriptor, and answers what both replies are.
+fn read_twice<A: Allocator + Copy>(kernel: &mut Kernel<A>, fd: i32, n: u32) -> Found {
+    let Ok((first, second)) = kernel.step_pair(Step::Begin(1, Call::Read { fd, n })) else {
         return Found::NoMemory;
     };
     match (found_in(&first), found_in(&second)) {
@@ -62,14 +73,14 @@ fn each_request_is_refused<A: Allocator + Copy>(
     kernel: &mut Kernel<A>,
 ) -> bool {
     heap.refuse(1);
-    let first = read_twice(kernel, u32::MAX);
+    let first = read_twice(kernel, 0, u32::MAX);
     heap.refuse(2);
-    let second = read_twice(kernel, u32::MAX);
+    let second = read_twice(kernel, 0, u32::MAX);
     heap.refuse(0);
-    let third = read_twice(kernel, u32::MAX);
+    let third = read_twice(kernel, 0, u32::MAX);
     let requests = heap.requests();
     heap.refuse(1);
-    let fourth = read_twice(kernel, u32::MAX);
+    let fourth = read_twice(kernel, 0, u32::MAX);
     let none_more = heap.requests() == 0;
     heap.refuse(0);
     let found = (first, second, third, fourth);
@@ -82,8 +93,17 @@ fn each_request_is_refused<A: Allocator + Copy>(
 
 /// Of "a", one byte is read, and then none.
 fn a_byte_is_read_once<A: Allocator + Copy>(kernel: &mut Kernel<A>) -> bool {
-    let found = (read_twice(kernel, 1), read_twice(kernel, 1));
+    let found = (read_twice(kernel, 0, 1), read_twice(kernel, 0, 1));
     matches!(found, (Found::A, Found::Nothing))
+}
+
+/// Of the packets "ab" and "a", a byte of the first is read, then the second whole, and then none.
+fn a_packet_is_read_once<A: Allocator + Copy>(kernel: &mut Kernel<A>) -> Result<bool, NoMemory> {
+    kernel.write_from(1, 5, b"ab".as_slice())?;
+    kernel.write_from(1, 5, b"a".as_slice())?;
+    let (first, second) = (read_twice(kernel, 4, 1), read_twice(kernel, 4, u32::MAX));
+    let found = (first, second, read_twice(kernel, 4, 1));
+    Ok(matches!(found, (Found::A, Found::A, Found::Nothing)))
 }
 
 /// A write to the second pipe of more bytes than that can hold waits, as call 1, and has taken what went in (POSIX.1-2017, write).
@@ -103,7 +123,7 @@ fn all_are_answered_twice<A: Allocator + Copy>(
     write_a(kernel)?;
     let refused = each_request_is_refused(heap, kernel);
     write_a(kernel)?;
-    let read = a_byte_is_read_once(kernel);
+    let read = a_byte_is_read_once(kernel) && a_packet_is_read_once(kernel)?;
     let bytes = Bytes8::from_vec(Vec::from_elem(alloc, b'x', 70_000)?).unwrap();
     Ok(refused && read && write_waits_for_the_rest(kernel, bytes))
 }

@@ -24,6 +24,7 @@ fn make(alloc: Global, heap: &Refusing<Global>, session: &Session, n: u64) -> Re
     bench.prepare(session.processes, session.full_tables)?;
     bench.refuse(n);
     make_each(&mut bench, session.rows)?;
+    make_each(&mut bench, session.more)?;
     bench.ends_empty(session.names)
 }
 

@@ -4,6 +4,7 @@ mod capacities;
 mod examples;
 mod fifos;
 mod names;
+mod packets;
 mod polls;
 mod splices;
 mod whole;
@@ -12,7 +13,7 @@ use crate::steps::Steps;
 use pl_testing::sessions::Session;
 
 /// All tables of steps.
-pub(crate) fn tables() -> [&'static [Steps]; 7] {
+pub(crate) fn tables() -> [&'static [Steps]; 8] {
     [
         examples::transfers(),
         examples::ends(),
@@ -21,10 +22,11 @@ pub(crate) fn tables() -> [&'static [Steps]; 7] {
         fifos::fifos(),
         polls::polls(),
         splices::splices(),
+        packets::packets(),
     ]
 }
 
 /// All tables of sessions of which a step that finds no memory is made again, and not passed over.
-pub(crate) fn sessions() -> [&'static [Session]; 2] {
-    [names::names(), whole::sessions()]
+pub(crate) fn sessions() -> [&'static [Session]; 3] {
+    [names::names(), whole::sessions(), packets::sessions()]
 }

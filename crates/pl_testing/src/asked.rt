@@ -23,10 +23,10 @@ pub enum Data {
 }
 
 /// A step whose bytes are still to be made. A call names its process, then its descriptor or the name of a file or FIFO, and a
-/// read the most bytes that it takes; `Splice` names each of its two descriptors with the offset that is given for it, and then, as
-/// `Tee` does behind the two, the most bytes that go over and the flags; a poll names each of its descriptors with all that is asked
-/// of it; `Dup2` names its target last, `DupFd` the least descriptor, `SetFl` the flags, and `SetPipeSz` the size. `Resume` and
-/// `Interrupt` name a parked call by its number.
+/// read the most bytes that it takes; `PacketPipe` makes a pipe with `direct` (pipe(2), O_DIRECT); `Splice` names each of its two
+/// descriptors with the offset that is given for it, and then, as `Tee` does behind the two, the most bytes that go over and the flags;
+/// a poll names each of its descriptors with all that is asked of it; `Dup2` names its target last, `DupFd` the least descriptor,
+/// `SetFl` the flags, and `SetPipeSz` the size. `Resume` and `Interrupt` name a parked call by its number.
 #[derive(Clone, Copy)]
 pub enum Ask {
     Start,
@@ -34,6 +34,8 @@ pub enum Ask {
     Interrupt(u64),
     Pipe(u32),
     PipeNonblock(u32),
+    PacketPipe(u32),
+    PacketPipeNonblock(u32),
     Mkfifo(u32, Data),
     Open(u32, Data, Mode, &'static [OpenFlags]),
     Read(u32, i32, u32),
@@ -152,6 +154,11 @@ fn masks_of(alloc: Global, found: &[&[PollMask]]) -> Result<MaskList, Fail> {
     Ok(MaskList::from_vec(masks))
 }
 
+/// A pipe is made.
+fn pipe<A: Allocator>(pid: u32, nonblock: bool, direct: bool) -> Step<A> {
+    Step::Begin(pid, Call::Pipe { nonblock, direct })
+}
+
 impl Ask {
     /// What a failure calls the step.
     pub(crate) fn kind(self) -> &'static str {
@@ -161,6 +168,8 @@ impl Ask {
             Ask::Interrupt(..) => "Interrupt",
             Ask::Pipe(..) => "Pipe",
             Ask::PipeNonblock(..) => "PipeNonblock",
+            Ask::PacketPipe(..) => "PacketPipe",
+            Ask::PacketPipeNonblock(..) => "PacketPipeNonblock",
             Ask::Mkfifo(..) => "Mkfifo",
             Ask::Open(..) => "Open",
             Ask::Read(..) => "Read",
@@ -190,8 +199,10 @@ impl Ask {
             Ask::Start => Step::Start,
             Ask::Resume(call) => Step::Resume(call),
             Ask::Interrupt(call) => Step::Interrupt(call),
-            Ask::Pipe(pid) => Step::Begin(pid, Call::Pipe { nonblock: false }),
-            Ask::PipeNonblock(pid) => Step::Begin(pid, Call::Pipe { nonblock: true }),
+            Ask::Pipe(pid) => pipe(pid, false, false),
+            Ask::PipeNonblock(pid) => pipe(pid, true, false),
+            Ask::PacketPipe(pid) => pipe(pid, false, true),
+            Ask::PacketPipeNonblock(pid) => pipe(pid, true, true),
             Ask::Mkfifo(pid, name) => {
                 let name = name.name(alloc)?;
                 Step::Begin(pid, Call::Mkfifo { name })

@@ -1,8 +1,8 @@
 //! The worked examples that several crates of tests make: tables of steps with the replies that are wanted.
 use crate::asked::Ask::{
-    self, Close, Dup, Dup2, Exit, Fork, GetFl, GetPipeSz, Interrupt, Lseek, Mkfifo, Open, Pipe,
-    PipeNonblock, PollNow, PollWait, Read, Resume, SetFl, SetPipeSz, Splice, Start, Tee, Unlink,
-    Write,
+    self, Close, Dup, Dup2, Exit, Fork, GetFl, GetPipeSz, Interrupt, Lseek, Mkfifo, Open,
+    PacketPipe, PacketPipeNonblock, Pipe, PipeNonblock, PollNow, PollWait, Read, Resume, SetFl,
+    SetPipeSz, Splice, Start, Tee, Unlink, Write,
 };
 use crate::asked::Data::{Many, Text, TwoRuns};
 use crate::asked::Want::{
@@ -399,4 +399,76 @@ pub const SPLICES_AND_TEES_REFUSED: [(Ask, Want); 11] = [
     ),
     (Tee(1, 0, 3, 5, NO_FLAGS), Fault(Errno::EINVAL)),
     (Tee(1, 1, 0, 5, NO_FLAGS), Fault(Errno::EBADF)),
+];
+
+/// A read takes one packet, and what it doesn't give of it is discarded. A large write is cut into packets, and goes on where one is read.
+pub const PACKETS_READ_ONE_BY_ONE: [(Ask, Want); 14] = [
+    (Start, Pid(1)),
+    (PacketPipe(1), Fds(0, 1)),
+    (Write(1, 1, Text("abc")), Count(3)),
+    (Write(1, 1, Text("de")), Count(2)),
+    (Read(1, 0, 2), Bytes(Text("ab"))),
+    (Read(1, 0, 10), Bytes(Text("de"))),
+    (Write(1, 1, Many(b'a', 5_000)), Count(5_000)),
+    (Read(1, 0, 9_000), Bytes(Many(b'a', 4_096))),
+    (Read(1, 0, 9_000), Bytes(Many(b'a', 904))),
+    (SetPipeSz(1, 1, 4_096), Size(4_096)),
+    (Write(1, 1, Many(b'b', 5_000)), Parked(1)),
+    (Read(1, 0, 1), Bytes(Text("b"))),
+    (Resume(1), Count(5_000)),
+    (Read(1, 0, 9_000), Bytes(Many(b'b', 904))),
+];
+
+const DIRECT: &[OpenFlags] = &[OpenFlags::DIRECT];
+
+/// Sixteen packets fill a new packet pipe, and a read of one byte leaves a place. Of the flags of the write end only `DIRECT` stays, which
+/// the read end doesn't have.
+pub const A_PACKET_PIPE_AT_ITS_LIMITS: [(Ask, Want); 15] = [
+    (Start, Pid(1)),
+    (PacketPipeNonblock(1), Fds(0, 1)),
+    (Write(1, 1, Many(b'a', 70_000)), Count(65_536)),
+    (Write(1, 1, Text("b")), Fault(Errno::EAGAIN)),
+    (PollNow(1, &[(1, OUT)]), Masks(0, &[EMPTY])),
+    (Read(1, 0, 1), Bytes(Text("a"))),
+    (PollNow(1, &[(1, OUT)]), Masks(1, &[OUT])),
+    (Write(1, 1, Many(b'b', 8_192)), Count(4_096)),
+    (SetPipeSz(1, 1, 4_096), Fault(Errno::EBUSY)),
+    (Pipe(1), Fds(2, 3)),
+    (Tee(1, 0, 3, 1, &[]), Fault(Errno::EINVAL)),
+    (
+        Splice(1, (0, None), (3, None), 1, &[]),
+        Fault(Errno::EINVAL),
+    ),
+    (SetFl(1, 1, &[]), Unit),
+    (GetFl(1, 1), Flags(Mode::Write, DIRECT)),
+    (GetFl(1, 0), Flags(Mode::Read, &[OpenFlags::NONBLOCK])),
+];
+
+/// A packet of as many bytes as any has.
+const WHOLE_A: (Ask, Want) = (Read(1, 0, 4_096), Bytes(Many(b'a', 4_096)));
+
+/// The packets that are held then, and a write of two of them, which makes no third.
+pub const A_PACKET_PIPE_IS_READ_EMPTY: [(Ask, Want); 22] = [
+    WHOLE_A,
+    WHOLE_A,
+    WHOLE_A,
+    WHOLE_A,
+    WHOLE_A,
+    WHOLE_A,
+    WHOLE_A,
+    WHOLE_A,
+    WHOLE_A,
+    WHOLE_A,
+    WHOLE_A,
+    WHOLE_A,
+    WHOLE_A,
+    WHOLE_A,
+    WHOLE_A,
+    (Read(1, 0, 4_096), Bytes(Many(b'b', 4_096))),
+    (Write(1, 1, Many(b'c', 8_192)), Count(8_192)),
+    (Read(1, 0, 9_000), Bytes(Many(b'c', 4_096))),
+    (Read(1, 0, 9_000), Bytes(Many(b'c', 4_096))),
+    (Read(1, 0, 9_000), Fault(Errno::EAGAIN)),
+    (Close(1, 1), Unit),
+    (Read(1, 0, 9_000), Bytes(Text(""))),
 ];
