@@ -11,7 +11,13 @@ fn there_and_back<A: Allocator + Copy>(
     kernel: &mut Kernel<A>,
 ) -> Result<Reply<A>, NoMemory> {
     kernel.step(Step::Start)?; // Pid(1)
-    kernel.step(Step::Begin(1, Call::Pipe { nonblock: false }))?; // Fds(0, 1)
+    kernel.step(Step::Begin(
+        1,
+        Call::Pipe {
+            nonblock: false,
+            direct: false,
+        },
+    ))?; // Fds(0, 1)
     let bytes = Bytes8::from_vec(Vec::from_slice(alloc, b"hello")?).unwrap();
     kernel.step(Step::Begin(1, Call::Write { fd: 1, bytes }))?; // Count { n: 5, sigpipe: false }
     kernel.step(Step::Begin(1, Call::Read { fd: 0, n: 3 })) // Bytes("hel")

@@ -24,8 +24,20 @@ enum Found {
 /// Process 1 has a pipe on which no call waits, whose ends are descriptors 0 and 1, and one on which calls wait, whose ends are 2 and 3.
 fn make_pipes<A: Allocator + Copy>(kernel: &mut Kernel<A>) -> Result<(), NoMemory> {
     kernel.step(Step::Start)?;
-    kernel.step(Step::Begin(1, Call::Pipe { nonblock: true }))?;
-    kernel.step(Step::Begin(1, Call::Pipe { nonblock: false }))?;
+    kernel.step(Step::Begin(
+        1,
+        Call::Pipe {
+            nonblock: true,
+            direct: false,
+        },
+    ))?;
+    kernel.step(Step::Begin(
+        1,
+        Call::Pipe {
+            nonblock: false,
+            direct: false,
+        },
+    ))?;
     Ok(())
 }
 

@@ -17,11 +17,17 @@ fn pipe_call<A: Allocator + Copy>(rest: &[u8]) -> Result<Call<A>, LineFault>
     ensures { Gives result (pipe_of (words rest.now)) }
 {
     match next_word(rest) {
-        None => Ok(Call::Pipe { nonblock: false }),
+        None => Ok(Call::Pipe {
+            nonblock: false,
+            direct: false,
+        }),
         Some((flag, rest)) => {
             end(rest)?;
             if flag == b"nonblock".as_slice() {
-                Ok(Call::Pipe { nonblock: true })
+                Ok(Call::Pipe {
+                    nonblock: true,
+                    direct: false,
+                })
             } else {
                 Err(LineFault::Bad)
             }

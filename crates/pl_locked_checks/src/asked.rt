@@ -48,7 +48,10 @@ fn many<A: Allocator>(alloc: A) -> Option<Bytes8<A>> {
 /// The call that is asked of process 1; `Fork` for all else. `None` where there is no memory.
 fn call_of<A: Allocator>(alloc: A, ask: Ask) -> Option<Call<A>> {
     Some(match ask {
-        Ask::Pipe => Call::Pipe { nonblock: false },
+        Ask::Pipe => Call::Pipe {
+            nonblock: false,
+            direct: false,
+        },
         Ask::Mkfifo => Call::Mkfifo { name: fifo(alloc)? },
         Ask::Open => Call::OpenName {
             name: fifo(alloc)?,

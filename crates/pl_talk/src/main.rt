@@ -36,7 +36,13 @@ fn read_and_write<N: Layer + Send + Sync, R: Threads + Wait + Sync>(
     let mut writer = callers.pop()?;
     let reader = callers.pop()?;
     locked.attempt(rt, &mut writer, Step::Start).ok()?; // Pid(1)
-    let pipe = Step::Begin(1, Call::Pipe { nonblock: false });
+    let pipe = Step::Begin(
+        1,
+        Call::Pipe {
+            nonblock: false,
+            direct: false,
+        },
+    );
     locked.attempt(rt, &mut writer, pipe).ok()?; // Fds(0, 1)
 
     let bytes = Bytes8::from_vec(Vec::from_slice(alloc, b"hello").ok()?)?;

@@ -190,8 +190,20 @@ impl Ask {
             Ask::Start => Step::Start,
             Ask::Resume(call) => Step::Resume(call),
             Ask::Interrupt(call) => Step::Interrupt(call),
-            Ask::Pipe(pid) => Step::Begin(pid, Call::Pipe { nonblock: false }),
-            Ask::PipeNonblock(pid) => Step::Begin(pid, Call::Pipe { nonblock: true }),
+            Ask::Pipe(pid) => Step::Begin(
+                pid,
+                Call::Pipe {
+                    nonblock: false,
+                    direct: false,
+                },
+            ),
+            Ask::PipeNonblock(pid) => Step::Begin(
+                pid,
+                Call::Pipe {
+                    nonblock: true,
+                    direct: false,
+                },
+            ),
             Ask::Mkfifo(pid, name) => {
                 let name = name.name(alloc)?;
                 Step::Begin(pid, Call::Mkfifo { name })

@@ -22,7 +22,7 @@ use core::num::NonZero;
 ///
 /// let mut kernel = Kernel::new(Global, Limits::default())?;
 /// assert_eq!(kernel.step(Step::Start)?, Reply::Pid(1));
-/// assert_eq!(kernel.step(Step::Begin(1, Call::Pipe { nonblock: false }))?, Reply::Fds(0, 1));
+/// assert_eq!(kernel.step(Step::Begin(1, Call::Pipe { nonblock: false, direct: false }))?, Reply::Fds(0, 1));
 /// // nothing is there to read, so the call waits
 /// assert_eq!(kernel.step(Step::Begin(1, Call::Read { fd: 0, n: 3 }))?, Reply::Parked(1));
 ///
@@ -114,7 +114,7 @@ impl<A: Allocator + Copy> Kernel<A> {
     /// use bindingclay::{Call, Kernel, Limits, Outcome, Reply, Step};
     ///
     /// let mut kernel = Kernel::new(Global, Limits::default())?;
-    /// let steps = vec![Step::Start, Step::Begin(1, Call::Pipe { nonblock: true })];
+    /// let steps = vec![Step::Start, Step::Begin(1, Call::Pipe { nonblock: true, direct: false })];
     /// let outcomes = kernel.run(Vec::from(steps))?;
     /// assert_eq!(outcomes[1], Outcome::Replied(Reply::Fds(0, 1)));
     /// # Ok::<(), Box<dyn std::error::Error>>(())
@@ -136,7 +136,7 @@ impl<A: Allocator + Copy> Kernel<A> {
     ///
     /// let mut kernel = Kernel::new(Global, Limits::default())?;
     /// kernel.step(Step::Start)?;
-    /// kernel.step(Step::Begin(1, Call::Pipe { nonblock: false }))?;
+    /// kernel.step(Step::Begin(1, Call::Pipe { nonblock: false, direct: false }))?;
     /// assert_eq!(kernel.write_from(1, 1, b"hello")?, WriteReply::Wrote { n: 5, sigpipe: false });
     /// assert_eq!(kernel.write_from(1, 1, &vec![0; 100_000_000]), Err(BufferFault::TooLong));
     /// # Ok::<(), Box<dyn std::error::Error>>(())
@@ -185,7 +185,7 @@ impl<A: Allocator + Copy> Kernel<A> {
     ///
     /// let mut kernel = Kernel::new(Global, Limits::default())?;
     /// kernel.step(Step::Start)?;
-    /// kernel.step(Step::Begin(1, Call::Pipe { nonblock: false }))?;
+    /// kernel.step(Step::Begin(1, Call::Pipe { nonblock: false, direct: false }))?;
     /// kernel.write_from(1, 1, b"hello")?;
     /// let mut into = *b"........";
     /// assert_eq!(kernel.read_into(1, 0, &mut into)?, ReadReply::Read(5));
@@ -217,7 +217,7 @@ impl<A: Allocator + Copy> Kernel<A> {
     ///
     /// let mut kernel = Kernel::new(Global, Limits::default())?;
     /// kernel.step(Step::Start)?;
-    /// kernel.step(Step::Begin(1, Call::Pipe { nonblock: false }))?;
+    /// kernel.step(Step::Begin(1, Call::Pipe { nonblock: false, direct: false }))?;
     /// kernel.write_from(1, 1, b"hello")?;
     /// // the numbers are those of `poll.h` on Linux: `POLLIN` is 1
     /// let mut entries = [PollEntry { fd: 0, events: 1, revents: 0 }];
@@ -248,7 +248,7 @@ impl<A: Allocator + Copy> Kernel<A> {
     ///
     /// let mut kernel = Kernel::new(Global, Limits::default())?;
     /// kernel.step(Step::Start)?;
-    /// kernel.step(Step::Begin(1, Call::Pipe { nonblock: false }))?;
+    /// kernel.step(Step::Begin(1, Call::Pipe { nonblock: false, direct: false }))?;
     /// let mut into = [0; 8];
     /// assert_eq!(kernel.read_into(1, 0, &mut into)?, ReadReply::Parked(1));
     /// kernel.write_from(1, 1, b"hello")?;
@@ -297,7 +297,7 @@ impl<A: Allocator + Copy> Kernel<A> {
     ///
     /// let mut kernel = Kernel::new(Global, Limits::default())?;
     /// kernel.step(Step::Start)?;
-    /// kernel.step(Step::Begin(1, Call::Pipe { nonblock: false }))?;
+    /// kernel.step(Step::Begin(1, Call::Pipe { nonblock: false, direct: false }))?;
     /// assert_eq!(kernel.write_from(1, 1, &[7; 70_000])?, WriteReply::Parked(1));
     /// assert_eq!(kernel.taken(1), Some(65_536));
     /// # Ok::<(), Box<dyn std::error::Error>>(())
@@ -314,7 +314,7 @@ impl<A: Allocator + Copy> Kernel<A> {
     ///
     /// let mut kernel = Kernel::new(Global, Limits::default())?;
     /// kernel.step(Step::Start)?;
-    /// kernel.step(Step::Begin(1, Call::Pipe { nonblock: false }))?;
+    /// kernel.step(Step::Begin(1, Call::Pipe { nonblock: false, direct: false }))?;
     /// kernel.step(Step::Begin(1, Call::Read { fd: 0, n: 1 }))?;
     /// assert_eq!(kernel.owner(1), Some(1));
     /// # Ok::<(), Box<dyn std::error::Error>>(())

@@ -10,7 +10,7 @@
 //!
 //! let mut kernel = Kernel::new(Global, Limits::default())?;
 //! assert_eq!(kernel.step(Step::Start)?, Reply::Pid(1));
-//! assert_eq!(kernel.step(Step::Begin(1, Call::Pipe { nonblock: false }))?, Reply::Fds(0, 1));
+//! assert_eq!(kernel.step(Step::Begin(1, Call::Pipe { nonblock: false, direct: false }))?, Reply::Fds(0, 1));
 //! // a child has the descriptors of its parent
 //! assert_eq!(kernel.step(Step::Begin(1, Call::Fork))?, Reply::Pid(2));
 //! kernel.write_from(2, 1, b"hello")?;

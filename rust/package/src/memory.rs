@@ -32,7 +32,7 @@
 //! let budget = Budget { held: Cell::new(0), most: 100_000 };
 //! let mut kernel = Kernel::new(&budget, Limits::default())?;
 //! kernel.step(Step::Start)?;
-//! kernel.step(Step::Begin(1, Call::Pipe { nonblock: false }))?;
+//! kernel.step(Step::Begin(1, Call::Pipe { nonblock: false, direct: false }))?;
 //! // a pipe keeps its bytes in segments of 4,096, and this write is parked with a copy of all
 //! assert_eq!(kernel.write_from(1, 1, &[7; 70_000]), Err(BufferFault::NoMemory));
 //! assert_eq!(kernel.write_from(1, 1, &[7; 50_000]), Ok(WriteReply::Wrote { n: 50_000, sigpipe: false }));
