@@ -345,7 +345,8 @@ bindingclay_answer bindingclay_file_bytes(
  * - 0: size is 0.
  * - EAGAIN, or a wait: the pipe is empty and has a writer. With O_NONBLOCK the read fails with EAGAIN. Without it the read waits.
  *
- * Asks for memory only if it waits. bindingclay_resume gives the bytes then, so into is free at once. */
+ * Of a packet pipe it reads one packet, as bindingclay_pipe2 tells. Asks for memory only if it waits. bindingclay_resume gives the bytes then,
+ * so into is free at once. */
 bindingclay_answer bindingclay_read(bindingclay clay, uint32_t pid, int32_t fd, uint8_t *into, size_t size);
 
 /* Writes size bytes (write). Value: how many went in. In this order:
@@ -356,7 +357,8 @@ bindingclay_answer bindingclay_read(bindingclay clay, uint32_t pid, int32_t fd, 
  *   go in if there is some room. Without O_NONBLOCK the write waits until all its bytes went in.
  * - EFBIG: the file has no room.
  *
- * At most 4,096 bytes go into a pipe whole or not at all (pipe(7), PIPE_BUF). */
+ * At most 4,096 bytes go into a pipe whole or not at all (pipe(7), PIPE_BUF). Into a packet pipe go whole packets, as bindingclay_pipe2
+ * tells. */
 bindingclay_answer bindingclay_write(bindingclay clay, uint32_t pid, int32_t fd, const uint8_t *bytes, size_t size);
 
 /* Sets the offset of a regular file (lseek), from SEEK_SET, SEEK_CUR or SEEK_END of stdio.h. Value: the offset. Errors:
@@ -381,8 +383,8 @@ bindingclay_answer bindingclay_splice_at(bindingclay clay, uint32_t pid, int32_t
  * - 0: len is 0, whatever the descriptors are.
  * - EBADF: the source isn't open for reading, or the target isn't open for writing.
  * - ESPIPE: an offset is given for a pipe.
- * - EINVAL: an offset is above 9,223,372,036,854,775,807, neither is a pipe, both are the same pipe, the target is a file with O_APPEND, or
- *   one of them is a packet pipe.
+ * - EINVAL: an offset is above 9,223,372,036,854,775,807, neither is a pipe, or both are the same pipe.
+ * - EINVAL: one of them is a packet pipe, or the target is a file with O_APPEND.
  * - EPIPE: the target is a pipe without a reader.
  * - 0: the source is at its end.
  * - EAGAIN, or a wait: the source is empty and may get bytes, or the target is a pipe without room. With SPLICE_F_NONBLOCK, or with
@@ -443,7 +445,7 @@ bindingclay_answer bindingclay_get_pipe_sz(bindingclay clay, uint32_t pid, int32
  * number. Errors:
  * - EBADF: fd isn't open on a pipe.
  * - EPERM: size is above 1,048,576, or is rounded up to more than the limit capacity.
- * - EBUSY: the pipe holds more bytes than that number, or of a packet pipe 4,096 times its packets are more. */
+ * - EBUSY: the pipe holds more bytes than that number. A packet counts as 4,096 bytes, however few it has. */
 bindingclay_answer bindingclay_set_pipe_sz(bindingclay clay, uint32_t pid, int32_t fd, uint32_t size);
 
 /* ---- Buffers of no bytes ---- */
