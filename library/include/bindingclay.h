@@ -280,7 +280,7 @@ bindingclay_answer bindingclay_pipe(bindingclay clay, uint32_t pid, bool nonbloc
 
 /* Does what bindingclay_pipe does, with the flags O_NONBLOCK of fcntl.h and BINDINGCLAY_O_DIRECT (pipe2(2)). O_NONBLOCK sets it on both ends.
  * BINDINGCLAY_O_DIRECT makes a packet pipe. Errors:
- * - EINVAL, before all else: flags has another flag.
+ * - EINVAL, before all else, and before BINDINGCLAY_NO_PROCESS: flags has another flag.
  * - EMFILE: fewer than two descriptors are free.
  * - ENFILE: there are more than 4,094 open file descriptions.
  *
