@@ -60,7 +60,7 @@ static void print(const char *what, size_t size, const char *beside, double thei
 }
 
 /* A write of so many bytes, and a read of them. */
-static void pairs(const int *host, bindingclay_ends ends, size_t size, int times)
+static void pairs(const char *what, const char *beside, const int *host, bindingclay_ends ends, size_t size, int times)
 {
     double theirs = 0, ours = 0;
     for (int round = 0; round < ROUNDS; round++) {
@@ -77,7 +77,7 @@ static void pairs(const int *host, bindingclay_ends ends, size_t size, int times
         }
         keep_least(&ours, begun, times);
     }
-    print("write and read", size, "host's pipe", theirs, ours);
+    print(what, size, beside, theirs, ours);
 }
 
 /* A pipe that is made, and its two ends closed. */
@@ -164,19 +164,24 @@ int main(void)
     static const struct {
         size_t size;
         int times;
-    } SIZES[] = { { 1, 1000 }, { 64, 1000 }, { 512, 1000 }, { 4096, 500 }, { 65536, 30 } };
-    int host[2];
-    bindingclay_ends ends;
+    } SIZES[] = { { 1, 1000 }, { 64, 1000 }, { 512, 1000 }, { 4096, 500 }, { 65536, 30 } },
+      PACKETS[] = { { 64, 1000 }, { 4096, 500 } };
+    int host[2], host_packets[2];
+    bindingclay_ends ends, packets;
     as_host(pipe(host));
+    as_host(pipe2(host_packets, O_DIRECT));
     if (!bindingclay_open(1, BINDINGCLAY_MOST_FILE_BYTES, &clay.kernel))
         return 1;
     done(bindingclay_start(clay));
     done(bindingclay_pipe(clay, 1, false, &ends));
+    done(bindingclay_pipe2(clay, 1, BINDINGCLAY_O_DIRECT, &packets));
     for (size_t i = 0; i < sizeof data; i++)
         data[i] = (uint8_t)(i * 7);
     printf("least of %d rounds, ns\n", ROUNDS);
     for (size_t i = 0; i < sizeof SIZES / sizeof *SIZES; i++)
-        pairs(host, ends, SIZES[i].size, SIZES[i].times);
+        pairs("write and read", "host's pipe", host, ends, SIZES[i].size, SIZES[i].times);
+    for (size_t i = 0; i < sizeof PACKETS / sizeof *PACKETS; i++)
+        pairs("write and read, packet", "host's pipe", host_packets, packets, PACKETS[i].size, PACKETS[i].times);
     pipes(200);
     polls(host, ends, 2, 1000);
     polls(host, ends, MOST_ENTRIES, 60);

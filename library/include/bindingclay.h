@@ -80,6 +80,13 @@ extern "C" {
 /* The most bytes of one read or write. A larger one is cut to this many of its bytes, the first ones, and counts only these. */
 #define BINDINGCLAY_MOST_BYTES 16777216
 
+/* The flag of a packet pipe, for bindingclay_pipe2 and in what bindingclay_get_fl tells: O_DIRECT of fcntl.h on x86-64. On other processors
+ * O_DIRECT may be another number, and a program without _GNU_SOURCE has none. */
+#define BINDINGCLAY_O_DIRECT 040000
+
+/* The most bytes of a packet, and the bytes of the capacity that each packet takes, however few it has. */
+#define BINDINGCLAY_PACKET_BYTES 4096
+
 /* One kernel, as bindingclay_open or bindingclay_open_within gave it. Copies of this struct are the same kernel. */
 typedef struct {
     void *kernel;
@@ -271,6 +278,31 @@ bindingclay_answer bindingclay_owner(bindingclay clay, uint64_t number);
  * descriptions. */
 bindingclay_answer bindingclay_pipe(bindingclay clay, uint32_t pid, bool nonblock, bindingclay_ends *ends);
 
+/* Does what bindingclay_pipe does, with the flags O_NONBLOCK of fcntl.h and BINDINGCLAY_O_DIRECT (pipe2(2)). O_NONBLOCK sets it on both ends.
+ * BINDINGCLAY_O_DIRECT makes a packet pipe. Errors:
+ * - EINVAL, before all else, and before BINDINGCLAY_NO_PROCESS: flags has another flag.
+ * - EMFILE: fewer than two descriptors are free.
+ * - ENFILE: there are more than 4,094 open file descriptions.
+ *
+ * Packet pipes (pipe(2), O_DIRECT). A packet pipe holds packets of 1 to 4,096 bytes, and no two of them become one.
+ *
+ * - Places. A packet takes 4,096 bytes of the capacity and of memory, even if it has one byte. So 16 packets of one byte fill a new pipe,
+ *   and take 64 KiB. The pipe has capacity / 4,096 places, and those that no packet takes are free.
+ * - Write. At most 4,096 bytes make one packet, and no bytes make none. More bytes are split into packets of 4,096 bytes and a last one of
+ *   those that are left. A write of one packet needs a free place. With O_NONBLOCK a longer write puts in as many packets as there are free
+ *   places, and answers their bytes. If no place is free, it fails with EAGAIN. Without O_NONBLOCK a write waits until all its packets went
+ *   in. EBADF and EPIPE are as in bindingclay_write.
+ * - Read. A read takes the first packet, and gives as many of its bytes as it asked for. The rest of that packet is lost. It never gives
+ *   bytes of two packets. A read of no bytes takes nothing. At the end of the file, after the last packet, it answers 0.
+ * - Resume. Of a read that waits, bindingclay_resume gives one packet. Room for as many bytes as the read asked for, or for 4,096, is always
+ *   enough. If the room is too small, BINDINGCLAY_SHORT tells how many bytes there are, and the packet stays.
+ * - Poll. POLLIN is told while a packet is held, and POLLOUT while a place is free.
+ * - bindingclay_set_pipe_sz fails with EBUSY if the new capacity has fewer places than the pipe holds packets.
+ * - bindingclay_splice and bindingclay_tee fail with EINVAL if either side is a packet pipe.
+ * - bindingclay_get_fl tells BINDINGCLAY_O_DIRECT of the write end, and not of the read end. bindingclay_set_fl neither sets nor clears it.
+ *   bindingclay_open_name ignores it, so no FIFO is a packet pipe. */
+bindingclay_answer bindingclay_pipe2(bindingclay clay, uint32_t pid, uint32_t flags, bindingclay_ends *ends);
+
 /* Makes a FIFO under a name (mkfifo). A name is 1 to 255 bytes, at name, without a NUL at its end. Errors:
  * - ENOENT: the name is empty.
  * - ENAMETOOLONG: the name is longer than 255 bytes.
@@ -313,7 +345,8 @@ bindingclay_answer bindingclay_file_bytes(
  * - 0: size is 0.
  * - EAGAIN, or a wait: the pipe is empty and has a writer. With O_NONBLOCK the read fails with EAGAIN. Without it the read waits.
  *
- * Asks for memory only if it waits. bindingclay_resume gives the bytes then, so into is free at once. */
+ * Of a packet pipe it reads one packet, as bindingclay_pipe2 tells. Asks for memory only if it waits. bindingclay_resume gives the bytes then,
+ * so into is free at once. */
 bindingclay_answer bindingclay_read(bindingclay clay, uint32_t pid, int32_t fd, uint8_t *into, size_t size);
 
 /* Writes size bytes (write). Value: how many went in. In this order:
@@ -324,7 +357,8 @@ bindingclay_answer bindingclay_read(bindingclay clay, uint32_t pid, int32_t fd, 
  *   go in if there is some room. Without O_NONBLOCK the write waits until all its bytes went in.
  * - EFBIG: the file has no room.
  *
- * At most 4,096 bytes go into a pipe whole or not at all (pipe(7), PIPE_BUF). */
+ * At most 4,096 bytes go into a pipe whole or not at all (pipe(7), PIPE_BUF). Into a packet pipe go whole packets, as bindingclay_pipe2
+ * tells. */
 bindingclay_answer bindingclay_write(bindingclay clay, uint32_t pid, int32_t fd, const uint8_t *bytes, size_t size);
 
 /* Sets the offset of a regular file (lseek), from SEEK_SET, SEEK_CUR or SEEK_END of stdio.h. Value: the offset. Errors:
@@ -349,7 +383,8 @@ bindingclay_answer bindingclay_splice_at(bindingclay clay, uint32_t pid, int32_t
  * - 0: len is 0, whatever the descriptors are.
  * - EBADF: the source isn't open for reading, or the target isn't open for writing.
  * - ESPIPE: an offset is given for a pipe.
- * - EINVAL: an offset is above 9,223,372,036,854,775,807, neither is a pipe, both are the same pipe, or the target is a file with O_APPEND.
+ * - EINVAL: an offset is above 9,223,372,036,854,775,807, neither is a pipe, or both are the same pipe.
+ * - EINVAL: one of them is a packet pipe, or the target is a file with O_APPEND.
  * - EPIPE: the target is a pipe without a reader.
  * - 0: the source is at its end.
  * - EAGAIN, or a wait: the source is empty and may get bytes, or the target is a pipe without room. With SPLICE_F_NONBLOCK, or with
@@ -365,7 +400,7 @@ static inline bindingclay_answer bindingclay_splice(bindingclay clay, uint32_t p
 /* Copies at most len bytes from the front of one pipe to another, and leaves them in the first (tee(2)). Value: how many; 0 if the source
  * is empty and has no writer. flags, and a len of 0, are as in bindingclay_splice. Then, in this order:
  * - EBADF: the source isn't open for reading, or the target isn't open for writing.
- * - EINVAL: they aren't two pipes, or both are the same one.
+ * - EINVAL: they aren't two pipes, both are the same one, or one of them is a packet pipe.
  * - EPIPE: the target has no reader.
  * - EAGAIN, or a wait: as in bindingclay_splice. */
 bindingclay_answer bindingclay_tee(
@@ -395,8 +430,8 @@ bindingclay_answer bindingclay_dup_fd(bindingclay clay, uint32_t pid, int32_t fd
 /* Closes a descriptor (close). Fails with EBADF if it isn't open. Asks for no memory. */
 bindingclay_answer bindingclay_close(bindingclay clay, uint32_t pid, int32_t fd);
 
-/* Tells the mode and the flags (fcntl, F_GETFL). Value: O_RDONLY, O_WRONLY or O_RDWR, with O_APPEND and O_NONBLOCK if they are set. Fails
- * with EBADF if fd isn't open. Asks for no memory. */
+/* Tells the mode and the flags (fcntl, F_GETFL). Value: O_RDONLY, O_WRONLY or O_RDWR, with O_APPEND, O_NONBLOCK and BINDINGCLAY_O_DIRECT if
+ * they are set. Fails with EBADF if fd isn't open. Asks for no memory. */
 bindingclay_answer bindingclay_get_fl(bindingclay clay, uint32_t pid, int32_t fd);
 
 /* Sets O_APPEND and O_NONBLOCK as flags has them (fcntl, F_SETFL). Other flags have no effect. Fails with EBADF if fd isn't open. Asks for
@@ -410,7 +445,7 @@ bindingclay_answer bindingclay_get_pipe_sz(bindingclay clay, uint32_t pid, int32
  * number. Errors:
  * - EBADF: fd isn't open on a pipe.
  * - EPERM: size is above 1,048,576, or is rounded up to more than the limit capacity.
- * - EBUSY: the pipe holds more bytes than that number. */
+ * - EBUSY: the pipe holds more bytes than that number. A packet counts as 4,096 bytes, however few it has. */
 bindingclay_answer bindingclay_set_pipe_sz(bindingclay clay, uint32_t pid, int32_t fd, uint32_t size);
 
 /* ---- Buffers of no bytes ---- */

@@ -21,7 +21,7 @@ pub const MOST_FILE_BYTES: u32 = 16_777_216;
 /// The most bytes that a pipe can be made to hold.
 pub const MOST_CAPACITY: u32 = 1_048_576;
 
-/// The modes and flags of `open_name`, `set_fl` and `get_fl` (Linux, fcntl.h).
+/// The modes and flags of `open_name`, `set_fl` and `get_fl`, and `O_NONBLOCK` of `pipe2` (Linux, fcntl.h).
 pub const O_RDONLY: u32 = 0;
 pub const O_WRONLY: u32 = 0o1;
 pub const O_RDWR: u32 = 0o2;
@@ -30,6 +30,12 @@ pub const O_EXCL: u32 = 0o200;
 pub const O_TRUNC: u32 = 0o1000;
 pub const O_APPEND: u32 = 0o2000;
 pub const O_NONBLOCK: u32 = 0o4000;
+
+/// The flag of a packet pipe, for `pipe2` and in what `get_fl` tells (Linux on x86-64, fcntl.h).
+pub const O_DIRECT: u32 = 0o40000;
+
+/// The most bytes of a packet, and the bytes of the capacity that each packet takes, however few it has.
+pub const PACKET_BYTES: usize = 4_096;
 
 /// The flag of `splice` and `tee` by which they don't wait (Linux, fcntl.h).
 pub const SPLICE_F_NONBLOCK: u32 = 2;
@@ -190,6 +196,7 @@ unsafe extern "C" {
     fn bindingclay_interrupt(clay: Handle, number: u64) -> Answer;
     fn bindingclay_owner(clay: Handle, number: u64) -> Answer;
     fn bindingclay_pipe(clay: Handle, pid: u32, nonblock: bool, ends: *mut Ends) -> Answer;
+    fn bindingclay_pipe2(clay: Handle, pid: u32, flags: u32, ends: *mut Ends) -> Answer;
     fn bindingclay_mkfifo(clay: Handle, pid: u32, name: *const u8, size: usize) -> Answer;
     fn bindingclay_open_name(clay: Handle, pid: u32, name: *const u8, size: usize, flags: u32) -> Answer;
     fn bindingclay_unlink(clay: Handle, pid: u32, name: *const u8, size: usize) -> Answer;
@@ -379,6 +386,19 @@ impl Clay {
     pub fn pipe(&mut self, pid: Pid, nonblock: bool) -> Result<Ends> {
         let mut ends = Ends::default();
         unsafe { bindingclay_pipe(self.0, pid, nonblock, &mut ends) }.nothing()?;
+        Ok(ends)
+    }
+
+    /// A pipe with the flags `O_NONBLOCK`, for both ends, and `O_DIRECT`, for a packet pipe. Another flag is EINVAL, before all else.
+    ///
+    /// A packet pipe holds packets of 1 to 4,096 bytes. A write makes one packet of each 4,096 bytes, and a last one of those that are left.
+    /// A read takes the first packet, and gives as many of its bytes as it has room for. The rest of that packet is lost.
+    ///
+    /// A packet takes 4,096 bytes of the capacity and of memory, even if it has one byte. So 16 packets of one byte fill a new pipe.
+    /// `splice` and `tee` of a packet pipe are EINVAL. `get_fl` tells `O_DIRECT` of its write end.
+    pub fn pipe2(&mut self, pid: Pid, flags: u32) -> Result<Ends> {
+        let mut ends = Ends::default();
+        unsafe { bindingclay_pipe2(self.0, pid, flags, &mut ends) }.nothing()?;
         Ok(ends)
     }
 

@@ -12,6 +12,8 @@ const ENOENT: i32 = 2;
 const EINTR: i32 = 4;
 const EBADF: i32 = 9;
 const EAGAIN: i32 = 11;
+const EBUSY: i32 = 16;
+const EINVAL: i32 = 22;
 const ENOSPC: i32 = 28;
 const EPIPE: i32 = 32;
 
@@ -62,6 +64,45 @@ fn pipes(checks: &mut Checks) {
     // no reader is left, and 65,536 bytes went in
     checks.is(clay.resume(2, &mut []), Ok(Done { value: 65_536, sigpipe: true }));
     checks.is(clay.write(1, 1, b"a"), Err(NotDone::Fault(EPIPE)));
+}
+
+fn packets(checks: &mut Checks) {
+    let mut clay = with_process();
+    let mut into = [0xa5; PACKET_BYTES + 4];
+    checks.is(clay.pipe2(1, 1 << 31 | O_DIRECT), Err(NotDone::Fault(EINVAL)));
+    checks.is(clay.pipe2(9, O_APPEND), Err(NotDone::Fault(EINVAL)));
+    checks.is(clay.pipe2(9, O_DIRECT), Err(NotDone::NoProcess));
+    checks.is(clay.pipe2(1, O_DIRECT), Ok(Ends { read_end: 0, write_end: 1 }));
+    checks.is(clay.get_fl(1, 0), Ok(O_RDONLY));
+    checks.is(clay.get_fl(1, 1), Ok(O_WRONLY | O_DIRECT));
+    checks.is(clay.write(1, 1, b"abc"), Ok(3));
+    checks.is(clay.write(1, 1, b"de"), Ok(2));
+    checks.is(clay.read(1, 0, &mut into[..2]), Ok(2));
+    checks.is(&into[..3], b"ab\xa5");
+    checks.is(clay.read(1, 0, &mut into), Ok(2));
+    checks.is(&into[..3], b"de\xa5");
+    checks.is(clay.write(1, 1, &[7; 5_000]), Ok(5_000));
+    checks.is(clay.set_pipe_sz(1, 1, 4_096), Err(NotDone::Fault(EBUSY)));
+    checks.is(clay.read(1, 0, &mut into), Ok(PACKET_BYTES));
+    checks.is(into[PACKET_BYTES - 1..].to_vec(), vec![7, 0xa5, 0xa5, 0xa5, 0xa5]);
+    checks.is(clay.read(1, 0, &mut into), Ok(904));
+    checks.is(clay.read(1, 0, &mut into), Err(NotDone::Parked(1)));
+    checks.is(clay.write(1, 1, b"hello"), Ok(5));
+    checks.is(clay.resume(1, &mut into[..4]), Err(NotDone::Short(5)));
+    checks.is(clay.resume(1, &mut into), Ok(Done { value: 5, sigpipe: false }));
+    checks.is(&into[..5], b"hello");
+    // without the flags, and with both
+    checks.is(clay.pipe2(1, 0), Ok(Ends { read_end: 2, write_end: 3 }));
+    checks.is(clay.pipe2(1, O_NONBLOCK | O_DIRECT), Ok(Ends { read_end: 4, write_end: 5 }));
+    checks.is(clay.get_fl(1, 3), Ok(O_WRONLY));
+    checks.is(clay.get_fl(1, 4), Ok(O_RDONLY | O_NONBLOCK));
+    checks.is(clay.get_fl(1, 5), Ok(O_WRONLY | O_NONBLOCK | O_DIRECT));
+    checks.is(clay.write(1, 5, &[7; 70_000]), Ok(65_536));
+    checks.is(clay.write(1, 5, b"a"), Err(NotDone::Fault(EAGAIN)));
+    checks.is(clay.splice(1, (4, None), (3, None), 1, 0), Err(NotDone::Fault(EINVAL)));
+    checks.is(clay.tee(1, 4, 3, 1, 0), Err(NotDone::Fault(EINVAL)));
+    checks.is(clay.set_fl(1, 5, O_NONBLOCK), Ok(()));
+    checks.is(clay.get_fl(1, 5), Ok(O_WRONLY | O_NONBLOCK | O_DIRECT));
 }
 
 fn descriptors(checks: &mut Checks) {
@@ -215,6 +256,7 @@ fn main() {
     let mut checks = Checks { failed: 0 };
     kernels(&mut checks);
     pipes(&mut checks);
+    packets(&mut checks);
     descriptors(&mut checks);
     names(&mut checks);
     limits(&mut checks);

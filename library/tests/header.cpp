@@ -23,6 +23,8 @@ int main()
         return 1;
     bool as_wanted = bindingclay_start(clay).value == 1
         && bindingclay_pipe(clay, 1, false, &ends).kind == BINDINGCLAY_DONE
+        && bindingclay_pipe2(clay, 1, BINDINGCLAY_O_DIRECT, &ends).kind == BINDINGCLAY_DONE
+        && bindingclay_get_fl(clay, 1, ends.write_end).value == (01 | BINDINGCLAY_O_DIRECT)
         && bindingclay_splice(clay, 1, ends.write_end, nullptr, ends.read_end, nullptr, 1, 0).error == 9;
     bindingclay_free(clay);
     bindingclay_limits limits = BINDINGCLAY_LIMITS;

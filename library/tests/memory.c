@@ -122,6 +122,36 @@ static void waits_in_turn(bindingclay clay)
     MADE(unlink_text(clay, 1, "q"), D, 0);
 }
 
+/* A packet pipe of process 2, which ends. */
+static void packets_in_turn(bindingclay clay)
+{
+    MADE(bindingclay_start(clay), D, 2);
+    MADE(bindingclay_pipe2(clay, 2, BINDINGCLAY_O_DIRECT, &ends), D, 0);
+    HOLDS(ends.read_end == 0 && ends.write_end == 1);
+    MADE(bindingclay_read(clay, 2, 0, into, 9), P, 7);
+    MADE(put(clay, 2, 1, "abc"), D, 3);
+    MADE(bindingclay_resume(clay, 7, into, 9), D, 3);
+    HOLDS(memcmp(into, "abc\xa5", 4) == 0);
+    MADE(put(clay, 2, 1, "de"), D, 2);
+    MADE(put(clay, 2, 1, "fgh"), D, 3);
+    MADE(bindingclay_read(clay, 2, 0, into, 1), D, 1);
+    HOLDS(memcmp(into, "d\xa5", 2) == 0);
+    MADE(bindingclay_read(clay, 2, 0, into, 9), D, 3);
+    HOLDS(memcmp(into, "fgh\xa5", 4) == 0);
+    MADE(bindingclay_set_pipe_sz(clay, 2, 0, 8192), D, 8192);
+    MADE(bindingclay_write(clay, 2, 1, large, 10000), P, 8);
+    MADE(bindingclay_read(clay, 2, 0, into, 5000), D, 4096);
+    HOLDS(memcmp(into, large, 4096) == 0 && into[4096] == UNTOUCHED);
+    MADE(bindingclay_set_pipe_sz(clay, 2, 1, 16384), D, 16384);
+    MADE(bindingclay_resume(clay, 8, into, 0), D, 10000);
+    MADE(bindingclay_read(clay, 2, 0, into, 5000), D, 4096);
+    HOLDS(memcmp(into, large + 4096, 4096) == 0);
+    MADE(bindingclay_read(clay, 2, 0, into, 5000), D, 1808);
+    HOLDS(memcmp(into, large + 8192, 1808) == 0 && into[1808] == UNTOUCHED);
+    MADE(bindingclay_write(clay, 2, 1, large, 16384), D, 16384);
+    MADE(bindingclay_exit(clay, 2), D, 0);
+}
+
 /* A round in which the request behind so many granted ones is refused; whether there was one. */
 static bool round_without(long granted)
 {
@@ -135,6 +165,7 @@ static bool round_without(long granted)
     }
     bytes_in_turn(clay);
     waits_in_turn(clay);
+    packets_in_turn(clay);
     bindingclay_free(clay);
     refuse_none();
     /* none was refused without being told */
@@ -230,6 +261,34 @@ static void reads_that_wait(void)
     bindingclay_free(clay);
 }
 
+/* A read of a packet that is held takes no memory, and neither do the calls that tell of the pipe or let packets go. */
+static void packets_without_memory(void)
+{
+    bindingclay clay = kernel_with_process();
+    DONE(bindingclay_pipe2(clay, 1, BINDINGCLAY_O_DIRECT, &ends), 0);
+    for (int i = 0; i < 4; i++)
+        DONE(put(clay, 1, 1, "hello"), 5);
+    clear();
+    entries[0] = (bindingclay_pollfd){ .fd = 0, .events = POLLIN };
+    refuse(0, LONG_MAX);
+    DONE(bindingclay_read(clay, 1, 0, into, 2), 2);
+    HOLDS(memcmp(into, "he\xa5", 3) == 0);
+    DONE(bindingclay_read(clay, 1, 0, into, ROOM), 5);
+    HOLDS(memcmp(into, "hello\xa5", 6) == 0);
+    DONE(bindingclay_poll(clay, 1, entries, 1, true), 1);
+    DONE(bindingclay_get_fl(clay, 1, 1), O_WRONLY | BINDINGCLAY_O_DIRECT);
+    DONE(bindingclay_set_fl(clay, 1, 1, O_NONBLOCK), 0);
+    FAULT(bindingclay_set_pipe_sz(clay, 1, 1, 4096), EBUSY);
+    FAULT(bindingclay_pipe2(clay, 1, O_APPEND, &ends), EINVAL);
+    DONE(bindingclay_close(clay, 1, 1), 0);
+    DONE(bindingclay_read(clay, 1, 0, into, ROOM), 5);
+    DONE(bindingclay_exit(clay, 1), 0);
+    HOLDS(refused == 0);
+    refuse_none();
+    bindingclay_free(clay);
+    HOLDS(atomic_load(&blocks_left) == 0);
+}
+
 int main(void)
 {
     for (size_t i = 0; i < sizeof large; i++)
@@ -240,5 +299,6 @@ int main(void)
     HOLDS(granted > 40);
     with_no_memory();
     reads_that_wait();
+    packets_without_memory();
     return end();
 }

@@ -40,6 +40,7 @@ from state import (
     File,
     Mode,
     Node,
+    PacketPipe,
     Pipe,
     Process,
 )
@@ -143,7 +144,7 @@ class Machine:
         """
         pipe.hung = could_hang and pipe.readers > 0 and pipe.writers == 0
         if pipe.readers == 0 and pipe.writers == 0:
-            pipe.content.clear()
+            pipe.clear()
             pipe.capacity = FIRST_CAPACITY
 
     # Descriptions and who holds them
@@ -277,16 +278,19 @@ class Machine:
 
     # Pipes, names and opens
 
-    def pipe(self, process: Process, nonblock: bool = False) -> Reply:
-        """Makes a pipe: the read end and then the write end, on the two least free descriptors (POSIX.1-2017, pipe; pipe2(2))."""
+    def pipe(self, process: Process, nonblock: bool = False, direct: bool = False) -> Reply:
+        """Makes a pipe: the read end and then the write end, on the two least free descriptors (POSIX.1-2017, pipe; pipe2(2)).
+
+        With `direct` it is a packet pipe (pipe(2), O_DIRECT). Its write end alone has the flag (our own). No line of a script asks for it.
+        """
         free = list(process.free_descriptors())[:2]
         if len(free) < 2:
             raise Refused(Errno.EMFILE)
         if self.live_descriptions > MOST_DESCRIPTIONS - 2:
             raise Refused(Errno.ENFILE)
-        pipe = Pipe()
+        pipe = PacketPipe() if direct else Pipe()
         for mode in Mode.READ, Mode.WRITE:
-            self._install(process, Description(pipe, mode, nonblock=nonblock))
+            self._install(process, Description(pipe, mode, nonblock=nonblock, direct=direct and mode.writes))
         return NewPipe(*free)
 
     @staticmethod
@@ -400,6 +404,7 @@ class Machine:
             raise Refused(Errno.EINVAL)
         if giver.node is taker.node or (isinstance(taker.node, File) and taker.append):
             raise Refused(Errno.EINVAL)
+        self._refuse_packets(giver, taker)
         may_wait = self._may_wait_between(giver, taker, flags)
         move = Move(process, giver, taker, length, may_wait, source_offset=source_offset, target_offset=target_offset)
         return self._try(move)
@@ -411,8 +416,15 @@ class Machine:
         giver, taker = self._find_reading(process, source), self._find_writing(process, target)
         if isinstance(giver.node, File) or isinstance(taker.node, File) or giver.node is taker.node:
             raise Refused(Errno.EINVAL)
+        self._refuse_packets(giver, taker)
         may_wait = self._may_wait_between(giver, taker, flags)
         return self._try(Move(process, giver, taker, length, may_wait, consumes=False))
+
+    @staticmethod
+    def _refuse_packets(giver: Description, taker: Description) -> None:
+        """No bytes go out of a packet pipe or into one but by read and write (our own)."""
+        if isinstance(giver.node, PacketPipe) or isinstance(taker.node, PacketPipe):
+            raise Refused(Errno.EINVAL)
 
     @staticmethod
     def _may_wait_between(giver: Description, taker: Description, flags: SpliceFlags) -> bool:
@@ -476,10 +488,10 @@ class Machine:
     def getfl(self, process: Process, descriptor: int) -> Reply:
         """Tells the mode and the status flags (POSIX.1-2017, fcntl, F_GETFL)."""
         description = self._find(process, descriptor)
-        return StatusFlags(description.mode, description.append, description.nonblock)
+        return StatusFlags(description.mode, description.append, description.nonblock, description.direct)
 
     def setfl(self, process: Process, descriptor: int, flags: OpenFlags) -> Reply:
-        """Sets the two status flags as given, and ignores all other flags (POSIX.1-2017, fcntl, F_SETFL)."""
+        """Sets the two status flags as given, and ignores all other flags, O_DIRECT too (POSIX.1-2017, fcntl, F_SETFL; O_DIRECT: our own)."""
         description = self._find(process, descriptor)
         description.append = OpenFlag.APPEND in flags
         description.nonblock = OpenFlag.NONBLOCK in flags
@@ -504,7 +516,7 @@ class Machine:
         capacity = PIPE_BUF
         while capacity < size:
             capacity *= 2
-        if len(pipe.content) > capacity:
+        if pipe.used > capacity:
             raise Refused(Errno.EBUSY)
         pipe.capacity = capacity
         return Capacity(capacity)

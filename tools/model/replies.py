@@ -93,6 +93,7 @@ class StatusFlags:
     mode: Mode
     append: bool
     nonblock: bool
+    direct: bool
 
 
 @dataclass(frozen=True)

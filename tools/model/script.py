@@ -253,7 +253,8 @@ def mask_text(mask: Mask) -> str:
 
 def flags_text(reply: replies.StatusFlags) -> str:
     """The mode, and the status flags in their order, or `-` for none."""
-    flags = [word for word, holds in (("append", reply.append), ("nonblock", reply.nonblock)) if holds]
+    held = ("append", reply.append), ("nonblock", reply.nonblock), ("direct", reply.direct)
+    flags = [word for word, holds in held if holds]
     return f"flags {reply.mode.value} {','.join(flags) or '-'}"
 
 

@@ -3,7 +3,7 @@ from __future__ import annotations
 
 import enum
 from dataclasses import dataclass, field
-from typing import Dict, Iterator, Union
+from typing import Dict, Iterator, List, Union
 
 # POSIX.1-2017, limits.h; pipe(7), PIPE_BUF
 PIPE_BUF = 4096
@@ -56,9 +56,14 @@ class Pipe:
     hung: bool = False
 
     @property
+    def used(self) -> int:
+        """How much of its capacity is taken."""
+        return len(self.content)
+
+    @property
     def room(self) -> int:
         """How many bytes it can still take."""
-        return self.capacity - len(self.content)
+        return self.capacity - self.used
 
     def put(self, data: bytes) -> None:
         """Puts bytes in at the end."""
@@ -71,6 +76,41 @@ class Pipe:
     def drop_front(self, count: int) -> None:
         """Takes the first bytes out."""
         del self.content[:count]
+
+    def take(self, most: int) -> bytes:
+        """Takes out what one read gets, `most` bytes at most; none if nothing is held."""
+        data = self.front(most)
+        self.drop_front(len(data))
+        return data
+
+    def clear(self) -> None:
+        """Loses all that is held."""
+        self.content.clear()
+
+
+@dataclass(eq=False)
+class PacketPipe(Pipe):
+    """A pipe of packets of 1 to 4,096 bytes, of which a read takes one (pipe(2), O_DIRECT). No name stands for one (our own).
+
+    Each packet takes 4,096 bytes of the capacity, however few it has (our own).
+    """
+
+    packets: List[bytes] = field(default_factory=list)
+
+    @property
+    def used(self) -> int:
+        return len(self.packets) * PIPE_BUF
+
+    def put(self, data: bytes) -> None:
+        """Puts packets in at the end: one of each 4,096 bytes, and one of those that are left."""
+        self.packets += [data[start : start + PIPE_BUF] for start in range(0, len(data), PIPE_BUF)]
+
+    def take(self, most: int) -> bytes:
+        """Takes the first packet out, and gives `most` of its bytes at most. The others are lost."""
+        return self.packets.pop(0)[:most] if self.packets else b""
+
+    def clear(self) -> None:
+        self.packets.clear()
 
 
 @dataclass(eq=False)
@@ -110,6 +150,7 @@ class Description:
     mode: Mode
     append: bool = False
     nonblock: bool = False
+    direct: bool = False
     offset: int = 0
     holders: int = 0
 

@@ -66,11 +66,8 @@ class Read(Call):
 
     def _read_pipe(self, pipe: Pipe) -> Optional[Reply]:
         """A read gets what is held. An empty pipe without writers is at the end of file. For any other the read has to wait."""
-        data = pipe.front(self.most)
-        if not data and pipe.writers:
-            return None
-        pipe.drop_front(len(data))
-        return Data(data)
+        data = pipe.take(self.most)
+        return Data(data) if data or not pipe.writers else None
 
 
 @dataclass(eq=False)
@@ -103,7 +100,7 @@ class Write(Call):
         return Count(len(data))
 
     def _write_pipe(self, pipe: Pipe) -> Optional[Reply]:
-        """A small write goes in whole or not at all. A large one may go in by parts."""
+        """A small write goes in whole or not at all. A large one may go in by parts, which of a packet pipe are packets."""
         if not pipe.readers:
             if self.taken:
                 return Count(self.taken, sigpipe=True)
@@ -238,7 +235,7 @@ class Poll(Call):
 
 def _pipe_events(pipe: Pipe, mode: Mode, asked: Mask) -> Mask:
     """What is found of an end of a pipe. It is ready for a writer with room for PIPE_BUF bytes (our own)."""
-    readable = {Event.IN: bool(pipe.content) and Event.IN in asked, Event.HUP: pipe.hung}
+    readable = {Event.IN: pipe.used > 0 and Event.IN in asked, Event.HUP: pipe.hung}
     writable = {Event.OUT: pipe.room >= PIPE_BUF and Event.OUT in asked, Event.ERR: not pipe.readers}
     found: Dict[Event, bool] = {}
     if mode.reads:

@@ -1,8 +1,8 @@
 //! Descriptors, and what they name.
-ghost use Rattle.std.specs.Prelude.{◌≡◌, ⊤, false, MatchOption};
+ghost use Rattle.std.specs.Prelude.{◌≡◌, ⊤, MatchOption, false};
 ghost use Rattle.pl_model.specs.declared.replies.Errno.TheVariants.{EINVAL};
 ghost use Rattle.pl_numbers.specs.Answers.{faulty, ends_after};
-ghost use Rattle.pl_numbers.specs.Flags.{open_flags_of_bits};
+ghost use Rattle.pl_numbers.specs.Flags.{open_flags_of_bits, pipe_flags_of_bits};
 ghost use Rattle.pl_numbers.specs.Places.{whence_of_number};
 ghost use Rattle.bindingclay.specs.Made.{Says, Wants, Replied};
 
@@ -24,7 +24,22 @@ pub extern "C" fn bindingclay_pipe(
     ensures untold { result.kind ≡ 6 → ends.new ≡ ends.old }
 {
     let mut layer = handle.into_box();
-    let answer = layer.pipe(pid, nonblock, ends);
+    let answer = layer.pipe(pid, nonblock, false, ends);
+    let _kept = Box::into_raw(layer);
+    answer
+}
+
+/// Makes a pipe as Linux's bits say, and tells its ends (pipe2(2), `O_NONBLOCK`, and `O_DIRECT` for a packet pipe). `EINVAL` before all else
+/// where another bit is set.
+#[unsafe(no_mangle)]
+pub extern "C" fn bindingclay_pipe2(handle: Handle, pid: u32, flags: u32, ends: &mut Ends) -> Answer
+    ensures says { MatchOption (pipe_flags_of_bits flags) (result ≡ faulty EINVAL) (λ flags. Says handle.layer.kernel (Step.Begin pid (Call.Pipe flags.nonblock flags.direct)) result) }
+    ensures wants { MatchOption (pipe_flags_of_bits flags) ⊤ (λ flags. Wants handle.layer.kernel (Step.Begin pid (Call.Pipe flags.nonblock flags.direct)) result) }
+    ensures ends { MatchOption (pipe_flags_of_bits flags) (ends.new ≡ ends.old) (λ flags. Replied handle.layer.kernel (Step.Begin pid (Call.Pipe flags.nonblock flags.direct)) result (λ reply. ends.new ≡ ends_after ends.old reply)) }
+    ensures untold { result.kind ≡ 6 → ends.new ≡ ends.old }
+{
+    let mut layer = handle.into_box();
+    let answer = layer.pipe2(pid, flags, ends);
     let _kept = Box::into_raw(layer);
     answer
 }

@@ -4,13 +4,14 @@ mod names;
 mod transfers;
 mod waiting;
 
-ghost use Rattle.std.specs.Prelude.{◌≡◌, ◌≤◌, ⊤, false, MatchOption};
+ghost use Rattle.std.specs.Prelude.{◌≡◌, ◌≤◌, ⊤, MatchOption};
 ghost use Rattle.bindingclay.specs.Heap.{InBudget};
 ghost use Rattle.pl_model.specs.Numbers.{most_file_bytes};
 ghost use Rattle.pl_model.specs.Numbered.{opening};
 ghost use Rattle.pl_state.specs.Makes.{Stands};
 ghost use Rattle.pl_model.specs.declared.replies.Errno.TheVariants.{EINVAL};
 ghost use Rattle.pl_numbers.specs.Answers.{plain, faulty, ends_after};
+ghost use Rattle.pl_numbers.specs.Flags.{pipe_flags_of_bits};
 ghost use Rattle.pl_numbers.specs.Places.{whence_of_number};
 ghost use Rattle.bindingclay.specs.Made.{Makes, Wants, Replied};
 
@@ -18,7 +19,7 @@ pub use memory::{Memory, address};
 use pl_budget::Budget;
 use pl_kernel::{Kernel, NoMemory};
 use pl_model::{Call, Errno, Limits, Step};
-use pl_numbers::{Answer, Ends, answer_of, kind, tell_ends, whence_of_number};
+use pl_numbers::{Answer, Ends, answer_of, kind, pipe_flags_of_bits, tell_ends, whence_of_number};
 use std::alloc::Global;
 
 /// What a kernel and the lists for its calls are made in: a budget, which stays where it is as long as the kernel does.
@@ -62,26 +63,39 @@ impl Layer {
         }
     }
 
-    /// Makes a pipe, and tells its ends.
-    pub fn pipe(&mut self, pid: u32, nonblock: bool, ends: &mut Ends) -> Answer
-        ensures makes { Makes self.old.kernel (Step.Begin pid (Call.Pipe nonblock false)) result self.new.kernel }
-        ensures wants { Wants self.old.kernel (Step.Begin pid (Call.Pipe nonblock false)) result }
-        ensures ends { Replied self.old.kernel (Step.Begin pid (Call.Pipe nonblock false)) result (λ reply. ends.new ≡ ends_after ends.old reply) }
+    /// Makes a pipe, with `direct` a packet pipe, and tells its ends.
+    pub fn pipe(&mut self, pid: u32, nonblock: bool, direct: bool, ends: &mut Ends) -> Answer
+        ensures makes { Makes self.old.kernel (Step.Begin pid (Call.Pipe nonblock direct)) result self.new.kernel }
+        ensures wants { Wants self.old.kernel (Step.Begin pid (Call.Pipe nonblock direct)) result }
+        ensures ends { Replied self.old.kernel (Step.Begin pid (Call.Pipe nonblock direct)) result (λ reply. ends.new ≡ ends_after ends.old reply) }
         ensures untold { result.kind ≡ 6 → ends.new ≡ ends.old }
     {
-        match self.kernel.step(Step::Begin(
-            pid,
-            Call::Pipe {
-                nonblock,
-                direct: false,
-            },
-        )) {
+        match self
+            .kernel
+            .step(Step::Begin(pid, Call::Pipe { nonblock, direct }))
+        {
             Ok(reply) => {
                 tell_ends(&reply, ends);
                 answer_of(&reply)
             }
             Err(NoMemory) => no_memory(),
         }
+    }
+
+    /// Makes a pipe as the bits say, and tells its ends, or with another bit than those of the flags does nothing (pipe2(2), `EINVAL`).
+    pub fn pipe2(&mut self, pid: u32, bits: u32, ends: &mut Ends) -> Answer
+        ensures makes { MatchOption (pipe_flags_of_bits bits)
+            ((result ≡ faulty EINVAL) × (self.new.kernel ≡ self.old.kernel))
+            (λ flags. Makes self.old.kernel (Step.Begin pid (Call.Pipe flags.nonblock flags.direct)) result self.new.kernel) }
+        ensures wants { MatchOption (pipe_flags_of_bits bits) ⊤ (λ flags. Wants self.old.kernel (Step.Begin pid (Call.Pipe flags.nonblock flags.direct)) result) }
+        ensures ends { MatchOption (pipe_flags_of_bits bits) (ends.new ≡ ends.old)
+            (λ flags. Replied self.old.kernel (Step.Begin pid (Call.Pipe flags.nonblock flags.direct)) result (λ reply. ends.new ≡ ends_after ends.old reply)) }
+        ensures untold { result.kind ≡ 6 → ends.new ≡ ends.old }
+    {
+        let Some(flags) = pipe_flags_of_bits(bits) else {
+            return Answer::fault(Errno::EINVAL);
+        };
+        self.pipe(pid, flags.nonblock, flags.direct, ends)
     }
 
     /// Sets the offset of a file, or where the number says no place does nothing (POSIX.1-2017, lseek, `EINVAL`).

@@ -9,5 +9,8 @@ mod places;
 
 pub use answer::{Answer, Ends, answer_of, kind, tell_ends};
 pub use errors::error_number;
-pub use flags::{mode_of_bits, open_flags_of_bits, splice_flags_of_bits, status_bits};
+pub use flags::{
+    PipeFlags, mode_of_bits, open_flags_of_bits, pipe_flags_of_bits, splice_flags_of_bits,
+    status_bits,
+};
 pub use places::whence_of_number;

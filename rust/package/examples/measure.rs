@@ -26,13 +26,7 @@ fn least(times: usize, mut call: impl FnMut()) -> f64 {
 }
 
 fn pipe(kernel: &mut Kernel) -> (i32, i32) {
-    match kernel.step(Step::Begin(
-        1,
-        Call::Pipe {
-            nonblock: false,
-            direct: false,
-        },
-    )) {
+    match kernel.step(Step::Begin(1, Call::Pipe { nonblock: false, direct: false })) {
         Ok(Reply::Fds(read_end, write_end)) => (read_end, write_end),
         other => panic!("{other:?}"),
     }

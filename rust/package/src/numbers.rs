@@ -11,6 +11,6 @@ pub use crate::parts::model::numbers::{
     MAX_OFFSET, MAX_PROCESSES, MIN_CAPACITY, OPEN_MAX, PIPE_BUF,
 };
 pub use crate::parts::numbers::{
-    error_number, mode_of_bits, open_flags_of_bits, splice_flags_of_bits, status_bits,
-    whence_of_number,
+    PipeFlags, error_number, mode_of_bits, open_flags_of_bits, pipe_flags_of_bits,
+    splice_flags_of_bits, status_bits, whence_of_number,
 };

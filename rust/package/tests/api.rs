@@ -36,13 +36,7 @@ fn with_pipe() -> Kernel {
     let mut kernel = Kernel::new(Global, Limits::default()).expect("the limits of before");
     assert_eq!(kernel.step(Step::Start), Ok(Reply::Pid(1)));
     assert_eq!(
-        kernel.step(Step::Begin(
-            1,
-            Call::Pipe {
-                nonblock: true,
-                direct: false,
-            },
-        )),
+        kernel.step(Step::Begin(1, Call::Pipe { nonblock: true, direct: false })),
         Ok(Reply::Fds(0, 1))
     );
     kernel
@@ -174,13 +168,7 @@ fn a_step_without_memory_changes_nothing() {
     let mut kernel = Kernel::new(&requests, Limits::default()).expect("the limits of before");
     kernel.step(Step::Start).expect("memory");
     kernel
-        .step(Step::Begin(
-            1,
-            Call::Pipe {
-                nonblock: true,
-                direct: false,
-            },
-        ))
+        .step(Step::Begin(1, Call::Pipe { nonblock: true, direct: false }))
         .expect("memory");
     requests.0.set(0);
     assert_eq!(
