@@ -54,6 +54,7 @@ pub(crate) const BAD: &[&str] = &[
     "1 open",
     "1 open f",
     "1 open f r creat excl",
+    "1 open f r direct",
     "1 lseek",
     "1 lseek 0",
     "1 lseek 0 0",

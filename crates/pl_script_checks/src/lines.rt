@@ -117,6 +117,8 @@ const BAD: &[&str] = &[
     "interrupt",
     "interrupt 1 1",
     "1 pipe nonblock nonblock",
+    "1 pipe direct",
+    "1 pipe nonblock,direct",
     "1 pipe 1",
     "1 read",
     "1 read 0",

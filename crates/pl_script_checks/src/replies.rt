@@ -58,6 +58,22 @@ const REPLIES: &[(Want, &str)] = &[
         "flags rw append,nonblock",
     ),
     (Flags(Mode::Write, &[]), "flags w -"),
+    (Flags(Mode::Write, &[OpenFlags::DIRECT]), "flags w direct"),
+    (
+        Flags(Mode::Write, &[OpenFlags::DIRECT, OpenFlags::APPEND]),
+        "flags w append,direct",
+    ),
+    (
+        Flags(Mode::Write, &[OpenFlags::DIRECT, OpenFlags::NONBLOCK]),
+        "flags w nonblock,direct",
+    ),
+    (
+        Flags(
+            Mode::Both,
+            &[OpenFlags::DIRECT, OpenFlags::NONBLOCK, OpenFlags::APPEND],
+        ),
+        "flags rw append,nonblock,direct",
+    ),
     // masks, with how many aren't empty, and the names of each in order
     (Masks(0, &[]), "masks 0"),
     (Masks(0, &[EMPTY]), "masks 0 -"),

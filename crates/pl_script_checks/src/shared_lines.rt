@@ -92,6 +92,8 @@ pub(crate) const BAD: &[&str] = &[
     "1 setfl 0 append nonblock",
     "1 setfl 0 append,nonblock -",
     "1 setfl 0 append, nonblock",
+    "1 setfl 0 direct",
+    "1 setfl 0 append,direct",
     "1 fork 1",
     "1 exit 0",
     // words that are near to a name
