@@ -1,5 +1,5 @@
 -- What a try of a splice or a tee comes to at the kernel's keys.
-use Rattle.std.proofs.Common.{◌≡◌, ℕ, Bool, true, false, [], ◌∷◌, Option, Some, None, IfSome, sym, ◌∙◌, ap, subst}
+use Rattle.std.proofs.Common.{◌≡◌, ℕ, Bool, true, false, [], ◌∷◌, Option, Some, None, IfSome, refl, sym, ◌∙◌, ap, subst}
 use Rattle.std.specs.Prelude.{option_map, ◌||◌, if◌then◌else◌}
 use Rattle.pl_model.specs.declared.replies.Reply.TheVariants.{Fault}
 use Rattle.pl_model.specs.declared.replies.Errno.TheVariants.{EINVAL}

@@ -47,5 +47,5 @@ returns-then-either_is_packet-clause-done g c = packets_end c.args.kernel.now c.
 pub returns-then-either_is_packet-clause-shares : goal.returns-then-either_is_packet-clause-shares
 returns-then-either_is_packet-clause-shares g c = shares-same c.args.kernel.now c.args.from.node c.args.to.node _
 
-pub move_bytes-in-Moves-requires-clause-bytes : goal.move_bytes-in-Moves-requires-clause-bytes
-move_bytes-in-Moves-requires-clause-bytes g c = sym c.either_is_packet.ensures ∙ c.if-either_is_packet.false
+pub move_bytes-requires-clause-bytes : goal.move_bytes-requires-clause-bytes
+move_bytes-requires-clause-bytes g c = sym c.either_is_packet.ensures ∙ c.if-either_is_packet.false
