@@ -278,8 +278,8 @@ bindingclay_answer bindingclay_owner(bindingclay clay, uint64_t number);
  * descriptions. */
 bindingclay_answer bindingclay_pipe(bindingclay clay, uint32_t pid, bool nonblock, bindingclay_ends *ends);
 
-/* Does what bindingclay_pipe does, with the flags O_NONBLOCK of fcntl.h and BINDINGCLAY_O_DIRECT (pipe2(2)). O_NONBLOCK sets it on both ends.
- * BINDINGCLAY_O_DIRECT makes a packet pipe. Errors:
+/* Does what bindingclay_pipe does, with O_NONBLOCK of fcntl.h and BINDINGCLAY_O_DIRECT as flags (pipe2(2)). O_NONBLOCK is set on both ends.
+ * BINDINGCLAY_O_DIRECT makes a packet pipe. If it is done, the ends are written to *ends. Errors:
  * - EINVAL, before all else, and before BINDINGCLAY_NO_PROCESS: flags has another flag.
  * - EMFILE: fewer than two descriptors are free.
  * - ENFILE: there are more than 4,094 open file descriptions.
@@ -345,8 +345,8 @@ bindingclay_answer bindingclay_file_bytes(
  * - 0: size is 0.
  * - EAGAIN, or a wait: the pipe is empty and has a writer. With O_NONBLOCK the read fails with EAGAIN. Without it the read waits.
  *
- * Of a packet pipe it reads one packet, as bindingclay_pipe2 tells. Asks for memory only if it waits. bindingclay_resume gives the bytes then,
- * so into is free at once. */
+ * Of a packet pipe it reads one packet, as bindingclay_pipe2 tells. Asks for memory only if it waits. bindingclay_resume gives the bytes
+ * then, so into is free at once. */
 bindingclay_answer bindingclay_read(bindingclay clay, uint32_t pid, int32_t fd, uint8_t *into, size_t size);
 
 /* Writes size bytes (write). Value: how many went in. In this order:
