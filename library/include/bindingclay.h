@@ -294,8 +294,8 @@ bindingclay_answer bindingclay_pipe(bindingclay clay, uint32_t pid, bool nonbloc
  *   in. EBADF and EPIPE are as in bindingclay_write.
  * - Read. A read takes the first packet, and gives as many of its bytes as it asked for. The rest of that packet is lost. It never gives
  *   bytes of two packets. A read of no bytes takes nothing. At the end of the file, after the last packet, it answers 0.
- * - Resume. Of a read that waits, bindingclay_resume gives one packet. Room for as many bytes as the read asked for, or for 4,096, is always
- *   enough. If the room is too small, BINDINGCLAY_SHORT tells how many bytes there are, and the packet stays.
+ * - Resume. Of a read that waits, bindingclay_resume gives one packet. Room for what the read asked for, or for 4,096 bytes, is always
+ *   enough. If the room is too small, BINDINGCLAY_SHORT tells how many bytes the read would give, and the packet stays.
  * - Poll. POLLIN is told while a packet is held, and POLLOUT while a place is free.
  * - bindingclay_set_pipe_sz fails with EBUSY if the new capacity has fewer places than the pipe holds packets.
  * - bindingclay_splice and bindingclay_tee fail with EINVAL if either side is a packet pipe.
