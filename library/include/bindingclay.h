@@ -278,8 +278,8 @@ bindingclay_answer bindingclay_owner(bindingclay clay, uint64_t number);
  * descriptions. */
 bindingclay_answer bindingclay_pipe(bindingclay clay, uint32_t pid, bool nonblock, bindingclay_ends *ends);
 
-/* Does what bindingclay_pipe does, with the flags O_NONBLOCK of fcntl.h and BINDINGCLAY_O_DIRECT (pipe2(2)). O_NONBLOCK sets it on both ends.
- * BINDINGCLAY_O_DIRECT makes a packet pipe. Errors:
+/* Does what bindingclay_pipe does, with O_NONBLOCK of fcntl.h and BINDINGCLAY_O_DIRECT as flags (pipe2(2)). O_NONBLOCK is set on both ends.
+ * BINDINGCLAY_O_DIRECT makes a packet pipe. If it is done, the ends are written to *ends. Errors:
  * - EINVAL, before all else, and before BINDINGCLAY_NO_PROCESS: flags has another flag.
  * - EMFILE: fewer than two descriptors are free.
  * - ENFILE: there are more than 4,094 open file descriptions.
@@ -294,8 +294,8 @@ bindingclay_answer bindingclay_pipe(bindingclay clay, uint32_t pid, bool nonbloc
  *   in. EBADF and EPIPE are as in bindingclay_write.
  * - Read. A read takes the first packet, and gives as many of its bytes as it asked for. The rest of that packet is lost. It never gives
  *   bytes of two packets. A read of no bytes takes nothing. At the end of the file, after the last packet, it answers 0.
- * - Resume. Of a read that waits, bindingclay_resume gives one packet. Room for as many bytes as the read asked for, or for 4,096, is always
- *   enough. If the room is too small, BINDINGCLAY_SHORT tells how many bytes there are, and the packet stays.
+ * - Resume. Of a read that waits, bindingclay_resume gives one packet. Room for what the read asked for, or for 4,096 bytes, is always
+ *   enough. If the room is too small, BINDINGCLAY_SHORT tells how many bytes the read would give, and the packet stays.
  * - Poll. POLLIN is told while a packet is held, and POLLOUT while a place is free.
  * - bindingclay_set_pipe_sz fails with EBUSY if the new capacity has fewer places than the pipe holds packets.
  * - bindingclay_splice and bindingclay_tee fail with EINVAL if either side is a packet pipe.
@@ -345,8 +345,8 @@ bindingclay_answer bindingclay_file_bytes(
  * - 0: size is 0.
  * - EAGAIN, or a wait: the pipe is empty and has a writer. With O_NONBLOCK the read fails with EAGAIN. Without it the read waits.
  *
- * Of a packet pipe it reads one packet, as bindingclay_pipe2 tells. Asks for memory only if it waits. bindingclay_resume gives the bytes then,
- * so into is free at once. */
+ * Of a packet pipe it reads one packet, as bindingclay_pipe2 tells. Asks for memory only if it waits. bindingclay_resume gives the bytes
+ * then, so into is free at once. */
 bindingclay_answer bindingclay_read(bindingclay clay, uint32_t pid, int32_t fd, uint8_t *into, size_t size);
 
 /* Writes size bytes (write). Value: how many went in. In this order:

@@ -228,6 +228,8 @@ static bindingclay_answer made(const struct call *call, bindingclay clay, struct
     case EXIT:
         return bindingclay_exit(clay, call->pid);
     case PIPE:
+        if (call->size % 3 == 0)
+            return bindingclay_pipe2(clay, call->pid, BINDINGCLAY_O_DIRECT | (call->flags != 0 ? O_NONBLOCK : 0), &left->ends);
         return bindingclay_pipe(clay, call->pid, call->flags != 0, &left->ends);
     case MKFIFO:
         return bindingclay_mkfifo(clay, call->pid, call->name, call->name_size);

@@ -76,6 +76,7 @@ static void no_process(bindingclay clay, uint32_t pid)
     bindingclay_pollfd entry = { .fd = 0, .events = 1, .revents = 77 };
     uint64_t offset = UINT64_MAX;
     OTHER(bindingclay_pipe(clay, pid, false, &ends), BINDINGCLAY_NO_PROCESS);
+    OTHER(bindingclay_pipe2(clay, pid, BINDINGCLAY_O_DIRECT, &ends), BINDINGCLAY_NO_PROCESS);
     OTHER(mkfifo_text(clay, pid, ""), BINDINGCLAY_NO_PROCESS);
     OTHER(open_text(clay, pid, "", O_RDONLY), BINDINGCLAY_NO_PROCESS);
     OTHER(unlink_text(clay, pid, "/"), BINDINGCLAY_NO_PROCESS);

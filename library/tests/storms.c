@@ -275,7 +275,7 @@ static bindingclay_answer names_or_closes(struct guest *guest, uint32_t pid, int
     case 5:
         return bindingclay_dup(clay, pid, fd);
     case 6:
-        return bindingclay_pipe(clay, pid, false, &ends);
+        return bindingclay_pipe2(clay, pid, drawn(guest, 2) == 0 ? BINDINGCLAY_O_DIRECT : 0, &ends);
     default:
         return bindingclay_close(clay, pid, fd);
     }

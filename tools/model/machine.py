@@ -491,7 +491,7 @@ class Machine:
         return StatusFlags(description.mode, description.append, description.nonblock, description.direct)
 
     def setfl(self, process: Process, descriptor: int, flags: OpenFlags) -> Reply:
-        """Sets the two status flags as given, and ignores all other flags, O_DIRECT too (POSIX.1-2017, fcntl, F_SETFL; O_DIRECT: our own)."""
+        """Sets the two status flags as given, and ignores all other flags (POSIX.1-2017, fcntl, F_SETFL; of O_DIRECT: our own)."""
         description = self._find(process, descriptor)
         description.append = OpenFlag.APPEND in flags
         description.nonblock = OpenFlag.NONBLOCK in flags

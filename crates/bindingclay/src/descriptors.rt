@@ -29,8 +29,8 @@ pub extern "C" fn bindingclay_pipe(
     answer
 }
 
-/// Makes a pipe as Linux's bits say, and tells its ends (pipe2(2), `O_NONBLOCK`, and `O_DIRECT` for a packet pipe). `EINVAL` before all else
-/// where another bit is set.
+/// Makes a pipe as Linux's bits say, and tells its ends (pipe2(2), `O_NONBLOCK`, and `O_DIRECT` for a packet pipe). `EINVAL` before all
+/// else where another bit is set.
 #[unsafe(no_mangle)]
 pub extern "C" fn bindingclay_pipe2(handle: Handle, pid: u32, flags: u32, ends: &mut Ends) -> Answer
     ensures says { MatchOption (pipe_flags_of_bits flags) (result ≡ faulty EINVAL) (λ flags. Says handle.layer.kernel (Step.Begin pid (Call.Pipe flags.nonblock flags.direct)) result) }
