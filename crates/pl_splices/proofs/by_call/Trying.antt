@@ -50,7 +50,7 @@ module _ {A : Type 0} (k : Contents A) (from to : Side) (is_tee : Bool) (goes : 
         ap (λ z. with_kept c (option_map (λ y. record { key = from.key; description = y }) (option_map description_of z)) (λ a. with_kept c (kept_at c (from.key ∷ to.key ∷ []) 1) (λ b. try_move c (side a from.given) (side b to.given) len is_tee))) goes.source.here
         ∙ ap (λ z. with_kept c (option_map (λ y. record { key = to.key; description = y }) (option_map description_of z)) (λ b. try_move c source_side (side b to.given) len is_tee)) goes.target.here
         ∙ (λ i. if is_packet_pipe c (node_of (goes.source.node i)) || is_packet_pipe c (node_of (goes.target.node i)) then Done c still (Fault EINVAL)
-          else move_row c source_side target_side is_tee (move_case (source_of c source_side (node_of (goes.source.node i))) (target_of c target_side (node_of (goes.target.node i))) len))
+        else move_row c source_side target_side is_tee (move_case (source_of c source_side (node_of (goes.source.node i))) (target_of c target_side (node_of (goes.target.node i))) len))
         ∙ ap (λ z. if either_is_packets k from.node to.node then Done c still (Fault EINVAL) else move_row c source_side target_side is_tee z) r
 
     pub trial-is : either_is_packets k from.node to.node ≡ false → (row : MoveCase) → case ≡ row → trial k from to len is_tee ≡ move_row c source_side target_side is_tee row

@@ -25,9 +25,11 @@ module _ (g : Over) (c : After-set_flags g) (o : Opened) (here : at c.kernel.ins
   had = (let told : Some o.flags ≡ Some c.flags.result = sym (ap (option_map (λ (x : Opened). x.flags)) here) ∙ c.flags.ensures in cc)
 
   is_set : c.union-set.result ≡ flags_set o.flags c.args.flags
-  is_set = λ i. record { 0 = (
-    c.union-set.ensures tt
-    ∙ (λ j. bit_or ((c.intersection-asked.ensures tt ∙ ap (bit_and c.args.flags.0) (c.union-status.ensures tt)) j) ((c.intersection-kept.ensures tt ∙ ap (λ (f : OpenFlags). bit_and f.0 direct) had) j))) i }
+  is_set = λ i. record {
+    0 = (
+        c.union-set.ensures tt
+        ∙ (λ j. bit_or ((c.intersection-asked.ensures tt ∙ ap (bit_and c.args.flags.0) (c.union-status.ensures tt)) j) ((c.intersection-kept.ensures tt ∙ ap (λ (f : OpenFlags). bit_and f.0 direct) had) j))) i;
+  }
 
 pub returns-in_default : goal.returns-in_default
 returns-in_default g c =
