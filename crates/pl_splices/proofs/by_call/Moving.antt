@@ -1,5 +1,5 @@
 -- Bytes that went over, by what the sides are on.
-use Rattle.std.proofs.Common.{◌≡◌, ◌≢◌, ◌≤◌, ℕ, ◌+◌, ◌-◌, Bool, true, false, List, [], ◌++◌, length, take, drop, Option, Some, None, IfSome, IsSome, refl, sym, ◌∙◌, ap, subst, nat_eq, arith}
+use Rattle.std.proofs.Common.{◌≡◌, ◌≢◌, ◌≤◌, ℕ, ◌+◌, ◌-◌, Bool, true, false, List, [], length, take, drop, Option, Some, None, IfSome, IsSome, refl, sym, ◌∙◌, ap, subst, nat_eq, arith}
 use Rattle.std.specs.Prelude.{is_some, unwrap_or, option_map, if◌then◌else◌}
 use Rattle.std.proofs.lemmas.List.{length-drop, length-take-le}
 use Rattle.pl_model.specs.Packets.{lose, gain}

@@ -1,5 +1,5 @@
 -- A parked call is tried again and waits on, at the kernel's keys.
-use Rattle.std.proofs.Common.{◌≡◌, ℕ, List, ◌++◌, Some, refl, sym, ◌∙◌, ap, subst, nat_eq, arith}
+use Rattle.std.proofs.Common.{◌≡◌, ℕ, List, Some, refl, sym, ◌∙◌, ap, subst, nat_eq, arith}
 use Rattle.std.specs.Prelude.{option_map, IfSome, IsTrue}
 use Rattle.pl_model.specs.Map.{get, put, change_at}
 use Rattle.pl_model.specs.State.{Core, set_pipe}

@@ -1,5 +1,5 @@
 -- What a read comes to at the kernel's keys.
-use Rattle.std.proofs.Common.{◌≡◌, ℕ, true, false, cond, List, [], ◌∷◌, Option, Some, None, refl, ◌∙◌, ap, length, take, drop, subst, sym}
+use Rattle.std.proofs.Common.{◌≡◌, ℕ, true, false, cond, List, [], ◌∷◌, Option, Some, None, refl, ◌∙◌, ap, take, subst, sym}
 use Rattle.std.specs.Prelude.{if◌then◌else◌, not, ◌==◌, ℤ, ◌&&◌}
 use Rattle.pl_model.specs.Map.{change_at}
 use Rattle.pl_model.specs.declared.calls.Call.{Call}

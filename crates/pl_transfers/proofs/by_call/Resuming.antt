@@ -1,5 +1,5 @@
 -- What a resume of a read or a write, and an interrupt, come to at the kernel's keys.
-use Rattle.std.proofs.Common.{◌≡◌, ℕ, ◌<◌, true, false, List, [], ◌++◌, Some, None, refl, sym, ◌∙◌, ap, nat_eq, nat_lt, length, take, drop, arith}
+use Rattle.std.proofs.Common.{◌≡◌, ℕ, ◌<◌, true, false, List, [], Some, None, refl, sym, ◌∙◌, ap, nat_eq, nat_lt, length, take, arith}
 use Rattle.std.specs.Prelude.{if◌then◌else◌, ◌≤◌, ℤ, slice_range}
 use Rattle.pl_model.specs.declared.calls.Call.TheVariants.{Read, Write}
 use Rattle.pl_model.specs.declared.calls.Step.TheVariants.{Resume, Interrupt}

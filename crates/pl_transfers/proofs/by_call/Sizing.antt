@@ -1,5 +1,5 @@
 -- What the capacity of a pipe is, and is set to, at the kernel's keys.
-use Rattle.std.proofs.Common.{◌≡◌, ℕ, Option, Some, None, refl, sym, ◌∙◌, ap, subst, length, Ok, Err, w32, FitsSigned, to_z, of_z}
+use Rattle.std.proofs.Common.{◌≡◌, ℕ, Option, Some, None, refl, sym, ◌∙◌, ap, subst, Ok, Err, w32, FitsSigned, to_z, of_z}
 use Rattle.std.specs.Prelude.{ℤ, nat_lt, ◌||◌, unwrap_or, option_and_then}
 use Rattle.std.proofs.lemmas.Int.{to_z-of_z}
 use Rattle.pl_model.specs.Packets.{used}

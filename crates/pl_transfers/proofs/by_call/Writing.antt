@@ -1,5 +1,5 @@
 -- What a write comes to at the kernel's keys.
-use Rattle.std.proofs.Common.{◌≡◌, ℕ, ◌-◌, true, false, cond, List, [], ◌∷◌, ◌++◌, Option, Some, None, refl, ◌∙◌, ap, length, take, arith, subst, sym}
+use Rattle.std.proofs.Common.{◌≡◌, ℕ, ◌-◌, true, false, cond, List, [], ◌∷◌, Option, Some, None, refl, ◌∙◌, ap, length, take, arith, subst, sym}
 use Rattle.std.specs.Prelude.{if◌then◌else◌, not, ◌==◌, ℤ, slice_range, ◌&&◌}
 use Rattle.pl_model.specs.Map.{change_at}
 use Rattle.pl_model.specs.declared.calls.Call.{Call}

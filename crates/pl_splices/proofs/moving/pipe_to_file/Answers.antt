@@ -1,4 +1,4 @@
-use Rattle.std.proofs.Common.{◌≡◌, ◌≤◌, ℕ, ◌+◌, ◌-◌, false, List, Some, IfSome, length, take, drop, sym, subst, ◌∙◌, ap, arith, None}
+use Rattle.std.proofs.Common.{◌≡◌, ◌≤◌, ℕ, ◌+◌, ◌-◌, false, List, Some, IfSome, length, take, sym, subst, ◌∙◌, ap, arith, None}
 use Rattle.std.specs.Prelude.{is_some, unwrap_or, if◌then◌else◌}
 use Rattle.pl_model.specs.Packets.{lose}
 use Rattle.pl_model.specs.declared.node.Node.TheVariants as node

@@ -1,4 +1,4 @@
-use Rattle.std.proofs.Common.{◌≡◌, ◌≤◌, ◌++◌, true, false, Some, IfSome, length, take, drop, sym, subst, ◌∙◌, ap, None}
+use Rattle.std.proofs.Common.{◌≡◌, ◌≤◌, true, false, Some, IfSome, length, take, sym, subst, ◌∙◌, ap, None}
 use Rattle.pl_model.specs.Packets.{lose, gain}
 use Rattle.pl_model.specs.declared.node.Node.TheVariants as node
 use Rattle.pl_model.specs.Map.{change_at}

@@ -1,4 +1,4 @@
-use Rattle.std.proofs.Common.{◌≡◌, None, false, refl, sym, ap, subst, ◌∙◌, nat_eq, length, w32, IfSome, Some}
+use Rattle.std.proofs.Common.{◌≡◌, None, false, refl, sym, ap, subst, ◌∙◌, nat_eq, w32, IfSome, Some}
 use Rattle.std.proofs.lemmas.Int.{to_z-of_z}
 use Rattle.std.proofs.lemmas.Bool.{ne_eqb}
 use Rattle.pl_model.specs.Packets.{front}

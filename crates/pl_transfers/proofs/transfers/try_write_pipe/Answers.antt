@@ -1,4 +1,4 @@
-use Rattle.std.proofs.Common.{◌≡◌, ◌++◌, false, refl, sym, ap, subst, ◌∙◌, length, IfSome, Some, None}
+use Rattle.std.proofs.Common.{◌≡◌, false, refl, sym, ap, subst, ◌∙◌, length, IfSome, Some, None}
 use Rattle.std.specs.Prelude.{◌==◌, not, slice_range, Bool, Option, if◌then◌else◌, ◌||◌}
 use Rattle.std.proofs.lemmas.Bool.{ne_eqb}
 use Rattle.pl_model.specs.Packets.{gain}

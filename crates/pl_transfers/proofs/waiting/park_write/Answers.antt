@@ -1,4 +1,4 @@
-use Rattle.std.proofs.Common.{◌≡◌, ◌≢◌, ◌≤◌, ◌++◌, ℕ, List, Some, refl, sym, ap, subst, ◌∙◌, nat_eq, length, take, Bor}
+use Rattle.std.proofs.Common.{◌≡◌, ◌≢◌, ◌≤◌, ℕ, List, Some, refl, sym, ap, subst, ◌∙◌, nat_eq, length, take, Bor}
 use Rattle.std.proofs.lemmas.List.{length-take-le}
 use Rattle.pl_model.specs.Packets.{gain}
 use Rattle.pl_model.specs.declared.node.Node.TheVariants as node

@@ -1,4 +1,4 @@
-use Rattle.std.proofs.Common.{◌≡◌, [], refl, sym, subst, ◌∙◌, take, drop, length, IfSome, IsSome}
+use Rattle.std.proofs.Common.{◌≡◌, [], refl, sym, subst, ◌∙◌, take, IfSome, IsSome}
 use Rattle.pl_model.specs.Packets.{front, spent, lose}
 use Rattle.pl_model.specs.declared.node.Node.TheVariants as node
 use Rattle.pl_model.specs.declared.calls.Step.TheVariants.{Resume}

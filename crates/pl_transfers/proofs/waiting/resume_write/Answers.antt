@@ -1,4 +1,4 @@
-use Rattle.std.proofs.Common.{◌≡◌, ◌≤◌, ◌++◌, true, false, refl, sym, ap, subst, ◌∙◌, nat_eq, length, ℕ, List, Option, Some, IfSome, IsSome, Bor, arith}
+use Rattle.std.proofs.Common.{◌≡◌, ◌≤◌, true, false, refl, sym, ap, subst, ◌∙◌, nat_eq, length, ℕ, List, Option, Some, IfSome, IsSome, Bor, arith}
 use Rattle.std.specs.Prelude.{slice_range, option_map}
 use Rattle.pl_model.specs.Packets.{gain}
 use Rattle.pl_model.specs.declared.node.Node.TheVariants as node
