@@ -266,7 +266,7 @@ impl Answer {
 }
 
 /// The version that this wrapper is of, as `version`.
-pub const VERSION: u32 = 3_000;
+pub const VERSION: u32 = 4_000;
 
 /// The version of the library: 1,000,000 times the first number, 1,000 times the second, and the third.
 pub fn version() -> u32 {
