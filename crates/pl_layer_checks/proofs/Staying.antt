@@ -3,7 +3,8 @@ use Rattle.std.proofs.Common.{◌≡◌, ℕ, Bool, true, false, List, Option, S
 use Rattle.std.specs.Prelude.{IsSome, IfSome, Result, Ok, Err, IfOk, OnOk, OnErr, option_map, is_some, if◌then◌else◌}
 use Rattle.std.proofs.lemmas.Bool.{eq-eqb}
 use Rattle.pl_model.specs.Map.{set_at, change_at}
-use Rattle.pl_model.specs.State.{Pipe}
+use Rattle.pl_model.specs.State.{Pipe, empty_packet_pipe}
+use Rattle.pl_model.specs.Packets.{gain}
 use Rattle.pl_segments.specs.Segments.{at}
 use Rattle.pl_nodes.specs.Nodes.{Nodes}
 
@@ -72,3 +73,11 @@ is-bytes (Some x) b h f = at x.packets (sym h ∙ f)
     at : (ls : Option (List ℕ)) → is_some ls ≡ false → ls ≡ None
     at None e = refl
     at (Some l) e = absurd (cc)
+
+-- a packet pipe that was made
+pub made-packets : (old new : ℕ → Option Pipe) (key : ℕ) → new ≡ set_at nat_eq old key (Some empty_packet_pipe) → new key ≡ Some empty_packet_pipe
+made-packets old new key is = (λ i. is i key) ∙ ap (λ b. if b then Some empty_packet_pipe else old key) (eq-eqb key key refl)
+
+-- and one to which bytes were written
+pub wrote-packets : (old new : ℕ → Option Pipe) (key : ℕ) (bytes : List ℕ) → old key ≡ Some empty_packet_pipe → new ≡ change_at key (gain bytes) old → new key ≡ Some (gain bytes empty_packet_pipe)
+wrote-packets old new key bytes made is = (λ i. is i key) ∙ ap (λ b. if b then option_map (gain bytes) (old key) else old key) (eq-eqb key key refl) ∙ ap (option_map (gain bytes)) made

@@ -179,7 +179,7 @@ impl<A: Allocator + Copy> Ends<A> {
     }
 
     fn read(&mut self, count: usize) -> Answer {
-        let count = count.min(self.nodes.held(self.first));
+        let count = count.min(self.nodes.front(self.first));
         weighed(self.nodes.read_pipe(self.first, count))
     }
 

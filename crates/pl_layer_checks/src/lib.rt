@@ -11,6 +11,8 @@ mod equal;
 #[cfg(test)]
 mod nodes;
 #[cfg(test)]
+mod packets;
+#[cfg(test)]
 mod parked;
 #[cfg(test)]
 mod refusing;

@@ -1,0 +1,20 @@
+//! A packet pipe of the nodes.
+use pl_nodes::Nodes;
+use pl_segments::NoMemory;
+use std::alloc::Allocator;
+
+/// The packet that a read of nine bytes gets of a pipe to which two were written.
+fn packet_of_two<A: Allocator + Copy>(alloc: A) -> Result<Vec<u8, A>, NoMemory> {
+    let mut nodes = Nodes::new(alloc, 16);
+    let pipe = nodes.make_packet_pipe()?;
+    nodes.write_packets(pipe, b"ab")?;
+    nodes.read_packet(pipe, 9)
+}
+
+#[test]
+fn a_packet_is_read_whole(rt: HostRuntime) {
+    let Ok(packet) = packet_of_two(rt.alloc()) else {
+        panic!(rt; "there is memory")
+    };
+    assert!(rt; packet.as_slice() == b"ab".as_slice());
+}
