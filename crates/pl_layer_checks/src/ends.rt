@@ -200,9 +200,10 @@ impl<A: Allocator + Copy> Ends<A> {
     }
 
     fn reset(&mut self) {
-        if !self.nodes.is_packet(self.first) {
-            self.nodes.reset_pipe(self.first);
+        if self.nodes.is_packet(self.first) {
+            return;
         }
+        self.nodes.reset_pipe(self.first);
     }
 
     fn turn(&mut self) {

@@ -1,3 +1,4 @@
+use Rattle.pl_segments.specs.Segments.{at}
 use Rattle.pl_layer_checks.proofs.Staying.{is-bytes, stays-file, stays-pipe}
 use Rattle.pl_layer_checks.proofs.ends.Ends.move_to_file.Goals as goal
 
