@@ -1,4 +1,6 @@
 //! A packet pipe of the nodes.
+use crate::ends::weight;
+use crate::equal::is;
 use pl_nodes::Nodes;
 use pl_segments::NoMemory;
 use std::alloc::Allocator;
@@ -13,8 +15,10 @@ fn packet_of_two<A: Allocator + Copy>(alloc: A) -> Result<Vec<u8, A>, NoMemory> 
 
 #[test]
 fn a_packet_is_read_whole(rt: HostRuntime) {
-    let Ok(packet) = packet_of_two(rt.alloc()) else {
-        panic!(rt; "there is memory")
+    let told = match packet_of_two(rt.alloc()) {
+        Ok(packet) => weight(packet.as_slice()),
+        Err(NoMemory) => 0,
     };
-    assert!(rt; packet.as_slice() == b"ab".as_slice());
+    // "ab"
+    is(&rt, "the packet", told, 97 * 257 + 98);
 }
