@@ -184,25 +184,62 @@ piperun_takes_standard_input() {
     diff /dev/null "$work/output" && ended_with 1 'piperun: cannot read'
 }
 
-# Whether piperun prints for each line of tests/lines what stands beside it, and runs no line that is bad.
+# piperun_answers_lines FILE HEADER COUNT: whether piperun prints for each line of tests/FILE what stands beside it, behind a first line HEADER
+# where that isn't empty, and runs no line that is bad. There have to be so many lines.
 # shellcheck disable=SC2317
 piperun_answers_lines() {
     tried=0
     wrong=0
+    printf 'start\n1 pipe\n' > "$work/front.script"
+    [ -z "$2" ] || printf '%s\nstart\n1 pipe\n' "$2" > "$work/front.script"
+    number=$(($(wc -l < "$work/front.script") + 1))
     while IFS= read -r row; do
         case $row in '#'*) continue ;; esac
         said=${row#* => }
-        printf 'start\n1 pipe\n%b\n' "${row%% => *}" > "$work/line.script"
+        { cat "$work/front.script"; printf '%b\n' "${row%% => *}"; } > "$work/line.script"
         printf 'pid 1\nfds 0 1\n' > "$work/line.out"
         if [ "$said" = bad ]; then
-            piperun_answers 3 "$work/line.out" 'piperun: line 3: not a command' "$work/line.script"
+            piperun_answers 3 "$work/line.out" "piperun: line $number: not a command" "$work/line.script"
         else
             printf '%s\n' "$said" >> "$work/line.out"
             piperun_answers 0 "$work/line.out" '' "$work/line.script"
         fi || { echo "that was: $row"; wrong=1; }
         tried=$((tried + 1))
-    done < "$here/tests/lines"
-    [ "$tried" -gt 100 ] && [ "$wrong" -eq 0 ]
+    done < "$here/tests/$1"
+    [ "$tried" -ge "$3" ] && [ "$wrong" -eq 0 ]
+}
+
+# first_line_makes VERSION SCRIPT: whether a script that begins so, in which \n and \r stand for bytes, is of version 1 or 2, or, with bad in
+# place of a version, has a bad first line. A pipe of packets tells.
+# shellcheck disable=SC2317
+first_line_makes() {
+    printf '%b' "$2" > "$work/first_line.script"
+    case $1 in
+    bad) : > "$work/first_line.out" ;;
+    *) printf 'pid 1\n' > "$work/first_line.out" ;;
+    esac
+    [ "$1" != 2 ] || printf 'fds 0 1\n' >> "$work/first_line.out"
+    case $1 in
+    bad) piperun_answers 3 "$work/first_line.out" 'piperun: line 1: not a command' "$work/first_line.script" ;;
+    1) piperun_answers 3 "$work/first_line.out" 'piperun: line 3: not a command' "$work/first_line.script" ;;
+    2) piperun_answers 0 "$work/first_line.out" '' "$work/first_line.script" ;;
+    esac || { echo "that was: $2"; return 1; }
+}
+
+# shellcheck disable=SC2317
+piperun_tells_versions() {
+    for header in 'piperun 2' 'piperun 2\r' 'piperun 2\n' 'piperun 2\r\n'; do
+        printf '%b' "$header" > "$work/header.script"
+        piperun_answers 0 /dev/null '' "$work/header.script" || { echo "that was: $header"; return 1; }
+    done
+    for header in 'piperun 2' 'piperun 2\r'; do
+        first_line_makes 2 "$header\nstart\n1 pipe direct\n" || return 1
+    done
+    for header in ' piperun 2' 'piperun 2 ' 'piperun 2 \r' 'piperun  2' 'piperun\t2' 'piperun 2\r\r' 'piperun 22' 'piperun 02' 'piperun 1' \
+        'piperun' 'Piperun 2' 'piperun 2 2'; do
+        first_line_makes bad "$header\nstart\n1 pipe direct\n" || return 1
+    done
+    first_line_makes 1 '#piperun 2\nstart\n1 pipe direct\n' && first_line_makes 1 'start\n#piperun 2\npiperun 2\n'
 }
 
 # expanded FILE: its lines, in which the bytes of a line data may be pieces joined by +, each digits or N*hh, with all digits written out.
@@ -328,7 +365,9 @@ try_piperun() {
     check "piperun within too little for a line" piperun_answers 4 "$work/writes.out" 'piperun: no memory' --memory 150000 \
         "$work/writes.script"
     check "piperun within no number of bytes" piperun_answers 2 /dev/null 'piperun: bad command line' --memory 64k "$work/starts.script"
-    check "piperun on each line by itself" piperun_answers_lines
+    check "piperun on each line by itself" piperun_answers_lines lines '' 100
+    check "piperun on each line of version 2 by itself" piperun_answers_lines lines_2 'piperun 2' 60
+    check "piperun on first lines" piperun_tells_versions
     check "piperun on a script that is cut" piperun_on_cut_scripts
     if is_there python3; then
         check "piperun beside a model of the rules" timeout 300 python3 -B "$here/../tools/model/compare" "$piperun" 300

@@ -55,17 +55,32 @@ static uint8_t hex_byte(const char *digits)
     return (uint8_t)(hex_digit(digits[0]) * 16 + hex_digit(digits[1]));
 }
 
-/* Puts the bytes of a word into bytes: -, N*hh or digits. */
+/* Adds the bytes of a piece to bytes: N*hh or digits. */
+static void take_piece(const char *piece, size_t length)
+{
+    const char *star = memchr(piece, '*', length);
+    if (star != NULL) {
+        size_t times = strtoull(piece, NULL, 10);
+        memset(bytes + byte_count, hex_byte(star + 1), times);
+        byte_count += times;
+        return;
+    }
+    for (size_t i = 0; i < length; i += 2)
+        bytes[byte_count++] = hex_byte(piece + i);
+}
+
+/* Puts the bytes of a word into bytes: -, or pieces joined by +, of which version 1 has one. */
 static void take_bytes(const char *word)
 {
-    const char *star = strchr(word, '*');
     byte_count = 0;
-    if (star != NULL) {
-        byte_count = strtoull(word, NULL, 10);
-        memset(bytes, hex_byte(star + 1), byte_count);
-    } else if (strcmp(word, "-") != 0) {
-        for (; word[0] != '\0'; word += 2)
-            bytes[byte_count++] = hex_byte(word);
+    if (strcmp(word, "-") == 0)
+        return;
+    for (;; word++) {
+        size_t length = strcspn(word, "+");
+        take_piece(word, length);
+        word += length;
+        if (*word == '\0')
+            return;
     }
 }
 
@@ -89,6 +104,10 @@ struct named {
 
 static const struct named OPEN_FLAGS[] = { { "creat", O_CREAT }, { "excl", O_EXCL }, { "trunc", O_TRUNC },
     { "append", O_APPEND }, { "nonblock", O_NONBLOCK }, { NULL, 0 } };
+/* Those of a pipe, and those that the text of a reply names, in its order. */
+static const struct named PIPE_FLAGS[] = { { "nonblock", O_NONBLOCK }, { "direct", BINDINGCLAY_O_DIRECT }, { NULL, 0 } };
+static const struct named STATUS_FLAGS[]
+    = { { "append", O_APPEND }, { "nonblock", O_NONBLOCK }, { "direct", BINDINGCLAY_O_DIRECT }, { NULL, 0 } };
 static const struct named SPLICE_FLAGS[] = { { "move", SPLICE_F_MOVE }, { "nonblock", SPLICE_F_NONBLOCK },
     { "more", SPLICE_F_MORE }, { "gift", SPLICE_F_GIFT }, { NULL, 0 } };
 static const struct named EVENTS[] = { { "in", POLLIN }, { "out", POLLOUT }, { "err", POLLERR }, { "hup", POLLHUP },
@@ -122,7 +141,11 @@ static bindingclay_answer answer;
 
 static enum told call_pipe(uint32_t pid)
 {
-    answer = bindingclay_pipe(clay, pid, word_count > 0, &ends);
+    uint32_t flags = flags_at(PIPE_FLAGS, 0);
+    if ((flags & BINDINGCLAY_O_DIRECT) != 0)
+        answer = bindingclay_pipe2(clay, pid, flags, &ends);
+    else
+        answer = bindingclay_pipe(clay, pid, flags != 0, &ends);
     return FDS;
 }
 

@@ -17,6 +17,8 @@ struct line {
 struct script {
     char *path;
     uint64_t first_call;
+    /* Whether it is of version 2. Its first line says so, and asks nothing. */
+    bool shows_runs;
     struct line *lines;
     size_t line_count;
     /* What it is to print, line by line. */
@@ -110,9 +112,20 @@ static int split(const char *path, char *line, char **line_words)
     return count;
 }
 
+/* Whether the first line of a script is that of version 2, of which a carriage return may stand at the end. */
+static bool names_version_2(const char *text)
+{
+    static const char HEADER[] = "piperun 2";
+    size_t length = strcspn(text, "\n");
+    if (length > 0 && text[length - 1] == '\r')
+        length--;
+    return length == sizeof HEADER - 1 && memcmp(text, HEADER, length) == 0;
+}
+
 static void take_lines(struct script *script)
 {
     char *rest = script->text;
+    script->shows_runs = names_version_2(rest);
     script->lines = needed(malloc(lines_in(rest) * sizeof *script->lines));
     /* a word has a byte at least, and is parted from the next one */
     script->words = needed(malloc((strlen(rest) / 2 + 1) * sizeof *script->words));
@@ -120,6 +133,8 @@ static void take_lines(struct script *script)
     char **words = script->words;
     int number = 1;
     for (char *line; (line = next_line(&rest)) != NULL; number++) {
+        if (number == 1 && script->shows_runs)
+            continue;
         int count = split(script->path, line, words);
         if (count == 0 || words[0][0] == '#')
             continue;
@@ -128,7 +143,8 @@ static void take_lines(struct script *script)
     }
 }
 
-/* ---- NAME.out: the bytes of a line data or file may be pieces joined by +, each digits or N*hh ---- */
+/* ---- NAME.out: the bytes of a line data or file may be pieces joined by +, each digits or N*hh. Of a script of version 2 they are what it
+ * prints, and stay as they are ---- */
 
 static bool are_digits(const char *word, size_t length)
 {
@@ -157,11 +173,11 @@ static bool add_piece(struct growing *all, const char *piece, size_t length)
     return true;
 }
 
-/* Adds a line with all its digits written out; false where it is malformed. */
-static bool add_line(struct growing *all, const char *line)
+/* Adds a line, of version 1 with all its digits written out; false where it is malformed. */
+static bool add_line(struct growing *all, const char *line, bool shows_runs)
 {
     bool has_bytes = strncmp(line, "data ", 5) == 0 || strncmp(line, "file ", 5) == 0;
-    if (!has_bytes || strcmp(line + 5, "-") == 0) {
+    if (shows_runs || !has_bytes || strcmp(line + 5, "-") == 0) {
         add(all, line, strlen(line));
         return true;
     }
@@ -185,7 +201,7 @@ static void take_wanted(struct script *script, const char *path)
     struct growing all = { NULL, 0, 0 };
     add(&all, "", 0);
     for (char *line; (line = next_line(&rest)) != NULL; add(&all, "\n", 1))
-        if (!add_line(&all, line))
+        if (!add_line(&all, line, script->shows_runs))
             give_up(path, "a malformed piece");
     free(text);
     script->wanted_text = rest = all.text;

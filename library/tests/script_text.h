@@ -34,23 +34,65 @@ static void say_bits(const struct named *table, uint32_t bits)
         say(" -");
 }
 
-static void say_bytes(const char *word, size_t count)
+/* Whether the script is of version 2, so that bytes are told by runs. */
+static bool shows_runs;
+
+static void say_digits(const uint8_t *from, size_t count)
 {
     static const char DIGITS[] = "0123456789abcdef";
-    say(word);
-    say(count == 0 ? " -" : " ");
     for (size_t i = 0; i < count; i++) {
-        text[text_length++] = DIGITS[into[i] >> 4];
-        text[text_length++] = DIGITS[into[i] & 15];
+        text[text_length++] = DIGITS[from[i] >> 4];
+        text[text_length++] = DIGITS[from[i] & 15];
     }
     text[text_length] = '\0';
+}
+
+/* How many bytes at the front are equal. */
+static size_t run_of(const uint8_t *from, size_t count)
+{
+    size_t length = 1;
+    while (length < count && from[length] == from[0])
+        length++;
+    return length;
+}
+
+/* Pieces joined by +: one for each run of at least four equal bytes, and digits for what is between two of these. */
+static void say_pieces(const uint8_t *from, size_t count)
+{
+    const uint8_t *end = from + count;
+    while (from < end) {
+        const uint8_t *digits = from;
+        size_t run = 0;
+        while (from < end && (run = run_of(from, (size_t)(end - from))) < 4)
+            from += run;
+        say_digits(digits, (size_t)(from - digits));
+        if (from == end)
+            return;
+        if (from > digits)
+            say("+");
+        text_length += (size_t)sprintf(text + text_length, "%zu*", run);
+        say_digits(from, 1);
+        from += run;
+        if (from < end)
+            say("+");
+    }
+}
+
+static void say_bytes(const char *word, size_t count)
+{
+    say(word);
+    say(count == 0 ? " -" : " ");
+    if (shows_runs)
+        say_pieces(into, count);
+    else
+        say_digits(into, count);
 }
 
 static void say_flags(uint64_t flags)
 {
     say("flags ");
     say((flags & O_ACCMODE) == O_RDONLY ? "r" : (flags & O_ACCMODE) == O_WRONLY ? "w" : "rw");
-    say_bits(OPEN_FLAGS, (uint32_t)flags & ~(uint32_t)O_ACCMODE);
+    say_bits(STATUS_FLAGS, (uint32_t)flags & ~(uint32_t)O_ACCMODE);
 }
 
 static void say_masks(uint64_t count)

@@ -216,6 +216,7 @@ static void run(const struct script *script)
 {
     parked_count = 0;
     kept_count = name_count = 0;
+    shows_runs = script->shows_runs;
     size_t said = 0;
     bool is_known = true;
     for (size_t i = 0; i < script->line_count && is_known; i++) {

@@ -3,7 +3,7 @@
   python3 tools/model/draw.py SEED    prints the script, and to standard error the option that tells piperun its first call
 
 A script is drawn beside the machine that runs it, so that most lines name processes, descriptors and waiting calls that are there.
-Behind that some words are spelled otherwise, or a few bytes are changed, so that bad lines come.
+Each third seed draws a script of version 2. Behind that some words are spelled otherwise, or a few bytes are changed, so that bad lines come.
 """
 from __future__ import annotations
 
@@ -13,9 +13,9 @@ import sys
 from dataclasses import dataclass
 from typing import Callable, Dict, List, Optional, Tuple, Type
 
-from machine import Machine, OpenFlag, SpliceFlag, Whence
+from machine import Machine, OpenFlag, PipeFlag, SpliceFlag, Whence
 from replies import Event
-from script import parse_line
+from script import Version, parse_line
 from state import (
     FIRST_CAPACITY,
     GREATEST_CAPACITY,
@@ -42,7 +42,15 @@ ALL_NAMES = ("q", "f", "g", "-", "a%2fb", "%2d", "%00", "g" * 255, "g" * 256)
 SELDOM = 0.07
 # of larger files the bytes aren't asked for, as their line would be most of what is printed
 MOST_BYTES_TOLD = 1000000
-BEGINNING = ("start", "1 pipe", "1 mkfifo q", "1 open f rw creat", "1 fork")
+BEGINNING = ("start", "1 mkfifo q", "1 open f rw creat", "1 fork")
+# The first line of a script of version 2: as it is, mostly, and now and then as it may be written too, or as none.
+HEADER = "piperun 2"
+ODD_HEADERS = (f"{HEADER}\r", f" {HEADER}", f"{HEADER} ", f"{HEADER}\r\r", f"#{HEADER}", f"{HEADER}2", HEADER[:-1]) + (
+    *("piperun  2", "piperun\t2", "piperun 02", "piperun 1", "Piperun 2"),
+)
+PART_ODD_HEADERS = 0.15
+# How often a byte stands in a piece: beside the least run that is shown as one
+TIMES = (0, 1, 2, 3, 3, 4, 4, 5, 8, 17)
 # What now and then comes behind them. A process has few free descriptors, few descriptions are left, or few pids are.
 FULL_TABLE = ("1 pipe",) * 126
 ALL_DESCRIPTIONS = tuple(line for pid in range(2, 22) for line in ("start", *(f"{pid} pipe",) * 102))
@@ -55,6 +63,10 @@ ODD_NUMBERS = ("0" * 19 + "1", "0" * 20 + "1", "-0", "-1", "--1", "+1", "1-", "0
     str(edge + beside) for edge in (-(2**63), -(2**31), 2**31, 2**32, 2**63, 2**64) for beside in (-1, 0)
 )
 ODD_CONTENTS = ("0*61", "0005*6a", "5*6A", "0" * 20 + "5*61", "16777217*61", "5*6", "5*611", "*61", "5**61", "-5*61", "616", "6g", "")
+ODD_PIECES = (
+    *("61+", "+61", "61++62", "-+61", "61+-", "61+6", "5*61+6g", "3*61*62", "+", "61+ 62", "5*61,62", "0*61+62", "0*61+0*62", "3*61+3*61"),
+    *("8388609*61+8388608*62", "16777217*61+62", "61+16777217*62", "00000000000000000003*61+62"),
+)
 ODD_ENDINGS = ("", "", "", " 1", " nonblock", "\r\r", " \r", "\r \r", "\x0b")
 PART_RESPELLED = 0.5
 LINES_RESPELLED = 3
@@ -71,10 +83,11 @@ class Drawn:
 
 
 class Scene:
-    """A script that is being drawn: its lines, and the machine that ran them."""
+    """A script that is being drawn: its version, its lines behind a first one that tells that, and the machine that ran them."""
 
-    def __init__(self, chance: random.Random) -> None:
+    def __init__(self, chance: random.Random, version: Version) -> None:
         self.chance = chance
+        self.version = version
         self.first_call = chance.choice(FIRST_CALLS)
         self.machine = Machine(self.first_call)
         self.lines: List[str] = []
@@ -83,7 +96,7 @@ class Scene:
     def add(self, line: str) -> None:
         """Adds a line, and runs it."""
         self.lines.append(line)
-        request = parse_line(line.encode("ascii"))
+        request = parse_line(line.encode("ascii"), self.version)
         if request is not None:
             request(self.machine)
 
@@ -130,8 +143,16 @@ class Scene:
 
     def content(self) -> str:
         """The bytes of a write."""
+        if self.version is Version.TWO and self.happens(0.6):
+            return "+".join(self.piece() for _ in range(self.chance.randrange(1, 6)))
         few = ("-", "61", "6162", "aAfF00")
         return self.chance.choice(few) if self.happens(0.4) else f"{self.size()}*{self.chance.randrange(256):02x}"
+
+    def piece(self) -> str:
+        """A piece of the bytes of a write, of few bytes mostly. Neighbours often have the same byte."""
+        byte = self.chance.choice(("61", "61", "6A", "00"))
+        times = self.size() if self.happens(0.1) else self.chance.choice(TIMES)
+        return f"{times}*{byte}" if times > 8 or self.happens(0.5) else byte * max(times, 1)
 
     def name(self) -> str:
         """A name, mostly one of few."""
@@ -166,7 +187,9 @@ class Scene:
     # The lines, each by the word that it has
 
     def pipe(self) -> str:
-        """A pipe, now and then one that doesn't wait."""
+        """A pipe, now and then one that doesn't wait, or one of packets."""
+        if self.version is Version.TWO:
+            return f"pipe{self.flags_if_any(PipeFlag, 0.7)}"
         return "pipe nonblock" if self.happens(0.25) else "pipe"
 
     def mkfifo(self) -> str:
@@ -320,9 +343,12 @@ EMPHASES: Tuple[Dict[Line, float], ...] = (
 
 def begin(scene: Scene) -> None:
     """Adds the first lines: mostly a pipe, a FIFO, a file and a child, now and then a crowd that leaves little free."""
-    count = len(BEGINNING) if scene.happens(0.75) else 1
-    for line in BEGINNING[:count]:
-        scene.add(line)
+    start, *others = BEGINNING
+    scene.add(start)
+    if scene.happens(0.75):
+        scene.add(f"1 {scene.pipe()}" if scene.version is Version.TWO else "1 pipe")
+        for line in others:
+            scene.add(line)
     for line in scene.chance.choices(((), *CROWDS), (0.93, 0.04, 0.015, 0.015))[0]:
         scene.add(line)
 
@@ -335,9 +361,9 @@ def as_written(scene: Scene, line: str) -> str:
     return scene.chance.choice((f"  {line}", line.replace(" ", "\t"), f"{line} ", f"{line}\r", other_number))
 
 
-def scene_of(chance: random.Random) -> Scene:
-    """Draws the lines of a script."""
-    scene = Scene(chance)
+def scene_of(chance: random.Random, version: Version) -> Scene:
+    """Draws the lines of a script of this version."""
+    scene = Scene(chance, version)
     weights = {**CALLS, **WITHOUT_PROCESS, **chance.choice(EMPHASES)}
     lines = list(weights)
     begin(scene)
@@ -352,7 +378,7 @@ def scene_of(chance: random.Random) -> Scene:
     return scene
 
 
-def respell(chance: random.Random, line: str) -> str:
+def respell(chance: random.Random, line: str, contents: Tuple[str, ...]) -> str:
     """Spells a word of a line otherwise, mostly one of an argument, or its end. The line may be a bad one then."""
     words = line.split()
     first = 0 if chance.random() < 0.2 else min(2, len(words) - 1)
@@ -361,7 +387,7 @@ def respell(chance: random.Random, line: str) -> str:
     if word.lstrip("-").isdigit():
         words[place] = chance.choice(ODD_NUMBERS)
     elif "*" in word:
-        words[place] = chance.choice(ODD_CONTENTS)
+        words[place] = chance.choice(contents)
     else:
         words[place] = chance.choice((word.upper(), f"{word},", f",{word}", f"{word},{word}", f"{word}%", f"%6G{word}", word[:-1], "-"))
     return " ".join(words) + chance.choice(ODD_ENDINGS)
@@ -370,8 +396,16 @@ def respell(chance: random.Random, line: str) -> str:
 def respell_some(scene: Scene) -> None:
     """Spells some of the last lines otherwise."""
     last = range(max(0, len(scene.lines) - LAST_LINES), len(scene.lines))
+    contents = ODD_CONTENTS if scene.version is Version.ONE else (*ODD_CONTENTS, *ODD_PIECES)
     for place in scene.chance.choices(last, k=LINES_RESPELLED):
-        scene.lines[place] = respell(scene.chance, scene.lines[place])
+        scene.lines[place] = respell(scene.chance, scene.lines[place], contents)
+
+
+def headed(scene: Scene) -> List[str]:
+    """The lines of a script, of version 2 behind the one that tells that."""
+    if scene.version is Version.ONE:
+        return scene.lines
+    return [scene.chance.choice(ODD_HEADERS) if scene.happens(PART_ODD_HEADERS) else HEADER, *scene.lines]
 
 
 def change(chance: random.Random, script: bytes) -> bytes:
@@ -392,10 +426,10 @@ def change(chance: random.Random, script: bytes) -> bytes:
 def draw(seed: int) -> Drawn:
     """Draws a script by a seed."""
     chance = random.Random(seed)
-    scene = scene_of(chance)
+    scene = scene_of(chance, Version.TWO if seed % 3 == 0 else Version.ONE)
     if scene.happens(PART_RESPELLED):
         respell_some(scene)
-    script = "".join(line + "\n" for line in scene.lines).encode("ascii")
+    script = "".join(line + "\n" for line in headed(scene)).encode("ascii")
     if scene.happens(PART_CHANGED):
         script = change(chance, script)
     return Drawn(script, scene.first_call)

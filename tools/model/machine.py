@@ -57,6 +57,13 @@ class OpenFlag(enum.Enum):
     NONBLOCK = "nonblock"
 
 
+class PipeFlag(enum.Enum):
+    """The flags of a pipe (pipe2(2))."""
+
+    NONBLOCK = "nonblock"
+    DIRECT = "direct"
+
+
 class SpliceFlag(enum.Enum):
     """The flags of a splice and a tee. Only NONBLOCK has an effect (splice(2); that of the others: our own)."""
 
@@ -75,6 +82,7 @@ class Whence(enum.Enum):
 
 
 OpenFlags = FrozenSet[OpenFlag]
+PipeFlags = FrozenSet[PipeFlag]
 SpliceFlags = FrozenSet[SpliceFlag]
 
 
@@ -281,7 +289,7 @@ class Machine:
     def pipe(self, process: Process, nonblock: bool = False, direct: bool = False) -> Reply:
         """Makes a pipe: the read end and then the write end, on the two least free descriptors (POSIX.1-2017, pipe; pipe2(2)).
 
-        With `direct` it is a packet pipe (pipe(2), O_DIRECT). Its write end alone has the flag (our own). No line of a script asks for it.
+        With `direct` it is a packet pipe (pipe(2), O_DIRECT). Its write end alone has the flag (our own). Only scripts of version 2 ask for it.
         """
         free = list(process.free_descriptors())[:2]
         if len(free) < 2:

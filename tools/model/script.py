@@ -2,14 +2,15 @@
 from __future__ import annotations
 
 import enum
+import itertools
 import re
 from dataclasses import dataclass
-from typing import Any, Callable, Dict, FrozenSet, List, Optional, Tuple, Type, TypeVar
+from typing import Any, Callable, Dict, FrozenSet, Iterator, List, Optional, Tuple, Type, TypeVar
 
 import replies
-from machine import Machine, OpenFlag, SpliceFlag, Whence
+from machine import Machine, OpenFlag, PipeFlag, PipeFlags, SpliceFlag, Whence
 from replies import Event, Mask, Reply
-from state import Mode
+from state import Mode, Process
 
 MOST_SCRIPT_BYTES = 16777216
 MOST_WRITTEN = 16777216
@@ -17,6 +18,10 @@ UNSIGNED_32 = range(2**32)
 UNSIGNED_64 = range(2**64)
 SIGNED_32 = range(-(2**31), 2**31)
 SIGNED_64 = range(-(2**63), 2**63)
+# the first line of a script of version 2, of which one carriage return may stand before the end
+HEADER = b"piperun 2"
+# so many equal bytes are shown as a piece of their own
+LEAST_RUN = 4
 
 DIGITS = re.compile(r"[0-9]{1,20}")
 SIGNED_DIGITS = re.compile(r"-?[0-9]{1,20}")
@@ -28,6 +33,13 @@ REPEATED = re.compile(r"([0-9]{1,20})\*([0-9a-fA-F]{2})")
 Word = TypeVar("Word", bound=enum.Enum)
 Parser = Callable[[str], Any]
 Request = Callable[[Machine], Reply]
+
+
+class Version(enum.Enum):
+    """The version of a script, which its first line tells."""
+
+    ONE = 1
+    TWO = 2
 
 
 class BadLine(Exception):
@@ -79,16 +91,30 @@ def name(text: str) -> bytes:
     return ESCAPE.sub(lambda found: chr(int(found[1], 16)), text).encode("latin-1")
 
 
+def pieces(texts: List[str]) -> bytes:
+    """The bytes of pieces, one behind another. Each is hexadecimal digits, or N*hh. All are looked at before any is made."""
+    parts: List[Tuple[int, bytes]] = []
+    for text in texts:
+        repeated = REPEATED.fullmatch(text)
+        if repeated:
+            parts.append((int(repeated[1]), bytes.fromhex(repeated[2])))
+        elif HEXADECIMAL.fullmatch(text):
+            parts.append((1, bytes.fromhex(text)))
+        else:
+            raise BadLine
+    if sum(times * len(part) for times, part in parts) > MOST_WRITTEN:
+        raise BadLine
+    return b"".join(part * times for times, part in parts)
+
+
 def content(text: str) -> bytes:
-    """BYTES: `-` for none, hexadecimal digits, or N*hh."""
-    if text == "-":
-        return b""
-    repeated = REPEATED.fullmatch(text)
-    if repeated and int(repeated[1]) <= MOST_WRITTEN:
-        return bytes.fromhex(repeated[2]) * int(repeated[1])
-    if HEXADECIMAL.fullmatch(text) and len(text) <= 2 * MOST_WRITTEN:
-        return bytes.fromhex(text)
-    raise BadLine
+    """BYTES of version 1: `-` for none, or one piece."""
+    return b"" if text == "-" else pieces([text])
+
+
+def content_of_pieces(text: str) -> bytes:
+    """BYTES of version 2: `-` for none, or pieces that `+` joins."""
+    return b"" if text == "-" else pieces(text.split("+"))
 
 
 def one_of(words: Type[Word]) -> Callable[[str], Word]:
@@ -176,6 +202,13 @@ class Form:
 OPEN_FLAGS = several_of(OpenFlag)
 SPLICE_FLAGS = several_of(SpliceFlag)
 
+
+def pipe_with_flags(machine: Machine, process: Process, flags: PipeFlags) -> Reply:
+    """A pipe as version 2 asks for it."""
+    return machine.pipe(process, PipeFlag.NONBLOCK in flags, PipeFlag.DIRECT in flags)
+
+
+# The lines of version 1
 FORMS: Dict[str, Form] = {
     "pipe": Form(Machine.pipe, last=only("nonblock"), without_last=False),
     "mkfifo": Form(Machine.mkfifo, (name,)),
@@ -204,6 +237,16 @@ FORMS: Dict[str, Form] = {
     "exit": Form(Machine.exit),
 }
 
+# What version 2 has in place of some of these
+FORMS_OF: Dict[Version, Dict[str, Form]] = {
+    Version.ONE: FORMS,
+    Version.TWO: {
+        **FORMS,
+        "pipe": Form(pipe_with_flags, last=several_of(PipeFlag), without_last=frozenset()),
+        "write": Form(Machine.write, (descriptor, content_of_pieces)),
+    },
+}
+
 # Lines that begin with a word and not with a pid.
 WITHOUT_PROCESS: Dict[str, Form] = {
     "start": Form(Machine.start),
@@ -221,7 +264,7 @@ def words_of(line: bytes) -> List[str]:
     return [word for word in line.decode("latin-1").replace("\t", " ").split(" ") if word]
 
 
-def parse_line(line: bytes) -> Optional[Request]:
+def parse_line(line: bytes, version: Version = Version.ONE) -> Optional[Request]:
     """What a line asks of the machine, or nothing. A line that the format doesn't give raises BadLine."""
     words = words_of(line)
     if not words or words[0].startswith("#"):
@@ -231,7 +274,7 @@ def parse_line(line: bytes) -> Optional[Request]:
         step, given = alone.call, alone.arguments(words[1:])
         return lambda machine: step(machine, *given)
     pid = pid_or_length(words[0])
-    form = FORMS.get(words[1]) if len(words) > 1 else None
+    form = FORMS_OF[version].get(words[1]) if len(words) > 1 else None
     if form is None:
         raise BadLine
     call, arguments = form.call, form.arguments(words[2:])
@@ -242,8 +285,32 @@ def parse_line(line: bytes) -> Optional[Request]:
 
 
 def digits(data: bytes) -> str:
-    """Bytes in hexadecimal digits of lower case, or `-` for none."""
+    """Bytes as version 1 shows them: in hexadecimal digits of lower case, or `-` for none."""
     return data.hex() or "-"
+
+
+def pieces_shown(data: bytes) -> Iterator[str]:
+    """The pieces of bytes: one for each run of equal bytes that is long enough, and one for the bytes between two of these."""
+    short = bytearray()
+    for byte, equal in itertools.groupby(data):
+        length = sum(1 for _ in equal)
+        if length < LEAST_RUN:
+            short += bytes([byte]) * length
+            continue
+        if short:
+            yield short.hex()
+            short.clear()
+        yield f"{length}*{byte:02x}"
+    if short:
+        yield short.hex()
+
+
+def by_runs(data: bytes) -> str:
+    """Bytes as version 2 shows them: pieces that `+` joins, or `-` for none."""
+    return "+".join(pieces_shown(data)) or "-"
+
+
+SHOWN: Dict[Version, Callable[[bytes], str]] = {Version.ONE: digits, Version.TWO: by_runs}
 
 
 def mask_text(mask: Mask) -> str:
@@ -263,9 +330,9 @@ def fault_text(reply: replies.Fault) -> str:
     return reply.error.name + (" sigpipe" if reply.error is replies.Errno.EPIPE else "")
 
 
-def file_text(reply: replies.FileContent) -> str:
+def file_text(reply: replies.FileContent, version: Version) -> str:
     """The bytes of a file, or that there is no such file."""
-    return "no file" if reply.content is None else f"file {digits(reply.content)}"
+    return "no file" if reply.content is None else f"file {SHOWN[version](reply.content)}"
 
 
 TEXTS: Dict[type, Callable[[Any], str]] = {
@@ -273,20 +340,22 @@ TEXTS: Dict[type, Callable[[Any], str]] = {
     replies.NewDescriptor: lambda reply: f"fd {reply.descriptor}",
     replies.NewPipe: lambda reply: f"fds {reply.read_end} {reply.write_end}",
     replies.Count: lambda reply: f"count {reply.bytes}" + (" sigpipe" if reply.sigpipe else ""),
-    replies.Data: lambda reply: f"data {digits(reply.content)}",
     replies.Offset: lambda reply: f"offset {reply.offset}",
     replies.StatusFlags: flags_text,
     replies.Capacity: lambda reply: f"size {reply.bytes}",
     replies.Masks: lambda reply: " ".join([f"masks {reply.ready}", *map(mask_text, reply.masks)]),
     replies.Fault: fault_text,
     replies.Parked: lambda reply: f"parked {reply.number}",
-    replies.FileContent: file_text,
     replies.Plain: lambda reply: reply.value,
 }
 
 
-def reply_text(reply: Reply) -> str:
-    """The text of a reply, without its line feed."""
+def reply_text(reply: Reply, version: Version = Version.ONE) -> str:
+    """The text of a reply, without its line feed. The versions differ at bytes."""
+    if isinstance(reply, replies.Data):
+        return f"data {SHOWN[version](reply.content)}"
+    if isinstance(reply, replies.FileContent):
+        return file_text(reply, version)
     return TEXTS[type(reply)](reply)
 
 
@@ -323,17 +392,26 @@ def lines_of(script: bytes) -> List[bytes]:
     return lines
 
 
+def version_of(lines: List[bytes]) -> Version:
+    """The version of a script of these lines."""
+    return Version.TWO if lines and lines[0] in (HEADER, HEADER + b"\r") else Version.ONE
+
+
 def run(script: bytes, first_call: int = 1) -> Run:
-    """Runs a script until its end, or until its first bad line."""
+    """Runs a script until its end, or until its first bad line. A first line that tells the version asks nothing."""
     if len(script) > MOST_SCRIPT_BYTES:
         return Run([], f"piperun: script longer than {MOST_SCRIPT_BYTES} bytes", 3)
     machine = Machine(first_call)
     answers: List[Answer] = []
-    for line_number, line in enumerate(lines_of(script), 1):
+    lines = lines_of(script)
+    version = version_of(lines)
+    for line_number, line in enumerate(lines, 1):
+        if line_number == 1 and version is Version.TWO:
+            continue
         try:
-            request = parse_line(line)
+            request = parse_line(line, version)
         except BadLine:
             return Run(answers, f"piperun: line {line_number}: not a command", 3)
         if request is not None:
-            answers.append(Answer(line_number, reply_text(request(machine))))
+            answers.append(Answer(line_number, reply_text(request(machine), version)))
     return Run(answers)

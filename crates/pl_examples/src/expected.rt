@@ -1,5 +1,5 @@
-//! What a script is to print. In its file the bytes of a line `data` or `file` may be given as pieces joined by `+`, each an even number
-//! of hexadecimal digits, or `N*hh`, N times the byte hh.
+//! What a script of version 1 is to print. In its file the bytes of a line `data` or `file` may be given as pieces joined by `+`, each an
+//! even number of hexadecimal digits, or `N*hh`, N times the byte hh.
 
 use anyhow::{Context, Result};
 use pl_model::numbers::MAX_BYTES;

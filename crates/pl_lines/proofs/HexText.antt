@@ -1,20 +1,51 @@
 -- What `hex` encodes is the text of the bytes.
-use Rattle.std.proofs.Common.{◌≡◌, ℕ, ◌<◌, List, [], ◌∷◌, length, refl, arith}
-use Rattle.std.specs.Prelude.{codes}
+use Rattle.std.proofs.Common.{◌≡◌, ℕ, ◌+◌, ◌<◌, Bool, true, false, List, [], ◌∷◌, ◌++◌, length, drop, slice_index, refl, ap, arith}
+use Rattle.std.specs.Prelude.{codes, nat_lt}
+use Rattle.std.specs.List.{list_all}
+use Rattle.std.proofs.lemmas.Bool.{ltb-true}
+use Rattle.std.proofs.lemmas.List.{drop_more}
+use Rattle.std.proofs.lemmas.List.Folds.{list_all_at}
 use Rattle.hex.specs.Hex.{encode_with, encode_lower}
-use Rattle.pl_model.specs.Shown.{hex_text, bytes_text}
+use Rattle.pl_model.specs.declared.script.Version.{Version}
+use Rattle.pl_model.specs.declared.script.Version.TheVariants.{One, Two}
+use Rattle.pl_model.specs.Shown.{lower_digits, hex_text, bytes_text, runs_text}
 
-hex_text_is : (bytes : List ℕ) → hex_text bytes ≡ encode_lower bytes
+pub hex_text_is : (bytes : List ℕ) → hex_text bytes ≡ encode_lower bytes
 unfolding hex_text encode_with
 hex_text_is [] = refl
 hex_text_is (b ∷ bytes) = rw (hex_text_is bytes) refl
 
-pub no_bytes : (bytes : List ℕ) → length bytes ≡ 0 → bytes_text bytes ≡ codes "-"
+pub no_bytes : (version : Version) (bytes : List ℕ) → length bytes ≡ 0 → bytes_text version bytes ≡ codes "-"
 unfolding bytes_text
-no_bytes [] e = refl
-no_bytes (b ∷ bytes) e = absurd (omega arith)
+no_bytes version [] e = refl
+no_bytes version (b ∷ bytes) e = absurd (omega arith)
 
-pub some_bytes : (bytes : List ℕ) → 0 < length bytes → bytes_text bytes ≡ encode_lower bytes
+pub some_digits : (bytes : List ℕ) → 0 < length bytes → bytes_text One bytes ≡ hex_text bytes
 unfolding bytes_text
-some_bytes [] lt = absurd (omega arith)
-some_bytes (b ∷ bytes) lt = hex_text_is (b ∷ bytes)
+some_digits [] lt = absurd (omega arith)
+some_digits (b ∷ bytes) lt = refl
+
+pub some_runs : (bytes : List ℕ) → 0 < length bytes → bytes_text Two bytes ≡ runs_text bytes
+unfolding bytes_text
+some_runs [] lt = absurd (omega arith)
+some_runs (b ∷ bytes) lt = refl
+
+-- a digit is a character of one byte
+pub digit_ascii : (n : ℕ) → n < 16 → slice_index lower_digits n < 128
+digit_ascii n lt = by (nat_lt (slice_index lower_digits n) 128) refl
+  where
+    all : list_all (λ c. nat_lt c 128) lower_digits ≡ true
+    all = refl
+
+    by : (b : Bool) → nat_lt (slice_index lower_digits n) 128 ≡ b → slice_index lower_digits n < 128
+    by true e = ltb-true (slice_index lower_digits n) 128 e
+    by false e = let none : list_all (λ c. nat_lt c 128) lower_digits ≡ false = list_all_at (λ c. nat_lt c 128) lower_digits n 0 lt e in absurd cc
+
+-- the bytes from a place on begin with the one that stands there
+pub hex_next : (bytes : List ℕ) (place : ℕ) → place < length bytes → hex_text (drop place bytes) ≡ hex_text (slice_index bytes place ∷ []) ++ hex_text (drop (place + 1) bytes)
+unfolding hex_text
+hex_next bytes place lt = ap hex_text (drop_more bytes place 0 lt)
+
+pub hex_text-nil : hex_text [] ≡ []
+unfolding hex_text
+hex_text-nil = refl

@@ -4,3 +4,4 @@ pub mod LineLemmas
 pub mod CallLemmas
 pub mod Masks
 pub mod Repeating
+pub mod Pieces

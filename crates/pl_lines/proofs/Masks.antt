@@ -1,39 +1,12 @@
--- What is put behind a text in turns, and the names of flags, one in each.
-use Rattle.std.proofs.Common.{◌≡◌, ℕ, ◌+◌, ◌<◌, Bool, true, false, List, [], ◌∷◌, ◌++◌, length, drop, get_or, drop-cons, add-one, Result, Ok, Err, refl, sym, ap, ◌∙◌, append_assoc, map}
+-- The names of flags, put behind a text in turns.
+use Rattle.std.proofs.Common.{◌≡◌, ℕ, ◌+◌, ◌<◌, Bool, true, false, List, [], ◌∷◌, ◌++◌, length, drop, get_or, drop-cons, add-one, Result, Ok, refl, sym, ap, ◌∙◌, append_assoc, map}
 use Rattle.std.specs.Prelude.{codes}
 use Rattle.std.specs.List.{filter}
 use Rattle.std.proofs.lemmas.List.{append-nil}
 use Rattle.pl_model.specs.Flags.{has}
 use Rattle.pl_model.specs.Shown.{names_text}
 use Rattle.pl_lines.specs.Pushed.{Pushes, next_name}
-
--- of all that is to be put, some was, and the rest is still to come
-pub record IsSoFar (all before now rest : List ℕ) : Type 0 where
-  pub put : List ℕ
-  pub added : now ≡ before ++ put
-  pub left : all ≡ put ++ rest
-
-module _ {all before now rest : List ℕ} (so_far : IsSoFar all before now rest) where
-  -- a piece more went in
-  pub one_more : {X E : Type 0} {tried : Result X E} {after piece : List ℕ} (left : List ℕ) (x : X) → tried ≡ Ok x → Pushes tried now after piece → rest ≡ piece ++ left
-      → IsSoFar all before after left
-  one_more {piece = piece} left x is pushed both =
-      let whole = rw is at pushed.whole in
-      record {
-        put = so_far.put ++ pushed.put;
-        added = pushed.added ∙ ap (λ t. t ++ pushed.put) so_far.added ∙ append_assoc before so_far.put pushed.put;
-        left = so_far.left ∙ ap (λ t. so_far.put ++ t) (both ∙ ap (λ t. t ++ left) (sym whole)) ∙ sym (append_assoc so_far.put pushed.put left);
-      }
-
-  -- a piece didn't
-  pub stopped : {X Y E : Type 0} {tried : Result X E} {result : Result Y E} {after piece : List ℕ} (e : E) → result ≡ Err e → Pushes tried now after piece → Pushes result before after all
-  stopped e is pushed = record {
-    put = so_far.put ++ pushed.put;
-    added = pushed.added ∙ ap (λ t. t ++ pushed.put) so_far.added ∙ append_assoc before so_far.put pushed.put;
-    whole = rw is tt;
-  }
-
--- ---- the names of flags
+use Rattle.pl_lines.proofs.Pushing.{IsSoFar, one_more}
 
 -- the names that are still to come, behind others or none; `-` where there are none at all
 abbrev pub names_left : Bool → List (List ℕ) → List ℕ

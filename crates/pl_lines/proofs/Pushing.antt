@@ -1,4 +1,4 @@
--- What is put behind a text, a piece at a time.
+-- What is put behind a text, a piece at a time or in turns.
 use Rattle.std.proofs.Common.{◌≡◌, ℕ, cond, List, [], ◌++◌, length, take, Result, Ok, Err, sym, ap, ◌∙◌, refl, append_assoc, arith}
 use Rattle.std.specs.Prelude.{is_ok}
 use Rattle.std.specs.Str.{IsUtf8, IsCharBoundary}
@@ -51,3 +51,35 @@ module _ {X E : Type 0} {result : Result X E} {before after more : List ℕ} (on
 -- nothing, where nothing was tried
 pub nothing : {X E : Type 0} {e : E} {result : Result X E} (before more : List ℕ) → result ≡ Err e → Pushes result before before more
 nothing before more is = record { put = []; added = sym (append-nil before); whole = rw is tt }
+
+-- ---- in turns
+
+-- of all that is to be put, some was, and the rest is still to come
+pub record IsSoFar (all before now rest : List ℕ) : Type 0 where
+  pub put : List ℕ
+  pub added : now ≡ before ++ put
+  pub left : all ≡ put ++ rest
+
+module _ {all before now rest : List ℕ} (so_far : IsSoFar all before now rest) where
+  -- a piece more went in
+  pub one_more : {X E : Type 0} {tried : Result X E} {after piece : List ℕ} (left : List ℕ) (x : X) → tried ≡ Ok x → Pushes tried now after piece → rest ≡ piece ++ left
+      → IsSoFar all before after left
+  one_more {piece = piece} left x is pushed both =
+      let whole = rw is at pushed.whole in
+      record {
+        put = so_far.put ++ pushed.put;
+        added = pushed.added ∙ ap (λ t. t ++ pushed.put) so_far.added ∙ append_assoc before so_far.put pushed.put;
+        left = so_far.left ∙ ap (λ t. so_far.put ++ t) (both ∙ ap (λ t. t ++ left) (sym whole)) ∙ sym (append_assoc so_far.put pushed.put left);
+      }
+
+  -- a piece didn't
+  pub stopped : {X Y E : Type 0} {tried : Result X E} {result : Result Y E} {after piece : List ℕ} (e : E) → result ≡ Err e → Pushes tried now after piece → Pushes result before after all
+  stopped e is pushed = record {
+    put = so_far.put ++ pushed.put;
+    added = pushed.added ∙ ap (λ t. t ++ pushed.put) so_far.added ∙ append_assoc before so_far.put pushed.put;
+    whole = rw is tt;
+  }
+
+-- nothing is still to come
+pub all_put : {Y E : Type 0} {all before now : List ℕ} (y : Y) → IsSoFar all before now [] → Pushes {E = E} (Ok y) before now all
+all_put y so_far = record { put = so_far.put; added = so_far.added; whole = sym (so_far.left ∙ append-nil so_far.put) }

@@ -6,6 +6,7 @@ use Rattle.pl_model.specs.declared.calls.Call.TheVariants as call
 use Rattle.pl_model.specs.declared.calls.Step.TheVariants as step
 use Rattle.pl_model.specs.declared.script.Line.{Line}
 use Rattle.pl_model.specs.declared.script.Line.TheVariants.{Do, File}
+use Rattle.pl_model.specs.declared.script.Version.{Version}
 use Rattle.pl_model.specs.Lines.{line, side_of, dup_of, dup2_of, dup_fd_of, close_of, lseek_of, get_fl_of, set_fl_of, get_pipe_sz_of, set_pipe_sz_of, unlink_of, fork_of, exit_of}
 use Rattle.pl_model.specs.Words.{◌>>=◌}
 use Rattle.pl_words.specs.Parsed.{BytesTake, EntriesTake}
@@ -30,9 +31,9 @@ abbrev pub LineAskedTakes : {A : Type 0} → Option (Line A) → Type 0
 LineAskedTakes asked = IsSomeAnd asked LineTakes
 
 -- the line asks that the process writes so many bytes to its descriptor
-abbrev pub WritesSoMany : (A : Type 0) → List ℕ → (pid : ℕ) → (fd : ℤ) → (count : ℕ) → Type 0
-WritesSoMany A bytes pid fd count =
-    (written : List ℕ) × (line {A = A} bytes ≡ Some (Some (Do (step.Begin pid (call.Write fd written))))) × (length written ≡ count)
+abbrev pub WritesSoMany : (A : Type 0) → Version → List ℕ → (pid : ℕ) → (fd : ℤ) → (count : ℕ) → Type 0
+WritesSoMany A version bytes pid fd count =
+    (written : List ℕ) × (line {A = A} version bytes ≡ Some (Some (Do (step.Begin pid (call.Write fd written))))) × (length written ≡ count)
 
 -- the first two words as a side of a splice, and the words behind them
 abbrev pub first_side : List (List ℕ) → Option (ℤ × Option ℕ × List (List ℕ))

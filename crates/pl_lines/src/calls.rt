@@ -1,37 +1,58 @@
 //! The calls in lines.
 ghost use Rattle.pl_model.specs.Words.{words, mode_of, whence_of, wait_of};
 ghost use Rattle.pl_model.specs.Lines.{pipe_of, mkfifo_of, open_name_of, read_of, write_of, len_and_flags, splice_of, tee_of, poll_of, dup_of, dup2_of, dup_fd_of, close_of, lseek_of, get_fl_of, set_fl_of, get_pipe_sz_of, set_pipe_sz_of, unlink_of, fork_of, exit_of, call_of};
+ghost use Rattle.pl_model.specs.declared.script.Version.TheVariants.{One, Two};
 ghost use Rattle.pl_words.specs.Parsed.{Gives, GivesAs, GivesTaking};
 ghost use Rattle.pl_lines.specs.Parsed.{CallTakes, first_side, later_call_of};
 
-use pl_model::{Call, Mode, SpliceFlags, Whence};
+use bitflags::Flags;
+use pl_model::{Call, Mode, OpenFlags, SpliceFlags, Version, Whence};
 use pl_words::{
     LineFault, end, fd_and_word, next_word, only_i32, only_word, open_flags_if_any, parse_bytes,
     parse_entries, parse_flags_or_none, parse_i32, parse_i64, parse_name, parse_offset, parse_u32,
-    splice_flags_if_any, word,
+    pipe_flags_if_any, splice_flags_if_any, word,
 };
 use std::alloc::Allocator;
 
+/// The pipe of version 1, which has one flag at most.
 #[tactic(auto, unfolding(pl_model::specs::Lines::pipe_of))]
-fn pipe_call<A: Allocator + Copy>(rest: &[u8]) -> Result<Call<A>, LineFault>
-    ensures { Gives result (pipe_of (words rest.now)) }
+fn plain_pipe<A: Allocator + Copy>(rest: &[u8]) -> Result<Call<A>, LineFault>
+    ensures { Gives result (pipe_of One (words rest.now)) }
 {
-    match next_word(rest) {
-        None => Ok(Call::Pipe {
-            nonblock: false,
-            direct: false,
-        }),
+    let nonblock = match next_word(rest) {
+        None => false,
         Some((flag, rest)) => {
             end(rest)?;
-            if flag == b"nonblock".as_slice() {
-                Ok(Call::Pipe {
-                    nonblock: true,
-                    direct: false,
-                })
-            } else {
-                Err(LineFault::Bad)
+            if flag != b"nonblock".as_slice() {
+                return Err(LineFault::Bad);
             }
+            true
         }
+    };
+    Ok(Call::Pipe {
+        nonblock,
+        direct: false,
+    })
+}
+
+/// The pipe of version 2.
+#[tactic(auto, unfolding(pl_model::specs::Lines::pipe_of))]
+fn pipe_with_flags<A: Allocator + Copy>(rest: &[u8]) -> Result<Call<A>, LineFault>
+    ensures { Gives result (pipe_of Two (words rest.now)) }
+{
+    let flags = pipe_flags_if_any(rest)?;
+    Ok(Call::Pipe {
+        nonblock: flags.contains(OpenFlags::NONBLOCK),
+        direct: flags.contains(OpenFlags::DIRECT),
+    })
+}
+
+fn pipe_call<A: Allocator + Copy>(version: Version, rest: &[u8]) -> Result<Call<A>, LineFault>
+    ensures { Gives result (pipe_of version (words rest.now)) }
+{
+    match version {
+        Version::One => plain_pipe(rest),
+        Version::Two => pipe_with_flags(rest),
     }
 }
 
@@ -88,13 +109,17 @@ fn read_call<A: Allocator + Copy>(rest: &[u8]) -> Result<Call<A>, LineFault>
 }
 
 #[tactic(auto, unfolding(pl_model::specs::Lines::write_of))]
-fn write_call<A: Allocator + Copy>(alloc: A, rest: &[u8]) -> Result<Call<A>, LineFault>
-    ensures { GivesTaking CallTakes result (write_of (words rest.now)) }
+fn write_call<A: Allocator + Copy>(
+    alloc: A,
+    version: Version,
+    rest: &[u8],
+) -> Result<Call<A>, LineFault>
+    ensures { GivesTaking CallTakes result (write_of version (words rest.now)) }
 {
     let (fd, bytes) = fd_and_word(rest)?;
     Ok(Call::Write {
         fd,
-        bytes: parse_bytes(alloc, bytes)?,
+        bytes: parse_bytes(alloc, version, bytes)?,
     })
 }
 
@@ -355,13 +380,14 @@ fn parse_later_call<A: Allocator + Copy>(
 #[tactic(auto, unfolding(pl_model::specs::Lines::call_of, crate::specs::Parsed::later_call_of))]
 pub(crate) fn parse_call<A: Allocator + Copy>(
     alloc: A,
+    version: Version,
     name: &[u8],
     rest: &[u8],
 ) -> Result<Call<A>, LineFault>
-    ensures { GivesTaking CallTakes result (call_of name.now (words rest.now)) }
+    ensures { GivesTaking CallTakes result (call_of version name.now (words rest.now)) }
 {
     if name == b"pipe".as_slice() {
-        pipe_call(rest)
+        pipe_call(version, rest)
     } else if name == b"mkfifo".as_slice() {
         mkfifo_call(alloc, rest)
     } else if name == b"open".as_slice() {
@@ -369,7 +395,7 @@ pub(crate) fn parse_call<A: Allocator + Copy>(
     } else if name == b"read".as_slice() {
         read_call(rest)
     } else if name == b"write".as_slice() {
-        write_call(alloc, rest)
+        write_call(alloc, version, rest)
     } else if name == b"splice".as_slice() {
         splice_call(rest)
     } else if name == b"tee".as_slice() {

@@ -2,14 +2,15 @@
 ghost use Rattle.std.specs.Prelude.{◌≡◌, ◌≢◌, IfSome};
 ghost use Rattle.pl_model.specs.Words.{words};
 ghost use Rattle.pl_model.specs.Lines.{start_of, resume_of, interrupt_of, file_of, begin_of, words_line, is_comment, line};
+ghost use Rattle.pl_model.specs.declared.script.Version.TheVariants.{One, Two};
 ghost use Rattle.pl_words.specs.Parsed.{Gives, GivesTaking};
 ghost use Rattle.pl_lines.specs.Parsed.{LineTakes, LineAskedTakes, WritesSoMany};
 
 use crate::calls::parse_call;
-use pl_model::{Line, Step};
+use pl_model::{Line, Step, Version};
 use pl_words::{
-    LineFault, end, fd_and_word, may_repeat, next_word, only_u64, only_word, parse_name, parse_u32,
-    repeated_count, without_return, word,
+    LineFault, bytes_len, end, fd_and_word, may_repeat, next_word, only_u64, only_word, parse_name,
+    parse_u32, without_return, word,
 };
 use std::alloc::Allocator;
 
@@ -44,22 +45,28 @@ fn file_line<A: Allocator + Copy>(alloc: A, rest: &[u8]) -> Result<Line<A>, Line
 }
 
 #[tactic(auto, unfolding(pl_model::specs::Lines::begin_of))]
-fn begin_line<A: Allocator + Copy>(alloc: A, pid: &[u8], rest: &[u8]) -> Result<Line<A>, LineFault>
-    ensures { GivesTaking LineTakes result (begin_of pid.now (words rest.now)) }
+fn begin_line<A: Allocator + Copy>(
+    alloc: A,
+    version: Version,
+    pid: &[u8],
+    rest: &[u8],
+) -> Result<Line<A>, LineFault>
+    ensures { GivesTaking LineTakes result (begin_of version pid.now (words rest.now)) }
 {
     let (name, rest) = word(rest)?;
     let pid = parse_u32(pid)?;
-    Ok(Line::Do(Step::Begin(pid, parse_call(alloc, name, rest)?)))
+    Ok(Line::Do(Step::Begin(pid, parse_call(alloc, version, name, rest)?)))
 }
 
 /// What the words ask, the first of them and the rest.
 #[tactic(auto, unfolding(pl_model::specs::Lines::words_line))]
 fn words_line<A: Allocator + Copy>(
     alloc: A,
+    version: Version,
     first: &[u8],
     rest: &[u8],
 ) -> Result<Line<A>, LineFault>
-    ensures { GivesTaking LineTakes result (words_line first.now (words rest.now)) }
+    ensures { GivesTaking LineTakes result (words_line version first.now (words rest.now)) }
 {
     if first == b"start".as_slice() {
         start_line(rest)
@@ -70,7 +77,7 @@ fn words_line<A: Allocator + Copy>(
     } else if first == b"file".as_slice() {
         file_line(alloc, rest)
     } else {
-        begin_line(alloc, first, rest)
+        begin_line(alloc, version, first, rest)
     }
 }
 
@@ -80,25 +87,54 @@ fn is_comment(word: &[u8]) -> bool
     !word.is_empty() && word[0] == b'#'
 }
 
-/// What a line asks, given without its line feed: a step, or, as `file NAME`, what the file of a name holds; `None` where it asks
-/// nothing, as a blank line or a comment.
+/// What a line of a script of this version asks, given without its line feed: a step, or, as `file NAME`, what the file of a name
+/// holds; `None` where it asks nothing, as a blank line or a comment.
 ///
 /// # Errors
 ///
-/// `Bad` exactly where the format has no such line, whatever the memory. `NoMemory` only at a line that writes a byte or
+/// `Bad` exactly where the version has no such line, whatever the memory. `NoMemory` only at a line that writes a byte or
 /// more, has a name that isn't empty, or polls with entries, where there was no memory for these.
 #[tactic(auto, unfolding(pl_model::specs::Lines::line, pl_model::specs::Lines::line_of_words))]
-pub fn parse_line<A: Allocator + Copy>(alloc: A, bytes: &[u8]) -> Result<Option<Line<A>>, LineFault>
-    ensures { GivesTaking LineAskedTakes result (line bytes.now) }
+pub fn parse_line_of<A: Allocator + Copy>(
+    alloc: A,
+    version: Version,
+    bytes: &[u8],
+) -> Result<Option<Line<A>>, LineFault>
+    ensures { GivesTaking LineAskedTakes result (line version bytes.now) }
 {
     match next_word(without_return(bytes)) {
         None => Ok(None),
         Some((first, _)) if is_comment(first) => Ok(None),
-        Some((first, rest)) => Ok(Some(words_line(alloc, first, rest)?)),
+        Some((first, rest)) => Ok(Some(words_line(alloc, version, first, rest)?)),
     }
 }
 
-/// A write of one byte many times, as a line `P write FD N*hh` asks for it. Its bytes aren't made.
+/// What a line of a script of version 1 asks: `parse_line_of`.
+///
+/// # Errors
+///
+/// Those of `parse_line_of`.
+pub fn parse_line<A: Allocator + Copy>(alloc: A, bytes: &[u8]) -> Result<Option<Line<A>>, LineFault>
+    ensures { GivesTaking LineAskedTakes result (line One bytes.now) }
+{
+    parse_line_of(alloc, Version::One, bytes)
+}
+
+/// What a line of a script of version 2 asks: `parse_line_of`.
+///
+/// # Errors
+///
+/// Those of `parse_line_of`.
+pub fn parse_line_2<A: Allocator + Copy>(
+    alloc: A,
+    bytes: &[u8],
+) -> Result<Option<Line<A>>, LineFault>
+    ensures { GivesTaking LineAskedTakes result (line Two bytes.now) }
+{
+    parse_line_of(alloc, Version::Two, bytes)
+}
+
+/// A write of a byte many times, as a line `P write FD N*hh` asks for it. Its bytes aren't made.
 #[derive(Clone, Copy, Debug, PartialEq, Eq)]
 pub struct RepeatedWrite {
     /// The process that writes.
@@ -109,14 +145,14 @@ pub struct RepeatedWrite {
     pub count: usize,
 }
 
-/// The write of a line that writes one byte many times, for who wants to know whether the call is refused before its bytes are made.
-/// `None` of any other line, good or bad, at next to no cost. It takes no memory.
-pub fn repeated_write<A: Allocator>(bytes: &[u8]) -> Option<RepeatedWrite>
+/// The write of a line in which a piece repeats a byte, for who wants to know whether the call is refused before its bytes are made.
+/// `None` of any other line, good or bad. It takes no memory, and time for what the line is long, and not for what it writes.
+pub fn repeated_write<A: Allocator>(version: Version, bytes: &[u8]) -> Option<RepeatedWrite>
     ensures some { IfSome result (λ write. write.count ≢ 0) }
-    ensures said { IfSome result (λ write. WritesSoMany A bytes.now write.pid write.fd write.count) }
+    ensures said { IfSome result (λ write. WritesSoMany A version bytes.now write.pid write.fd write.count) }
 {
     let line = without_return(bytes);
-    if !may_repeat(line) {
+    if !may_repeat(version, line) {
         return None;
     }
     let (pid, rest) = next_word(line)?;
@@ -127,9 +163,12 @@ pub fn repeated_write<A: Allocator>(bytes: &[u8]) -> Option<RepeatedWrite>
     let Ok((fd, written)) = fd_and_word(rest) else {
         return None;
     };
-    let count = repeated_count(written)?;
     let Ok(pid) = parse_u32(pid) else {
         return None;
     };
+    let count = bytes_len(version, written)?;
+    if count == 0 {
+        return None;
+    }
     Some(RepeatedWrite { pid, fd, count })
 }

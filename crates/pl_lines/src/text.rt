@@ -4,16 +4,18 @@ ghost use Rattle.std.specs.List.{filter, flat_map};
 ghost use Rattle.std.specs.Fmt.{decimal, signed_decimal};
 ghost use Rattle.std.specs.String.Boundary.{IsSplitPoint};
 ghost use Rattle.pl_model.specs.Flags.{has};
-ghost use Rattle.pl_model.specs.Shown.{bytes_text, file_text, errno_text, mode_text, flags_text, names_text, mask_text, reply_text, outcome_text};
+ghost use Rattle.pl_model.specs.Shown.{hex_text, bytes_text, file_text, errno_text, mode_text, flags_text, names_text, mask_text, reply_text, outcome_text};
+ghost use Rattle.pl_model.specs.declared.script.Version.TheVariants.{One, Two};
 ghost use Rattle.pl_lines.specs.Pushed.{Pushes, next_name};
 
+use crate::runs::push_runs;
 use bitflags::Flags;
 use itoa::{Buffer, Integer};
-use pl_model::{Errno, Mode, OpenFlags, Outcome, PollMask, Reply};
+use pl_model::{Errno, Mode, OpenFlags, Outcome, PollMask, Reply, Version};
 use std::alloc::{AllocError, Allocator};
 
 /// Adds one text behind another.
-fn push_two<A: Allocator + Copy>(
+pub(crate) fn push_two<A: Allocator + Copy>(
     text: &mut String<A>,
     first: &str,
     second: &str,
@@ -25,7 +27,7 @@ fn push_two<A: Allocator + Copy>(
 }
 
 /// Adds a number behind its name.
-fn push_number<A: Allocator + Copy, I: Integer>(
+pub(crate) fn push_number<A: Allocator + Copy, I: Integer>(
     text: &mut String<A>,
     name: &str,
     number: I,
@@ -35,20 +37,36 @@ fn push_number<A: Allocator + Copy, I: Integer>(
     push_two(text, name, Buffer::new().format(number))
 }
 
-/// Adds the bytes behind their name, as hexadecimal digits in lower case, or `-` for none.
+/// Adds the bytes, as hexadecimal digits in lower case.
+pub(crate) fn push_digits<A: Allocator + Copy>(
+    alloc: A,
+    text: &mut String<A>,
+    bytes: &[u8],
+) -> Result<(), AllocError>
+    ensures { Pushes result (string_bytes text.old) (string_bytes text.new) (hex_text bytes.now) }
+{
+    let digits = hex::encode(alloc, bytes)?;
+    text.push_str(digits.as_str())
+}
+
+/// Adds the bytes behind their name, as digits, or by runs in version 2; `-` for none.
 fn push_bytes<A: Allocator + Copy>(
     alloc: A,
+    version: Version,
     text: &mut String<A>,
     name: &str,
     bytes: &[u8],
 ) -> Result<(), AllocError>
-    ensures { Pushes result (string_bytes text.old) (string_bytes text.new) (name.now ++ bytes_text bytes.now) }
+    ensures { Pushes result (string_bytes text.old) (string_bytes text.new) (name.now ++ bytes_text version bytes.now) }
 {
+    text.push_str(name)?;
     if bytes.is_empty() {
-        return push_two(text, name, "-");
+        return text.push_str("-");
     }
-    let digits = hex::encode(alloc, bytes)?;
-    push_two(text, name, digits.as_str())
+    match version {
+        Version::One => push_digits(alloc, text, bytes),
+        Version::Two => push_runs(alloc, text, bytes),
+    }
 }
 
 fn errno_text(errno: Errno) -> &'static str
@@ -213,10 +231,11 @@ fn push_masks<A: Allocator + Copy>(
 
 fn push_reply<A: Allocator + Copy>(
     alloc: A,
+    version: Version,
     text: &mut String<A>,
     reply: &Reply<A>,
 ) -> Result<(), AllocError>
-    ensures { Pushes result (string_bytes text.old) (string_bytes text.new) (reply_text reply.now) }
+    ensures { Pushes result (string_bytes text.old) (string_bytes text.new) (reply_text version reply.now) }
 {
     match reply {
         Reply::Pid(pid) => push_number(text, "pid ", *pid),
@@ -224,7 +243,7 @@ fn push_reply<A: Allocator + Copy>(
         Reply::Fds(reader, writer) => push_fds(text, *reader, *writer),
         Reply::Count { n, sigpipe: false } => push_number(text, "count ", *n),
         Reply::Count { n, sigpipe: true } => push_broken_count(text, *n),
-        Reply::Bytes(bytes) => push_bytes(alloc, text, "data ", bytes.as_slice()),
+        Reply::Bytes(bytes) => push_bytes(alloc, version, text, "data ", bytes.as_slice()),
         Reply::Offset(offset) => push_number(text, "offset ", *offset),
         Reply::Flags { mode, flags } => push_flags(text, *mode, *flags),
         Reply::Size(size) => push_number(text, "size ", *size),
@@ -242,13 +261,14 @@ fn push_reply<A: Allocator + Copy>(
 #[tactic(auto, unfolding(pl_model::specs::Shown::outcome_text))]
 fn push_outcome<A: Allocator + Copy>(
     alloc: A,
+    version: Version,
     text: &mut String<A>,
     outcome: &Outcome<A>,
 ) -> Result<(), AllocError>
-    ensures { Pushes result (string_bytes text.old) (string_bytes text.new) (outcome_text outcome.now) }
+    ensures { Pushes result (string_bytes text.old) (string_bytes text.new) (outcome_text version outcome.now) }
 {
     match outcome {
-        Outcome::Replied(reply) => push_reply(alloc, text, reply),
+        Outcome::Replied(reply) => push_reply(alloc, version, text, reply),
         Outcome::NoMemory => text.push_str("nomem"),
     }
 }
@@ -257,13 +277,14 @@ fn push_outcome<A: Allocator + Copy>(
 #[tactic(auto, unfolding(pl_model::specs::Shown::file_text))]
 fn push_file<A: Allocator + Copy>(
     alloc: A,
+    version: Version,
     text: &mut String<A>,
     bytes: Option<&[u8]>,
 ) -> Result<(), AllocError>
-    ensures { Pushes result (string_bytes text.old) (string_bytes text.new) (file_text (option_copied bytes.entry)) }
+    ensures { Pushes result (string_bytes text.old) (string_bytes text.new) (file_text version (option_copied bytes.entry)) }
 {
     match bytes {
-        Some(bytes) => push_bytes(alloc, text, "file ", bytes),
+        Some(bytes) => push_bytes(alloc, version, text, "file ", bytes),
         None => text.push_str("no file"),
     }
 }
@@ -271,24 +292,26 @@ fn push_file<A: Allocator + Copy>(
 /// Adds the line of an outcome, or a front of it where there is no memory for it.
 fn push_front_of_line<A: Allocator + Copy>(
     alloc: A,
+    version: Version,
     text: &mut String<A>,
     outcome: &Outcome<A>,
 ) -> Result<(), AllocError>
-    ensures { Pushes result (string_bytes text.old) (string_bytes text.new) (outcome_text outcome.now ++ 10 ∷ []) }
+    ensures { Pushes result (string_bytes text.old) (string_bytes text.new) (outcome_text version outcome.now ++ 10 ∷ []) }
 {
-    push_outcome(alloc, text, outcome)?;
+    push_outcome(alloc, version, text, outcome)?;
     text.push_str("\n")
 }
 
 /// Adds the line of a file's bytes, or a front of it where there is no memory for it.
 fn push_front_of_file_line<A: Allocator + Copy>(
     alloc: A,
+    version: Version,
     text: &mut String<A>,
     bytes: Option<&[u8]>,
 ) -> Result<(), AllocError>
-    ensures { Pushes result (string_bytes text.old) (string_bytes text.new) (file_text (option_copied bytes.entry) ++ 10 ∷ []) }
+    ensures { Pushes result (string_bytes text.old) (string_bytes text.new) (file_text version (option_copied bytes.entry) ++ 10 ∷ []) }
 {
-    push_file(alloc, text, bytes)?;
+    push_file(alloc, version, text, bytes)?;
     text.push_str("\n")
 }
 
@@ -313,14 +336,15 @@ fn keep_if_pushed<A: Allocator>(
 /// as it was.
 pub fn push_line<A: Allocator + Copy>(
     alloc: A,
+    version: Version,
     text: &mut String<A>,
     outcome: &Outcome<A>,
 ) -> Result<(), AllocError>
-    ensures done { OnOk result (string_bytes text.new ≡ string_bytes text.old ++ (outcome_text outcome.now ++ 10 ∷ [])) }
+    ensures done { OnOk result (string_bytes text.new ≡ string_bytes text.old ++ (outcome_text version outcome.now ++ 10 ∷ [])) }
     ensures undone { OnErr result (string_bytes text.new ≡ string_bytes text.old) }
 {
     let len = text.as_str().len();
-    let pushed = push_front_of_line(alloc, text, outcome);
+    let pushed = push_front_of_line(alloc, version, text, outcome);
     // It is text still, and was whole at the length of before: a character ends there.
     let _ = text.as_str();
     keep_if_pushed(text, len, pushed)
@@ -330,37 +354,79 @@ pub fn push_line<A: Allocator + Copy>(
 /// which is the only error, the text is as it was.
 pub fn push_file_line<A: Allocator + Copy>(
     alloc: A,
+    version: Version,
     text: &mut String<A>,
     bytes: Option<&[u8]>,
 ) -> Result<(), AllocError>
-    ensures done { OnOk result (string_bytes text.new ≡ string_bytes text.old ++ (file_text (option_copied bytes.entry) ++ 10 ∷ [])) }
+    ensures done { OnOk result (string_bytes text.new ≡ string_bytes text.old ++ (file_text version (option_copied bytes.entry) ++ 10 ∷ [])) }
     ensures undone { OnErr result (string_bytes text.new ≡ string_bytes text.old) }
 {
     let len = text.as_str().len();
-    let pushed = push_front_of_file_line(alloc, text, bytes);
+    let pushed = push_front_of_file_line(alloc, version, text, bytes);
     // As in `push_line`.
     let _ = text.as_str();
     keep_if_pushed(text, len, pushed)
 }
 
-/// The text of an outcome, without the line feed that ends its line. The only error is want of memory.
-pub fn show<A: Allocator + Copy>(alloc: A, outcome: &Outcome<A>) -> Result<String<A>, AllocError>
-    ensures { IfOk result (λ text. string_bytes text ≡ outcome_text outcome.now) }
+/// The text of an outcome in a script of this version, without the line feed that ends its line. The only error is want of memory.
+fn show_by<A: Allocator + Copy>(
+    alloc: A,
+    version: Version,
+    outcome: &Outcome<A>,
+) -> Result<String<A>, AllocError>
+    ensures { IfOk result (λ text. string_bytes text ≡ outcome_text version outcome.now) }
 {
     let mut text = String::new(alloc);
-    push_outcome(alloc, &mut text, outcome)?;
+    push_outcome(alloc, version, &mut text, outcome)?;
     Ok(text)
 }
 
-/// The text of a file's bytes, or that there is no such file, without the line feed that ends its line. The only error is want
-/// of memory.
+/// The text of an outcome in a script of version 1, without the line feed that ends its line. The only error is want of memory.
+pub fn show<A: Allocator + Copy>(alloc: A, outcome: &Outcome<A>) -> Result<String<A>, AllocError>
+    ensures { IfOk result (λ text. string_bytes text ≡ outcome_text One outcome.now) }
+{
+    show_by(alloc, Version::One, outcome)
+}
+
+/// The text of an outcome in a script of version 2, without the line feed that ends its line. The only error is want of memory.
+pub fn show_2<A: Allocator + Copy>(alloc: A, outcome: &Outcome<A>) -> Result<String<A>, AllocError>
+    ensures { IfOk result (λ text. string_bytes text ≡ outcome_text Two outcome.now) }
+{
+    show_by(alloc, Version::Two, outcome)
+}
+
+/// The text of a file's bytes in a script of this version, or that there is no such file, without the line feed that ends its line.
+/// The only error is want of memory.
+fn show_file_by<A: Allocator + Copy>(
+    alloc: A,
+    version: Version,
+    bytes: Option<&[u8]>,
+) -> Result<String<A>, AllocError>
+    ensures { IfOk result (λ text. string_bytes text ≡ file_text version (option_copied bytes.entry)) }
+{
+    let mut text = String::new(alloc);
+    push_file(alloc, version, &mut text, bytes)?;
+    Ok(text)
+}
+
+/// The text of a file's bytes in a script of version 1, or that there is no such file, without the line feed that ends its line. The
+/// only error is want of memory.
 pub fn show_file<A: Allocator + Copy>(
     alloc: A,
     bytes: Option<&[u8]>,
 ) -> Result<String<A>, AllocError>
-    ensures { IfOk result (λ text. string_bytes text ≡ file_text (option_copied bytes.entry)) }
+    ensures { IfOk result (λ text. string_bytes text ≡ file_text One (option_copied bytes.entry)) }
 {
-    let mut text = String::new(alloc);
-    push_file(alloc, &mut text, bytes)?;
-    Ok(text)
+    show_file_by(alloc, Version::One, bytes)
+}
+
+/// The text of a file's bytes in a script of version 2, or that there is no such file, without the line feed that ends its line. The
+/// only error is want of memory.
+pub fn show_file_2<A: Allocator + Copy>(
+    alloc: A,
+    bytes: Option<&[u8]>,
+) -> Result<String<A>, AllocError>
+    ensures { IfOk result (λ text. string_bytes text ≡ file_text Two (option_copied bytes.entry)) }
+{
+    show_file_by(alloc, Version::Two, bytes)
 }

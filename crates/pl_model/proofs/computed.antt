@@ -20,3 +20,5 @@ pub mod PollExamples
 pub mod PacketExamples
 -- The small examples of limits, computed from the definitions.
 pub mod LimitExamples
+-- The small examples of the versions of scripts, computed from the definitions.
+pub mod VersionExamples

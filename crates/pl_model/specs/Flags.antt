@@ -31,9 +31,19 @@ nonblock = 16
 abbrev pub direct : ℕ
 direct = 32
 
--- Of flags and their names in scripts (our own): those that both a line and a reply name.
+-- A flag and its name in scripts (our own).
+abbrev pub named_append : ℕ × List ℕ
+named_append = (append, codes "append")
+
+abbrev pub named_nonblock : ℕ × List ℕ
+named_nonblock = (nonblock, codes "nonblock")
+
+abbrev pub named_direct : ℕ × List ℕ
+named_direct = (direct, codes "direct")
+
+-- those that both a line that opens and a reply name
 abbrev pub names_of_both : List (ℕ × List ℕ)
-names_of_both = (append, codes "append") ∷ (nonblock, codes "nonblock") ∷ []
+names_of_both = named_append ∷ named_nonblock ∷ []
 
 -- what a line may name, as a file is opened and as flags are set; `direct` is not among them
 abbrev pub open_names : List (ℕ × List ℕ)
@@ -41,7 +51,11 @@ open_names = (creat, codes "creat") ∷ (excl, codes "excl") ∷ (trunc, codes "
 
 -- what a description can have, in the order in which it is shown
 abbrev pub status_names : List (ℕ × List ℕ)
-status_names = names_of_both ++ ((direct, codes "direct") ∷ [])
+status_names = names_of_both ++ (named_direct ∷ [])
+
+-- what a line of version 2 may name, as a pipe is made
+abbrev pub pipe_names : List (ℕ × List ℕ)
+pipe_names = named_nonblock ∷ named_direct ∷ []
 
 -- splice(2), SPLICE_F_MOVE: pages are moved where they can be; it has no effect (the last: our own).
 abbrev pub splice_move : ℕ

@@ -1,4 +1,4 @@
--- What a line of a script asks (our own): one pattern for each line, over its words.
+-- What a line of a script asks (our own): one pattern for each line, over its words. The versions differ at `pipe` and `write`.
 use Rattle.std.specs.Prelude.{ℕ, ◌^◌, ℤ, List, [], ◌∷◌, Bool, true, false, ◌==◌, if◌then◌else◌, Option, Some, None, codes}
 use Rattle.std.specs.Str.{bytes_eq}
 use Rattle.pl_model.specs.declared.calls.Call.{Call}
@@ -7,7 +7,10 @@ use Rattle.pl_model.specs.declared.calls.Step.TheVariants.{Start, Begin, Resume,
 use Rattle.pl_model.specs.declared.flags.SpliceFlags.{SpliceFlags}
 use Rattle.pl_model.specs.declared.script.Line.{Line}
 use Rattle.pl_model.specs.declared.script.Line.TheVariants.{Do, File}
-use Rattle.pl_model.specs.Words.{◌>>=◌, words, without_return, number, signed, signed_long, bytes_of, name_of, mode_of, whence_of, open_flags_if_any, splice_flags_if_any, flags_or_none, offset_of, entries_of, wait_of}
+use Rattle.pl_model.specs.declared.script.Version.{Version}
+use Rattle.pl_model.specs.declared.script.Version.TheVariants.{One, Two}
+use Rattle.pl_model.specs.Flags.{has, nonblock, direct}
+use Rattle.pl_model.specs.Words.{◌>>=◌, words, without_return, number, signed, signed_long, bytes_of, name_of, mode_of, whence_of, open_flags_if_any, pipe_flags_if_any, splice_flags_if_any, flags_or_none, offset_of, entries_of, wait_of}
 
 abbrev pub is_comment : List ℕ → Bool
 is_comment [] = false
@@ -29,11 +32,12 @@ len_and_flags (len ∷ flags) = do
 len_and_flags [] = None
 
 module _ {A : Type 0} where
-  -- `P pipe [nonblock]`
-  unfoldable pub pipe_of : List (List ℕ) → Option (Call A)
-  pipe_of [] = Some (Pipe false false)
-  pipe_of (flag ∷ []) = if bytes_eq flag (codes "nonblock") then Some (Pipe true false) else None
-  pipe_of _ = None
+  -- `P pipe [nonblock]`, and in version 2 `P pipe [FLAGS]`
+  unfoldable pub pipe_of : Version → List (List ℕ) → Option (Call A)
+  pipe_of One [] = Some (Pipe false false)
+  pipe_of One (flag ∷ []) = if bytes_eq flag (codes "nonblock") then Some (Pipe true false) else None
+  pipe_of One _ = None
+  pipe_of Two flags = pipe_flags_if_any flags >>= λ fs. Some (Pipe (has fs.0 nonblock) (has fs.0 direct))
 
   -- `P mkfifo NAME`
   unfoldable pub mkfifo_of : List (List ℕ) → Option (Call A)
@@ -58,12 +62,12 @@ module _ {A : Type 0} where
   read_of _ = None
 
   -- `P write FD BYTES`
-  unfoldable pub write_of : List (List ℕ) → Option (Call A)
-  write_of (fd ∷ bytes ∷ []) = do
+  unfoldable pub write_of : Version → List (List ℕ) → Option (Call A)
+  write_of version (fd ∷ bytes ∷ []) = do
     f ← signed fd
-    b ← bytes_of bytes
+    b ← bytes_of version bytes
     Some (Write f b)
-  write_of _ = None
+  write_of version _ = None
 
   -- `P splice FD OFF FD OFF LEN [FLAGS]`
   unfoldable pub splice_of : List (List ℕ) → Option (Call A)
@@ -168,13 +172,13 @@ module _ {A : Type 0} where
   exit_of _ = None
 
   -- the name of a call, and the words after it
-  unfoldable pub call_of : List ℕ → List (List ℕ) → Option (Call A)
-  call_of name rest =
-      if bytes_eq name (codes "pipe") then pipe_of rest
+  unfoldable pub call_of : Version → List ℕ → List (List ℕ) → Option (Call A)
+  call_of version name rest =
+      if bytes_eq name (codes "pipe") then pipe_of version rest
       else if bytes_eq name (codes "mkfifo") then mkfifo_of rest
       else if bytes_eq name (codes "open") then open_name_of rest
       else if bytes_eq name (codes "read") then read_of rest
-      else if bytes_eq name (codes "write") then write_of rest
+      else if bytes_eq name (codes "write") then write_of version rest
       else if bytes_eq name (codes "splice") then splice_of rest
       else if bytes_eq name (codes "tee") then tee_of rest
       else if bytes_eq name (codes "poll") then poll_of rest
@@ -213,27 +217,27 @@ module _ {A : Type 0} where
   file_of _ = None
 
   -- `P CALL ..`, the process of pid P begins a call
-  unfoldable pub begin_of : List ℕ → List (List ℕ) → Option (Line A)
-  begin_of pid (name ∷ rest) = do
+  unfoldable pub begin_of : Version → List ℕ → List (List ℕ) → Option (Line A)
+  begin_of version pid (name ∷ rest) = do
     p ← number (2 ^ 32) pid
-    c ← call_of name rest
+    c ← call_of version name rest
     Some (Do (Begin p c))
-  begin_of pid [] = None
+  begin_of version pid [] = None
 
   -- the first word of a line, and the words after it
-  unfoldable pub words_line : List ℕ → List (List ℕ) → Option (Line A)
-  words_line word rest =
+  unfoldable pub words_line : Version → List ℕ → List (List ℕ) → Option (Line A)
+  words_line version word rest =
       if bytes_eq word (codes "start") then start_of rest
       else if bytes_eq word (codes "resume") then resume_of rest
       else if bytes_eq word (codes "interrupt") then interrupt_of rest
       else if bytes_eq word (codes "file") then file_of rest
-      else begin_of word rest
+      else begin_of version word rest
 
   -- a line without words, and a comment, ask nothing
-  unfoldable pub line_of_words : List (List ℕ) → Option (Option (Line A))
-  line_of_words [] = Some None
-  line_of_words (word ∷ rest) = if is_comment word then Some None else (words_line word rest >>= λ asked. Some (Some asked))
+  unfoldable pub line_of_words : Version → List (List ℕ) → Option (Option (Line A))
+  line_of_words version [] = Some None
+  line_of_words version (word ∷ rest) = if is_comment word then Some None else (words_line version word rest >>= λ asked. Some (Some asked))
 
   -- What a line asks: `None` is a bad line, `Some None` one that asks nothing.
-  unfoldable pub line : List ℕ → Option (Option (Line A))
-  line bytes = line_of_words (words (without_return bytes))
+  unfoldable pub line : Version → List ℕ → Option (Option (Line A))
+  line version bytes = line_of_words version (words (without_return bytes))

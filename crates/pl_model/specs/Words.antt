@@ -1,5 +1,5 @@
 -- The words of a line, and what each kind of word says.
-use Rattle.std.specs.Prelude.{ℕ, ◌+◌, ◌-◌, ◌*◌, ◌^◌, List, [], ◌∷◌, length, slice_index, take, replicate, Bool, true, false, not, nat_lt, nat_le, ◌==◌, ◌||◌, ◌&&◌, if◌then◌else◌, ℤ, pos, neg_ℤ, Option, Some, None, option_and_then, codes, filter, bit_or}
+use Rattle.std.specs.Prelude.{ℕ, ◌+◌, ◌-◌, ◌*◌, ◌^◌, List, [], ◌∷◌, ◌++◌, length, slice_index, take, replicate, Bool, true, false, not, nat_lt, nat_le, ◌==◌, ◌||◌, ◌&&◌, if◌then◌else◌, ℤ, pos, neg_ℤ, Option, Some, None, option_and_then, codes, filter, bit_or}
 use Rattle.std.specs.List.{slice_split, list_all, before_first, after_first, position_or_len}
 use Rattle.std.specs.Str.{bytes_eq}
 use Rattle.std.specs.Str.Parse.{digits_value}
@@ -8,8 +8,10 @@ use Rattle.pl_model.specs.declared.calls.Whence.{Whence}
 use Rattle.pl_model.specs.declared.flags.OpenFlags.{OpenFlags}
 use Rattle.pl_model.specs.declared.flags.SpliceFlags.{SpliceFlags}
 use Rattle.pl_model.specs.declared.flags.PollMask.{PollMask}
+use Rattle.pl_model.specs.declared.script.Version.{Version}
+use Rattle.pl_model.specs.declared.script.Version.TheVariants.{One, Two}
 use Rattle.pl_model.specs.Numbers.{most_bytes}
-use Rattle.pl_model.specs.Flags.{open_names, splice_move, splice_nonblock, splice_more, splice_gift, poll_in, poll_out, poll_err, poll_hup, poll_nval, no_flags, no_mask}
+use Rattle.pl_model.specs.Flags.{open_names, pipe_names, splice_move, splice_nonblock, splice_more, splice_gift, poll_in, poll_out, poll_err, poll_hup, poll_nval, no_flags, no_mask}
 
 -- what the second says of what the first gives, if it gives anything
 infixl 10 ◌>>=◌
@@ -102,11 +104,27 @@ digits_or_repeated word =
     else if nat_lt 0 (length word) then hex_bytes word
     else None
 
--- BYTES: `-` for none, or digits, or `N*hh`; not more than one write takes
-unfoldable pub bytes_of : List ℕ → Option (List ℕ)
-bytes_of word =
+abbrev pub is_plus : ℕ → Bool
+is_plus c = c == 43
+
+-- the bytes of one piece after another
+unfoldable pub pieces : List (List ℕ) → Option (List ℕ)
+pieces [] = Some []
+pieces (word ∷ words) = do
+  first ← digits_or_repeated word
+  rest ← pieces words
+  Some (first ++ rest)
+
+-- one piece, and in version 2 several that `+` joins
+abbrev pub pieces_of : Version → List ℕ → Option (List ℕ)
+pieces_of One word = digits_or_repeated word
+pieces_of Two word = pieces (slice_split is_plus word)
+
+-- BYTES: `-` for none, or the bytes of pieces; not more than one write takes
+unfoldable pub bytes_of : Version → List ℕ → Option (List ℕ)
+bytes_of version word =
     if bytes_eq word (codes "-") then Some []
-    else (digits_or_repeated word >>= λ bytes. if nat_le (length bytes) most_bytes then Some bytes else None)
+    else (pieces_of version word >>= λ bytes. if nat_le (length bytes) most_bytes then Some bytes else None)
 
 -- a byte that stands for itself in a name: a printed one, neither a blank nor `%`
 abbrev pub is_plain : ℕ → Bool
@@ -154,6 +172,10 @@ flag_named (flag ∷ flags) name = if bytes_eq name flag.1 then Some flag.0 else
 unfoldable pub open_flag : List ℕ → Option ℕ
 open_flag name = flag_named open_names name
 
+-- a flag by its name, as a pipe is made: its bit
+unfoldable pub pipe_flag : List ℕ → Option ℕ
+pipe_flag name = flag_named pipe_names name
+
 -- a flag by its name, as bytes are spliced: its bit
 unfoldable pub splice_flag : List ℕ → Option ℕ
 splice_flag name =
@@ -200,6 +222,10 @@ as_splice_flags bits = record { 0 = bits }
 -- FLAGS of an open, which may be left out
 abbrev pub open_flags_if_any : List (List ℕ) → Option OpenFlags
 open_flags_if_any ws = flags_if_any open_flag ws >>= λ bits. Some (as_open_flags bits)
+
+-- FLAGS of a pipe, which may be left out
+abbrev pub pipe_flags_if_any : List (List ℕ) → Option OpenFlags
+pipe_flags_if_any ws = flags_if_any pipe_flag ws >>= λ bits. Some (as_open_flags bits)
 
 -- FLAGS of a splice, which may be left out
 abbrev pub splice_flags_if_any : List (List ℕ) → Option SpliceFlags

@@ -7,6 +7,7 @@ use Rattle.pl_model.specs.declared.calls.Step.TheVariants.{Begin, Resume}
 use Rattle.pl_model.specs.declared.replies.Reply.TheVariants.{Fd, Fds, Count, Bytes, Size, Unit, Fault, Parked}
 use Rattle.pl_model.specs.declared.replies.Errno.TheVariants.{EAGAIN, EBADF, EBUSY, EPERM}
 use Rattle.pl_model.specs.declared.script.Line.TheVariants.{Do}
+use Rattle.pl_model.specs.declared.script.Version.TheVariants.{One}
 use Rattle.pl_model.specs.Flags.{creat}
 use Rattle.pl_model.specs.Lines.{line}
 use Rattle.pl_model.specs.Worked.{pipe, pipe_nonblock, read, write, close, Answers, AnswersFrom, text, Prints}
@@ -66,9 +67,9 @@ ScriptOfCapacities A =
 
 -- the lines that ask for a capacity, and those that ask for none
 pub record LinesOfCapacities (A : Type 0) : Type 0 where
-  pub tells : line {A = A} (codes "2 getsz 3") ≡ Some (Some (Do (Begin 2 (Call.GetPipeSz (pos 3)))))
-  pub sets : line {A = A} (codes "2 setsz 3 4294967295") ≡ Some (Some (Do (Begin 2 (Call.SetPipeSz (pos 3) 4294967295))))
-  pub too_large : line {A = A} (codes "2 setsz 3 4294967296") ≡ None
-  pub below_0 : line {A = A} (codes "2 setsz 3 -1") ≡ None
-  pub no_size : line {A = A} (codes "2 setsz 3") ≡ None
-  pub a_size : line {A = A} (codes "2 getsz 3 4096") ≡ None
+  pub tells : line {A = A} One (codes "2 getsz 3") ≡ Some (Some (Do (Begin 2 (Call.GetPipeSz (pos 3)))))
+  pub sets : line {A = A} One (codes "2 setsz 3 4294967295") ≡ Some (Some (Do (Begin 2 (Call.SetPipeSz (pos 3) 4294967295))))
+  pub too_large : line {A = A} One (codes "2 setsz 3 4294967296") ≡ None
+  pub below_0 : line {A = A} One (codes "2 setsz 3 -1") ≡ None
+  pub no_size : line {A = A} One (codes "2 setsz 3") ≡ None
+  pub a_size : line {A = A} One (codes "2 getsz 3 4096") ≡ None

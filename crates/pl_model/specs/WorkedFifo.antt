@@ -7,6 +7,7 @@ use Rattle.pl_model.specs.declared.calls.Step.TheVariants.{Begin, Resume, Interr
 use Rattle.pl_model.specs.declared.replies.Reply.TheVariants.{Fd, Count, Bytes, Size, Unit, Fault, Parked, NoCall, CallsSpent}
 use Rattle.pl_model.specs.declared.replies.Errno.TheVariants.{EAGAIN, EEXIST, EINTR, ENXIO}
 use Rattle.pl_model.specs.declared.script.Line.TheVariants.{Do}
+use Rattle.pl_model.specs.declared.script.Version.TheVariants.{One}
 use Rattle.pl_model.specs.Numbers.{last_call}
 use Rattle.pl_model.specs.Flags.{nonblock}
 use Rattle.pl_model.specs.Lines.{line}
@@ -70,6 +71,6 @@ LastOpenThatWaits A =
 
 -- the lines that make a FIFO, and those that make none
 pub record LinesOfFifos (A : Type 0) : Type 0 where
-  pub makes : line {A = A} (codes "1 mkfifo q") ≡ Some (Some (Do (Begin 1 (Call.Mkfifo (codes "q")))))
-  pub no_name : line {A = A} (codes "1 mkfifo") ≡ None
-  pub two_names : line {A = A} (codes "1 mkfifo a b") ≡ None
+  pub makes : line {A = A} One (codes "1 mkfifo q") ≡ Some (Some (Do (Begin 1 (Call.Mkfifo (codes "q")))))
+  pub no_name : line {A = A} One (codes "1 mkfifo") ≡ None
+  pub two_names : line {A = A} One (codes "1 mkfifo a b") ≡ None

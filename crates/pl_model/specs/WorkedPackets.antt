@@ -7,6 +7,7 @@ use Rattle.pl_model.specs.declared.calls.Step.TheVariants.{Begin, Resume, Interr
 use Rattle.pl_model.specs.declared.replies.Reply.TheVariants.{Fd, Fds, Count, Bytes, Flags, Size, Unit, Fault, Parked}
 use Rattle.pl_model.specs.declared.replies.Errno.TheVariants.{EAGAIN, EBADF, EBUSY, EINVAL, EPIPE, ESPIPE}
 use Rattle.pl_model.specs.declared.script.Line.TheVariants.{Do}
+use Rattle.pl_model.specs.declared.script.Version.TheVariants.{One}
 use Rattle.pl_model.specs.Flags.{append, creat, direct, excl, nonblock, trunc, no_flags, poll_err, poll_hup, poll_in, poll_out}
 use Rattle.pl_model.specs.Shown.{flags_text}
 use Rattle.pl_model.specs.Words.{as_open_flags}
@@ -105,14 +106,14 @@ pub record StatusFlagsInWords : Type 0 where
   pub all : flags_text (as_open_flags (append + nonblock + direct)) ≡ codes "append,nonblock,direct"
   pub others : flags_text (as_open_flags (creat + excl + trunc)) ≡ codes "-"
 
--- no line makes a packet pipe
+-- no line of version 1 makes a packet pipe
 pub record LinesWithoutPackets (A : Type 0) : Type 0 where
-  pub plain : line {A = A} (codes "1 pipe") ≡ Some (Some (Do (Begin 1 (Call.Pipe false false))))
-  pub nonblocking : line {A = A} (codes "1 pipe nonblock") ≡ Some (Some (Do (Begin 1 (Call.Pipe true false))))
-  pub packets : line {A = A} (codes "1 pipe direct") ≡ None
-  pub both : line {A = A} (codes "1 pipe nonblock,direct") ≡ None
-  pub twice : line {A = A} (codes "1 pipe nonblock nonblock") ≡ None
-  pub opened : line {A = A} (codes "1 open f r direct") ≡ None
-  pub opened_with : line {A = A} (codes "1 open f r creat,direct") ≡ None
-  pub set : line {A = A} (codes "1 setfl 0 direct") ≡ None
-  pub set_with : line {A = A} (codes "1 setfl 0 append,nonblock,direct") ≡ None
+  pub plain : line {A = A} One (codes "1 pipe") ≡ Some (Some (Do (Begin 1 (Call.Pipe false false))))
+  pub nonblocking : line {A = A} One (codes "1 pipe nonblock") ≡ Some (Some (Do (Begin 1 (Call.Pipe true false))))
+  pub packets : line {A = A} One (codes "1 pipe direct") ≡ None
+  pub both : line {A = A} One (codes "1 pipe nonblock,direct") ≡ None
+  pub twice : line {A = A} One (codes "1 pipe nonblock nonblock") ≡ None
+  pub opened : line {A = A} One (codes "1 open f r direct") ≡ None
+  pub opened_with : line {A = A} One (codes "1 open f r creat,direct") ≡ None
+  pub set : line {A = A} One (codes "1 setfl 0 direct") ≡ None
+  pub set_with : line {A = A} One (codes "1 setfl 0 append,nonblock,direct") ≡ None

@@ -8,6 +8,7 @@ use Rattle.pl_model.specs.declared.replies.Reply.{Reply}
 use Rattle.pl_model.specs.declared.replies.Reply.TheVariants.{Fd, Fds, Count, Bytes, Size, Masks, Unit, Fault, Parked, NoCall, CallsSpent}
 use Rattle.pl_model.specs.declared.replies.Errno.TheVariants.{EINTR, EINVAL, EPIPE}
 use Rattle.pl_model.specs.declared.script.Line.TheVariants.{Do}
+use Rattle.pl_model.specs.declared.script.Version.TheVariants.{One}
 use Rattle.pl_model.specs.Numbers.{last_call}
 use Rattle.pl_model.specs.Flags.{creat, nonblock, poll_in, poll_out, poll_err, poll_hup, poll_nval}
 use Rattle.pl_model.specs.Words.{as_poll_mask}
@@ -106,15 +107,15 @@ ScriptOfPolls A =
 
 -- the lines that poll, and those that don't
 pub record LinesOfPolls (A : Type 0) : Type 0 where
-  pub none : line {A = A} (codes "1 poll wait") ≡ Some (Some (Do (Begin 1 (poll_of [] true))))
-  pub entries : line {A = A} (codes "1 poll now 0:in -1:- 07:hup,nval,hup") ≡ Some (Some (Do (Begin 1 (poll_of ((pos 0, 1) ∷ (neg_ℤ (pos 1), 0) ∷ (pos 7, 48) ∷ []) false))))
-  pub all_names : line {A = A} (codes "1 poll now 0:nval,hup,err,out,in") ≡ Some (Some (Do (Begin 1 (poll_of ((pos 0, 61) ∷ []) false))))
-  pub no_word : line {A = A} (codes "1 poll") ≡ None
-  pub other_word : line {A = A} (codes "1 poll then 0:in") ≡ None
-  pub no_mask : line {A = A} (codes "1 poll now 0") ≡ None
-  pub empty_mask : line {A = A} (codes "1 poll now 0:") ≡ None
-  pub empty_name : line {A = A} (codes "1 poll now 0:in,") ≡ None
-  pub no_fd : line {A = A} (codes "1 poll now :in") ≡ None
-  pub two_colons : line {A = A} (codes "1 poll now 0:in:out") ≡ None
-  pub dash_among_names : line {A = A} (codes "1 poll now 0:in,-") ≡ None
-  pub blank : line {A = A} (codes "1 poll now 0: in") ≡ None
+  pub none : line {A = A} One (codes "1 poll wait") ≡ Some (Some (Do (Begin 1 (poll_of [] true))))
+  pub entries : line {A = A} One (codes "1 poll now 0:in -1:- 07:hup,nval,hup") ≡ Some (Some (Do (Begin 1 (poll_of ((pos 0, 1) ∷ (neg_ℤ (pos 1), 0) ∷ (pos 7, 48) ∷ []) false))))
+  pub all_names : line {A = A} One (codes "1 poll now 0:nval,hup,err,out,in") ≡ Some (Some (Do (Begin 1 (poll_of ((pos 0, 61) ∷ []) false))))
+  pub no_word : line {A = A} One (codes "1 poll") ≡ None
+  pub other_word : line {A = A} One (codes "1 poll then 0:in") ≡ None
+  pub no_mask : line {A = A} One (codes "1 poll now 0") ≡ None
+  pub empty_mask : line {A = A} One (codes "1 poll now 0:") ≡ None
+  pub empty_name : line {A = A} One (codes "1 poll now 0:in,") ≡ None
+  pub no_fd : line {A = A} One (codes "1 poll now :in") ≡ None
+  pub two_colons : line {A = A} One (codes "1 poll now 0:in:out") ≡ None
+  pub dash_among_names : line {A = A} One (codes "1 poll now 0:in,-") ≡ None
+  pub blank : line {A = A} One (codes "1 poll now 0: in") ≡ None

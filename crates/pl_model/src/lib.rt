@@ -30,4 +30,4 @@ pub use name::Name;
 pub use node::Node;
 pub use polls::{MaskList, PollList};
 pub use replies::{Errno, Outcome, Reply};
-pub use script::{Line, Totals};
+pub use script::{Line, Totals, Version};

@@ -3,6 +3,15 @@ use crate::calls::Step;
 use crate::name::Name;
 use std::alloc::{Allocator, Global};
 
+/// A version of the script format. The first line of a script names it.
+#[derive(Clone, Copy, Debug, PartialEq, Eq)]
+pub enum Version {
+    /// Every script whose first line isn't `piperun 2`.
+    One,
+    /// A script whose first line is `piperun 2`: it writes bytes as pieces that `+` joins, it shows them by runs, and its pipes have flags.
+    Two,
+}
+
 /// What a line of a script asks.
 #[derive(Drop, Debug, PartialEq)]
 pub enum Line<A: Allocator = Global> {

@@ -9,6 +9,7 @@ ghost use Rattle.pl_model.specs.WorkedPackets.{PacketsAreReadOneByOne, PacketPip
 ghost use Rattle.pl_model.specs.WorkedPoll.{PollsOfAPipe, EndsThatLeave, HangingUpAFifo, FilesAndBothEnds, PollsThatDontWait, PollsKeepTheirEnds, PollWithoutANumber, ScriptOfPolls, LinesOfPolls};
 ghost use Rattle.pl_model.specs.WorkedSpliceLines.{LinesOfSplices};
 ghost use Rattle.pl_model.specs.WorkedStream.{RunsInPieces};
+ghost use Rattle.pl_model.specs.WorkedVersions.{PiecesOfBytes, BytesByRuns, LinesWithPackets, FirstLines, ScriptOfVersion2};
 ghost use Rattle.pl_model.specs.WorkedSplice.{SharedTail, BytesOfTheMoment, SpliceToAnOffset, SplicesAndTeesRefused, MovesThatWait, SplicesAtTheEndOfAFile, PiecesOfMoves};
 
 use std::alloc::Allocator;
@@ -146,4 +147,13 @@ pub fn scripts<A: Allocator>()
     ensures lines_of_polls { LinesOfPolls A }
     ensures status_flags { StatusFlagsInWords }
     ensures lines_without_packets { LinesWithoutPackets A }
+{}
+
+/// What differs in version 2 of scripts.
+pub fn versions<A: Allocator>()
+    ensures pieces { PiecesOfBytes }
+    ensures runs { BytesByRuns }
+    ensures lines { LinesWithPackets A }
+    ensures first_lines { FirstLines A }
+    ensures script { ScriptOfVersion2 A }
 {}

@@ -50,6 +50,14 @@ BYTES is an even number of hexadecimal digits, N*hh for N times the byte hh, or
 the empty one. OFF is an offset in a file, or - for its own and for a pipe.
 FLAGS and MASK are joined by commas.
 
+A script whose first line is `piperun 2` is of version 2. That line is no call,
+and prints nothing. There a pipe has FLAGS, BYTES may be such pieces joined by
++, and replies show bytes so, with N*hh for four equal bytes or more:
+
+  P pipe [FLAGS]                     FLAGS: nonblock direct
+                                     direct makes a pipe of packets
+  P write FD BYTES                   as 5*00+6869+3*0a
+
 A call that would wait is parked: its reply is `parked` and its number C. For
 example, this script prints what stands beside it:
 

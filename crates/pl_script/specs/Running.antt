@@ -1,11 +1,12 @@
 -- What a run of a script comes to.
-use Rattle.std.specs.Prelude.{◌≡◌, ⊤, ℕ, ◌<◌, ◌≤◌, List, [], ◌∷◌, ◌++◌, ◌⊎◌, length, Bool, true, Option, Some, None, IsSome, IsSomeAnd, Result, Ok, Err}
+use Rattle.std.specs.Prelude.{◌≡◌, ⊤, ℕ, ◌+◌, ◌<◌, ◌≤◌, List, [], ◌∷◌, ◌++◌, ◌⊎◌, length, Bool, true, Option, Some, None, IsSome, IsSomeAnd, Result, Ok, Err}
 use Rattle.std.specs.Io.KnownBytes.{IsAtEnd}
 use Rattle.pl_model.specs.declared.calls.Limits.{Limits}
 use Rattle.pl_model.specs.declared.script.Totals.{Totals}
+use Rattle.pl_model.specs.declared.script.Version.{Version}
 use Rattle.pl_model.specs.Numbered.{opening}
 use Rattle.pl_model.specs.Lines.{line}
-use Rattle.pl_model.specs.Script.{lines, asked, first_bad, answers, are_marks, output, AreMarks, totals}
+use Rattle.pl_model.specs.Script.{asked, answers, are_marks, first_bad, version_of, header_lines, body, bad_line, output, AreMarks, totals}
 use Rattle.pl_model.specs.Numbers.{most_script_bytes}
 use Rattle.pl_script.specs.declared.fault.ScriptFault.{ScriptFault}
 use Rattle.pl_script.specs.declared.fault.ScriptFault.TheVariants as faults
@@ -30,22 +31,23 @@ WritesAndCounts A script limits counted written =
     × (counted ≡ totals A script marks)
 
 -- the line asks for something
-abbrev pub Asks : (A : Type 0) → List ℕ → Type 0
-Asks A bytes = IsSomeAnd (line {A = A} bytes) (λ asked. IsSome asked)
+abbrev pub Asks : (A : Type 0) → Version → List ℕ → Type 0
+Asks A version bytes = IsSomeAnd (line {A = A} version bytes) (λ asked. IsSome asked)
 
 -- Memory was wanting at the line behind the first n, which asks for something: what was written is the output of those n lines,
--- at some marks, and none of them is bad. Its step may have been made, but its text isn't written.
+-- at some marks, and none of them is bad. Its step may have been made, but its text isn't written. A line that names the version is
+-- one of the n.
 pub record WritesLinesBefore (A : Type 0) (script : List ℕ) (limits : Limits) (n : ℕ) (written : List ℕ) : Type 0 where
   pub before : List (List ℕ)
   pub next : List ℕ
   pub after : List (List ℕ)
   pub marks : List Bool
-  pub parts : lines script ≡ before ++ (next ∷ after)
-  pub count : length before ≡ n
-  pub asks : Asks A next
-  pub good : first_bad A 1 before ≡ None
-  pub lawful : are_marks {A = A} (opening limits) (asked before) marks ≡ true
-  pub text : written ≡ answers {A = A} (opening limits) (asked before) marks
+  pub parts : body script ≡ before ++ (next ∷ after)
+  pub count : header_lines (version_of script) + length before ≡ n
+  pub asks : Asks A (version_of script) next
+  pub good : first_bad A (version_of script) (header_lines (version_of script) + 1) before ≡ None
+  pub lawful : are_marks {A = A} (opening limits) (asked (version_of script) before) marks ≡ true
+  pub text : written ≡ answers {A = A} (version_of script) (opening limits) (asked (version_of script) before) marks
 
 -- the script isn't too long to be run
 abbrev pub Fits : List ℕ → Type 0
@@ -54,9 +56,9 @@ Fits script = length script ≤ most_script_bytes
 -- what a run of the script answers, and what it writes; at want of memory either the script wasn't read, or a line wasn't run
 abbrev pub IsRun : (A : Type 0) → List ℕ → Limits → Result Totals ScriptFault → List ℕ → Type 0
 IsRun A script limits (Ok counted) written =
-    Fits script × (first_bad A 1 (lines script) ≡ None) × WritesAndCounts A script limits counted written
+    Fits script × (bad_line A script ≡ None) × WritesAndCounts A script limits counted written
 IsRun A script limits (Err (faults.BadLine n)) written =
-    Fits script × (first_bad A 1 (lines script) ≡ Some n) × WritesOutput A script limits written
+    Fits script × (bad_line A script ≡ Some n) × WritesOutput A script limits written
 IsRun A script limits (Err faults.Write) written = Fits script × WritesFrontOfOutput A script limits written
 IsRun A script limits (Err faults.NoMemory) written =
     (written ≡ []) ⊎ (Fits script × ((n : ℕ) × WritesLinesBefore A script limits n written))

@@ -1,7 +1,8 @@
 //! Scripts: lists of lines that ask for steps of a kernel or for what a file holds, and the text of what they are answered.
 //!
 //! `run_script` runs a whole script from a reader to a writer; `parse_line`, `show` and `show_file`, of `pl_lines`, are one line
-//! of it. What a script prints is defined in `pl_model`, in `specs/Script.antt`.
+//! of it in version 1, and `parse_line_2`, `show_2` and `show_file_2` one in version 2. What a script prints is defined in `pl_model`,
+//! in `specs/Script.antt`.
 #![tactic(auto)]
 
 mod fault;
@@ -11,9 +12,9 @@ mod streams;
 mod writing;
 
 pub use fault::ScriptFault;
-pub use pl_lines::{LineFault, parse_line, show, show_file};
+pub use pl_lines::{LineFault, parse_line, parse_line_2, show, show_2, show_file, show_file_2};
 pub use pl_model::numbers::{MAX_READS, MAX_SCRIPT_BYTES};
-pub use pl_model::{Line, Totals};
+pub use pl_model::{Line, Totals, Version};
 pub use running::run_script;
 pub use streams::{Reads, Sink, Source, Writes};
 pub use writing::write_whole;

@@ -3,7 +3,7 @@ ghost use Rattle.std.specs.Prelude.{◌≡◌, ◌+◌, ◌<◌, ◌≤◌, ◌+
 ghost use Rattle.std.specs.Io.KnownBytes.{Appends};
 ghost use Rattle.pl_model.specs.declared.calls.Limits.{Limits};
 ghost use Rattle.pl_model.specs.Numbered.{opening};
-ghost use Rattle.pl_model.specs.Script.{is_step};
+ghost use Rattle.pl_model.specs.Script.{header_lines, version_of, is_step};
 ghost use Rattle.pl_model.specs.Numbers.{most_file_bytes, most_script_bytes, most_reads};
 ghost use Rattle.pl_state.specs.Makes.{Stands};
 ghost use Rattle.pl_script.specs.LineByLine.{none_counted, IsAnswered, IsRefused, IsAt, Stops};
@@ -14,8 +14,10 @@ use crate::reading::read_script;
 use crate::streams::{Sink, Source};
 use crate::writing::write_whole;
 use pl_kernel::{Kernel, NoMemory};
-use pl_lines::{LineFault, next_line, parse_line, push_file_line, push_line, repeated_write};
-use pl_model::{Limits, Line, Name, Outcome, Reply, Step, Totals};
+use pl_lines::{
+    LineFault, next_line, parse_line_of, push_file_line, push_line, repeated_write, split_version,
+};
+use pl_model::{Limits, Line, Name, Outcome, Reply, Step, Totals, Version};
 use std::alloc::{AllocError, Allocator};
 
 /// Output is written once so many bytes of it wait.
@@ -24,21 +26,22 @@ const WAITING: usize = 65_536;
 /// Makes a step and adds the line of its reply; tells whether it found no memory.
 fn answer_step<A: Allocator + Copy>(
     alloc: A,
+    version: Version,
     kernel: &mut Kernel<A>,
     out: &mut String<A>,
     step: Step<A>,
 ) -> Result<bool, AllocError>
     ensures answered { IfOk result (λ mark.
-        IsAnswered {A = A} (Stands kernel.old) (Stands kernel.new) (Line.Do step) mark (string_bytes out.old) (string_bytes out.new)) }
+        IsAnswered {A = A} version (Stands kernel.old) (Stands kernel.new) (Line.Do step) mark (string_bytes out.old) (string_bytes out.new)) }
     ensures unanswered { OnErr result (string_bytes out.new ≡ string_bytes out.old) }
 {
     match kernel.step(step) {
         Ok(reply) => {
-            push_line(alloc, out, &Outcome::Replied(reply))?;
+            push_line(alloc, version, out, &Outcome::Replied(reply))?;
             Ok(false)
         }
         Err(NoMemory) => {
-            push_line(alloc, out, &Outcome::NoMemory)?;
+            push_line(alloc, version, out, &Outcome::NoMemory)?;
             Ok(true)
         }
     }
@@ -47,25 +50,26 @@ fn answer_step<A: Allocator + Copy>(
 /// Adds the line of what the file of a name holds; tells whether there was no memory to read it.
 fn answer_file<A: Allocator + Copy>(
     alloc: A,
+    version: Version,
     kernel: &Kernel<A>,
     out: &mut String<A>,
     name: &Name<A>,
 ) -> Result<bool, AllocError>
     ensures answered { IfOk result (λ mark.
-        IsAnswered {A = A} (Stands kernel.now) (Stands kernel.now) (Line.File name.now) mark (string_bytes out.old) (string_bytes out.new)) }
+        IsAnswered {A = A} version (Stands kernel.now) (Stands kernel.now) (Line.File name.now) mark (string_bytes out.old) (string_bytes out.new)) }
     ensures unanswered { OnErr result (string_bytes out.new ≡ string_bytes out.old) }
 {
     match kernel.file_bytes(name) {
         Ok(Some(bytes)) => {
-            push_file_line(alloc, out, Some(bytes.as_slice()))?;
+            push_file_line(alloc, version, out, Some(bytes.as_slice()))?;
             Ok(false)
         }
         Ok(None) => {
-            push_file_line(alloc, out, None)?;
+            push_file_line(alloc, version, out, None)?;
             Ok(false)
         }
         Err(NoMemory) => {
-            push_line::<A>(alloc, out, &Outcome::NoMemory)?;
+            push_line::<A>(alloc, version, out, &Outcome::NoMemory)?;
             Ok(true)
         }
     }
@@ -81,26 +85,31 @@ fn asks_a_step<A: Allocator>(asked: &Line<A>) -> bool
 /// line, the step may have been made, and the output is as it was.
 fn answer_line<A: Allocator + Copy>(
     alloc: A,
+    version: Version,
     kernel: &mut Kernel<A>,
     out: &mut String<A>,
     asked: Line<A>,
 ) -> Result<bool, AllocError>
     ensures answered { IfOk result (λ mark.
-        IsAnswered {A = A} (Stands kernel.old) (Stands kernel.new) asked mark (string_bytes out.old) (string_bytes out.new)) }
+        IsAnswered {A = A} version (Stands kernel.old) (Stands kernel.new) asked mark (string_bytes out.old) (string_bytes out.new)) }
     ensures unanswered { OnErr result (string_bytes out.new ≡ string_bytes out.old) }
 {
     match asked {
-        Line::Do(step) => answer_step(alloc, kernel, out, step),
-        Line::File(name) => answer_file(alloc, kernel, out, &name),
+        Line::Do(step) => answer_step(alloc, version, kernel, out, step),
+        Line::File(name) => answer_file(alloc, version, kernel, out, &name),
     }
 }
 
-/// What a line is answered that writes one byte many times, where the kernel refuses the write and nothing changes. The bytes aren't
+/// What a line is answered that writes a byte many times, where the kernel refuses the write and nothing changes. The bytes aren't
 /// made: such a line costs what it is long, and not what it would write.
-fn refusal_of_line<A: Allocator + Copy>(kernel: &Kernel<A>, line: &[u8]) -> Option<Reply<A>>
-    ensures { IfSome result (λ reply. IsRefused {A = A} (Stands kernel.now) line.now reply) }
+fn refusal_of_line<A: Allocator + Copy>(
+    kernel: &Kernel<A>,
+    version: Version,
+    line: &[u8],
+) -> Option<Reply<A>>
+    ensures { IfSome result (λ reply. IsRefused {A = A} version (Stands kernel.now) line.now reply) }
 {
-    let write = repeated_write::<A>(line)?;
+    let write = repeated_write::<A>(version, line)?;
     kernel.refusal_of_write(write.pid, write.fd, write.count)
 }
 
@@ -108,6 +117,7 @@ fn refusal_of_line<A: Allocator + Copy>(kernel: &Kernel<A>, line: &[u8]) -> Opti
 /// leaves the output as it was.
 fn run_line<A: Allocator + Copy>(
     alloc: A,
+    version: Version,
     kernel: &mut Kernel<A>,
     out: &mut String<A>,
     totals: &mut Totals,
@@ -117,31 +127,44 @@ fn run_line<A: Allocator + Copy>(
     requires steps { totals.old.steps ≤ totals.old.lines }
     requires nomem { totals.old.nomem ≤ totals.old.lines }
     ensures { (script front : List ℕ) (limits : Limits) (rest : List (List ℕ)) →
+        version_of script ≡ version →
         IsAt {A = A} script limits (Stands kernel.old) (front ++ string_bytes out.old) totals.old (line.now ∷ rest) →
         MatchResult result
         (λ _. IsAt {A = A} script limits (Stands kernel.new) (front ++ string_bytes out.new) totals.new rest)
-        (Stops A line.now totals.old totals.new (string_bytes out.old) (string_bytes out.new)) }
+        (Stops A version line.now totals.old totals.new (string_bytes out.old) (string_bytes out.new)) }
 {
-    if let Some(refusal) = refusal_of_line(kernel, line) {
-        push_line(alloc, out, &Outcome::Replied(refusal))?;
+    if let Some(refusal) = refusal_of_line(kernel, version, line) {
+        push_line(alloc, version, out, &Outcome::Replied(refusal))?;
         totals.lines += 1;
         totals.steps += 1;
         return Ok(());
     }
-    let Some(asked) = parse_line(alloc, line)? else {
+    let Some(asked) = parse_line_of(alloc, version, line)? else {
         totals.lines += 1;
         return Ok(());
     };
     let is_step = asks_a_step(&asked);
-    let found_none = answer_line(alloc, kernel, out, asked)?;
+    let found_none = answer_line(alloc, version, kernel, out, asked)?;
     totals.lines += 1;
     totals.steps += u32::from(is_step);
     totals.nomem += u32::from(found_none);
     Ok(())
 }
 
-/// Runs the lines of a script on a kernel and an output that are new, and counts those that were run. Where it ends at a line,
-/// for which there was no memory or which is bad, the output of just the lines counted was written.
+/// How many lines of a script name its version: they ask nothing, and count.
+fn header_lines(version: Version) -> u32
+    ensures exact { result ≡ header_lines version }
+    ensures few { result ≤ 1 }
+{
+    match version {
+        Version::One => 0,
+        Version::Two => 1,
+    }
+}
+
+/// Runs the lines of a script on a kernel and an output that are new, by the version that the first line names. It counts the lines
+/// that were run, and the one that names the version. Where it ends at a line, for which there was no memory or which is bad, the output
+/// of just the lines counted was written.
 fn run_each<A: Allocator + Copy, T: Sink>(
     alloc: A,
     kernel: &mut Kernel<A>,
@@ -159,10 +182,11 @@ fn run_each<A: Allocator + Copy, T: Sink>(
         × IsCountedRun A script.now limits result totals.new written }
     ensures ends { WritingEnds (T.has_stopped writer.old) (T.has_stopped writer.new) result }
 {
-    let mut rest = script;
+    let (version, mut rest) = split_version(script);
+    totals.lines += header_lines(version);
     while !rest.is_empty() {
         let (line, after) = next_line(rest);
-        if let Err(fault) = run_line(alloc, kernel, out, totals, line) {
+        if let Err(fault) = run_line(alloc, version, kernel, out, totals, line) {
             let answered = out.as_bytes();
             write_whole(writer, answered)?;
             return Err(match fault {
@@ -203,6 +227,8 @@ fn run_lines<A: Allocator + Copy, T: Sink>(
 
 /// Reads a script to its end, runs it on a new kernel, and writes a line for each step and each line `file` before the first bad
 /// one. Answers what it counted.
+///
+/// A script whose first line is `piperun 2` is of version 2: that line counts, and prints nothing. Every other script is of version 1.
 ///
 /// The reader is asked at most `MAX_READS` times. The script is held whole; the output is not, and is written in pieces of
 /// 65,536 bytes or more. `limits.file_max` is at most 16,777,216.

@@ -35,4 +35,6 @@ mod streams;
 #[cfg(test)]
 mod trickling;
 #[cfg(test)]
+mod version_2;
+#[cfg(test)]
 mod words;

@@ -1,5 +1,5 @@
 -- What `hex` decodes are the bytes of the digits.
-use Rattle.std.proofs.Common.{◌≡◌, ℕ, ◌+◌, ◌*◌, ◌/◌, ◌%◌, ◌≤◌, inl, inr, Bool, true, false, cond, eqb, List, [], ◌∷◌, length, Option, Some, None, Result, Ok, Err, refl, sym, ap, ◌∙◌, arith}
+use Rattle.std.proofs.Common.{◌≡◌, ℕ, ◌+◌, ◌*◌, ◌/◌, ◌%◌, ◌≤◌, inl, inr, Bool, true, false, cond, eqb, List, [], ◌∷◌, ◌++◌, length, Option, Some, None, Result, Ok, Err, refl, sym, ap, ◌∙◌, arith}
 use Rattle.std.specs.Prelude.{MatchResult, slice_index_or, is_some, nat_le, IsSomeAnd, IsSome, IfSome, ◌<◌, ◌⊎◌, ◌↔◌, replicate}
 use Rattle.std.specs.List.{AllPass, list_all}
 use Rattle.std.specs.Option.{ok_or}
@@ -95,6 +95,32 @@ none_by (Err other) result new byte fault e decodes err = e
 pub no_byte : (text new : List ℕ) (result : Result (Unit {0}) FromHexError) (fault : FromHexError) → Decodes (decode_sized text 1) result new → result ≡ Err fault → None ≡ one_byte text
 no_byte text new result fault = none_by (decode_sized text 1) result new (one_byte text) fault (one_decoded text)
 
+-- ---- bytes put into their places
+
+-- as many places as the digits have pairs
+decode_all : (text : List ℕ) (n : ℕ) → n ≡ length text / 2 → result_ok (decode_sized text n) ≡ hex_bytes text
+decode_all text n is = by_pairs (eqb (length text % 2) 1) (eqb (length text / 2) n) refl refl
+  where
+    by_pairs : (a b : Bool) → eqb (length text % 2) 1 ≡ a → eqb (length text / 2) n ≡ b → result_ok (cond a (Err OddLength) (cond b (decode_pairs 0 text) (Err InvalidStringLength))) ≡ hex_bytes text
+    by_pairs true b odd same = sym (odd_is_none text (eqb-true _ _ odd))
+    by_pairs false true odd same = pairs_ok 0 text
+    by_pairs false false odd same = absurd (eqb-false _ _ same (sym is))
+
+module _ (text : List ℕ) (n : ℕ) (is : n ≡ length text / 2) (result : Result (Unit {0}) FromHexError) (new : List ℕ) (decodes : Decodes (decode_sized text n) result new) where
+  pub put_behind : (front : List ℕ) → result ≡ Ok tt → IsSomeAnd (hex_bytes text) (λ bytes. front ++ new ≡ front ++ bytes)
+  put_behind front ok = by (decode_sized text n) (hex_bytes text) (decode_all text n is) decodes
+    where
+      by : (wanted : Result (List ℕ) FromHexError) (said : Option (List ℕ)) → result_ok wanted ≡ said → Decodes wanted result new → IsSomeAnd said (λ bytes. front ++ new ≡ front ++ bytes)
+      by (Ok bytes) said e put = rw (← e) (ap (λ b. front ++ b) put.1)
+      by (Err fault) said e put = absurd cc
+
+  pub not_put : (fault : FromHexError) → result ≡ Err fault → hex_bytes text ≡ None
+  not_put fault err = by (decode_sized text n) (hex_bytes text) (decode_all text n is) decodes
+    where
+      by : (wanted : Result (List ℕ) FromHexError) (said : Option (List ℕ)) → result_ok wanted ≡ said → Decodes wanted result new → said ≡ None
+      by (Ok bytes) said e put = absurd cc
+      by (Err other) said e put = sym e
+
 -- ---- the bytes of one write
 
 abbrev is_digit : ℕ → Bool
@@ -108,7 +134,7 @@ ok_of (Err e) bytes h = absurd cc
 pub digits_of : (text bytes : List ℕ) → hex_bytes text ≡ Some bytes → (length text ≡ 2 * length bytes) × AllPass is_digit text
 digits_of text bytes h = let parts = decode_of-ok text bytes (ok_of (decode_of text) bytes (decode_ok text ∙ h)) in (parts.2, parts.1)
 
-one_write_is : (said : Option (List ℕ)) (bytes : List ℕ) → one_write said ≡ Some bytes → (said ≡ Some bytes) × (length bytes ≤ most_bytes)
+pub one_write_is : (said : Option (List ℕ)) (bytes : List ℕ) → one_write said ≡ Some bytes → (said ≡ Some bytes) × (length bytes ≤ most_bytes)
 one_write_is None bytes h = absurd cc
 one_write_is (Some xs) bytes h = few xs bytes (nat_le (length xs) most_bytes) refl h
   where
@@ -119,6 +145,14 @@ one_write_is (Some xs) bytes h = few xs bytes (nat_le (length xs) most_bytes) re
 nowhere_some : {X : Type 0} (o : Option X) → ((x : X) → o ≡ Some x → ⊥) → false ≡ is_some o
 nowhere_some None never = refl
 nowhere_some (Some x) never = absurd (never x refl)
+
+-- places are wanting only where there are some
+pub wants_places : (text before : List ℕ) → 0 < length before + length text / 2 → IfSome (hex_bytes text) (λ bytes. 0 < length before + length bytes)
+wants_places text before some = by (hex_bytes text) refl
+  where
+    by : (said : Option (List ℕ)) → hex_bytes text ≡ said → IfSome said (λ bytes. 0 < length before + length bytes)
+    by None e = tt
+    by (Some bytes) e = let twice = (digits_of text bytes e).0 in omega (arith, twice)
 
 -- an odd number of digits, and too many of them, aren't those of one write
 pub no_write : (text : List ℕ) → (length text % 2 ≡ 1) ⊎ (most_bytes < length text / 2) → false ≡ is_some (one_write (hex_bytes text))
@@ -160,18 +194,19 @@ pub says_none : {X : Type 0} (o : Option X) → is_some o ≡ false → o ≡ No
 says_none None h = refl
 says_none (Some x) h = absurd cc
 
--- what was decoded, given up where it is more than one write takes
-pub decoded : (text bytes : List ℕ) (made : Option (List ℕ)) → decode_of text ≡ Ok bytes → IsSome made ↔ (length bytes ≤ most_bytes) → IfSome made (λ b. b ≡ bytes) → one_write (hex_bytes text) ≡ made
-decoded text bytes (Some b) ok fits list =
-    let said : hex_bytes text ≡ Some bytes = sym (decode_ok text) ∙ ap result_ok ok in
-    rw (said, one_write_few bytes (fits.0 refl), list) refl
-decoded text bytes None ok fits list =
-    let said : hex_bytes text ≡ Some bytes = sym (decode_ok text) ∙ ap result_ok ok in
-    says_none (one_write (hex_bytes text)) (sym (nowhere_some (one_write (hex_bytes text)) (λ x h.
-    let parts = one_write_is (hex_bytes text) x h in
+-- what is said, given up where it is more than one write takes
+pub taken : (said : Option (List ℕ)) (bytes : List ℕ) (made : Option (List ℕ)) → said ≡ Some bytes → IsSome made ↔ (length bytes ≤ most_bytes) → IfSome made (λ b. b ≡ bytes) → one_write said ≡ made
+taken said bytes (Some b) is fits list = rw (is, one_write_few bytes (fits.0 refl), list) refl
+taken said bytes None is fits list =
+    says_none (one_write said) (sym (nowhere_some (one_write said) (λ x h.
+    let parts = one_write_is said x h in
     let same : bytes ≡ x = cc in
     let few : length bytes ≤ most_bytes = rw same parts.1 in
     cc (fits.1 few))))
+
+-- what was decoded
+pub decoded : (text bytes : List ℕ) (made : Option (List ℕ)) → decode_of text ≡ Ok bytes → IsSome made ↔ (length bytes ≤ most_bytes) → IfSome made (λ b. b ≡ bytes) → one_write (hex_bytes text) ≡ made
+decoded text bytes made ok = taken (hex_bytes text) bytes made (sym (decode_ok text) ∙ ap result_ok ok)
 
 -- the bytes are one write's, and some
 pub repeats : (times digits : List ℕ) (n b : ℕ) → number (most_bytes + 1) times ≡ Some n → one_byte digits ≡ Some b → n ≤ most_bytes → 0 < n → IsSomeAnd (one_write (repeated times digits)) BytesTake

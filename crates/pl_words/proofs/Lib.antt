@@ -3,6 +3,7 @@ pub mod WordLemmas
 pub mod NumberLemmas
 pub mod HexBytes
 pub mod Stars
+pub mod PieceLemmas
 pub mod FlagLemmas
 pub mod Behind
 pub mod NameLemmas

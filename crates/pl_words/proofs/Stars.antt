@@ -1,21 +1,17 @@
 -- The `*` of a word of bytes, which stands behind a number.
-use Rattle.std.proofs.Common.{◌≡◌, ℕ, ◌+◌, ◌<◌, ◌≤◌, Bool, true, false, ◌&&◌, List, length, take, drop, get_or, min, Option, Some, None, refl, ap, subst, ◌∙◌, arith}
-use Rattle.std.specs.Prelude.{position, nat_lt, is_some, codes, replicate}
-use Rattle.std.specs.Str.{bytes_eq}
+use Rattle.std.proofs.Common.{◌≡◌, ℕ, ◌+◌, ◌<◌, ◌≤◌, Bool, true, false, ◌&&◌, List, length, take, drop, get_or, min, Option, Some, None, refl, sym, ◌∙◌, arith}
+use Rattle.std.specs.Prelude.{position, nat_lt, is_some, IfSome}
 use Rattle.std.specs.List.{position_or_len, list_all}
 use Rattle.std.proofs.lemmas.Bool.{lt-ltb, ltb-true, lt-leb, eqb-true}
 use Rattle.std.proofs.lemmas.List.{length-take-le}
 use Rattle.std.proofs.lemmas.List.Sums.{passes_at_first, list_all-from_AllPass}
 use Rattle.std.proofs.lemmas.List.Folds.{list_all_at}
 use Rattle.pl_model.specs.Numbers.{most_bytes}
-use Rattle.pl_model.specs.Words.{is_star, hex_digit, hex_bytes, one_byte, number, repeated, digits_or_repeated, bytes_of}
-use Rattle.pl_words.proofs.Places.{place_of, none_near}
-use Rattle.std.proofs.lemmas.Slice.Eq.{bytes_eq-Decides}
-use Rattle.std.proofs.lemmas.List.{length-replicate}
-use Rattle.pl_words.specs.Parsed.{SaysSoMany, one_write}
-use Rattle.pl_words.proofs.HexBytes.{digits_of, one_write_few}
+use Rattle.pl_model.specs.Words.{is_star, hex_digit, hex_bytes, number, repeated, digits_or_repeated}
+use Rattle.pl_words.proofs.Places.{place_of, none_near, first_near}
+use Rattle.pl_words.proofs.HexBytes.{digits_of}
 
-pub near_star : (word : List ℕ) (star : ℕ) → position is_star word ≡ Some star → digits_or_repeated word ≡ repeated (take star word) (drop (star + 1) word)
+near_star : (word : List ℕ) (star : ℕ) → position is_star word ≡ Some star → digits_or_repeated word ≡ repeated (take star word) (drop (star + 1) word)
 unfolding digits_or_repeated
 near_star word star found =
     let at = place_of is_star word star found in
@@ -68,37 +64,23 @@ by_star word true e some none =
     true_false out is = cc
 
 -- where the first 21 bytes have no `*`, the word is digits or says nothing
-pub far_star : (word : List ℕ) (n : ℕ) → n ≡ min (length word) 21 → 0 < length word → position is_star (take n word) ≡ None → digits_or_repeated word ≡ hex_bytes word
+far_star : (word : List ℕ) (n : ℕ) → n ≡ min (length word) 21 → 0 < length word → position is_star (take n word) ≡ None → digits_or_repeated word ≡ hex_bytes word
 far_star word n is some none =
     let le : n ≤ length word = omega arith in
     by_star word (nat_lt (position_or_len is_star word) (length word)) refl some (λ k near lt. none_near is_star word n le none k (omega arith))
 
--- ---- a word that repeats a byte
+-- What a search of the front answers.
+module _ (word : List ℕ) (n : ℕ) (is : n ≡ min (length word) 21) where
+  place_is : (star : ℕ) → Some star ≡ position is_star (take n word) → position is_star word ≡ Some star
+  place_is star e = let le : n ≤ length word = omega arith in first_near is_star word n le star (sym e)
 
-repeated_is : (times digits : List ℕ) (n b : ℕ) → number (most_bytes + 1) times ≡ Some n → one_byte digits ≡ Some b → repeated times digits ≡ Some (replicate n b)
-unfolding repeated
-repeated_is times digits n b times-say digits-say = rw (times-say, digits-say) refl
+  pub star_within : (found : Option ℕ) → found ≡ position is_star (take n word) → IfSome found (λ star. star < length word)
+  star_within None e = tt
+  star_within (Some star) e = let at = place_of is_star word star (place_is star e) in omega (arith, at.0, at.1)
 
-no_dash : (word : List ℕ) (star : ℕ) → position is_star word ≡ Some star → bytes_eq word (codes "-") ≡ false
-no_dash word star found = by (bytes_eq word (codes "-")) refl
-  where
-    dash : word ≡ codes "-" → ⊥
-    dash is = let none : position is_star (codes "-") ≡ None = refl in let here : position is_star (codes "-") ≡ Some star = subst (λ w. position is_star w ≡ Some star) is found in cc
+  pub star_found : (found : Option ℕ) → found ≡ position is_star (take n word) → IfSome found (λ star. digits_or_repeated word ≡ repeated (take star word) (drop (star + 1) word))
+  star_found None e = tt
+  star_found (Some star) e = near_star word star (place_is star e)
 
-    by : (b : Bool) → bytes_eq word (codes "-") ≡ b → bytes_eq word (codes "-") ≡ false
-    by true e = absurd (dash ((bytes_eq-Decides word (codes "-")).0 e))
-    by false e = e
-
--- such a word says so many bytes
-pub says_so_many : (word : List ℕ) (star n : ℕ) → position is_star word ≡ Some star → number (most_bytes + 1) (take star word) ≡ Some n → is_some (one_byte (drop (star + 1) word)) ≡ true → n ≤ most_bytes
-    → SaysSoMany (bytes_of word) n
-unfolding bytes_of
-says_so_many word star n found times-say digits-say few = by (one_byte (drop (star + 1) word)) refl digits-say
-  where
-    by : (byte : Option ℕ) → one_byte (drop (star + 1) word) ≡ byte → is_some byte ≡ true → SaysSoMany (bytes_of word) n
-    by None e h = absurd cc
-    by (Some b) e h =
-        let many : length (replicate n b) ≡ n = length-replicate n b in
-        let said : one_write (digits_or_repeated word) ≡ Some (replicate n b) =
-        ap one_write (near_star word star found ∙ repeated_is (take star word) (drop (star + 1) word) n b times-say e) ∙ one_write_few (replicate n b) (omega arith) in
-        (replicate n b, rw (no_dash word star found) said, many)
+  pub star_nowhere : (found : Option ℕ) → found ≡ position is_star (take n word) → found ≡ None → 0 < length word → digits_or_repeated word ≡ hex_bytes word
+  star_nowhere found e none some = far_star word n is some (sym e ∙ none)

@@ -1,5 +1,5 @@
 -- What a parser answered, against what the words say.
-use Rattle.std.specs.Prelude.{◌≡◌, ◌<◌, ◌^◌, ℕ, ℤ, List, [], ◌∷◌, length, Option, Some, None, Result, Ok, Err, IsSomeAnd, if◌then◌else◌, nat_le, ◌==◌}
+use Rattle.std.specs.Prelude.{◌≡◌, ◌<◌, ◌^◌, ◌++◌, ◌+◌, ℕ, ℤ, List, [], ◌∷◌, length, Option, Some, None, Result, Ok, Err, IsSomeAnd, IfSome, if◌then◌else◌, nat_le, ◌==◌}
 use Rattle.pl_model.specs.declared.flags.PollMask.{PollMask}
 use Rattle.pl_model.specs.Numbers.{most_bytes}
 use Rattle.pl_model.specs.Words.{◌>>=◌, number, signed, is_plain, hex_byte}
@@ -36,9 +36,12 @@ EntriesTake entries = 0 < length entries
 abbrev pub one_write : Option (List ℕ) → Option (List ℕ)
 one_write said = said >>= λ bytes. if nat_le (length bytes) most_bytes then Some bytes else None
 
--- bytes are said, and so many
-abbrev pub SaysSoMany : Option (List ℕ) → ℕ → Type 0
-SaysSoMany said n = (bytes : List ℕ) × (said ≡ Some bytes) × (length bytes ≡ n)
+-- The bytes of a piece were put behind those before, and `Bad` is answered where it says none. Memory is wanting only where there are
+-- bytes before or in the piece; what was put then isn't told.
+abbrev pub PutsPiece : {X : Type 0} → Result X LineFault → Option (List ℕ) → (before after : List ℕ) → Type 0
+PutsPiece (Ok x) said before after = IsSomeAnd said (λ bytes. after ≡ before ++ bytes)
+PutsPiece (Err Bad) said before after = said ≡ None
+PutsPiece (Err NoMemory) said before after = IfSome said (λ bytes. 0 < length before + length bytes)
 
 -- the first byte of a name, and the bytes of the word behind it
 abbrev pub first_of_name : List ℕ → Option (ℕ × List ℕ)

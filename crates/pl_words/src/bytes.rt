@@ -1,13 +1,12 @@
-//! The bytes in words.
-ghost use Rattle.std.specs.Prelude.{◌≡◌, ◌≢◌, ◌<◌, ◌≤◌, length, is_some, IfSome};
+//! The bytes of one piece: digits, or `N*hh`.
+ghost use Rattle.std.specs.Prelude.{◌≡◌, ◌<◌, ◌+◌, length, take, drop, is_some, IfSome, None};
 ghost use Rattle.std.specs.List.{list_all};
-ghost use Rattle.pl_model.specs.Numbers.{most_bytes};
-ghost use Rattle.pl_model.specs.Words.{hex_digit, one_byte, hex_bytes, repeated, digits_or_repeated, bytes_of};
-ghost use Rattle.pl_words.specs.Parsed.{GivesTaking, BytesTake, SaysSoMany, one_write};
+ghost use Rattle.pl_model.specs.Words.{hex_digit, one_byte, hex_bytes, repeated, digits_or_repeated};
+ghost use Rattle.pl_words.specs.Parsed.{GivesTaking, BytesTake, one_write};
 
 use crate::fault::LineFault;
 use crate::numbers::{MOST_DIGITS, parse_count};
-use crate::search::{is_blank, place_of};
+use crate::search::place_of;
 use hex::FromHexError;
 use pl_model::Bytes8;
 use pl_model::numbers::MAX_BYTES;
@@ -36,8 +35,17 @@ fn are_hex_digits(word: &[u8]) -> bool
     word.iter().all(|c| is_hex_digit(*c))
 }
 
+/// Where the `*` of a piece stands, which is behind a number.
+pub(crate) fn star_of(piece: &[u8]) -> Option<usize>
+    ensures within { IfSome result (λ star. star < length piece.now) }
+    ensures found { IfSome result (λ star. digits_or_repeated piece.now ≡ repeated (take star piece.now) (drop (star + 1) piece.now)) }
+    ensures none { result ≡ None → 0 < length piece.now → digits_or_repeated piece.now ≡ hex_bytes piece.now }
+{
+    place_of(b'*', piece.split_at(piece.len().min(MOST_DIGITS + 1)).0)
+}
+
 /// Whether these are the digits of the bytes of one write.
-fn is_one_write(word: &[u8]) -> bool
+pub(crate) fn is_one_write(word: &[u8]) -> bool
     ensures { result ≡ is_some (one_write (hex_bytes word.now)) }
 {
     if word.len() % 2 == 1 {
@@ -89,61 +97,17 @@ fn repeated<A: Allocator + Copy>(
 
 /// The bytes of digits, or of `N*hh`, for one write.
 #[tactic(auto, unfolding(pl_model::specs::Words::digits_or_repeated))]
-fn digits_or_repeated<A: Allocator + Copy>(alloc: A, word: &[u8]) -> Result<Bytes8<A>, LineFault>
+pub(crate) fn digits_or_repeated<A: Allocator + Copy>(
+    alloc: A,
+    word: &[u8],
+) -> Result<Bytes8<A>, LineFault>
     ensures { GivesTaking BytesTake result (one_write (digits_or_repeated word.now)) }
 {
-    // The `*` stands behind a number.
-    let front = word.split_at(word.len().min(MOST_DIGITS + 1)).0;
-    if let Some(star) = place_of(b'*', front) {
+    if let Some(star) = star_of(word) {
         return repeated(alloc, word.split_at(star).0, word.split_at(star + 1).1);
     }
     if word.is_empty() {
         return Err(LineFault::Bad);
     }
     hex_bytes(alloc, word)
-}
-
-/// The bytes of a write: `-` for none, digits, or `N*hh`; at most 16,777,216.
-///
-/// # Errors
-///
-/// `Bad` exactly where the word says no such bytes, whatever the memory. `NoMemory` only where it says a byte or more, and there
-/// was no memory for them.
-#[tactic(auto, unfolding(pl_model::specs::Words::bytes_of))]
-pub fn parse_bytes<A: Allocator + Copy>(alloc: A, word: &[u8]) -> Result<Bytes8<A>, LineFault>
-    ensures { GivesTaking BytesTake result (bytes_of word.now) }
-{
-    if word == b"-".as_slice() {
-        Bytes8::from_vec(Vec::new(alloc)).ok_or(LineFault::Bad)
-    } else {
-        digits_or_repeated(alloc, word)
-    }
-}
-
-/// Whether a line ends, but for blanks, in a `*` and two bytes, as each that repeats a byte does. It looks at the end alone, so that it
-/// costs next to nothing of other lines, however long they are.
-pub fn may_repeat(line: &[u8]) -> bool {
-    let mut end = line.len();
-    while end > 0 && is_blank(line[end - 1]) {
-        end -= 1;
-    }
-    end >= 3 && line[end - 3] == b'*'
-}
-
-/// How many bytes a word `N*hh` says, where it says a byte or more. They aren't made.
-pub fn repeated_count(word: &[u8]) -> Option<usize>
-    ensures some { IfSome result (λ n. n ≢ 0) }
-    ensures few { IfSome result (λ n. n ≤ most_bytes) }
-    ensures said { IfSome result (λ n. SaysSoMany (bytes_of word.now) n) }
-{
-    let front = word.split_at(word.len().min(MOST_DIGITS + 1)).0;
-    let star = place_of(b'*', front)?;
-    let Ok(count) = parse_count(word.split_at(star).0) else {
-        return None;
-    };
-    let byte = one_byte(word.split_at(star + 1).1);
-    if byte.is_none() || count == 0 {
-        return None;
-    }
-    Some(count)
 }

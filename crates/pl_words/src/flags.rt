@@ -1,6 +1,6 @@
 //! The flags in words, and the masks of polls.
 ghost use Rattle.std.specs.List.{slice_split};
-ghost use Rattle.pl_model.specs.Words.{is_comma, open_flag, splice_flag, with_flags, flags_of, flags_if_any, open_flags_if_any, splice_flags_if_any, flags_or_none, poll_flag, poll_mask_of, words};
+ghost use Rattle.pl_model.specs.Words.{is_comma, open_flag, pipe_flag, splice_flag, with_flags, flags_of, flags_if_any, open_flags_if_any, pipe_flags_if_any, splice_flags_if_any, flags_or_none, poll_flag, poll_mask_of, words};
 ghost use Rattle.pl_words.specs.Parsed.{Gives};
 ghost use Rattle.pl_words.specs.Named.{flag_of};
 
@@ -14,6 +14,7 @@ use pl_model::{OpenFlags, PollMask, SpliceFlags};
 #[derive(Clone, Copy)]
 pub(crate) enum Named {
     Open,
+    Pipe,
     Splice,
     Poll,
 }
@@ -32,6 +33,19 @@ fn open_flag(name: &[u8]) -> Result<u8, LineFault>
         Ok(OpenFlags::APPEND.bits())
     } else if name == b"nonblock".as_slice() {
         Ok(OpenFlags::NONBLOCK.bits())
+    } else {
+        Err(LineFault::Bad)
+    }
+}
+
+#[tactic(auto, unfolding(pl_model::specs::Words::pipe_flag))]
+fn pipe_flag(name: &[u8]) -> Result<u8, LineFault>
+    ensures { Gives result (pipe_flag name.now) }
+{
+    if name == b"nonblock".as_slice() {
+        Ok(OpenFlags::NONBLOCK.bits())
+    } else if name == b"direct".as_slice() {
+        Ok(OpenFlags::DIRECT.bits())
     } else {
         Err(LineFault::Bad)
     }
@@ -79,6 +93,7 @@ fn parse_flag(named: Named, name: &[u8]) -> Result<u8, LineFault>
 {
     match named {
         Named::Open => open_flag(name),
+        Named::Pipe => pipe_flag(name),
         Named::Splice => splice_flag(name),
         Named::Poll => poll_flag(name),
     }
@@ -122,6 +137,18 @@ pub fn open_flags_if_any(rest: &[u8]) -> Result<OpenFlags, LineFault>
     ensures { Gives result (open_flags_if_any (words rest.now)) }
 {
     let bits = parse_flags_if_any(Named::Open, rest)?;
+    Ok(OpenFlags::from_bits_retain(bits))
+}
+
+/// The flags of a pipe, in the word that may stand there, names joined by commas; none where there is no word.
+///
+/// # Errors
+///
+/// `Bad` exactly where there is more than one word, or one of its names is none of such a flag.
+pub fn pipe_flags_if_any(rest: &[u8]) -> Result<OpenFlags, LineFault>
+    ensures { Gives result (pipe_flags_if_any (words rest.now)) }
+{
+    let bits = parse_flags_if_any(Named::Pipe, rest)?;
     Ok(OpenFlags::from_bits_retain(bits))
 }
 

@@ -2,8 +2,8 @@
 //!
 //! `next_word`, `word`, `only_word` and `end` part the words of a line. `parse_u32`, `parse_i32`, `parse_i64`, `parse_offset`,
 //! `parse_name`, `parse_flags_or_none` and `parse_bytes` read one, and `only_u64`, `only_i32`, `fd_and_word`, `open_flags_if_any`,
-//! `splice_flags_if_any` and `parse_entries` all the words that are left. `repeated_count` tells how many bytes a word `N*hh` says,
-//! and makes none. `place_of` finds a byte, as the line feed that ends a line, and `without_return` leaves out a carriage
+//! `pipe_flags_if_any`, `splice_flags_if_any` and `parse_entries` all the words that are left. `bytes_len` tells how many bytes a word
+//! says, and makes none. `place_of` finds a byte, as the line feed that ends a line, and `without_return` leaves out a carriage
 //! return there. What words say is defined in `pl_model`, in `specs/Words.antt`; what a reader of them answers, and where it may
 //! find no memory, in `specs/Parsed.antt`.
 #![tactic(auto)]
@@ -13,15 +13,16 @@ mod fault;
 mod flags;
 mod names;
 mod numbers;
+mod pieces;
 mod polls;
 mod search;
 mod words;
 
-pub use bytes::{may_repeat, parse_bytes, repeated_count};
 pub use fault::LineFault;
-pub use flags::{open_flags_if_any, parse_flags_or_none, splice_flags_if_any};
+pub use flags::{open_flags_if_any, parse_flags_or_none, pipe_flags_if_any, splice_flags_if_any};
 pub use names::parse_name;
 pub use numbers::{fd_and_word, only_i32, only_u64, parse_i32, parse_i64, parse_offset, parse_u32};
+pub use pieces::{bytes_len, may_repeat, parse_bytes};
 pub use polls::parse_entries;
 pub use search::place_of;
 pub use words::{end, next_word, only_word, without_return, word};

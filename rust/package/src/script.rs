@@ -11,6 +11,21 @@
 //! assert_eq!(totals.steps, 5);
 //! # Ok::<(), Box<dyn std::error::Error>>(())
 //! ```
+//!
+//! A script whose first line is `piperun 2` is of version 2. Its pipes may be packet pipes, it writes bytes as pieces that `+` joins, and
+//! its output shows them by their runs. That line prints nothing. Every other script is of version 1.
+//!
+//! ```
+//! use bindingclay::Limits;
+//! use bindingclay::script::run;
+//!
+//! let script = b"piperun 2\nstart\n1 pipe direct\n1 write 1 68+5*69\n1 read 0 9\n";
+//! let mut output = Vec::new();
+//! let totals = run(script.as_slice(), &mut output, Limits::default())?;
+//! assert_eq!(output, b"pid 1\nfds 0 1\ncount 6\ndata 68+5*69\n");
+//! assert_eq!((totals.lines, totals.steps), (5, 4));
+//! # Ok::<(), Box<dyn std::error::Error>>(())
+//! ```
 
 pub use crate::parts::model::Totals;
 pub use crate::parts::script::ScriptFault;

@@ -10,6 +10,7 @@ const SCRIPTS: u64 = 500;
 
 /// The words that a line begins with, without the pid.
 const ASKED: &[&str] = &[
+    "piperun",
     "start",
     "fork",
     "exit",
@@ -88,6 +89,7 @@ fn count(counts: &mut BTreeMap<String, u64>, word: Option<&str>) {
 #[test]
 fn every_line_is_asked_and_every_reply_given() {
     let (mut asked, mut answered, mut whole) = (BTreeMap::new(), BTreeMap::new(), 0);
+    let (mut runs, mut packets) = (0, 0);
     for seed in 0..SCRIPTS {
         let script = drawing::script(seed);
         for line in script.lines() {
@@ -100,6 +102,8 @@ fn every_line_is_asked_and_every_reply_given() {
         whole += u64::from(is_whole);
         for line in String::from_utf8(output).expect("text").lines() {
             count(&mut answered, line.split(' ').next());
+            runs += u64::from(line.contains('*') && line.contains('+'));
+            packets += u64::from(line.ends_with("direct"));
         }
     }
     for word in ASKED {
@@ -115,6 +119,7 @@ fn every_line_is_asked_and_every_reply_given() {
             "{word}: {answered:?}"
         );
     }
+    assert!(runs >= 20 && packets >= 5, "{runs} {packets}");
     assert_eq!(whole, SCRIPTS - SCRIPTS / 4);
 }
 

@@ -20,9 +20,19 @@ fn expanded_line(line: &str) -> String {
     }
 }
 
-/// What a script is to print, with the digits of all bytes written out.
+/// Whether a script is of version 2, so that it prints its bytes as pieces itself.
+fn is_of_version_2(script: &Path) -> bool {
+    let text = fs::read_to_string(script).expect("the script");
+    let first = text.split('\n').next().unwrap_or_default();
+    first.strip_suffix('\r').unwrap_or(first) == "piperun 2"
+}
+
+/// What a script is to print; of one of version 1 with the digits of all bytes written out.
 fn wanted(script: &Path) -> String {
     let text = fs::read_to_string(script.with_extension("out")).expect("what it is to print");
+    if is_of_version_2(script) {
+        return text;
+    }
     text.lines()
         .map(|line| expanded_line(line) + "\n")
         .collect()

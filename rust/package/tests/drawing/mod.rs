@@ -39,6 +39,7 @@ const NAMES: &[&str] = &[
     "a%2fb",
     "-",
 ];
+const PIPE_FLAGS: &[&str] = &["nonblock", "direct"];
 const OPEN_FLAGS: &[&str] = &["creat", "excl", "trunc", "append", "nonblock"];
 const SPLICE_FLAGS: &[&str] = &["move", "nonblock", "more", "gift"];
 const MASKS: &[&str] = &["in", "out", "err", "hup", "nval"];
@@ -104,9 +105,26 @@ const DAMAGED: &[&str] = &[
     "1 dup 2147483648",
 ];
 
+/// Lines that version 2 doesn't have either.
+const DAMAGED_IN_VERSION_2: &[&str] = &[
+    "piperun 2",
+    "1 pipe -",
+    "1 pipe direct,",
+    "1 pipe append",
+    "1 setfl 0 direct",
+    "1 write 1 61+",
+    "1 write 1 +61",
+    "1 write 1 61++62",
+    "1 write 1 -+61",
+    "1 write 1 61+-",
+    "1 write 1 3*61+6",
+    "1 write 1 8388609*61+8388608*62",
+];
+
 /// A script as it is drawn, and what is there by then if each line did what it asks.
 struct Drawn {
     draws: Draws,
+    is_of_version_2: bool,
     script: String,
     /// How many descriptors each process has, of pid 1, 2 and so on.
     fds: Vec<u64>,
@@ -115,15 +133,19 @@ struct Drawn {
     parked: u64,
 }
 
-/// The script of a seed. One in four ends at a bad line, and one in sixteen fills a table first.
+/// The script of a seed. One in four ends at a bad line, one in sixteen fills a table first, and one in five is of version 2.
 pub fn script(seed: u64) -> String {
     let mut drawn = Drawn {
         draws: Draws::of(seed),
+        is_of_version_2: seed % 5 == 2,
         script: String::new(),
         fds: vec![0],
         process: 0,
         parked: 0,
     };
+    if drawn.is_of_version_2 {
+        drawn.script.push_str("piperun 2\n");
+    }
     drawn.script.push_str("start\n");
     match seed % 64 {
         15 => drawn.fill("start\n", 1_024),
@@ -136,7 +158,12 @@ pub fn script(seed: u64) -> String {
         drawn.line();
     }
     if seed % 4 == 3 {
-        drawn.script.push_str(drawn.draws.one_of(DAMAGED));
+        let damaged = if drawn.is_of_version_2 && drawn.draws.one_in(2) {
+            DAMAGED_IN_VERSION_2
+        } else {
+            DAMAGED
+        };
+        drawn.script.push_str(drawn.draws.one_of(damaged));
         drawn.script.push_str("\nstart\n");
     }
     drawn.script
@@ -260,6 +287,10 @@ impl Drawn {
     }
 
     fn pipe(&mut self) {
+        if self.is_of_version_2 {
+            let flags = self.flags_if_any(PIPE_FLAGS);
+            return self.ask(&format!("pipe{flags}"), |d| d.more_fds(2));
+        }
         let call = self.draws.one_of(&["pipe", "pipe", "pipe nonblock"]);
         self.ask(call, |d| d.more_fds(2));
     }
@@ -296,7 +327,35 @@ impl Drawn {
                 .collect(),
             _ => format!("{size}*{byte:02X}"),
         };
+        let bytes = if self.is_of_version_2 {
+            self.pieces(bytes)
+        } else {
+            bytes
+        };
         self.ask(&format!("write {fd} {bytes}"), |d| d.parked += 1);
+    }
+
+    /// Bytes with pieces behind them, which often go on with the byte before them.
+    fn pieces(&mut self, bytes: String) -> String {
+        let mut pieces = if bytes == "-" {
+            "61".to_string()
+        } else {
+            bytes
+        };
+        for _ in 0..self.draws.below(4) {
+            let last = pieces[pieces.len() - 2..].to_string();
+            let byte = self
+                .draws
+                .one_of(&[last.as_str(), "61", "62", "00"])
+                .to_string();
+            let times = self.draws.below(7);
+            let piece = match self.draws.below(3) {
+                0 if times > 0 => byte.repeat(times as usize),
+                _ => format!("{times}*{byte}"),
+            };
+            pieces = format!("{pieces}+{piece}");
+        }
+        pieces
     }
 
     fn offset(&mut self) -> String {

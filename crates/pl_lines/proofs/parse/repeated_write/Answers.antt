@@ -13,4 +13,4 @@ returns-clause-said g c =
     let words_are : words (without_return c.args.bytes.now) ≡ c.in_ok-pid.pid.now ∷ (c.in_ok-name.name.now ∷ words c.in_ok-name.rest.now) =
     ap words (sym c.without_return-line.ensures) ∙ c.in_ok-pid.ensures ∙ ap (λ ws. c.in_ok-pid.pid.now ∷ ws) c.in_ok-name.ensures in
     rw (to_z-of_z w32 c.in-Ok.fd fits)
-    (writes_so_many _ c.args.bytes.now c.in_ok-pid.pid.now c.in_ok-name.name.now (words c.in_ok-name.rest.now) c.in-Ok-parse_u32.pid c.in-Ok.fd c.in-Ok.written.now c.in_ok-count.count words_are c.in-Ok-parse_u32.ensures is c.in-Ok.ensures c.in_ok-count.ensures.said)
+    (writes_so_many _ c.args.version c.args.bytes.now c.in_ok-pid.pid.now c.in_ok-name.name.now (words c.in_ok-name.rest.now) c.in-Ok-parse_u32.pid c.in-Ok.fd c.in-Ok.written.now c.in_ok-count.count words_are c.in-Ok-parse_u32.ensures is c.in-Ok.ensures c.in_ok-count.ensures)

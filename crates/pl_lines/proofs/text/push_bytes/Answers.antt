@@ -1,17 +1,19 @@
-use Rattle.std.proofs.Common.{rules, tests}
-use Rattle.std.proofs.lemmas.Result.{err_from_is_err_and}
-use Rattle.pl_lines.proofs.HexText.{no_bytes, some_bytes}
-use Rattle.pl_lines.proofs.Pushing.{nothing}
+use Rattle.std.proofs.Common.{◌≡◌, ◌<◌, length, refl, rules, tests}
+use Rattle.pl_lines.proofs.HexText.{no_bytes, some_digits, some_runs}
+use Rattle.pl_lines.proofs.Pushing.{pushed, behind}
 use Rattle.pl_lines.proofs.text.push_bytes.Goals as goal
 
 pub returns-then-is_empty : goal.returns-then-is_empty
-returns-then-is_empty g c = rw (no_bytes c.args.bytes.now (search (rules, tests))) c.push_two.ensures
+returns-then-is_empty g c =
+    let none : length c.args.bytes.now ≡ 0 = search (rules, tests) in
+    behind _ _ c.in_ok-push_str.was (pushed _ _ _ c.args.name.now c.push_str.ensures.bytes) (pushed _ _ _ _ c.push_str-then-is_empty.ensures.bytes) (rw (no_bytes c.args.version c.args.bytes.now none) refl)
 
-pub returns-in_err-digits : goal.returns-in_err-digits
-returns-in_err-digits g c =
-    let is = err_from_is_err_and c.from_residual.result c.from_residual.ensures.1 in
-    nothing _ _ is.1
+pub returns-in-One : goal.returns-in-One
+returns-in-One g c =
+    let some : 0 < length c.args.bytes.now = search (rules, tests) in
+    behind _ _ c.in_ok-push_str.was (pushed _ _ _ c.args.name.now c.push_str.ensures.bytes) c.push_digits.ensures (rw (c.in-One.is, some_digits c.args.bytes.now some) refl)
 
-pub returns : goal.returns
-returns g c =
-    rw (some_bytes c.args.bytes.now (search (rules, tests)), ← c.in_ok-digits.ensures, ← c.as_str.ensures.value) c.push_two-2.ensures
+pub returns-in-Two : goal.returns-in-Two
+returns-in-Two g c =
+    let some : 0 < length c.args.bytes.now = search (rules, tests) in
+    behind _ _ c.in_ok-push_str.was (pushed _ _ _ c.args.name.now c.push_str.ensures.bytes) c.push_runs.ensures (rw (c.in-Two.is, some_runs c.args.bytes.now some) refl)

@@ -1,6 +1,7 @@
 use Rattle.std.proofs.Common.{sym}
 use Rattle.std.proofs.lemmas.Result.{err_from_is_err_and}
-use Rattle.pl_lines.proofs.Masks.{no_name_yet, name_put, name_left_out, stopped}
+use Rattle.pl_lines.proofs.Masks.{no_name_yet, name_put, name_left_out}
+use Rattle.pl_lines.proofs.Pushing.{stopped}
 use Rattle.pl_lines.proofs.text.push_names.Goals as goal
 use Rattle.pl_lines.proofs.text.push_names.Goals.{then-contains+in_ok-push_name, else-contains}
 

@@ -7,4 +7,4 @@ use Rattle.pl_script.proofs.running.refusal_of_line.Goals as goal
 pub returns : goal.returns
 returns g c =
     let fits : SFits w32 c.in_ok-write.write.fd = search rules in
-    is_refused (Stands c.args.kernel.now) c.args.line.now c.in_ok-write.write.pid c.in_ok-write.write.fd c.in_ok-write.write.count c.refusal_of_write.result c.in_ok-write.ensures.said (rw (to_z-of_z w32 c.in_ok-write.write.fd fits) at c.refusal_of_write.ensures.some)
+    is_refused c.args.version (Stands c.args.kernel.now) c.args.line.now c.in_ok-write.write.pid c.in_ok-write.write.fd c.in_ok-write.write.count c.refusal_of_write.result c.in_ok-write.ensures.said (rw (to_z-of_z w32 c.in_ok-write.write.fd fits) at c.refusal_of_write.ensures.some)

@@ -1,0 +1,109 @@
+//! Bytes by runs, as version 2 shows them.
+ghost use Rattle.std.specs.Prelude.{◌<◌, [], ◌∷◌, length, string_bytes, slice_index};
+ghost use Rattle.pl_model.specs.Shown.{Times, hex_text, piece_text, runs_text};
+ghost use Rattle.pl_lines.specs.Pushed.{Pushes};
+ghost use Rattle.pl_lines.specs.Runs.{IsBeforeFour, IsFirstRun};
+
+use crate::text::{push_digits, push_number};
+use std::alloc::{AllocError, Allocator};
+
+/// Digits of fewer bytes than these are put one by one.
+const SHORT: usize = 16;
+
+/// How many bytes stand before the first four that are equal: all of them belong to shorter runs.
+fn digits_len(bytes: &[u8]) -> usize
+    ensures { IsBeforeFour bytes.now result }
+{
+    let mut len = 0;
+    while bytes.len() - len >= 4 {
+        // The last two bytes that differ tell how many places can be passed over.
+        let last = bytes[len + 3];
+        if bytes[len + 2] != last {
+            len += 3;
+        } else if bytes[len + 1] != last {
+            len += 2;
+        } else if bytes[len] != last {
+            len += 1;
+        } else {
+            return len;
+        }
+    }
+    bytes.len()
+}
+
+/// How many bytes in front are equal.
+fn run_len(bytes: &[u8]) -> usize
+    requires { 0 < length bytes.now }
+    ensures { IsFirstRun bytes.now result }
+{
+    let byte = bytes[0];
+    match bytes.iter().position(|c| *c != byte) {
+        Some(len) => len,
+        None => bytes.len(),
+    }
+}
+
+/// Adds a byte as two digits, in lower case.
+fn push_byte<A: Allocator + Copy>(text: &mut String<A>, byte: u8) -> Result<(), AllocError>
+    ensures { Pushes result (string_bytes text.old) (string_bytes text.new) (hex_text (byte ∷ [])) }
+{
+    let digits = b"0123456789abcdef".as_slice();
+    text.push(char::from(digits[usize::from(byte / 16)]))?;
+    text.push(char::from(digits[usize::from(byte % 16)]))
+}
+
+/// Adds the bytes of a piece of digits. A short one takes no memory of its own.
+fn push_piece<A: Allocator + Copy>(
+    alloc: A,
+    text: &mut String<A>,
+    bytes: &[u8],
+) -> Result<(), AllocError>
+    ensures { Pushes result (string_bytes text.old) (string_bytes text.new) (hex_text bytes.now) }
+{
+    if bytes.len() >= SHORT {
+        return push_digits(alloc, text, bytes);
+    }
+    for byte in bytes {
+        push_byte(text, *byte)?;
+    }
+    Ok(())
+}
+
+/// Adds a run: how often its byte stands there, and the byte.
+fn push_run<A: Allocator + Copy>(text: &mut String<A>, run: &[u8]) -> Result<(), AllocError>
+    requires { 0 < length run.now }
+    ensures { Pushes result (string_bytes text.old) (string_bytes text.new) (piece_text (Times (length run.now) (slice_index run.now 0))) }
+{
+    push_number(text, "", run.len())?;
+    text.push_str("*")?;
+    push_byte(text, run[0])
+}
+
+/// Adds the pieces of bytes, of which there are some, joined by `+`.
+pub(crate) fn push_runs<A: Allocator + Copy>(
+    alloc: A,
+    text: &mut String<A>,
+    bytes: &[u8],
+) -> Result<(), AllocError>
+    ensures { Pushes result (string_bytes text.old) (string_bytes text.new) (runs_text bytes.now) }
+{
+    let mut others = false;
+    let mut rest = bytes;
+    while !rest.is_empty() {
+        if others {
+            text.push_str("+")?;
+        }
+        let len = digits_len(rest);
+        if len == 0 {
+            let (run, behind) = rest.split_at(run_len(rest));
+            push_run(text, run)?;
+            rest = behind;
+        } else {
+            let (digits, behind) = rest.split_at(len);
+            push_piece(alloc, text, digits)?;
+            rest = behind;
+        }
+        others = true;
+    }
+    Ok(())
+}
