@@ -15,6 +15,7 @@
 #![tactic(auto)]
 
 mod calls;
+mod digits;
 mod lines;
 mod parse;
 mod runs;

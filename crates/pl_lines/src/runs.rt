@@ -1,14 +1,12 @@
 //! Bytes by runs, as version 2 shows them.
-ghost use Rattle.std.specs.Prelude.{◌<◌, [], ◌∷◌, length, string_bytes, slice_index};
-ghost use Rattle.pl_model.specs.Shown.{Times, hex_text, piece_text, runs_text};
+ghost use Rattle.std.specs.Prelude.{◌<◌, length, string_bytes, slice_index};
+ghost use Rattle.pl_model.specs.Shown.{Times, piece_text, runs_text};
 ghost use Rattle.pl_lines.specs.Pushed.{Pushes};
 ghost use Rattle.pl_lines.specs.Runs.{IsBeforeFour, IsFirstRun};
 
-use crate::text::{push_digits, push_number};
+use crate::digits::{push_byte, push_digits};
+use crate::text::push_number;
 use std::alloc::{AllocError, Allocator};
-
-/// Digits of fewer bytes than these are put one by one.
-const SHORT: usize = 16;
 
 /// How many bytes stand before the first four that are equal: all of them belong to shorter runs.
 fn digits_len(bytes: &[u8]) -> usize
@@ -43,32 +41,6 @@ fn run_len(bytes: &[u8]) -> usize
     }
 }
 
-/// Adds a byte as two digits, in lower case.
-fn push_byte<A: Allocator + Copy>(text: &mut String<A>, byte: u8) -> Result<(), AllocError>
-    ensures { Pushes result (string_bytes text.old) (string_bytes text.new) (hex_text (byte ∷ [])) }
-{
-    let digits = b"0123456789abcdef".as_slice();
-    text.push(char::from(digits[usize::from(byte / 16)]))?;
-    text.push(char::from(digits[usize::from(byte % 16)]))
-}
-
-/// Adds the bytes of a piece of digits. A short one takes no memory of its own.
-fn push_piece<A: Allocator + Copy>(
-    alloc: A,
-    text: &mut String<A>,
-    bytes: &[u8],
-) -> Result<(), AllocError>
-    ensures { Pushes result (string_bytes text.old) (string_bytes text.new) (hex_text bytes.now) }
-{
-    if bytes.len() >= SHORT {
-        return push_digits(alloc, text, bytes);
-    }
-    for byte in bytes {
-        push_byte(text, *byte)?;
-    }
-    Ok(())
-}
-
 /// Adds a run: how often its byte stands there, and the byte.
 fn push_run<A: Allocator + Copy>(text: &mut String<A>, run: &[u8]) -> Result<(), AllocError>
     requires { 0 < length run.now }
@@ -100,7 +72,7 @@ pub(crate) fn push_runs<A: Allocator + Copy>(
             rest = behind;
         } else {
             let (digits, behind) = rest.split_at(len);
-            push_piece(alloc, text, digits)?;
+            push_digits(alloc, text, digits)?;
             rest = behind;
         }
         others = true;

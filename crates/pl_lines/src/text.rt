@@ -8,6 +8,7 @@ ghost use Rattle.pl_model.specs.Shown.{hex_text, bytes_text, file_text, errno_te
 ghost use Rattle.pl_model.specs.declared.script.Version.TheVariants.{One, Two};
 ghost use Rattle.pl_lines.specs.Pushed.{Pushes, next_name};
 
+use crate::digits::push_digits;
 use crate::runs::push_runs;
 use bitflags::Flags;
 use itoa::{Buffer, Integer};
@@ -35,18 +36,6 @@ pub(crate) fn push_number<A: Allocator + Copy, I: Integer>(
     ensures { Pushes result (string_bytes text.old) (string_bytes text.new) (name.now ++ I.text number) }
 {
     push_two(text, name, Buffer::new().format(number))
-}
-
-/// Adds the bytes, as hexadecimal digits in lower case.
-pub(crate) fn push_digits<A: Allocator + Copy>(
-    alloc: A,
-    text: &mut String<A>,
-    bytes: &[u8],
-) -> Result<(), AllocError>
-    ensures { Pushes result (string_bytes text.old) (string_bytes text.new) (hex_text bytes.now) }
-{
-    let digits = hex::encode(alloc, bytes)?;
-    text.push_str(digits.as_str())
 }
 
 /// Adds the bytes behind their name, as digits, or by runs in version 2; `-` for none.

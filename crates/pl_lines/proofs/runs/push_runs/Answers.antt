@@ -50,7 +50,7 @@ loop-rest-preserved g c =
     let some : 0 < c.digits_len-len.result = omega arith in
     let are = digits_first c.loop-rest.rest.now c.digits_len-len.result some c.digits_len-len.ensures in
     let so_far = signed g path.After-digits_len-len _ _ are in
-    rw parts.back (piece_put c.args.bytes.now (Digits (take c.digits_len-len.result c.loop-rest.rest.now)) _ _ so_far c.in_ok-push_piece.was (rw (← parts.front) c.push_piece.ensures))
+    rw parts.back (piece_put c.args.bytes.now (Digits (take c.digits_len-len.result c.loop-rest.rest.now)) _ _ so_far c.in_ok-push_digits.was (rw (← parts.front) c.push_digits.ensures))
 
 pub returns : goal.returns
 returns g c =

@@ -1,7 +1,7 @@
 use Rattle.std.proofs.lemmas.Result.{err_from_is_err_and}
 use Rattle.pl_lines.proofs.HexText.{hex_text_is}
 use Rattle.pl_lines.proofs.Pushing.{nothing, pushed}
-use Rattle.pl_lines.proofs.text.push_digits.Goals as goal
+use Rattle.pl_lines.proofs.digits.push_encoded.Goals as goal
 
 pub returns-in_err-digits : goal.returns-in_err-digits
 returns-in_err-digits g c =

@@ -3,7 +3,7 @@ use Rattle.std.proofs.lemmas.List.{drop_all}
 use Rattle.std.proofs.lemmas.Result.{err_from_is_err_and}
 use Rattle.pl_lines.proofs.HexText.{hex_next, hex_text-nil}
 use Rattle.pl_lines.proofs.Pushing.{one_more, stopped, all_put}
-use Rattle.pl_lines.proofs.runs.push_piece.Goals as goal
+use Rattle.pl_lines.proofs.digits.push_digits.Goals as goal
 
 pub returns-in_err-push_byte : goal.returns-in_err-push_byte
 returns-in_err-push_byte g c =

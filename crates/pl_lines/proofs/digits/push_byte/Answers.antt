@@ -2,7 +2,7 @@ use Rattle.std.proofs.Common.{◌≡◌, ◌<◌, ◌/◌, ◌%◌, slice_index,
 use Rattle.pl_model.specs.Shown.{lower_digits, hex_text}
 use Rattle.pl_lines.proofs.HexText.{digit_ascii}
 use Rattle.pl_lines.proofs.Pushing.{pushed, behind}
-use Rattle.pl_lines.proofs.runs.push_byte.Goals as goal
+use Rattle.pl_lines.proofs.digits.push_byte.Goals as goal
 
 pub returns : goal.returns
 unfolding hex_text
