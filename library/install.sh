@@ -4,6 +4,7 @@
 #   PREFIX/include/bindingclay.h
 #   PREFIX/lib/libbindingclay.a            with the three functions by which it takes memory from malloc
 #   PREFIX/lib/pkgconfig/bindingclay.pc
+#   PREFIX/share/man                       the manual pages of man/, and links to them by the names of functions
 #
 # Environment, each with what is taken without it:
 #   ARCHIVE  the library as rt lib built it    crates/bindingclay/out/libbindingclay.a
@@ -60,3 +61,16 @@ Libs: -L"\${libdir}" -lbindingclay
 Cflags: -I"\${includedir}"
 END
 install -m 644 "$work/bindingclay.pc" "$prefix/lib/pkgconfig/bindingclay.pc"
+
+# A page of section 3 is found by the name of each function that its section NAME has.
+for page in "$here"/man/*.[137]; do
+    file=${page##*/}
+    section=man${file##*.}
+    mkdir -p -- "$prefix/share/man/$section"
+    install -m 644 "$page" "$prefix/share/man/$section/$file"
+    [ "$section" = man3 ] || continue
+    # shellcheck disable=SC2013 # names without blanks
+    for name in $(sed -n '/^\.Sh NAME$/,/^\.Nd/s/^\.Nm \([a-z0-9_]*\).*/\1/p' "$page"); do
+        [ "$name.3" = "$file" ] || printf '.so man3/%s\n' "$file" > "$prefix/share/man/man3/$name.3"
+    done
+done

@@ -183,8 +183,8 @@ void bindingclay_end(bindingclay clay, void **budget);
 void bindingclay_tell_memory(bindingclay clay, bindingclay_memory_use *memory);
 
 /* Makes a kernel without processes, within limits, and writes its pointer to *kernel. Returns false, and writes nothing, if memory runs
- * out. It does the same if a limit lets a pipe or a file have more bytes than any may, or if size isn't the size of such a struct. The
- * kernel is yours: free it with bindingclay_free. */
+ * out. It does the same if a limit lets a pipe or a file have more bytes than any may. So it does if size isn't the size of such a struct.
+ * The kernel is yours: free it with bindingclay_free. */
 static inline bool bindingclay_open_within(const bindingclay_limits *limits, void **kernel)
 {
     void *budget = NULL;

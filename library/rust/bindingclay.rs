@@ -1,7 +1,8 @@
 //! Bindingclay for Rust: POSIX pipes, FIFOs and regular files in the memory of one process.
 //!
-//! A wrapper of the library for C with methods, for rustc alone. `bindingclay.h` tells of each call what it does, its page of the
-//! standard and its errors, and of all of them what holds of threads, waiting and memory. Link with `-l static=bindingclay`.
+//! A wrapper of the library for C with methods, which needs no other crate. `bindingclay.h` tells of each call what it does, its page of
+//! the standard and its errors, and of all of them what holds of threads, waiting and memory. Cargo takes the folder of this file by path.
+//! As a module of your own it is linked with `-l static=bindingclay`.
 //!
 //! A `Clay` may move between threads, and is used by one at a time: put it into a `Mutex` to share it. Two of them need no lock.
 

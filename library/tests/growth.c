@@ -188,28 +188,45 @@ static double seconds_of_a_move(size_t size)
     return least;
 }
 
+/* The kinds of changes of a file that are measured. */
+enum { KINDS = 4 };
+
+/* Measures each kind of change of a file of so many slots, and keeps the least seconds. */
+static void measure_changes(long slots, double least[KINDS])
+{
+    bindingclay clay = kernel_with_process();
+    fill_by_bytes(clay, slots);
+    double taken[KINDS];
+    taken[0] = seconds_of_a_change(clay, false, 1);
+    taken[1] = seconds_of_a_change(clay, false, (uint64_t)slots / 1000 + 1);
+    taken[2] = seconds_of_a_change(clay, true, 1);
+    taken[3] = seconds_of_a_sweep(clay, slots);
+    bindingclay_free(clay);
+    for (int kind = 0; kind < KINDS; kind++)
+        least[kind] = taken[kind] < least[kind] ? taken[kind] : least[kind];
+}
+
 /* A change of a file costs what it changes, however many slots there are, and wherever it is; and once for 64 slots that come or go the list
- * of the chunks behind moves: 48 bytes for each 64 slots at most. */
+ * of the chunks behind moves: 48 bytes for each 64 slots at most. If something else took the processor meanwhile, it is measured again. */
 static void a_change_among_many_slots(long count)
 {
-    const char *of[] = { "splices into the front", "splices far apart", "writes into the front", "slots copied together" };
-    double taken[2][4];
-    for (int i = 0; i < 2; i++) {
-        long slots = i == 0 ? count / 16 : count;
-        bindingclay clay = kernel_with_process();
-        fill_by_bytes(clay, slots);
-        taken[i][0] = seconds_of_a_change(clay, false, 1);
-        taken[i][1] = seconds_of_a_change(clay, false, (uint64_t)slots / 1000 + 1);
-        taken[i][2] = seconds_of_a_change(clay, true, 1);
-        taken[i][3] = seconds_of_a_sweep(clay, slots);
-        bindingclay_free(clay);
-    }
+    enum { MOST_TRIES = 5 };
+    const char *of[KINDS] = { "splices into the front", "splices far apart", "writes into the front", "slots copied together" };
+    double few[KINDS] = { 1e9, 1e9, 1e9, 1e9 }, many[KINDS] = { 1e9, 1e9, 1e9, 1e9 };
     double list = seconds_of_a_move((size_t)(count / 64 * 48)) / 64;
-    for (int kind = 0; kind < 4; kind++) {
-        if (count >= LARGE)
-            HOLDS(taken[1][kind] < 4 * (taken[0][kind] + list));
-        printf("%s, of %ld %.0f ns each, of %ld %.0f ns\n", of[kind], count / 16, taken[0][kind] * 1e9, count, taken[1][kind] * 1e9);
+    bool is_flat = false;
+    for (int attempt = 0; attempt < MOST_TRIES && !is_flat; attempt++) {
+        measure_changes(count / 16, few);
+        measure_changes(count, many);
+        is_flat = true;
+        for (int kind = 0; kind < KINDS; kind++)
+            is_flat = is_flat && many[kind] < 4 * (few[kind] + list);
+        if (count < LARGE)
+            break;
     }
+    HOLDS(is_flat || count < LARGE);
+    for (int kind = 0; kind < KINDS; kind++)
+        printf("%s, of %ld %.0f ns each, of %ld %.0f ns\n", of[kind], count / 16, few[kind] * 1e9, count, many[kind] * 1e9);
 }
 
 /* The byte of a slot of scattered_file. */

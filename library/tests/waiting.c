@@ -2,6 +2,7 @@
 #include "check.h"
 
 #include <fcntl.h>
+#include <poll.h>
 
 static void no_calls(void)
 {
@@ -54,12 +55,19 @@ static void numbers(void)
     bindingclay_free(clay);
 }
 
-/* The first number may be 0, and then the next one is 1. */
-static void a_first_number_of_0(void)
+/* A kernel whose first number is 0, with a process and a pipe. */
+static bindingclay numbered_from_0(void)
 {
     bindingclay clay = new_kernel(0, 0);
     DONE(bindingclay_start(clay), 1);
     NEW_PIPE(clay, 1, false);
+    return clay;
+}
+
+/* The first number may be 0, and then the next one is 1. */
+static void a_first_number_of_0(void)
+{
+    bindingclay clay = numbered_from_0();
     OTHER(bindingclay_owner(clay, 0), BINDINGCLAY_NO_CALL);
     PARKED(take(clay, 1, 0, 1), 0);
     DONE(bindingclay_owner(clay, 0), 1);
@@ -71,6 +79,33 @@ static void a_first_number_of_0(void)
     PARKED(take(clay, 1, 0, 1), 2);
     OTHER(bindingclay_interrupt(clay, 0), BINDINGCLAY_NO_CALL);
     bindingclay_free(clay);
+}
+
+/* A call whose number is 0 is resumed and interrupted as any other, by its number alone and by its process too. */
+static void whatever_is_done_with_0(void)
+{
+    for (int way = 0; way < 2; way++) {
+        bindingclay clay = numbered_from_0();
+        bindingclay_pollfd entry = { .fd = 0, .events = POLLIN, .revents = 77 };
+        PARKED(bindingclay_poll(clay, 1, &entry, 1, true), 0);
+        OTHER(bindingclay_resume_poll_of(clay, 2, 0, &entry, 1), BINDINGCLAY_NO_CALL);
+        DONE(put(clay, 1, 1, "a"), 1);
+        DONE(way == 0 ? bindingclay_resume_poll(clay, 0, &entry, 1) : bindingclay_resume_poll_of(clay, 1, 0, &entry, 1), 1);
+        HOLDS(entry.revents == POLLIN);
+        bindingclay_free(clay);
+
+        clay = numbered_from_0();
+        PARKED(take(clay, 1, 0, 1), 0);
+        OTHER(bindingclay_resume_of(clay, 2, 0, NULL, 0), BINDINGCLAY_NO_CALL);
+        PARKED(way == 0 ? again(clay, 0) : bindingclay_resume_of(clay, 1, 0, NULL, 0), 0);
+        OTHER(bindingclay_interrupt_of(clay, 2, 0), BINDINGCLAY_NO_CALL);
+        DONE(bindingclay_owner(clay, 0), 1);
+        FAULT(way == 0 ? bindingclay_interrupt(clay, 0) : bindingclay_interrupt_of(clay, 1, 0), EINTR);
+        OTHER(bindingclay_owner(clay, 0), BINDINGCLAY_NO_CALL);
+        OTHER(again(clay, 0), BINDINGCLAY_NO_CALL);
+        PARKED(take(clay, 1, 0, 1), 1);
+        bindingclay_free(clay);
+    }
 }
 
 static void room_of_a_read(void)
@@ -234,6 +269,7 @@ int main(void)
     no_calls();
     numbers();
     a_first_number_of_0();
+    whatever_is_done_with_0();
     room_of_a_read();
     kept_ends();
     interrupted();

@@ -98,7 +98,7 @@ class Scene:
         self.lines.append(line)
         request = parse_line(line.encode("ascii"), self.version)
         if request is not None:
-            request(self.machine)
+            request.step(self.machine)
 
     def happens(self, part: float) -> bool:
         """Whether something happens that happens in this part of the cases."""

@@ -143,11 +143,17 @@ class Plain(enum.Enum):
     NO_PROCESS = "no process"
     NO_CALL = "no call"
     CALLS_SPENT = "calls spent"
+    NO_MEMORY = "nomem"
 
 
 Reply = Union[
     NewProcess, NewDescriptor, NewPipe, Count, Data, Offset, StatusFlags, Capacity, Masks, Fault, Parked, FileContent, Plain
 ]
+
+
+def says_no(reply: Reply) -> bool:
+    """Whether a step was refused. It has changed nothing then, unless it ended a waiting call."""
+    return isinstance(reply, Fault) or reply in (Plain.NO_PROCESS, Plain.NO_CALL, Plain.CALLS_SPENT)
 
 
 class Refused(Exception):

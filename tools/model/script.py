@@ -2,10 +2,10 @@
 from __future__ import annotations
 
 import enum
-import itertools
+import functools
 import re
 from dataclasses import dataclass
-from typing import Any, Callable, Dict, FrozenSet, Iterator, List, Optional, Tuple, Type, TypeVar
+from typing import Any, Callable, Dict, FrozenSet, Iterator, List, Optional, Pattern, Tuple, Type, TypeVar
 
 import replies
 from machine import Machine, OpenFlag, PipeFlag, PipeFlags, SpliceFlag, Whence
@@ -32,7 +32,6 @@ REPEATED = re.compile(r"([0-9]{1,20})\*([0-9a-fA-F]{2})")
 
 Word = TypeVar("Word", bound=enum.Enum)
 Parser = Callable[[str], Any]
-Request = Callable[[Machine], Reply]
 
 
 class Version(enum.Enum):
@@ -256,6 +255,15 @@ WITHOUT_PROCESS: Dict[str, Form] = {
 }
 
 
+@dataclass(frozen=True)
+class Request:
+    """What a line asks of the machine, with the word that names it."""
+
+    line: bytes
+    word: str
+    step: Callable[[Machine], Reply]
+
+
 def words_of(line: bytes) -> List[str]:
     """The words of a line, which blanks part. One carriage return that ends the line is a blank."""
     if line.endswith(b"\r"):
@@ -272,13 +280,13 @@ def parse_line(line: bytes, version: Version = Version.ONE) -> Optional[Request]
     alone = WITHOUT_PROCESS.get(words[0])
     if alone is not None:
         step, given = alone.call, alone.arguments(words[1:])
-        return lambda machine: step(machine, *given)
+        return Request(line, words[0], lambda machine: step(machine, *given))
     pid = pid_or_length(words[0])
     form = FORMS_OF[version].get(words[1]) if len(words) > 1 else None
     if form is None:
         raise BadLine
     call, arguments = form.call, form.arguments(words[2:])
-    return lambda machine: machine.begin(pid, call, *arguments)
+    return Request(line, words[1], lambda machine: machine.begin(pid, call, *arguments))
 
 
 # The texts of replies
@@ -289,20 +297,33 @@ def digits(data: bytes) -> str:
     return data.hex() or "-"
 
 
+@functools.lru_cache(maxsize=None)
+def equal_to(byte: int) -> Pattern[bytes]:
+    """A run of this byte."""
+    return re.compile(re.escape(bytes([byte])) + b"+")
+
+
+def runs(data: bytes) -> Iterator[Tuple[int, int]]:
+    """Where the maximal runs of equal bytes begin, and how long they are."""
+    place = 0
+    while place < len(data):
+        found = equal_to(data[place]).match(data, place)
+        assert found is not None
+        yield place, found.end() - place
+        place = found.end()
+
+
 def pieces_shown(data: bytes) -> Iterator[str]:
     """The pieces of bytes: one for each run of equal bytes that is long enough, and one for the bytes between two of these."""
-    short = bytearray()
-    for byte, equal in itertools.groupby(data):
-        length = sum(1 for _ in equal)
-        if length < LEAST_RUN:
-            short += bytes([byte]) * length
-            continue
-        if short:
-            yield short.hex()
-            short.clear()
-        yield f"{length}*{byte:02x}"
-    if short:
-        yield short.hex()
+    shown = 0
+    for place, length in runs(data):
+        if length >= LEAST_RUN:
+            if shown < place:
+                yield data[shown:place].hex()
+            yield f"{length}*{data[place]:02x}"
+            shown = place + length
+    if shown < len(data):
+        yield data[shown:].hex()
 
 
 def by_runs(data: bytes) -> str:
@@ -397,7 +418,12 @@ def version_of(lines: List[bytes]) -> Version:
     return Version.TWO if lines and lines[0] in (HEADER, HEADER + b"\r") else Version.ONE
 
 
-def run(script: bytes, first_call: int = 1) -> Run:
+def answer(machine: Machine, request: Request) -> Reply:
+    """Makes the step of a request."""
+    return request.step(machine)
+
+
+def run(script: bytes, first_call: int = 1, answering: Callable[[Machine, Request], Reply] = answer) -> Run:
     """Runs a script until its end, or until its first bad line. A first line that tells the version asks nothing."""
     if len(script) > MOST_SCRIPT_BYTES:
         return Run([], f"piperun: script longer than {MOST_SCRIPT_BYTES} bytes", 3)
@@ -413,5 +439,5 @@ def run(script: bytes, first_call: int = 1) -> Run:
         except BadLine:
             return Run(answers, f"piperun: line {line_number}: not a command", 3)
         if request is not None:
-            answers.append(Answer(line_number, reply_text(request(machine), version)))
+            answers.append(Answer(line_number, reply_text(answering(machine, request), version)))
     return Run(answers)

@@ -1,10 +1,11 @@
 //! Descriptions and processes where there is memory, where a limit is met, and where the Nth request for memory is refused.
-ghost use Rattle.std.specs.Prelude.{◌≡◌, []};
+ghost use Rattle.std.specs.Prelude.{◌≡◌, ◌<◌, ◌^◌, [], ℕ, IsTrue};
+ghost use Rattle.pl_desc.specs.Rows.{is_pid, count_at};
 
 use crate::equal::is;
 use pl_desc::{Descs, NoMemory, OpenFault, Released, StartFault};
 use pl_model::{Mode, Node, OpenFlags};
-use pl_refusing::Refusing;
+use pl_refusing::{MOST_REQUESTS, Refusing, all_were_refused};
 use std::alloc::{Allocator, Global};
 use std::process::Abort;
 use std::test::Fail;
@@ -40,11 +41,38 @@ fn open_past_all_memory<A: Allocator + Copy>(rt: &impl Abort, descs: &mut Descs<
     is(rt, "readers", descs.readers(Node::Pipe(usize::MAX)), 0);
 }
 
-/// A parent opens the only description, and a child has it too. Answers its key.
+/// Copies the table of the only process, whose only description is the only one. A copy that is refused memory leaves nothing behind, and is
+/// made again. Answers the pid of the copy.
+fn copy_at_last<A: Allocator + Copy>(
+    rt: &impl Abort,
+    heap: &Refusing<Global>,
+    descs: &mut Descs<A>,
+    pid: u32,
+    node: Node,
+) -> Result<u32, StartFault>
+    requires process { IsTrue (is_pid descs.old.tables pid) }
+    requires few { (key : ℕ) → count_at descs.old.loose key < 2 ^ 100 }
+{
+    let copied = descs.copy_table(pid);
+    is(rt, "a copy", copied.is_ok(), !heap.refused());
+    let Err(StartFault::NoMemory) = copied else {
+        return copied;
+    };
+    is(rt, "a process", descs.has(2), false);
+    is(rt, "live", descs.live(), 1);
+    is(rt, "readers", descs.readers(node), 1);
+    is(rt, "still open", descs.find(pid, 0).is_some(), true);
+    descs.copy_table(pid)
+}
+
+/// A parent opens the only description, and a child has it too, also where the `n`th request of its start is refused at first. Answers its
+/// key.
 fn fork_with_one<A: Allocator + Copy>(
     rt: &impl Abort,
+    heap: &Refusing<Global>,
     descs: &mut Descs<A>,
     node: Node,
+    n: u64,
 ) -> Result<usize, Fail>
     requires { descs.old ≡ record { tables = []; opened = []; loose = []; room = record { descriptions = 0; pipes = 0; files = 0 } } }
 {
@@ -54,7 +82,8 @@ fn fork_with_one<A: Allocator + Copy>(
     is(rt, "readers", descs.readers(node), 1);
     is(rt, "the lowest", descs.lowest(parent, 0), Some(0));
     descs.install(parent, 0, key);
-    let child = descs.copy_table(parent)?;
+    heap.refuse(n);
+    let child = copy_at_last(rt, heap, descs, parent, node)?;
     is(rt, "the child", child, 2);
     Ok(key)
 }
@@ -65,11 +94,16 @@ fn close<A: Allocator + Copy>(descs: &mut Descs<A>, pid: u32) -> Result<(usize, 
     Ok((named, descs.release(named)))
 }
 
-fn close_twice<A: Allocator + Copy>(rt: &impl Abort, descs: &mut Descs<A>) -> Result<(), Fail>
+fn close_twice<A: Allocator + Copy>(
+    rt: &impl Abort,
+    heap: &Refusing<Global>,
+    descs: &mut Descs<A>,
+    n: u64,
+) -> Result<(), Fail>
     requires { descs.old ≡ record { tables = []; opened = []; loose = []; room = record { descriptions = 0; pipes = 0; files = 0 } } }
 {
     let node = Node::Pipe(7);
-    let key = fork_with_one(rt, descs, node)?;
+    let key = fork_with_one(rt, heap, descs, node, n)?;
     let gone = Released::Gone {
         node,
         mode: Mode::Read,
@@ -128,7 +162,8 @@ enum Trial {
     StartInOrder,
     OpenTheMost,
     OpenPastAllMemory,
-    CloseTwice,
+    /// Where this request of a fork is refused.
+    CloseTwice(u64),
     RefuseEach,
     Reserve,
 }
@@ -145,7 +180,7 @@ fn on_new<A: Allocator + Copy>(
         Trial::StartInOrder => start_in_order(rt, &mut descs),
         Trial::OpenTheMost => open_the_most(rt, &mut descs),
         Trial::OpenPastAllMemory => open_past_all_memory(rt, &mut descs),
-        Trial::CloseTwice => close_twice(rt, &mut descs)?,
+        Trial::CloseTwice(n) => close_twice(rt, heap, &mut descs, n)?,
         Trial::RefuseEach => refuse_each(rt, heap, &mut descs),
         Trial::Reserve => reserve(rt, heap, &mut descs),
     }
@@ -171,7 +206,14 @@ fn descriptions_have_limits(rt: HostRuntime) -> Result<(), Fail> {
 /// A description is there until the last row that names it goes (POSIX.1-2017, fork and close).
 #[test]
 fn the_last_hold_of_a_description(rt: HostRuntime) -> Result<(), Fail> {
-    meets(&rt, rt.alloc(), Trial::CloseTwice)
+    let heap = Refusing::new(rt.alloc());
+    for n in 1..MOST_REQUESTS {
+        on_new(&rt, &heap, &heap, Trial::CloseTwice(n))?;
+        if !heap.refused() {
+            break;
+        }
+    }
+    all_were_refused(&heap, "a fork")
 }
 
 #[test]

@@ -26,6 +26,9 @@ use std::sync::{Condvar, Mutex, Wait};
 pub struct CallerMissing<N: Layer, A: Allocator = Global> {
     /// The least number that none of the callers has.
     pub number: u32,
+    /// The layer, with the journal that it had. No clause can name what lies under its lock, but what `close` says holds of it too: with
+    /// all callers there it gives as many entries as they made, and begins with what each has seen. That is all of them for the caller
+    /// who made the last step.
     pub locked: Locked<N, A>,
     pub callers: Vec<Caller<N, A>, A>,
 }

@@ -23,8 +23,8 @@ pub(crate) enum Act {
     Glance,
     /// It glances, at most 100,000,000 times, until there are so many steps, and then tells of that many.
     Sees(u64),
-    /// It makes 500 steps that look like chance.
-    Storm,
+    /// It makes so many steps that look like chance, and so do three others.
+    Storm(u32),
 }
 
 /// What a caller does in a scene, each act with what it is to come to.
@@ -37,15 +37,15 @@ pub(crate) struct Told {
     pub(crate) missed: Option<(u32, usize)>,
     /// How many `a` and `b` were read.
     pub(crate) read: (u32, u32),
-    /// Whether an act found no memory, and was done once more.
-    pub(crate) again: bool,
+    /// How many acts found no memory, and were done once more.
+    pub(crate) wants: u32,
 }
 
 /// No acts came to this.
 const NOTHING: Told = Told {
     missed: None,
     read: (0, 0),
-    again: false,
+    wants: 0,
 };
 
 impl Told {
@@ -55,7 +55,7 @@ impl Told {
         Told {
             missed: self.missed.or(other.missed),
             read: (some.0.wrapping_add(others.0), some.1.wrapping_add(others.1)),
-            again: self.again || other.again,
+            wants: self.wants.wrapping_add(other.wants),
         }
     }
 }
@@ -108,7 +108,7 @@ fn call<N: Layer, R: Wait, A: Allocator + Copy>(
     };
     match locked.call(rt, me, pid, call) {
         Ok(reply) => Came::of(&reply),
-        Err(fault) => Came::refused(fault.cause),
+        Err(fault) => Came::unanswered(fault),
     }
 }
 
@@ -147,7 +147,7 @@ fn call_turns<N: Layer, R: Wait, A: Allocator + Copy>(
     };
     match locked.call_turns(rt, me, pid, call, turns) {
         Ok(reply) => Came::of(&reply),
-        Err(fault) => Came::refused(fault.cause),
+        Err(fault) => Came::unanswered(fault),
     }
 }
 
@@ -189,12 +189,31 @@ fn does<N: Layer, R: Wait, A: Allocator + Copy>(
         Act::Turns(ask, turns) => call_turns(rt, alloc, locked, me, *ask, *turns),
         Act::Glance => Came::Steps(glance(locked, me)),
         Act::Sees(steps) => sees(locked, me, *steps),
-        Act::Storm => storm(rt, alloc, locked, me),
+        Act::Storm(steps) => storm(rt, alloc, locked, me, *steps),
     }
 }
 
-/// The caller does the acts, in order, up to the first that comes to something else than is wanted. One that finds no memory it
-/// does once more.
+/// What the act comes to. Where it finds no memory, the caller sees no step more than before, and does it once more, which is
+/// told.
+fn tries<N: Layer, R: Wait, A: Allocator + Copy>(
+    rt: &R,
+    alloc: A,
+    locked: &Locked<N, A>,
+    me: &mut Caller<N, A>,
+    act: &Act,
+) -> (Came, bool) {
+    let before = glance(locked, me);
+    let came = does(rt, alloc, locked, me, act);
+    if came != Came::NoMemory {
+        return (came, false);
+    }
+    if glance(locked, me) != before {
+        return (Came::Other, true);
+    }
+    (does(rt, alloc, locked, me, act), true)
+}
+
+/// The caller does the acts, in order, up to the first that comes to something else than is wanted.
 fn play<N: Layer, R: Wait, A: Allocator + Copy>(
     rt: &R,
     alloc: A,
@@ -204,11 +223,8 @@ fn play<N: Layer, R: Wait, A: Allocator + Copy>(
 ) -> Told {
     let mut told = NOTHING;
     for (place, (act, want)) in acts.iter().enumerate() {
-        let mut came = does(rt, alloc, locked, me, act);
-        if came == Came::NoMemory {
-            told.again = true;
-            came = does(rt, alloc, locked, me, act);
-        }
+        let (came, found_none) = tries(rt, alloc, locked, me, act);
+        told.wants = told.wants.wrapping_add(u32::from(found_none));
         if !came.is(*want) {
             told.missed = Some((me.number(), place));
             return told;

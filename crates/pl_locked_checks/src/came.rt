@@ -1,6 +1,6 @@
 //! What steps come to, in plain numbers: so a test keeps no reply, and a proof of it sees nothing of what the layer promises.
-use pl_locked::StepFault;
-use pl_model::Reply;
+use pl_locked::{CallFault, StepFault};
+use pl_model::{Errno, Reply};
 use std::alloc::Allocator;
 
 /// What a step, a whole call or a glance comes to.
@@ -16,11 +16,16 @@ pub(crate) enum Came {
     OneByte,
     Unit,
     Parked(u64),
+    Fault(Errno),
+    NoCall,
     /// Any other reply.
     Other,
-    /// The journal is full.
+    /// The journal is full. Nothing is parked.
     Full,
+    /// There is no memory. Nothing is parked.
     NoMemory,
+    /// A whole call isn't answered, and stays parked under this number.
+    Stays(StepFault, u64),
     /// A glance tells of so many steps.
     Steps(u64),
 }
@@ -35,6 +40,8 @@ impl Came {
             Reply::Bytes(read) => bytes(read.as_slice()),
             Reply::Unit => Came::Unit,
             Reply::Parked(number) => Came::Parked(*number),
+            Reply::Fault(error) => Came::Fault(*error),
+            Reply::NoCall => Came::NoCall,
             _ => Came::Other,
         }
     }
@@ -44,6 +51,14 @@ impl Came {
         match fault {
             StepFault::JournalFull => Came::Full,
             StepFault::NoMemory => Came::NoMemory,
+        }
+    }
+
+    /// What a whole call that wasn't answered comes to.
+    pub(crate) fn unanswered(fault: CallFault) -> Came {
+        match fault.parked {
+            None => Came::refused(fault.cause),
+            Some(number) => Came::Stays(fault.cause, number),
         }
     }
 

@@ -2,18 +2,23 @@
 ghost use Rattle.std.specs.Prelude.{◌≡◌, ◌≤◌};
 ghost use Rattle.pl_model.specs.Numbers.{most_file_bytes};
 
+use crate::acts::attempt;
+use crate::asked::Ask;
+use crate::came::Came;
 use pl_locked::{Caller, CallerMissing, Ground, Layer, Locked, OpenFault};
 use pl_model::Limits;
 use pl_testing::LIMITS;
 use std::alloc::Global;
 use std::marker::Brand;
+use std::sync::Wait;
 use std::test::Fail;
 
-/// What opening a layer, and closing it without its last caller and then with it, comes to.
+/// What opening a layer, one step, and closing it without its last caller and then with it, comes to.
 #[derive(Clone, Copy, PartialEq)]
 enum Opened {
-    /// The layer is opened. The number of the caller that is missing, and how many callers are handed back then.
-    Closed(u32, usize),
+    /// The layer is opened. The number of the caller that is missing, how many callers are handed back then, and how many steps the
+    /// layer that is handed back has.
+    Closed(u32, usize, usize),
     BadCallers,
     /// Anything else.
     Other,
@@ -37,6 +42,19 @@ fn move_last<N: Layer>(from: &mut Vec<Caller<N>>, to: &mut Vec<Caller<N>>) -> bo
     }
 }
 
+/// The first caller makes the layer's only step.
+fn starts<N: Layer, R: Wait>(
+    rt: &R,
+    alloc: Global,
+    locked: &Locked<N>,
+    callers: &mut [Caller<N>],
+) -> bool {
+    match callers.first_mut() {
+        Some(me) => attempt(rt, alloc, locked, me, Ask::Start) == Came::Pid(1),
+        None => false,
+    }
+}
+
 /// Closes the layer with the caller that was missing.
 fn close_whole<N: Layer>(missing: CallerMissing<N>, last: &mut Vec<Caller<N>>) -> Opened {
     let CallerMissing {
@@ -47,22 +65,30 @@ fn close_whole<N: Layer>(missing: CallerMissing<N>, last: &mut Vec<Caller<N>>) -
     let handed_back = callers.len();
     let is_whole = move_last(last, &mut callers);
     match locked.close(callers) {
-        Ok(_) if is_whole => Opened::Closed(number, handed_back),
+        Ok((journal, _)) if is_whole => Opened::Closed(number, handed_back, journal.len()),
         _ => Opened::Other,
     }
 }
 
-/// Closes the layer without its last caller, and then with it.
-fn close_twice<N: Layer>(alloc: Global, locked: Locked<N>, mut callers: Vec<Caller<N>>) -> Opened {
+/// Makes a step, and closes the layer without its last caller, and then with it.
+fn close_twice<N: Layer, R: Wait>(
+    rt: &R,
+    alloc: Global,
+    locked: Locked<N>,
+    mut callers: Vec<Caller<N>>,
+) -> Opened {
     let mut last = Vec::new(alloc);
-    let is_right = are_numbered(callers.as_slice()) && move_last(&mut callers, &mut last);
+    let is_right = are_numbered(callers.as_slice())
+        && starts(rt, alloc, &locked, callers.as_mut_slice())
+        && move_last(&mut callers, &mut last);
     match locked.close(callers) {
         Err(missing) if is_right => close_whole(missing, &mut last),
         _ => Opened::Other,
     }
 }
 
-fn open<N: Layer>(
+fn open<N: Layer, R: Wait>(
+    rt: &R,
     alloc: Global,
     ground: Ground,
     limits: Limits,
@@ -76,16 +102,16 @@ fn open<N: Layer>(
     requires steps { max_steps ≡ N.max_steps }
 {
     match Locked::<N>::open(alloc, ground, limits, callers, max_steps) {
-        Ok((locked, callers)) => close_twice(alloc, locked, callers),
+        Ok((locked, callers)) => close_twice(rt, alloc, locked, callers),
         Err(OpenFault::BadCallers) => Opened::BadCallers,
         Err(OpenFault::NoMemory) => Opened::Other,
     }
 }
 
 /// What a layer of so many callers comes to.
-fn try_with(alloc: Global, callers: u32) -> Opened {
+fn try_with<R: Wait>(rt: &R, alloc: Global, callers: u32) -> Opened {
     match Ground::new(alloc) {
-        Ok(ground) => open::<Brand>(alloc, ground, LIMITS, callers, 1),
+        Ok(ground) => open::<Brand, R>(rt, alloc, ground, LIMITS, callers, 1),
         Err(_) => Opened::Other,
     }
 }
@@ -94,14 +120,14 @@ fn try_with(alloc: Global, callers: u32) -> Opened {
 fn from_1_to_64_callers(rt: HostRuntime) -> Result<(), Fail> {
     for callers in [0, 65] {
         assert!(rt;
-            try_with(rt.alloc(), callers) == Opened::BadCallers,
+            try_with(&rt, rt.alloc(), callers) == Opened::BadCallers,
             "{callers} callers"
         );
     }
     for last in [0, 1, 63u8] {
-        let closed = Opened::Closed(u32::from(last), usize::from(last));
+        let closed = Opened::Closed(u32::from(last), usize::from(last), 1);
         assert!(rt;
-            try_with(rt.alloc(), u32::from(last) + 1) == closed,
+            try_with(&rt, rt.alloc(), u32::from(last) + 1) == closed,
             "{last} callers, and one"
         );
     }

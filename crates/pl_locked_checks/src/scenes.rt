@@ -5,7 +5,7 @@ ghost use Rattle.pl_model.specs.Numbers.{most_file_bytes};
 use crate::acts::{Act, Acts, Told, glance, in_turn};
 use crate::asked::Ask;
 use crate::came::Came;
-use crate::left::{Left, replays};
+use crate::left::{Kept, Left, replays};
 use crate::threads::at_once;
 use pl_kernel::Kernel;
 use pl_locked::{Caller, Ground, Journal, Layer, Locked, OpenFault};
@@ -31,8 +31,8 @@ pub(crate) struct Scene {
     pub(crate) at_once: &'static [Acts],
     /// How many `a` and `b` they read.
     pub(crate) read: (u32, u32),
-    /// The fewest and the most steps that are in the journal then.
-    pub(crate) steps: (u64, u64),
+    /// How many steps are in the journal then.
+    pub(crate) kept: Kept,
     /// What is left in the kernel.
     pub(crate) left: Left,
 }
@@ -50,7 +50,7 @@ struct Fault {
     numbers: (u64, u64),
 }
 
-fn otherwise(what: &'static str, one: u64, other: u64) -> Result<bool, Fault> {
+fn otherwise(what: &'static str, one: u64, other: u64) -> Result<u32, Fault> {
     Err(Fault {
         what,
         numbers: (one, other),
@@ -58,8 +58,8 @@ fn otherwise(what: &'static str, one: u64, other: u64) -> Result<bool, Fault> {
 }
 
 /// Fails unless all is as the scene says: what the acts came to, what the journal and the kernel are that the layer leaves, and
-/// that a caller saw as many steps as there are. Where it finds no memory it asks for the replay once more. It answers whether
-/// nothing was done once more.
+/// that a caller saw as many steps as there are. Where it finds no memory it asks for the replay once more. It answers how often
+/// something found no memory.
 fn look<A: Allocator + Copy>(
     alloc: A,
     scene: &Scene,
@@ -67,7 +67,7 @@ fn look<A: Allocator + Copy>(
     seen: u64,
     journal: &Journal<A>,
     kernel: &mut Kernel<A>,
-) -> Result<bool, Fault> {
+) -> Result<u32, Fault> {
     if let Some((caller, act)) = told.missed {
         return otherwise(
             "a caller's act comes to something else",
@@ -84,8 +84,7 @@ fn look<A: Allocator + Copy>(
         );
     }
     let len = journal.len() as u64;
-    let (fewest, most) = scene.steps;
-    if len != seen || len < fewest || most < len {
+    if len != seen || !scene.kept.is_in(journal) {
         return otherwise("so many steps are kept and seen", len, seen);
     }
     let first = replays(alloc, journal);
@@ -99,7 +98,7 @@ fn look<A: Allocator + Copy>(
     if !scene.left.is_in(alloc, kernel) {
         return otherwise("something else is left", len, seen);
     }
-    Ok(first.is_some() && !told.again)
+    Ok(told.wants.wrapping_add(u32::from(first.is_none())))
 }
 
 /// How many steps the first caller sees.
@@ -120,7 +119,7 @@ fn close<N: Layer, A: Allocator + Copy>(
     told: Told,
     locked: Locked<N, A>,
     mut callers: Vec<Caller<N, A>, A>,
-) -> Result<bool, Fault> {
+) -> Result<u32, Fault> {
     let seen = seen_by_first(&locked, callers.as_mut_slice());
     match locked.close(callers) {
         Ok((journal, mut kernel)) => look(alloc, scene, told, seen, &journal, &mut kernel),
@@ -129,9 +128,9 @@ fn close<N: Layer, A: Allocator + Copy>(
 }
 
 /// The layer isn't opened, which may only be for want of memory.
-fn not_opened(fault: OpenFault) -> Result<bool, Fault> {
+fn not_opened(fault: OpenFault) -> Result<u32, Fault> {
     match fault {
-        OpenFault::NoMemory => Ok(false),
+        OpenFault::NoMemory => Ok(1),
         OpenFault::BadCallers => otherwise("there are too many callers", 0, 0),
     }
 }
@@ -144,7 +143,7 @@ fn alone_on<N: Layer, R: Wait, A: Allocator + Copy>(
     callers: u32,
     max_steps: u32,
     scene: &Scene,
-) -> Result<bool, Fault>
+) -> Result<u32, Fault>
     requires ground { (ground.name ≡ N.name) × (ground.parts ≡ N.parts) × (ground.table ≡ N.table) }
     requires limits { limits ≡ N.limits }
     requires file_max { limits.file_max ≤ most_file_bytes }
@@ -168,7 +167,7 @@ fn together_on<N: Layer + Send + Sync, R: Threads + Wait + Sync>(
     callers: u32,
     max_steps: u32,
     scene: &Scene,
-) -> Result<bool, Fault>
+) -> Result<u32, Fault>
     requires ground { (ground.name ≡ N.name) × (ground.parts ≡ N.parts) × (ground.table ≡ N.table) }
     requires limits { limits ≡ N.limits }
     requires file_max { limits.file_max ≤ most_file_bytes }
@@ -185,9 +184,9 @@ fn together_on<N: Layer + Send + Sync, R: Threads + Wait + Sync>(
 }
 
 /// What a test fails with, if it does.
-fn verdict(scene: &Scene, played: Result<bool, Fault>) -> Result<bool, Fail> {
+fn verdict(scene: &Scene, played: Result<u32, Fault>) -> Result<u32, Fail> {
     match played {
-        Ok(found_memory) => Ok(found_memory),
+        Ok(wants) => Ok(wants),
         Err(fault) => {
             let (name, what, (one, other)) = (scene.name, fault.what, fault.numbers);
             Err(Fail::new(format_args!("{name}: {what}: {one}, {other}")))
@@ -195,15 +194,15 @@ fn verdict(scene: &Scene, played: Result<bool, Fault>) -> Result<bool, Fail> {
     }
 }
 
-/// Plays the scene in one thread, on a new layer. It fails where something is otherwise than the scene says, and answers whether
-/// all that was done found memory at once.
+/// Plays the scene in one thread, on a new layer. It fails where something is otherwise than the scene says, and answers how often
+/// something found no memory.
 pub(crate) fn alone<R: Wait, A: Allocator + Copy>(
     rt: &R,
     alloc: A,
     scene: &Scene,
-) -> Result<bool, Fail> {
+) -> Result<u32, Fail> {
     let Ok(ground) = Ground::new(alloc) else {
-        return Ok(false);
+        return Ok(1);
     };
     let (callers, max_steps) = (scene.callers, scene.max_steps);
     let played = alone_on::<Brand, R, A>(rt, alloc, ground, LIMITS, callers, max_steps, scene);
@@ -215,9 +214,9 @@ pub(crate) fn together<R: Threads + Wait + Sync>(
     rt: &R,
     alloc: Global,
     scene: &Scene,
-) -> Result<bool, Fail> {
+) -> Result<u32, Fail> {
     let Ok(ground) = Ground::new(alloc) else {
-        return Ok(false);
+        return Ok(1);
     };
     let (callers, max_steps) = (scene.callers, scene.max_steps);
     let played = together_on::<Brand, R>(rt, alloc, ground, LIMITS, callers, max_steps, scene);

@@ -6,12 +6,6 @@ use pl_locked::{Caller, Layer, Locked};
 use std::alloc::Allocator;
 use std::sync::Wait;
 
-/// How many steps each caller makes.
-const STEPS: u32 = 500;
-
-/// How many steps there are once each of four callers has made its own, behind the first three.
-pub(crate) const ALL_STEPS: u64 = 2_003;
-
 /// The next of a row of numbers below 2,147,483,648 that looks like chance.
 fn next(x: u32) -> u32 {
     ((u64::from(x) * 1_103_515_245 + 12_345) % 2_147_483_648) as u32
@@ -32,21 +26,24 @@ fn ask(x: u32) -> Ask {
     }
 }
 
-/// The caller makes its steps, and glances after each. It comes to something else than `Unit` where a step isn't made, and where a
-/// glance tells of fewer steps than the one before and the step after it, or of too many.
+/// The caller makes so many steps, and glances after each; three others make as many, and three were made before. It comes to
+/// something else than `Unit` where a step isn't made, and where a glance tells of fewer steps than the one before and the step
+/// after it, or of too many.
 pub(crate) fn storm<N: Layer, R: Wait, A: Allocator + Copy>(
     rt: &R,
     alloc: A,
     locked: &Locked<N, A>,
     me: &mut Caller<N, A>,
+    steps: u32,
 ) -> Came {
+    let all = u64::from(steps) * 4 + 3;
     let mut x = me.number().wrapping_add(1);
     let mut seen = 0;
-    for _time in 0..STEPS {
+    for _time in 0..steps {
         x = next(x);
         let is_made = attempt(rt, alloc, locked, me, ask(x)).is_made();
         let now = glance(locked, me);
-        if !is_made || now <= seen || now > ALL_STEPS {
+        if !is_made || now <= seen || now > all {
             return Came::Other;
         }
         seen = now;

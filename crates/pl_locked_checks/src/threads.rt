@@ -2,10 +2,10 @@
 use crate::acts::{Act, Acts, Told, in_turn};
 use crate::asked::Ask;
 use crate::came::Came;
-use crate::left::Left;
+use crate::left::{Kept, Left};
 use crate::scenes::{PIPE, START, Scene, together};
-use crate::storm::ALL_STEPS;
-use pl_locked::{Caller, Layer, Locked};
+use pl_locked::{Caller, Layer, Locked, StepFault};
+use pl_model::Errno;
 use std::alloc::Global;
 use std::sync::Wait;
 use std::test::Fail;
@@ -73,7 +73,7 @@ const WRITERS: Scene = Scene {
         &[(Act::Steps(100, Ask::Write("b")), Came::Count(1))],
     ],
     read: (0, 0),
-    steps: (202, 202),
+    kept: Kept::Of(&[102, 100]),
     left: Left::HundredOfEach,
 };
 
@@ -92,7 +92,7 @@ const READERS: Scene = Scene {
         ONE_READ,
     ],
     read: (1, 1),
-    steps: (5, 20),
+    kept: Kept::Between(5, 20),
     left: Left::Anything,
 };
 
@@ -107,14 +107,71 @@ const TURNS: Scene = Scene {
     max_steps: 1_000,
     in_turn: &[&[START, PIPE]],
     at_once: &[
-        &[(Act::Turns(Ask::Read(1), 100_000_000), Came::Bytes(1, 0))],
+        &[(TAKES_TURNS, Came::Bytes(1, 0))],
         &[
             (Act::Sees(3), Came::Steps(3)),
             (Act::Step(Ask::Write("a")), Came::Count(1)),
         ],
     ],
     read: (1, 0),
-    steps: (5, 5),
+    kept: Kept::Of(&[4, 1]),
+    left: Left::Anything,
+};
+
+/// A read of a byte, which is tried again as often as there are more steps.
+const TAKES_TURNS: Act = Act::Turns(Ask::Read(1), 100_000_000);
+
+/// The read is interrupted: its next turn finds no call.
+const INTERRUPTS: Scene = Scene {
+    name: "a read that takes turns is interrupted",
+    callers: 2,
+    max_steps: 1_000,
+    in_turn: &[&[START, PIPE]],
+    at_once: &[
+        &[(TAKES_TURNS, Came::NoCall)],
+        &[
+            (Act::Sees(3), Came::Steps(3)),
+            (Act::Step(Ask::Interrupt(1)), Came::Fault(Errno::EINTR)),
+        ],
+    ],
+    read: (0, 0),
+    kept: Kept::Of(&[4, 1]),
+    left: Left::Anything,
+};
+
+/// The process of the read ends: its next turn finds no call.
+const ENDS: Scene = Scene {
+    name: "the process of a read that takes turns ends",
+    callers: 2,
+    max_steps: 1_000,
+    in_turn: &[&[START, PIPE]],
+    at_once: &[
+        &[(TAKES_TURNS, Came::NoCall)],
+        &[
+            (Act::Sees(3), Came::Steps(3)),
+            (Act::Step(Ask::Exit(1)), Came::Unit),
+        ],
+    ],
+    read: (0, 0),
+    kept: Kept::Of(&[4, 1]),
+    left: Left::Anything,
+};
+
+/// The byte for the read is the last step that the journal takes: the read stays parked.
+const FILLS: Scene = Scene {
+    name: "the journal fills behind a read that takes turns",
+    callers: 2,
+    max_steps: 4,
+    in_turn: &[&[START, PIPE]],
+    at_once: &[
+        &[(TAKES_TURNS, Came::Stays(StepFault::JournalFull, 1))],
+        &[
+            (Act::Sees(3), Came::Steps(3)),
+            (Act::Step(Ask::Write("a")), Came::Count(1)),
+        ],
+    ],
+    read: (0, 0),
+    kept: Kept::Of(&[3, 1]),
     left: Left::Anything,
 };
 
@@ -130,7 +187,7 @@ const LONG_READ: Scene = Scene {
         &[(Act::Call(Ask::WriteLong(70_000)), Came::Count(70_000))],
     ],
     read: (65_536, 0),
-    steps: (5, 100),
+    kept: Kept::Between(5, 100),
     left: Left::Anything,
 };
 
@@ -145,7 +202,7 @@ const LONG_WRITE: Scene = Scene {
         &[(Act::Call(Ask::WriteLong(300_000)), Came::Count(300_000))],
     ],
     read: (300_000, 0),
-    steps: (12, 1_000),
+    kept: Kept::Between(12, 1_000),
     left: Left::Anything,
 };
 
@@ -169,7 +226,7 @@ const TWO_PIPES: Scene = Scene {
         ],
     ],
     read: (1, 1),
-    steps: (9, 100),
+    kept: Kept::Between(9, 100),
     left: Left::Anything,
 };
 
@@ -177,20 +234,45 @@ const TWO_PIPES: Scene = Scene {
 const STORM: Scene = Scene {
     name: "a storm",
     callers: 4,
-    max_steps: 4_000,
-    in_turn: &[&[START, PIPE, (Act::Step(Ask::Mkfifo), Came::Unit)]],
+    max_steps: 2_000,
+    in_turn: STORMED,
     at_once: &[BLOWS, BLOWS, BLOWS, BLOWS],
     read: (0, 0),
-    steps: (ALL_STEPS, ALL_STEPS),
+    kept: Kept::Of(&[203, 200, 200, 200]),
     left: Left::Nothing,
 };
 
-const BLOWS: Acts = &[(Act::Storm, Came::Unit)];
+/// The same for longer, up to the last step that the journal takes.
+const LONG_STORM: Scene = Scene {
+    name: "a long storm",
+    callers: 4,
+    max_steps: 2_003,
+    in_turn: STORMED,
+    at_once: &[BLOWS_LONG, BLOWS_LONG, BLOWS_LONG, BLOWS_LONG],
+    read: (0, 0),
+    kept: Kept::Of(&[503, 500, 500, 500]),
+    left: Left::Nothing,
+};
+
+/// What is there before a storm: a process with a pipe, and a FIFO.
+const STORMED: &[Acts] = &[&[START, PIPE, (Act::Step(Ask::Mkfifo), Came::Unit)]];
+
+const BLOWS: Acts = &[(Act::Storm(200), Came::Unit)];
+
+const BLOWS_LONG: Acts = &[(Act::Storm(500), Came::Unit)];
 
 #[test]
 fn callers_in_threads(rt: HostRuntime) -> Result<(), Fail> {
     for scene in [&WRITERS, &READERS, &TURNS] {
-        assert!(rt; together(&rt, rt.alloc(), scene)?);
+        assert!(rt; together(&rt, rt.alloc(), scene)? == 0);
+    }
+    Ok(())
+}
+
+#[test]
+fn turns_that_come_too_late(rt: HostRuntime) -> Result<(), Fail> {
+    for scene in [&INTERRUPTS, &ENDS, &FILLS] {
+        assert!(rt; together(&rt, rt.alloc(), scene)? == 0);
     }
     Ok(())
 }
@@ -198,7 +280,7 @@ fn callers_in_threads(rt: HostRuntime) -> Result<(), Fail> {
 #[test]
 fn callers_that_wait_are_told(rt: HostRuntime) -> Result<(), Fail> {
     for scene in [&LONG_READ, &LONG_WRITE, &TWO_PIPES] {
-        assert!(rt; together(&rt, rt.alloc(), scene)?);
+        assert!(rt; together(&rt, rt.alloc(), scene)? == 0);
     }
     Ok(())
 }
@@ -206,7 +288,8 @@ fn callers_that_wait_are_told(rt: HostRuntime) -> Result<(), Fail> {
 #[test]
 fn twenty_storms(rt: HostRuntime) -> Result<(), Fail> {
     for _storm in 0..20u8 {
-        assert!(rt; together(&rt, rt.alloc(), &STORM)?);
+        assert!(rt; together(&rt, rt.alloc(), &STORM)? == 0);
     }
+    assert!(rt; together(&rt, rt.alloc(), &LONG_STORM)? == 0);
     Ok(())
 }

@@ -1,13 +1,14 @@
 //! Want of memory where all bytes of a full pipe of the greatest capacity go over at once.
+use crate::made_again::{make_each, make_one};
 use crate::scarce::Scarce;
 use pl_model::Errno::EAGAIN;
 use pl_model::Whence::End;
 use pl_model::{Mode, OpenFlags, SpliceFlags};
 use pl_refusing::{MOST_REQUESTS, Refusing, all_were_refused};
 use pl_testing::asked::Ask::{
-    self, Lseek, Open, PipeNonblock, Read, SetPipeSz, Splice, Start, Tee, Write,
+    self, Lseek, Open, Pipe, PipeNonblock, Read, SetPipeSz, Splice, Start, Tee, Write,
 };
-use pl_testing::asked::Data::{self, Part, Text};
+use pl_testing::asked::Data::{self, Many, Part, Text};
 use pl_testing::asked::Want::{self, Bytes, Count, Fault, Fd, Fds, Offset, Pid, Size};
 use std::alloc::Global;
 use std::test::Fail;
@@ -117,4 +118,65 @@ fn a_full_pipe_goes_over_whole_or_not_at_all(rt: HostRuntime) -> Result<(), Fail
         refuse_each(rt.alloc(), sharing)?;
     }
     Ok(())
+}
+
+/// What a pipe of the greatest capacity holds.
+const FULL: Data = Many(b'a', 1_048_576);
+
+/// A full pipe of the greatest capacity, and an empty one.
+const TWO_PIPES: &[(Ask, Want)] = &[
+    (Start, Pid(1)),
+    (Pipe(1), Fds(0, 1)),
+    (Pipe(1), Fds(2, 3)),
+    (SetPipeSz(1, 1, 1_048_576), Size(1_048_576)),
+    (SetPipeSz(1, 3, 1_048_576), Size(1_048_576)),
+    (Write(1, 1, FULL), Count(1_048_576)),
+];
+
+const COPY: Ask = Tee(1, 0, 3, 1_048_576, WITHOUT);
+
+const BOTH_READ: &[(Ask, Want)] = &[
+    (Read(1, 0, 1_048_576), Bytes(FULL)),
+    (Read(1, 2, 1_048_576), Bytes(FULL)),
+];
+
+/// The bytes of the pipe stand in as many slots as there are places for, at most.
+fn has_few_slots(bench: &Scarce, fd: i32) -> Result<(), Fail> {
+    match bench.slots(1, fd) {
+        Some(slots) if slots <= 512 => Ok(()),
+        _ => Err(bench.fault(COPY, "leaves a pipe with more than 512 slots")),
+    }
+}
+
+/// A copy of all bytes makes three segments at most. Each step that finds no memory is made again.
+fn copy_all(bench: &mut Scarce) -> Result<(), Fail> {
+    make_each(bench, TWO_PIPES)?;
+    let before = bench.segments();
+    make_one(bench, COPY, Count(1_048_576))?;
+    if bench.segments() > before.saturating_add(3) {
+        return Err(bench.fault(COPY, "makes more segments"));
+    }
+    has_few_slots(bench, 0)?;
+    has_few_slots(bench, 2)?;
+    make_each(bench, BOTH_READ)?;
+    bench.ends_empty(&[])
+}
+
+/// Copies all bytes of a full pipe, where the `n`th request for memory is refused.
+fn copy_with_refusal(alloc: Global, heap: &Refusing<Global>, n: u64) -> Result<(), Fail> {
+    let mut bench = Scarce::new("a_copy_of_a_full_pipe", 1, alloc, heap)?;
+    bench.refuse(n);
+    copy_all(&mut bench)
+}
+
+#[test]
+fn a_full_pipe_is_copied_at_last(rt: HostRuntime) -> Result<(), Fail> {
+    let heap = Refusing::new(rt.alloc());
+    for n in 1..MOST_REQUESTS {
+        copy_with_refusal(rt.alloc(), &heap, n)?;
+        if !heap.refused() {
+            break;
+        }
+    }
+    all_were_refused(&heap, "a_copy_of_a_full_pipe")
 }

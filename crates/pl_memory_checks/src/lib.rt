@@ -2,6 +2,10 @@
 #![tactic(auto)]
 
 #[cfg(test)]
+mod copies;
+#[cfg(test)]
+mod full;
+#[cfg(test)]
 mod large;
 #[cfg(test)]
 mod made_again;

@@ -3,29 +3,52 @@ use crate::scarce::Scarce;
 use crate::steps::Steps;
 use crate::tables::{sessions, tables};
 use pl_refusing::{MOST_REQUESTS, Refusing, all_were_refused};
-use pl_testing::asked::{Ask, Want};
+use pl_testing::asked::{Ask, Data, Want};
 use pl_testing::sessions::Session;
 use std::alloc::Global;
 use std::test::Fail;
 
-/// Makes the steps. One that finds no memory is made again at once, and then has its reply.
-fn make_each(bench: &mut Scarce, rows: &[(Ask, Want)]) -> Result<(), Fail> {
+/// Makes the step. Where it finds no memory, it is made again at once, and then has its reply.
+pub(crate) fn make_one(bench: &mut Scarce, ask: Ask, want: Want) -> Result<(), Fail> {
+    if bench.makes(ask, want)? || bench.makes(ask, want)? {
+        Ok(())
+    } else {
+        Err(bench.fault(ask, "finds no memory again"))
+    }
+}
+
+/// Makes the steps, each again where it finds no memory.
+pub(crate) fn make_each(bench: &mut Scarce, rows: &[(Ask, Want)]) -> Result<(), Fail> {
     for (ask, want) in rows {
-        if !bench.makes(*ask, *want)? && !bench.makes(*ask, *want)? {
-            return Err(bench.fault(*ask, "finds no memory again"));
+        make_one(bench, *ask, *want)?;
+    }
+    Ok(())
+}
+
+/// Asks for the bytes of the files, and again for those for which there is no memory.
+fn look_at_each(bench: &mut Scarce, files: &[(Data, Option<Data>)]) -> Result<(), Fail> {
+    for (name, want) in files {
+        if !bench.file_has(*name, *want)? && !bench.file_has(*name, *want)? {
+            return Err(bench.file_fault("finds no memory again"));
         }
     }
     Ok(())
 }
 
-/// Makes the session, where the `n`th request for memory is refused. At its end nothing is left.
+/// Makes the session, and again what finds no memory. At its end nothing is left.
+pub(crate) fn make_all(bench: &mut Scarce, session: &Session) -> Result<(), Fail> {
+    make_each(bench, session.rows)?;
+    look_at_each(bench, session.files)?;
+    make_each(bench, session.more)?;
+    bench.ends_empty(session.names)
+}
+
+/// Makes the session, where the `n`th request for memory is refused.
 fn make(alloc: Global, heap: &Refusing<Global>, session: &Session, n: u64) -> Result<(), Fail> {
     let mut bench = Scarce::new(session.name, session.first_call, alloc, heap)?;
     bench.prepare(session.processes, session.full_tables)?;
     bench.refuse(n);
-    make_each(&mut bench, session.rows)?;
-    make_each(&mut bench, session.more)?;
-    bench.ends_empty(session.names)
+    make_all(&mut bench, session)
 }
 
 /// Refuses each request of the session in turn, until it meets no refusal.

@@ -75,6 +75,29 @@ impl<'a> Scarce<'a> {
         Ok(found)
     }
 
+    /// Asks for the bytes of the file, and answers whether that found memory.
+    fn reaches_file(&mut self, name: Data, want: Option<Data>) -> Result<bool, Fail> {
+        let counted = self.heap.pause();
+        let name = name.name(self.heap)?;
+        self.heap.go_on(counted);
+        self.bench.file_has(&name, want)
+    }
+
+    /// Asks for the bytes of the file, and answers whether that found memory: it finds none just where a request that it makes is
+    /// refused, and makes none where there is no such file. It fails where that isn't so, and where it tells other bytes than those
+    /// that are wanted.
+    pub(crate) fn file_has(&mut self, name: Data, want: Option<Data>) -> Result<bool, Fail> {
+        let (requests, refused) = (self.heap.requests(), self.heap.refused());
+        let found = self.reaches_file(name, want)?;
+        if found == (self.heap.refused() != refused) {
+            return Err(self.file_fault("finds memory, or none, against what is refused"));
+        }
+        if want.is_none() && self.heap.requests() != requests {
+            return Err(self.file_fault("isn't there, and asks for memory"));
+        }
+        Ok(found)
+    }
+
     /// Makes the steps as one run, and answers what each came to, `None` where it found no memory; `None` where the run itself
     /// found none.
     pub(crate) fn run(&mut self, rows: &[(Ask, Want)]) -> Result<Option<Vec<Option<Reply>>>, Fail> {
@@ -104,6 +127,16 @@ impl<'a> Scarce<'a> {
     /// In how many segments of memory bytes are kept.
     pub(crate) fn segments(&self) -> u64 {
         self.bench.segments()
+    }
+
+    /// In how many slots the bytes of the pipe of a descriptor stand, if it is open on one.
+    pub(crate) fn slots(&self, pid: u32, fd: i32) -> Option<u32> {
+        self.bench.slots(pid, fd)
+    }
+
+    /// What a test fails with at a file that is asked for behind the last step.
+    pub(crate) fn file_fault(&self, what: &str) -> Fail {
+        self.bench.file_fault(what)
     }
 
     /// What a test fails with at the last step.

@@ -8,9 +8,11 @@ mod packets;
 mod polls;
 mod splices;
 mod whole;
+mod worked;
 
 use crate::steps::Steps;
 use pl_testing::sessions::Session;
+pub(crate) use worked::THE_LARGEST_FILE;
 
 /// All tables of steps.
 pub(crate) fn tables() -> [&'static [Steps]; 8] {
@@ -27,6 +29,12 @@ pub(crate) fn tables() -> [&'static [Steps]; 8] {
 }
 
 /// All tables of sessions of which a step that finds no memory is made again, and not passed over.
-pub(crate) fn sessions() -> [&'static [Session]; 3] {
-    [names::names(), whole::sessions(), packets::sessions()]
+pub(crate) fn sessions() -> [&'static [Session]; 5] {
+    [
+        worked::bytes(),
+        worked::ends(),
+        names::names(),
+        whole::sessions(),
+        packets::sessions(),
+    ]
 }

@@ -8,6 +8,8 @@ pub mod Keeps
 pub mod Refusals
 -- A call that is tried again waits under its number.
 pub mod Waiting
+-- A call that can't get on waits on where it is tried, and moves no byte.
+pub mod InVain
 -- What a poll comes to, as it begins and as it is tried again.
 pub mod Polls
 -- What the replies of a run say of the state that it leaves.

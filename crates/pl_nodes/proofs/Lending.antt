@@ -14,7 +14,7 @@ use Rattle.pl_segments.specs.Turns.{Turns}
 use Rattle.pl_segments.specs.Slots.{total, drop_bytes, front_of}
 use Rattle.pl_segments.specs.Sharing.{slots_at}
 use Rattle.pl_segments.proofs.Fronting.{front-whole, front-part, front-none, front-lie, front-read}
-use Rattle.pl_ring.specs.Parts.{strange}
+use Rattle.pl_ring.specs.Parts.{fresh, strange}
 use Rattle.pl_file.proofs.Editing.{lie-drop, drop-read}
 use Rattle.pl_nodes.specs.declared.queue.Queue.{Queue}
 use Rattle.pl_nodes.specs.declared.content.PipeNode.{PipeNode}
@@ -94,14 +94,14 @@ module _ {A : Type 0} (k : Inside A) (sound : IsSound k) (flat : Nodes) (is : vi
           (λ i. record { bytes = (read ∙ ap (λ bs. all_read (segment_at k.store) (slots_of t.queue) ++ bs) reads) i; packets = (now ∙ sym (ap (option_map (λ lengths. lengths ++ piece_lengths (length bytes))) was)) i; capacity = capacity i; hung = t.hung })
 
       pub pushed-parts : (from : ℕ) (s : PipeNode A) → at k.contents.slots from ≡ Some (Pipe s) → (count : ℕ) → slices ≡ front_of count (slots_of s.queue)
-          → strange (slots_of t.queue ++ slices) (slots_of q) ≤ 3
-          → strange (slots_at flat.slots to ++ slots_at flat.slots from) (slots_at (lists (slice_set k.contents.slots to (Some (Pipe (record t { queue = q }))))) to) ≤ 3
+          → fresh (slots_of t.queue ++ slices) (slots_of q) ≤ 3
+          → strange (slots_at flat.slots to) (slots_at flat.slots from) (slots_at (lists (slice_set k.contents.slots to (Some (Pipe (record t { queue = q }))))) to) ≤ 3
       pushed-parts from s source count front few =
           let was = slots-flat k to (Pipe t) there sound flat is in
           let lent = slots-flat k from (Pipe s) source sound flat is in
           let now = lists-at (slice_set k.contents.slots to (Some (Pipe (record t { queue = q })))) to
           ∙ ap slots_in (get_or-set_same k.contents.slots to (Some (Pipe (record t { queue = q }))) None (within k.contents.slots to (Pipe t) there)) in
-          let e : strange (slots_at flat.slots to ++ slots_at flat.slots from) (slots_at (lists (slice_set k.contents.slots to (Some (Pipe (record t { queue = q }))))) to) ≡ strange (slots_of t.queue ++ slots_of s.queue) (slots_of q) = (λ i. strange (was i ++ lent i) (now i)) in
+          let e : strange (slots_at flat.slots to) (slots_at flat.slots from) (slots_at (lists (slice_set k.contents.slots to (Some (Pipe (record t { queue = q }))))) to) ≡ strange (slots_of t.queue) (slots_of s.queue) (slots_of q) = (λ i. strange (was i) (lent i) (now i)) in
           let less = strange-front (slots_of t.queue) (slots_of s.queue) count (slots_of q) in
-          let f : strange (slots_of t.queue ++ slices) (slots_of q) ≡ strange (slots_of t.queue ++ front_of count (slots_of s.queue)) (slots_of q) = ap (λ ys. strange (slots_of t.queue ++ ys) (slots_of q)) front in
+          let f : fresh (slots_of t.queue ++ slices) (slots_of q) ≡ fresh (slots_of t.queue ++ front_of count (slots_of s.queue)) (slots_of q) = ap (λ ys. fresh (slots_of t.queue ++ ys) (slots_of q)) front in
           omega (arith, e, less, f, few)

@@ -2,7 +2,7 @@
 use Rattle.std.proofs.Common.{◌≡◌, ℕ, zero, suc, ◌+◌, ◌-◌, ◌≤◌, Bool, true, false, cond, List, [], ◌∷◌, ◌++◌, Option, Some, None, refl, sym, ◌∙◌, ap, inl, inr, nat_eq, nat_lt, set, arith}
 use Rattle.std.specs.Prelude.{if◌then◌else◌, nat_le, is_some, not, count_by, ◌&&◌, ◌||◌}
 use Rattle.std.specs.List.{range_with_len}
-use Rattle.std.proofs.lemmas.Bool.{and_from, and_parts, or_left, or_right, leb-true, le-leb, cases_lt, ltb_from_iff}
+use Rattle.std.proofs.lemmas.Bool.{and_from, and_parts, leb-true, le-leb, cases_lt, ltb_from_iff}
 use Rattle.std.proofs.lemmas.Bool.Decides.{leb_tells, eqb_tells}
 use Rattle.std.proofs.lemmas.List.{get_or-set_other}
 use Rattle.std.proofs.lemmas.List.Sums.{sum_by-cons}
@@ -15,7 +15,8 @@ use Rattle.pl_segments.specs.Slots.{solid_of, cut_front, cut_end, drop_bytes, fr
 use Rattle.pl_segments.proofs.Storing.{live-is}
 use Rattle.pl_segments.proofs.Shared.{held-named}
 use Rattle.pl_segments.proofs.Fronting.{drop-whole, drop-part, front-whole, front-part, front-none}
-use Rattle.pl_ring.specs.Parts.{within, within_any, strange}
+use Rattle.pl_ring.specs.Parts.{is_same, is_among, within, within_any, fresh, strange}
+use Rattle.pl_ring.proofs.Counting.{or_weaker, among-within, fewer-fail}
 use Rattle.pl_nodes.specs.Nodes.{Memory, Shrinks, NamesBelow, segments_named}
 use Rattle.pl_nodes.proofs.Lists.{none-live, same-named}
 
@@ -27,11 +28,6 @@ within-cut z x n l w =
     let end = leb-true (z.from + z.len) (x.from + n) b.1 in
     and_from (nat_eq z.segment x.segment) (nat_le x.from z.from && nat_le (z.from + z.len) (x.from + x.len)) a.0
     (and_from (nat_le x.from z.from) (nat_le (z.from + z.len) (x.from + x.len)) b.0 (le-leb (z.from + z.len) (x.from + x.len) (omega (arith, end, l))))
-
--- what is true of either of two tests, is true of either of two that follow from them
-or_weaker : (a b c d : Bool) → (a ≡ true → c ≡ true) → (b ≡ true → d ≡ true) → (a || b) ≡ true → (c || d) ≡ true
-or_weaker true b c d f h e = or_left c d (f refl)
-or_weaker false b c d f h e = or_right c d (h e)
 
 within-front : (n : ℕ) (xs : List Slice) (z : Slice) → within_any (front_of n xs) z ≡ true → within_any xs z ≡ true
 within-front n [] z w = w
@@ -47,23 +43,20 @@ within-front n (x ∷ xs) z w = elim (cases_lt x.len n) as (λ _. within_any (x 
   ]
 ]
 
--- behind other slices
-within-behind : (ts ys xs : List Slice) (z : Slice) → (within_any ys z ≡ true → within_any xs z ≡ true) → within_any (ts ++ ys) z ≡ true → within_any (ts ++ xs) z ≡ true
-within-behind [] ys xs z f w = f w
-within-behind (t ∷ ts) ys xs z f w = or_weaker (within z t) (within_any (ts ++ ys) z) (within z t) (within_any (ts ++ xs) z) (λ h. h) (within-behind ts ys xs z f) w
+or_later : (a b c d : Bool) → (b ≡ true → (c || d) ≡ true) → (a || b) ≡ true → ((a || c) || d) ≡ true
+or_later true b c d f e = refl
+or_later false b c d f e = f e
 
-fewer-strange : (a b : Bool) → (a ≡ true → b ≡ true) → one_if (not b) ≤ one_if (not a)
-fewer-strange true b f = let e : one_if (not b) ≡ 0 = ap (λ c. one_if (not c)) (f refl) in omega (arith, e)
-fewer-strange false true f = omega arith
-fewer-strange false false f = omega arith
+-- what is among slots and slices is one of the slots, or lies within what the slices lie within
+among-behind : (ts ys xs : List Slice) (z : Slice) → (is_among ys z ≡ true → within_any xs z ≡ true) → is_among (ts ++ ys) z ≡ true → (is_among ts z || within_any xs z) ≡ true
+among-behind [] ys xs z f e = f e
+among-behind (t ∷ ts) ys xs z f e = or_later (is_same z t) (is_among (ts ++ ys) z) (is_among ts z) (within_any xs z) (among-behind ts ys xs z f) e
 
--- no more slots are strange to slices than to their first bytes
-pub strange-front : (ts xs : List Slice) (n : ℕ) (zs : List Slice) → strange (ts ++ xs) zs ≤ strange (ts ++ front_of n xs) zs
-strange-front ts xs n [] = omega arith
-strange-front ts xs n (z ∷ zs) =
-    let here = fewer-strange (within_any (ts ++ front_of n xs) z) (within_any (ts ++ xs) z) (within-behind ts (front_of n xs) xs z (within-front n xs z)) in
-    let rest = strange-front ts xs n zs in
-    omega (arith, here, rest)
+-- no more slots are strange to slots and others than are none of those slots and of the first bytes of the others
+pub strange-front : (ts xs : List Slice) (n : ℕ) (zs : List Slice) → strange ts xs zs ≤ fresh (ts ++ front_of n xs) zs
+strange-front ts xs n =
+    fewer-fail (is_among (ts ++ front_of n xs)) (λ z. is_among ts z || within_any xs z)
+    (λ z. among-behind ts (front_of n xs) xs z (λ e. within-front n xs z (among-within (front_of n xs) z e)))
 
 -- parts of slots name no segment oftener than the slots
 pub naming-front : (n : ℕ) (xs : List Slice) (key : ℕ) → naming (front_of n xs) key ≤ naming xs key

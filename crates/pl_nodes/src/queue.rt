@@ -7,7 +7,7 @@ ghost use Rattle.pl_segments.specs.Slices.{AllLie, all_read};
 ghost use Rattle.pl_segments.specs.Turns.{Holds, Turns};
 ghost use Rattle.pl_segments.specs.Slots.{total, drop_bytes, front_of};
 ghost use Rattle.pl_ring.specs.Merging.{lens, IsFront};
-ghost use Rattle.pl_ring.specs.Parts.{strange};
+ghost use Rattle.pl_ring.specs.Parts.{fresh};
 ghost use Rattle.pl_ring.specs.Ring.{IsCapacity};
 ghost use Rattle.pl_packets.specs.Packets.{first_len};
 ghost use Rattle.pl_nodes.specs.Queue.{slots_of, capacity_of, packets_of, used_by, front_by, spent_by};
@@ -230,7 +230,7 @@ impl<A: Allocator + Copy> Queue<A> {
         ensures turns { OnOk result (Turns (segment_at store.old) (slots_of self.old) (segment_at store.new) (slots_of self.new)) }
         ensures read { OnOk result (all_read (segment_at store.new) (slots_of self.new) ≡ all_read (segment_at store.old) (slots_of self.old) ++ all_read (segment_at store.old) slices.now) }
         ensures front_in_use { OnOk result (IsFront slices.now → live_count store.new.held ≤ live_count store.old.held + 3) }
-        ensures front_parts { OnOk result (IsFront slices.now → strange (slots_of self.old ++ slices.now) (slots_of self.new) ≤ 3) }
+        ensures front_parts { OnOk result (IsFront slices.now → fresh (slots_of self.old ++ slices.now) (slots_of self.new) ≤ 3) }
         ensures capacity { capacity_of self.new ≡ capacity_of self.old }
         ensures err { OnErr result (self.new ≡ self.old) }
         ensures spare { store.old.room ≤ most_spare → store.new.room ≤ most_spare }

@@ -1,6 +1,6 @@
 pub mod Merging
 pub mod Placing
-pub mod Lying
+pub mod Counting
 pub mod Underway
 pub mod Apart
 pub mod First

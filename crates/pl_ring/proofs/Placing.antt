@@ -1,5 +1,5 @@
 -- A slot that is pushed into fixed places: alone, or as one with the last.
-use Rattle.std.proofs.Common.{◌≡◌, ℕ, suc, ◌+◌, ◌-◌, ◌*◌, ◌/◌, ◌%◌, ◌≤◌, true, false, List, [], ◌∷◌, ◌++◌, None, refl, sym, ◌∙◌, ap, subst, length, arith, inl, inr}
+use Rattle.std.proofs.Common.{◌≡◌, ℕ, suc, ◌+◌, ◌-◌, ◌*◌, ◌/◌, ◌%◌, ◌≤◌, Bool, true, false, List, [], ◌∷◌, ◌++◌, None, refl, sym, ◌∙◌, ap, subst, length, arith, inl, inr}
 use Rattle.std.proofs.lemmas.List.{length_push}
 use Rattle.pl_segments.specs.declared.slice.Slice.{Slice}
 use Rattle.pl_segments.specs.Segments.{segment_size, Map}
@@ -36,6 +36,14 @@ places-enough xs places m s even l =
     let b = slots-bound (lens xs) (places / 2) m (some-lens xs s) (let e = sum-lens xs in omega (arith, e, even, l)) in
     let n = length-lens xs in
     omega (arith, b, n, even)
+
+-- a slot becomes one with one other at most
+pub joining-most : (xs : List Slice) (s : Slice) → joining xs s ≤ 1
+joining-most xs s = by (joins (length xs) (last_len xs) s.len)
+  where
+    by : (b : Bool) → one_if b ≤ 1
+    by true = omega arith
+    by false = omega arith
 
 -- a slot of a whole segment stands alone
 pub full-alone : (xs : List Slice) (s : Slice) → AllSolid xs → segment_size ≤ s.len → joining xs s ≡ 0

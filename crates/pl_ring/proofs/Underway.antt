@@ -1,5 +1,5 @@
 -- Slots, and slices that are still to be pushed behind them.
-use Rattle.std.proofs.Common.{◌≡◌, ◌≢◌, ℕ, ◌+◌, ◌-◌, ◌<◌, ◌≤◌, Bool, true, false, List, [], ◌∷◌, ◌++◌, refl, sym, ◌∙◌, ap, subst, get_or, drop, length, arith}
+use Rattle.std.proofs.Common.{◌≡◌, ◌≢◌, ℕ, ◌+◌, ◌-◌, ◌<◌, ◌≤◌, Bool, true, false, List, [], ◌∷◌, ◌++◌, refl, sym, ◌∙◌, ap, subst, get_or, drop, length, count_by, arith}
 use Rattle.std.specs.Prelude.{if◌then◌else◌, min, max}
 use Rattle.std.proofs.lemmas.Bool.{eq-eqb, ne_eqb}
 use Rattle.std.proofs.lemmas.List.{append-nil, append_assoc, drop_more, drop_all}
@@ -10,11 +10,11 @@ use Rattle.pl_segments.specs.Turns.{Holds, Turns}
 use Rattle.pl_segments.proofs.Turning.{read-append, turns-then, turns-same, holds-turned, turns-before, read-before}
 use Rattle.pl_segments.specs.Slots.{total, AllSolid, solid_of, last_len, ends_in_part}
 use Rattle.pl_ring.specs.Merging.{lens, AreMerged, joins, joining, merges, merges_onto}
-use Rattle.pl_ring.specs.Parts.{strange}
 use Rattle.pl_segments.proofs.SlotLemmas.{no_slice, solid-append, solid-left, solid-right, total-append, total-read}
 use Rattle.pl_segments.proofs.Together.{holds-left}
 use Rattle.pl_segments.proofs.LastSlot.{part-most}
-use Rattle.pl_ring.proofs.Lying.{strange-append}
+use Rattle.pl_ring.proofs.Placing.{joining-most}
+use Rattle.pl_ring.proofs.Counting.{count-append}
 
 -- How many segments slices may take as they are pushed: one for each that becomes one with what stands before it, or one for each that
 -- doesn't, and so is copied later once at most, one for the last slot if it is a part of its segment, and one to append by.
@@ -39,7 +39,8 @@ pub record Underway (m0 : Map) (xs0 ds0 : List Slice) (live0 : ℕ) (m : Map) (x
   pub merged : AreMerged (lens xs)
   pub enough : takes m xs ds ≤ room
   pub in_use : live + merges_onto xs (lens ds) ≤ live0 + merges_onto xs0 (lens ds0)
-  pub parts : (ps : List Slice) → strange ps (xs ++ ds) + merges_onto xs (lens ds) ≤ strange ps (xs0 ++ ds0) + merges_onto xs0 (lens ds0)
+  pub count : length xs + length ds + merges_onto xs0 (lens ds0) ≡ length xs0 + length ds0 + merges_onto xs (lens ds)
+  pub parts : (test : Slice → Bool) → count_by test (xs ++ ds) + merges_onto xs (lens ds) ≤ count_by test (xs0 ++ ds0) + merges_onto xs0 (lens ds0)
 
 -- where the slices are those of a list from a place on, but those of no bytes
 module _ {m0 : Map} {xs0 ds0 : List Slice} {live0 : ℕ} {m : Map} {xs : List Slice} {live room : ℕ} (slices : List Slice) (i : ℕ) (u : Underway m0 xs0 ds0 live0 m xs (solid_of (drop i slices)) live room) where
@@ -78,7 +79,8 @@ underway-first m xs ds live room held solid merged enough = record {
   merged = merged;
   enough = enough;
   in_use = omega arith;
-  parts = λ ps. omega arith;
+  count = refl;
+  parts = λ test. omega arith;
 }
 
 -- one more slice
@@ -118,14 +120,7 @@ module _ {m0 : Map} {xs0 ds0 : List Slice} {live0 : ℕ} {m : Map} {xs : List Sl
       (tight : AreMerged (lens ys)) (some : AllSolid ys) (left : room ≤ room1 + joining xs x)
       (once : ends_in_part n ys + room ≤ room1 + max (1 - joining xs x) (ends_in_part m xs)) (made : live1 ≤ live + joining xs x)
       (plan : (rest : List ℕ) → merges_onto ys rest + joining xs x ≡ merges_onto xs (x.len ∷ rest))
-      (within : (ps : List Slice) → strange ps ys ≤ strange ps (xs ++ x ∷ []) + joining xs x) where
-    joining-most : joining xs x ≤ 1
-    joining-most = by (joins (length xs) (last_len xs) x.len)
-      where
-        by : (b : Bool) → one_if b ≤ 1
-        by true = omega arith
-        by false = omega arith
-
+      (fewer : length ys + joining xs x ≡ length xs + 1) (more : (test : Slice → Bool) → count_by test ys ≤ count_by test (xs ++ x ∷ []) + joining xs x) where
     pub underway-next : Underway m0 xs0 ds0 live0 n ys ds live1 room1
     underway-next = record {
       turns = turns-then m0 m n (xs0 ++ ds0) (xs ++ (x ∷ ds)) (ys ++ ds) u.turns (subst (λ zs. Turns m zs n (ys ++ ds)) (sym apart) (turns-before m n (xs ++ x ∷ []) ys ds held t));
@@ -135,14 +130,15 @@ module _ {m0 : Map} {xs0 ds0 : List Slice} {live0 : ℕ} {m : Map} {xs : List Sl
       enough =
           let p = plan (lens ds) in
           let e = u.enough in
-          let one = joining-most in
+          let one = joining-most xs x in
           let was = part-most m xs in
           let now = part-most n ys in
           omega (arith, p, e, left, once, one, was, now);
       in_use = (let p = plan (lens ds) in let e = u.in_use in omega (arith, p, e, made));
-      parts = λ ps.
-          let p = plan (lens ds) in let w = within ps in let o = u.parts ps in
-          let a = strange-append ps ys ds in let b = ap (strange ps) apart ∙ strange-append ps (xs ++ x ∷ []) ds in
+      count = (let p = plan (lens ds) in let e = u.count in omega (arith, p, e, fewer));
+      parts = λ test.
+          let p = plan (lens ds) in let w = more test in let o = u.parts test in
+          let a = count-append test ys ds in let b = ap (count_by test) apart ∙ count-append test (xs ++ x ∷ []) ds in
           omega (arith, p, w, o, a, b);
     }
 
@@ -160,5 +156,8 @@ module _ {m0 : Map} {xs0 ds0 : List Slice} {live0 : ℕ} {m : Map} {xs : List Sl
   pub last-in_use : live ≤ live0 + merges_onto xs0 (lens ds0)
   last-in_use = let e = u.in_use in omega (arith, e)
 
-  pub last-parts : (ps : List Slice) → strange ps xs ≤ strange ps (xs0 ++ ds0) + merges_onto xs0 (lens ds0)
-  last-parts ps = let e = u.parts ps in let a = ap (strange ps) (append-nil xs) in omega (arith, e, a)
+  pub last-count : length xs + merges_onto xs0 (lens ds0) ≡ length xs0 + length ds0
+  last-count = let e = u.count in omega (arith, e)
+
+  pub last-parts : (test : Slice → Bool) → count_by test xs ≤ count_by test (xs0 ++ ds0) + merges_onto xs0 (lens ds0)
+  last-parts test = let e = u.parts test in let a = ap (count_by test) (append-nil xs) in omega (arith, e, a)

@@ -1,5 +1,5 @@
 //! Slots in a ring of fixed places.
-ghost use Rattle.std.specs.Prelude.{◌≡◌, ℕ, ◌+◌, ◌-◌, ◌*◌, ◌%◌, ◌<◌, ◌≤◌, List, [], ◌∷◌, ◌++◌, length, max, IfSome, IfNone};
+ghost use Rattle.std.specs.Prelude.{◌≡◌, ℕ, ◌+◌, ◌-◌, ◌*◌, ◌%◌, ◌<◌, ◌≤◌, Bool, List, [], ◌∷◌, ◌++◌, length, max, count_by, IfSome, IfNone};
 ghost use Rattle.circular_buffer.specs.Buffer.{buffer};
 ghost use Rattle.pl_segments.specs.declared.slice.Slice.{Slice as Part};
 ghost use Rattle.pl_segments.specs.Segments.{segment_at, live_count};
@@ -8,7 +8,6 @@ ghost use Rattle.pl_segments.specs.Turns.{Holds, Turns};
 ghost use Rattle.pl_segments.specs.Slots.{total, AllSolid, last_len, ends_in_part};
 ghost use Rattle.pl_ring.specs.Ring.{place_size};
 ghost use Rattle.pl_ring.specs.Merging.{lens, AreMerged, joining, merges_onto};
-ghost use Rattle.pl_ring.specs.Parts.{strange};
 
 use crate::plan::joins;
 use circular_buffer::HeapCircularBuffer;
@@ -130,7 +129,8 @@ pub(crate) fn push_slot<A: Allocator + Copy>(
     ensures once { ends_in_part (segment_at store.new) slots.new.items + store.old.room ≤ store.new.room + max (1 - joining slots.old.items slot) (ends_in_part (segment_at store.old) slots.old.items) }
     ensures in_use { live_count store.new.held ≤ live_count store.old.held + joining slots.old.items slot }
     ensures plan { (rest : List ℕ) → merges_onto slots.new.items rest + joining slots.old.items slot ≡ merges_onto slots.old.items (slot.len ∷ rest) }
-    ensures parts { (parts : List Part) → strange parts slots.new.items ≤ strange parts (slots.old.items ++ slot ∷ []) + joining slots.old.items slot }
+    ensures count { length slots.new.items + joining slots.old.items slot ≡ length slots.old.items + 1 }
+    ensures parts { (test : Part → Bool) → count_by test slots.new.items ≤ count_by test (slots.old.items ++ slot ∷ []) + joining slots.old.items slot }
 {
     if joins(slots.len(), last_len(slots), slot.len) {
         let last = take_last(slots);

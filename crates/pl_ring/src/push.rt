@@ -1,5 +1,5 @@
 //! Slots that are pushed.
-ghost use Rattle.std.specs.Prelude.{◌≡◌, ℕ, ◌+◌, ◌-◌, ◌*◌, ◌%◌, ◌<◌, ◌≤◌, ◌^◌, List, [], ◌++◌, length, min, IfOk, OnOk, OnErr};
+ghost use Rattle.std.specs.Prelude.{◌≡◌, ℕ, ◌+◌, ◌-◌, ◌*◌, ◌%◌, ◌<◌, ◌≤◌, ◌^◌, Bool, [], ◌++◌, length, min, count_by, IfOk, OnOk, OnErr};
 ghost use Rattle.pl_segments.specs.declared.slice.Slice.{Slice as Part};
 ghost use Rattle.pl_segments.specs.Segments.{segment_size, most_spare, segment_at, holders, live_count};
 ghost use Rattle.pl_segments.specs.Slices.{AllLie, all_read};
@@ -7,7 +7,7 @@ ghost use Rattle.pl_segments.specs.Turns.{Holds, Turns};
 ghost use Rattle.pl_segments.specs.Slots.{total, AllSolid, solid_of, tail_room, ends_in_part};
 ghost use Rattle.pl_ring.specs.Ring.{place_size};
 ghost use Rattle.pl_ring.specs.Merging.{lens, AreMerged, merges_onto};
-ghost use Rattle.pl_ring.specs.Parts.{strange};
+ghost use Rattle.pl_ring.specs.Parts.{fresh};
 
 use crate::places::{last_len, push_slot, put_all, put_last, take_last};
 use crate::plan::plan_of;
@@ -214,7 +214,8 @@ fn push_held<A: Allocator + Copy>(
     ensures merged { AreMerged (lens slots.new.items) }
     ensures capacity { slots.new.capacity ≡ slots.old.capacity }
     ensures in_use { live_count store.new.held ≤ live_count store.old.held + merges_onto slots.old.items (lens (solid_of slices.now)) }
-    ensures parts { (parts : List Part) → strange parts slots.new.items ≤ strange parts (slots.old.items ++ solid_of slices.now) + merges_onto slots.old.items (lens (solid_of slices.now)) }
+    ensures count { length slots.new.items ≡ many }
+    ensures parts { (test : Part → Bool) → count_by test slots.new.items ≤ count_by test (slots.old.items ++ solid_of slices.now) + merges_onto slots.old.items (lens (solid_of slices.now)) }
 {
     if many == slots.len() + slices.len() {
         // None is empty, and none becomes one with another.
@@ -252,7 +253,8 @@ pub(crate) fn push_slices<A: Allocator + Copy>(
     ensures merged { OnOk result (AreMerged (lens slots.new.items)) }
     ensures capacity { OnOk result (slots.new.capacity ≡ slots.old.capacity) }
     ensures in_use { OnOk result (live_count store.new.held ≤ live_count store.old.held + merges_onto slots.old.items (lens (solid_of slices.now))) }
-    ensures parts { OnOk result (strange (slots.old.items ++ slices.now) slots.new.items ≤ merges_onto slots.old.items (lens (solid_of slices.now))) }
+    ensures count { OnOk result (length slots.new.items + merges_onto slots.old.items (lens (solid_of slices.now)) ≡ length slots.old.items + length (solid_of slices.now)) }
+    ensures parts { OnOk result (fresh (slots.old.items ++ slices.now) slots.new.items ≤ merges_onto slots.old.items (lens (solid_of slices.now))) }
     ensures err { OnErr result (slots.new ≡ slots.old) }
     ensures spare { store.old.room ≤ most_spare → store.new.room ≤ most_spare }
     ensures store_err { OnErr result (store.new ≡ store.old) }

@@ -6,7 +6,7 @@ ghost use Rattle.pl_segments.specs.Slices.{AllLie, all_read};
 ghost use Rattle.pl_segments.specs.Turns.{Holds, Turns};
 ghost use Rattle.pl_segments.specs.Slots.{total, AllSolid, solid_of, drop_bytes, front_of};
 ghost use Rattle.pl_ring.specs.Merging.{lens, AreMerged, merges_onto, IsFront};
-ghost use Rattle.pl_ring.specs.Parts.{strange};
+ghost use Rattle.pl_ring.specs.Parts.{fresh};
 ghost use Rattle.pl_ring.specs.Ring.{IsCapacity, IsBeside};
 
 use crate::fault::CapacityFault;
@@ -112,9 +112,10 @@ impl<A: Allocator + Copy> Ring<A> {
         Ok(())
     }
 
-    /// Adds slices of held segments at the end, whose bytes fit; one of no bytes adds no slot. Where they are the front of one
-    /// ring, at most three segments are made, and all slots but three at most are slots that were there or lie within slices
-    /// that were added. An error leaves all as it was.
+    /// Adds slices of held segments at the end, whose bytes fit. A slice of no bytes adds no slot, and neither does one that
+    /// becomes one with the slot before it. All slots but these are slots that were there or slices that were added. If the slices
+    /// are the front of one ring, at most three slots are neither, and at most three segments are made. An error leaves all as it
+    /// was.
     pub fn push_slices(
         &mut self,
         store: &mut Store<A>,
@@ -127,9 +128,10 @@ impl<A: Allocator + Copy> Ring<A> {
         ensures turns { OnOk result (Turns (segment_at store.old) self.old.slots (segment_at store.new) self.new.slots) }
         ensures read { OnOk result (all_read (segment_at store.new) self.new.slots ≡ all_read (segment_at store.old) self.old.slots ++ all_read (segment_at store.old) slices.now) }
         ensures in_use { OnOk result (live_count store.new.held ≤ live_count store.old.held + merges_onto self.old.slots (lens (solid_of slices.now))) }
-        ensures parts { OnOk result (strange (self.old.slots ++ slices.now) self.new.slots ≤ merges_onto self.old.slots (lens (solid_of slices.now))) }
+        ensures count { OnOk result (length self.new.slots + merges_onto self.old.slots (lens (solid_of slices.now)) ≡ length self.old.slots + length (solid_of slices.now)) }
+        ensures parts { OnOk result (fresh (self.old.slots ++ slices.now) self.new.slots ≤ merges_onto self.old.slots (lens (solid_of slices.now))) }
         ensures front_in_use { OnOk result (IsFront slices.now → live_count store.new.held ≤ live_count store.old.held + 3) }
-        ensures front_parts { OnOk result (IsFront slices.now → strange (self.old.slots ++ slices.now) self.new.slots ≤ 3) }
+        ensures front_parts { OnOk result (IsFront slices.now → fresh (self.old.slots ++ slices.now) self.new.slots ≤ 3) }
         ensures capacity { self.new.capacity ≡ self.old.capacity }
         ensures err { OnErr result (self.new ≡ self.old) }
         ensures spare { store.old.room ≤ most_spare → store.new.room ≤ most_spare }

@@ -1,8 +1,9 @@
 //! What lines ask.
 use crate::equal::is;
+use crate::refused::{Asked, is_told, is_told_as_bad};
 use crate::{fifo_lines, file_lines, poll_lines, shared_lines, size_lines, splice_lines};
 use pl_model::Name;
-use pl_script::{Line, LineFault, parse_line};
+use pl_script::{Line, Version, parse_line};
 use pl_testing::asked::Ask::{
     self, Close, Interrupt, Pipe, PipeNonblock, Read, Resume, Start, Write,
 };
@@ -233,21 +234,18 @@ fn asks_nothing(alloc: Global, text: &str) -> bool {
     parse_line(alloc, text.as_bytes()) == Ok(None)
 }
 
-fn is_bad(alloc: Global, text: &str) -> bool {
-    parse_line(alloc, text.as_bytes()) == Err(LineFault::Bad)
-}
-
 fn each_asks(rt: &impl Abort, alloc: Global, rows: &[(&str, Ask)]) -> Result<(), Fail> {
     for (text, ask) in rows {
         let is_asked = asks(alloc, text, *ask)?;
         is(rt, text, 0, is_asked, true);
+        is_told(rt, alloc, Version::One, text, Asked::Asks)?;
     }
     Ok(())
 }
 
 fn each_is_bad(rt: &impl Abort, alloc: Global, texts: &[&str]) {
     for text in texts {
-        is(rt, text, 0, is_bad(alloc, text), true);
+        is_told_as_bad(rt, alloc, Version::One, text);
     }
 }
 
@@ -270,6 +268,7 @@ fn lines_that_ask_for_a_file(rt: HostRuntime) -> Result<(), Fail> {
     for (text, name) in FILES {
         let is_asked = asks_for_file(rt.alloc(), text, name)?;
         is(&rt, text, 0, is_asked, true);
+        is_told(&rt, rt.alloc(), Version::One, text, Asked::Asks)?;
     }
     Ok(())
 }

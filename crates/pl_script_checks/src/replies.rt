@@ -1,7 +1,8 @@
 //! The text of each reply.
 use super::equal::is;
+use super::refused::{Asked, is_told};
 use pl_model::{Errno, Mode, OpenFlags, Outcome, PollMask};
-use pl_script::{show, show_file};
+use pl_script::{Version, show};
 use pl_testing::asked::Data::{Text, TwoRuns};
 use pl_testing::asked::Want::{
     self, Bytes, CallsSpent, Count, CountSigpipe, Fault, Fd, Fds, Flags, Masks, NoCall, NoProcess,
@@ -10,8 +11,6 @@ use pl_testing::asked::Want::{
 use pl_testing::masks::{
     ALL, EMPTY, ERR, ERR_HUP_NVAL, HUP, IN, IN_HUP, IN_OUT, NVAL, OUT, OUT_ERR,
 };
-use std::alloc::Global;
-use std::process::Abort;
 use std::test::Fail;
 
 const REPLIES: &[(Want, &str)] = &[
@@ -110,23 +109,15 @@ const REPLIES: &[(Want, &str)] = &[
     (Fault(Errno::ESPIPE), "ESPIPE"),
 ];
 
-fn shows(rt: &impl Abort, alloc: Global, outcome: &Outcome, text: &str) -> Result<(), Fail> {
-    let shown = show(alloc, outcome)?;
-    is(rt, text, 0, shown.as_str() == text, true);
-    Ok(())
-}
-
-fn shows_reply(rt: &impl Abort, alloc: Global, want: Want, text: &str) -> Result<(), Fail> {
-    let outcome = want.outcome(alloc)?;
-    shows(rt, alloc, &outcome, text)
-}
-
 #[test]
 fn each_reply_is_shown(rt: HostRuntime) -> Result<(), Fail> {
     for (want, text) in REPLIES {
-        shows_reply(&rt, rt.alloc(), *want, text)?;
+        is_told(&rt, rt.alloc(), Version::One, text, Asked::Shows(*want))?;
+        is_told(&rt, rt.alloc(), Version::One, text, Asked::Adds(*want))?;
     }
-    shows(&rt, rt.alloc(), &Outcome::NoMemory, "nomem")
+    let shown = show(rt.alloc(), &Outcome::NoMemory)?;
+    is(&rt, "nomem", 0, shown.as_str() == "nomem", true);
+    Ok(())
 }
 
 /// What a line says of a file that holds these bytes, or of none.
@@ -137,21 +128,17 @@ const FILES: &[(Option<&[u8]>, &str)] = &[
     (Some(b"hello"), "file 68656c6c6f"),
 ];
 
-fn shows_file(
-    rt: &impl Abort,
-    alloc: Global,
-    bytes: Option<&[u8]>,
-    text: &str,
-) -> Result<(), Fail> {
-    let shown = show_file(alloc, bytes)?;
-    is(rt, text, 0, shown.as_str() == text, true);
-    Ok(())
-}
-
 #[test]
 fn each_file_is_shown(rt: HostRuntime) -> Result<(), Fail> {
     for (bytes, text) in FILES {
-        shows_file(&rt, rt.alloc(), *bytes, text)?;
+        is_told(
+            &rt,
+            rt.alloc(),
+            Version::One,
+            text,
+            Asked::ShowsFile(*bytes),
+        )?;
+        is_told(&rt, rt.alloc(), Version::One, text, Asked::AddsFile(*bytes))?;
     }
     Ok(())
 }

@@ -1,14 +1,14 @@
 //! Single lines, replies and files of version 2.
 use super::equal::is;
+use super::refused::{Asked, is_told, is_told_as_bad};
 use pl_model::Outcome;
-use pl_script::{Line, LineFault, parse_line_2, show_2, show_file_2};
+use pl_script::{Line, Version, parse_line_2, show_2};
 use pl_testing::asked::Ask::{
     self, Dup, PacketPipe, PacketPipeNonblock, Pipe, PipeNonblock, Write,
 };
 use pl_testing::asked::Data::{Many, Text, TwoRuns};
 use pl_testing::asked::Want::{self, Bytes, Fd};
 use std::alloc::Global;
-use std::process::Abort;
 use std::test::Fail;
 
 const GOOD: &[(&str, Ask)] = &[
@@ -63,18 +63,15 @@ fn good_lines(rt: HostRuntime) -> Result<(), Fail> {
     for (text, ask) in GOOD {
         let is_asked = asks(rt.alloc(), text, *ask)?;
         is(&rt, text, 0, is_asked, true);
+        is_told(&rt, rt.alloc(), Version::Two, text, Asked::Asks)?;
     }
     Ok(())
-}
-
-fn is_bad(alloc: Global, text: &str) -> bool {
-    parse_line_2(alloc, text.as_bytes()) == Err(LineFault::Bad)
 }
 
 #[test]
 fn bad_lines(rt: HostRuntime) {
     for text in BAD {
-        is(&rt, text, 0, is_bad(rt.alloc(), text), true);
+        is_told_as_bad(&rt, rt.alloc(), Version::Two, text);
     }
 }
 
@@ -91,23 +88,15 @@ const REPLIES: &[(Want, &str)] = &[
     (Bytes(Many(0, 16_777_216)), "data 16777216*00"),
 ];
 
-fn shows(rt: &impl Abort, alloc: Global, outcome: &Outcome, text: &str) -> Result<(), Fail> {
-    let shown = show_2(alloc, outcome)?;
-    is(rt, text, 0, shown.as_str() == text, true);
-    Ok(())
-}
-
-fn shows_reply(rt: &impl Abort, alloc: Global, want: Want, text: &str) -> Result<(), Fail> {
-    let outcome = want.outcome(alloc)?;
-    shows(rt, alloc, &outcome, text)
-}
-
 #[test]
 fn each_reply_is_shown(rt: HostRuntime) -> Result<(), Fail> {
     for (want, text) in REPLIES {
-        shows_reply(&rt, rt.alloc(), *want, text)?;
+        is_told(&rt, rt.alloc(), Version::Two, text, Asked::Shows(*want))?;
+        is_told(&rt, rt.alloc(), Version::Two, text, Asked::Adds(*want))?;
     }
-    shows(&rt, rt.alloc(), &Outcome::NoMemory, "nomem")
+    let shown = show_2(rt.alloc(), &Outcome::NoMemory)?;
+    is(&rt, "nomem", 0, shown.as_str() == "nomem", true);
+    Ok(())
 }
 
 /// What a line says of a file that holds these bytes, or of none.
@@ -117,21 +106,17 @@ const FILES: &[(Option<&[u8]>, &str)] = &[
     (Some(b"\0\0\0\0\0"), "file 5*00"),
 ];
 
-fn shows_file(
-    rt: &impl Abort,
-    alloc: Global,
-    bytes: Option<&[u8]>,
-    text: &str,
-) -> Result<(), Fail> {
-    let shown = show_file_2(alloc, bytes)?;
-    is(rt, text, 0, shown.as_str() == text, true);
-    Ok(())
-}
-
 #[test]
 fn each_file_is_shown(rt: HostRuntime) -> Result<(), Fail> {
     for (bytes, text) in FILES {
-        shows_file(&rt, rt.alloc(), *bytes, text)?;
+        is_told(
+            &rt,
+            rt.alloc(),
+            Version::Two,
+            text,
+            Asked::ShowsFile(*bytes),
+        )?;
+        is_told(&rt, rt.alloc(), Version::Two, text, Asked::AddsFile(*bytes))?;
     }
     Ok(())
 }

@@ -21,7 +21,7 @@ use Rattle.pl_splices.specs.declared.sides.Side.{Side}
 -- other.
 pub record SharesSlots (old new : Memory) (from to : ℕ) : Type 0 where
   pub few : new.segments ≤ old.segments + 3
-  pub parts : strange (slots_at old.slots to ++ slots_at old.slots from) (slots_at new.slots to) ≤ 3
+  pub parts : strange (slots_at old.slots to) (slots_at old.slots from) (slots_at new.slots to) ≤ 3
 
 -- No segment came.
 pub record AddsNone (old new : Memory) : Type 0 where

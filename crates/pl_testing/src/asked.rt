@@ -4,7 +4,7 @@ use pl_model::{
     Bytes8, Call, Errno, MaskList, Mode, Name, OpenFlags, Outcome, PollList, PollMask, Reply,
     SpliceFlags, Step, Whence,
 };
-use std::alloc::{AllocError, Allocator, Global};
+use std::alloc::{AllocError, Allocator};
 use std::test::Fail;
 
 /// The number that no call gets.
@@ -117,12 +117,13 @@ impl Data {
         }
     }
 
-    fn bytes<A: Allocator>(self, alloc: A) -> Result<Bytes8<A>, Fail> {
+    pub(crate) fn bytes<A: Allocator>(self, alloc: A) -> Result<Bytes8<A>, Fail> {
         let bytes = self.list(alloc)?;
         Ok(Bytes8::from_vec(bytes).ok_or("more bytes than a call moves")?)
     }
 
-    fn name<A: Allocator>(self, alloc: A) -> Result<Name<A>, Fail> {
+    /// The name of these bytes, in memory of `alloc`. It fails where there is no memory.
+    pub fn name<A: Allocator>(self, alloc: A) -> Result<Name<A>, Fail> {
         Ok(Name::from_vec(self.list(alloc)?))
     }
 }
@@ -146,7 +147,7 @@ fn entries_of<A: Allocator>(alloc: A, asks: &[(i32, &[PollMask])]) -> Result<Pol
 }
 
 /// What a poll found.
-fn masks_of(alloc: Global, found: &[&[PollMask]]) -> Result<MaskList, Fail> {
+fn masks_of<A: Allocator>(alloc: A, found: &[&[PollMask]]) -> Result<MaskList<A>, Fail> {
     let mut masks = Vec::new(alloc);
     for mask in found {
         masks.push(all_of(mask))?;
@@ -288,8 +289,8 @@ impl Ask {
 }
 
 impl Want {
-    /// The reply. It fails where there is no memory, and at more than 16,777,216 bytes.
-    pub fn reply(self, alloc: Global) -> Result<Reply, Fail> {
+    /// The reply, with its bytes in memory of `alloc`. It fails where there is no memory, and at more than 16,777,216 bytes.
+    pub fn reply<A: Allocator>(self, alloc: A) -> Result<Reply<A>, Fail> {
         Ok(match self {
             Want::Pid(pid) => Reply::Pid(pid),
             Want::Fd(fd) => Reply::Fd(fd),
@@ -317,7 +318,7 @@ impl Want {
     }
 
     /// What a step comes to that answers this. It fails where there is no memory, and at more than 16,777,216 bytes.
-    pub fn outcome(self, alloc: Global) -> Result<Outcome, Fail> {
+    pub fn outcome<A: Allocator>(self, alloc: A) -> Result<Outcome<A>, Fail> {
         Ok(Outcome::Replied(self.reply(alloc)?))
     }
 }

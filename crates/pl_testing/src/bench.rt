@@ -3,7 +3,7 @@ use crate::asked::{Ask, Data, Want};
 use crate::buffers::reply_on_buffers;
 use pl_kernel::Kernel;
 use pl_model::numbers::{MAX_FILE_BYTES, MAX_PROCESSES};
-use pl_model::{Bytes8, Call, Limits, MaskList, Outcome, Reply, Step};
+use pl_model::{Bytes8, Call, Limits, MaskList, Name, Outcome, Reply, Step};
 use std::alloc::{Allocator, Global};
 use std::marker::Model;
 use std::test::Fail;
@@ -45,6 +45,20 @@ fn outcomes_of<A: Allocator + Copy>(
     steps: Vec<Step<A>, A>,
 ) -> Option<Vec<Outcome<A>, A>> {
     kernel.run(steps).ok()
+}
+
+/// Whether the file of the name has these bytes, or there is none where none are given; `None` where there is no memory for its bytes.
+fn file_has<A: Allocator + Copy>(
+    kernel: &Kernel<A>,
+    name: &Name<A>,
+    want: Option<&[u8]>,
+) -> Option<bool> {
+    let told = kernel.file_bytes(name).ok()?;
+    Some(match (&told, want) {
+        (Some(told), Some(want)) => told.as_slice() == want,
+        (None, None) => true,
+        _ => false,
+    })
 }
 
 /// The reply, with its bytes in memory of `alloc`. It fails where that has none.
@@ -155,6 +169,41 @@ impl<A: Allocator + Copy> Bench<A> {
         } else {
             Err(self.fault(ask, "finds no memory"))
         }
+    }
+
+    /// Asks for the bytes of the file of the name, and answers whether that found memory. It fails where it did, and tells other bytes
+    /// than those that are wanted; `None` is that there is no such file.
+    pub fn file_has(&self, name: &Name<A>, want: Option<Data>) -> Result<bool, Fail> {
+        let told = match want {
+            Some(data) => {
+                let bytes = data.bytes(self.alloc)?;
+                file_has(&self.kernel, name, Some(bytes.as_slice()))
+            }
+            None => file_has(&self.kernel, name, None),
+        };
+        match told {
+            Some(false) => Err(self.file_fault("has other bytes, or is there or isn't there")),
+            _ => Ok(told.is_some()),
+        }
+    }
+
+    /// What a test fails with at a file that is asked for behind the last step.
+    pub fn file_fault(&self, what: &str) -> Fail {
+        let (made, name, refused) = (self.made, self.name, self.refused);
+        Fail::new(format_args!(
+            "a file behind step {made} of {name} {what}; request {refused} (0: none) is refused"
+        ))
+    }
+
+    /// Asks for the bytes of the files, and fails at the first that hasn't what is wanted.
+    pub fn files_have(&self, files: &[(Data, Option<Data>)]) -> Result<(), Fail> {
+        for (name, want) in files {
+            let name = name.name(self.heap)?;
+            if !self.file_has(&name, *want)? {
+                return Err(self.file_fault("finds no memory"));
+            }
+        }
+        Ok(())
     }
 
     /// A process takes the names away, in order, and ends. It fails where one isn't there.

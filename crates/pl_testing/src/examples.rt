@@ -214,8 +214,9 @@ pub const POLL: [(Ask, Want); 8] = [
     (PollNow(1, &[(1, OUT)]), Masks(0, &[EMPTY])),
 ];
 
-/// Two processes share the offset of a file, and its status flags. A write at the end, one behind it, and reads without the name.
-pub const A_FILE_OF_TWO_PROCESSES: [(Ask, Want); 20] = [
+/// Two processes share the offset of a file, and its status flags: a write at the end, and one behind it. The file is left, with the bytes
+/// "abc", two zeros and "d".
+pub const A_FILE_OF_TWO_PROCESSES: [(Ask, Want); 10] = [
     (Start, Pid(1)),
     (
         Open(
@@ -234,21 +235,19 @@ pub const A_FILE_OF_TWO_PROCESSES: [(Ask, Want); 20] = [
     (Lseek(1, 0, 5, Set), Offset(5)),
     (SetFl(1, 0, &[]), Unit),
     (Write(2, 0, Text("d")), Count(1)),
-    // the bytes of the file
-    (Open(2, Text("f"), Mode::Read, &[]), Fd(1)),
-    (Read(2, 1, 9), Bytes(Text("abc\0\0d"))),
-    (Close(2, 1), Unit),
+];
+
+/// Without its name they read it still.
+pub const A_FILE_WITHOUT_ITS_NAME: [(Ask, Want); 5] = [
     (Read(1, 0, 4), Bytes(Text(""))),
     (Unlink(1, Text("f")), Unit),
     (Open(1, Text("f"), Mode::Read, &[]), Fault(Errno::ENOENT)),
     (Lseek(1, 0, 0, Set), Offset(0)),
     (Read(2, 0, 2), Bytes(Text("ab"))),
-    (Exit(1), Unit),
-    (Exit(2), Unit),
 ];
 
-/// A file takes bytes up to its limit, and an offset is at least 0 and at most the greatest.
-pub const THE_END_OF_A_FILE: [(Ask, Want); 11] = [
+/// A file takes bytes up to its limit, and an offset is at least 0 and at most the greatest. The name is gone.
+pub const THE_END_OF_A_FILE: [(Ask, Want); 10] = [
     (Start, Pid(1)),
     (Open(1, Text("f"), Mode::Both, &[OpenFlags::CREAT]), Fd(0)),
     (Lseek(1, 0, 16_777_214, Set), Offset(16_777_214)),
@@ -259,7 +258,6 @@ pub const THE_END_OF_A_FILE: [(Ask, Want); 11] = [
     (Lseek(1, 0, i64::MAX, End), Fault(Errno::EOVERFLOW)),
     (Unlink(1, Text("f")), Unit),
     (Lseek(1, 0, 0, End), Offset(16_777_216)),
-    (Open(1, Text("f"), Mode::Read, &[]), Fault(Errno::ENOENT)),
 ];
 
 const NEW: &[OpenFlags] = &[OpenFlags::CREAT, OpenFlags::EXCL];
@@ -268,8 +266,8 @@ const NONBLOCK: &[OpenFlags] = &[OpenFlags::NONBLOCK];
 
 const TRUNC: &[OpenFlags] = &[OpenFlags::TRUNC];
 
-/// Which names are refused, which flags a description keeps, and what an open empties. The name is left.
-pub const NAMES_AND_FLAGS: [(Ask, Want); 19] = [
+/// Which names are refused, which flags a description keeps, and what an open empties. The file is left, without bytes.
+pub const NAMES_AND_FLAGS: [(Ask, Want); 14] = [
     (Start, Pid(1)),
     (Open(1, Text(""), Mode::Read, &[]), Fault(Errno::ENOENT)),
     (Mkfifo(1, Text("a/b")), Fault(Errno::EINVAL)),
@@ -291,12 +289,6 @@ pub const NAMES_AND_FLAGS: [(Ask, Want); 19] = [
     (Open(1, Text("x"), Mode::Read, TRUNC), Fd(1)),
     (Read(1, 1, 9), Bytes(Text("ab"))),
     (Open(1, Text("x"), Mode::Both, TRUNC), Fd(2)),
-    // no bytes are left
-    (Read(1, 2, 9), Bytes(Text(""))),
-    (Lseek(1, 1, 0, Set), Offset(0)),
-    (Read(1, 1, 9), Bytes(Text(""))),
-    (Lseek(1, 2, 0, End), Offset(0)),
-    (Exit(1), Unit),
 ];
 
 /// A size is rounded up to a power of two; one above the greatest is refused, and so is one that is less than what is held.
@@ -328,8 +320,8 @@ pub const A_SHARED_TAIL: [(Ask, Want); 9] = [
     (Read(1, 2, 10), Bytes(Text("abd"))),
 ];
 
-/// A later write to the file doesn't change what was spliced from it. The name is left.
-pub const BYTES_OF_THEIR_MOMENT: [(Ask, Want); 10] = [
+/// A later write to the file doesn't change what was spliced from it. The file is left, with the bytes "new".
+pub const BYTES_OF_THEIR_MOMENT: [(Ask, Want); 8] = [
     (Start, Pid(1)),
     (Open(1, Text("f"), Mode::Both, CREAT), Fd(0)),
     (Write(1, 0, Text("old")), Count(3)),
@@ -338,22 +330,20 @@ pub const BYTES_OF_THEIR_MOMENT: [(Ask, Want); 10] = [
     (Lseek(1, 0, 0, Set), Offset(0)),
     (Write(1, 0, Text("new")), Count(3)),
     (Read(1, 1, 10), Bytes(Text("old"))),
-    // the bytes of the file
-    (Open(1, Text("f"), Mode::Read, &[]), Fd(3)),
-    (Read(1, 3, 10), Bytes(Text("new"))),
 ];
 
-/// A splice to an offset that is given leaves the file's own, and zeros before it. The name is left.
-pub const A_SPLICE_TO_AN_OFFSET: [(Ask, Want); 12] = [
+/// A splice to an offset that is given leaves the file's own. The file is left, with ten zeros before the bytes "ab".
+pub const A_SPLICE_TO_AN_OFFSET: [(Ask, Want); 6] = [
     (Start, Pid(1)),
     (Pipe(1), Fds(0, 1)),
     (Open(1, Text("f"), Mode::Both, CREAT), Fd(2)),
     (Write(1, 1, Text("ab")), Count(2)),
     (Splice(1, (0, None), (2, Some(10)), 5, NO_FLAGS), Count(2)),
     (Lseek(1, 2, 0, Cur), Offset(0)),
-    // the bytes of the file
-    (Open(1, Text("f"), Mode::Read, &[]), Fd(3)),
-    (Read(1, 3, 20), Bytes(Text("\0\0\0\0\0\0\0\0\0\0ab"))),
+];
+
+/// Splices of the pipe then, which is empty: at an offset, without a wait, and at its end.
+pub const SPLICES_OF_AN_EMPTY_PIPE: [(Ask, Want); 4] = [
     (
         Splice(1, (0, Some(0)), (2, None), 5, NO_FLAGS),
         Fault(Errno::ESPIPE),

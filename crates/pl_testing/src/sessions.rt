@@ -18,6 +18,8 @@ pub struct Session {
     pub full_tables: u32,
     /// At least one step, with what it comes to.
     pub rows: &'static [(Ask, Want)],
+    /// The files that are asked for behind those, each with its bytes; `None` where there is no such file.
+    pub files: &'static [(Data, Option<Data>)],
     /// Steps behind those.
     pub more: &'static [(Ask, Want)],
     /// The names of the files that are there at the end.
@@ -31,6 +33,7 @@ pub const NEW_KERNEL: Session = Session {
     processes: 0,
     full_tables: 0,
     rows: &[],
+    files: &[],
     more: &[],
     names: &[],
 };
@@ -51,6 +54,7 @@ pub fn each_answers(alloc: Global, limits: Limits, sessions: &[Session]) -> Resu
 fn make(bench: &mut Bench, session: &Session) -> Result<(), Fail> {
     bench.prepare(session.processes, session.full_tables)?;
     bench.all_answer(session.rows)?;
+    bench.files_have(session.files)?;
     bench.all_answer(session.more)?;
     bench.ends_empty(session.names)
 }

@@ -12,6 +12,7 @@ use Rattle.pl_model.specs.Settle.{settle}
 use Rattle.pl_model.specs.Trial.{Flow}
 use Rattle.pl_model.specs.Step.{Stepped, core_step}
 use Rattle.pl_model.specs.Numbered.{numbers}
+use Rattle.pl_model.specs.Waking.{can_progress}
 use Rattle.pl_model.specs.Renaming.{Renaming, Renamings, rename, rename_node, rename_description, rename_keys, rename_waiting, rename_flow, rename_stepped, rename_back, rename_drawing}
 
 abbrev equiv : Renaming → ℕ ≃ ℕ
@@ -141,3 +142,7 @@ module _ (r : Renamings) where
   settle-rename {A} before c =
       sym (from_path_p (λ i. Core A (names_line i)) (λ i. settle {K = names_line i} (core_line before i) (core_line c i)))
       ∙ from_path_p (λ i. Core A (names_line i)) (core_line (settle before c))
+
+  -- a call gets on under other names where it does
+  pub can_progress-rename : {A : Type 0} (c : Core A numbers) (number : ℕ) → can_progress (rename r c) number ≡ can_progress c number
+  can_progress-rename {A} c number = sym (λ i. can_progress {K = names_line i} (core_line c i) number)

@@ -31,7 +31,7 @@ impl<A: Allocator + Copy> Nodes<A> {
         ensures ok { OnOk result (at self.new.pipes ≡ change_at to (gain (take count (bytes_of (at self.old.pipes from)))) (at self.old.pipes)) }
         ensures files { SameFiles self.old self.new }
         ensures segments { OnOk result (self.new.segments ≤ self.old.segments + 3) }
-        ensures parts { OnOk result (strange (slots_at self.old.slots to ++ slots_at self.old.slots from) (slots_at self.new.slots to) ≤ 3) }
+        ensures parts { OnOk result (strange (slots_at self.old.slots to) (slots_at self.old.slots from) (slots_at self.new.slots to) ≤ 3) }
         ensures err { OnErr result (self.new ≡ self.old) }
     {
         // A proof learns here that there are fewer files and pipes than a segment can have holders.
@@ -65,7 +65,7 @@ impl<A: Allocator + Copy> Nodes<A> {
         ensures ok { OnOk result (at self.new.pipes ≡ change_at to (gain (take count (bytes_of (at self.old.pipes from)))) (change_at from (lose count) (at self.old.pipes))) }
         ensures files { SameFiles self.old self.new }
         ensures segments { OnOk result (self.new.segments ≤ self.old.segments + 3) }
-        ensures parts { OnOk result (strange (slots_at self.old.slots to ++ slots_at self.old.slots from) (slots_at self.new.slots to) ≤ 3) }
+        ensures parts { OnOk result (strange (slots_at self.old.slots to) (slots_at self.old.slots from) (slots_at self.new.slots to) ≤ 3) }
         ensures err { OnErr result (self.new ≡ self.old) }
     {
         self.copy_pipe_pipe(from, to, count)?;

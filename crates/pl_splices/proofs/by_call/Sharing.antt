@@ -14,8 +14,7 @@ use Rattle.pl_parked.specs.declared.call.ParkedCall.{ParkedCall}
 use Rattle.pl_segments.specs.declared.slice.Slice.{Slice}
 use Rattle.pl_segments.specs.Sharing.{slots_at}
 use Rattle.pl_ring.specs.Parts.{strange}
-use Rattle.pl_ring.proofs.Lying.{strange-append, strange-first}
-use Rattle.pl_segments.specs.Slots.{solid_of}
+use Rattle.pl_ring.proofs.Counting.{fresh-own, strange-less}
 use Rattle.pl_desc.specs.Rows.{at, row_of}
 use Rattle.pl_nodes.specs.Nodes.{Memory, Shrinks}
 use Rattle.pl_state.specs.declared.access.OpenNode.{OpenNode}
@@ -26,12 +25,12 @@ use Rattle.pl_splices.specs.declared.sides.Side.{Side}
 use Rattle.pl_splices.specs.Moves.{IsMove, MoveWaits}
 use Rattle.pl_splices.specs.Shares.{Shares, SharesBetween, SharesByStep, Way, place_in, way_between, way_named, way_kept, way_waiting, way_of}
 
--- slots lie within themselves
-strange-own : (xs ys : List Slice) → strange (xs ++ ys) xs ≤ 3
+-- slots that were there aren't strange
+strange-own : (xs ys : List Slice) → strange xs ys xs ≤ 3
 strange-own xs ys =
-    let both = strange-append (xs ++ ys) xs (solid_of ys) in
-    let none = strange-first xs ys in
-    omega (arith, both, none)
+    let less = strange-less xs ys xs in
+    let none = fresh-own xs in
+    omega (arith, less, none)
 
 -- where nothing changed
 pub shares-same : {A : Type 0} (k : Contents A) (m n : Node) (place : ℕ) → Shares k m n place k.nodes.memory
@@ -53,9 +52,9 @@ shares-shrunk k (Pipe p) (Pipe q) place mid new shares less =
     let few = shares.few in
     record { few = omega (arith, fewer, few); parts = by (less.slots q).0 (less.slots q).1 }
   where
-    by : (goes : Bool) → slots_at new.slots q ≡ (if goes then [] else slots_at mid.slots q) → strange (slots_at k.nodes.memory.slots q ++ slots_at k.nodes.memory.slots p) (slots_at new.slots q) ≤ 3
-    by true e = subst (λ (ys : List Slice). strange (slots_at k.nodes.memory.slots q ++ slots_at k.nodes.memory.slots p) ys ≤ 3) (sym e) (omega arith)
-    by false e = subst (λ (ys : List Slice). strange (slots_at k.nodes.memory.slots q ++ slots_at k.nodes.memory.slots p) ys ≤ 3) (sym e) shares.parts
+    by : (goes : Bool) → slots_at new.slots q ≡ (if goes then [] else slots_at mid.slots q) → strange (slots_at k.nodes.memory.slots q) (slots_at k.nodes.memory.slots p) (slots_at new.slots q) ≤ 3
+    by true e = subst (λ (ys : List Slice). strange (slots_at k.nodes.memory.slots q) (slots_at k.nodes.memory.slots p) ys ≤ 3) (sym e) (omega arith)
+    by false e = subst (λ (ys : List Slice). strange (slots_at k.nodes.memory.slots q) (slots_at k.nodes.memory.slots p) ys ≤ 3) (sym e) shares.parts
 shares-shrunk k (Pipe p) (File f) place mid new shares less = λ within.
     let was = shares within in
     let fewer = less.fewer in

@@ -18,12 +18,12 @@ install-requires-clause-free g c =
 pub install-requires-clause-held : goal.install-requires-clause-held
 install-requires-clause-held g c = has_hold (count_at c.start.new.self.loose) (count_at c.open_desc.new.self.loose) (Some c.in_ok-key.key) c.in_ok-key.key c.in_ok-key.ensures.loose refl
 
-pub copy_table-requires-clause-process : goal.copy_table-requires-clause-process
-copy_table-requires-clause-process g c =
+pub copy_at_last-requires-clause-process : goal.copy_at_last-requires-clause-process
+copy_at_last-requires-clause-process g c =
     (λ i. c.install.ensures.pids i c.in_ok-parent.parent)
     ∙ is_there c.start.new.self.tables c.open_desc.new.self.tables (is_pid c.args.descs.now.tables) c.in_ok-parent.parent c.in_ok-parent.ensures.pids c.open_desc.ensures.tables
 
-pub copy_table-requires-clause-few : goal.copy_table-requires-clause-few
-copy_table-requires-clause-few g c =
+pub copy_at_last-requires-clause-few : goal.copy_at_last-requires-clause-few
+copy_at_last-requires-clause-few g c =
     few_holds c.in_ok-key.key (count_at c.start.new.self.loose) (count_at c.open_desc.new.self.loose) (count_at c.install.new.self.loose)
     (ap (λ d. count_at d.loose) c.start.ensures.rest ∙ ap (λ d. count_at d.loose) c.requires) c.in_ok-key.ensures.loose c.install.ensures.loose

@@ -1,17 +1,16 @@
-use Rattle.std.proofs.Common.{◌≡◌, ◌∙◌, ◌+◌, [], ◌∷◌, ◌++◌, ap, sym, subst, length, arith}
+use Rattle.std.proofs.Common.{◌≡◌, ◌∙◌, ◌+◌, [], ◌∷◌, ◌++◌, ap, sym, subst, length, count_by, arith}
 use Rattle.std.proofs.lemmas.List.{length_push}
 use Rattle.pl_segments.specs.Segments.{segment_at}
 use Rattle.pl_segments.specs.Slices.{all_read, one_if, is_part}
 use Rattle.pl_segments.specs.Turns.{Turns}
 use Rattle.pl_segments.specs.Slots.{AllSolid, last_len, ends_in_part}
 use Rattle.pl_ring.specs.Merging.{lens, AreMerged, joins, joining, merges_onto}
-use Rattle.pl_ring.specs.Parts.{strange}
 use Rattle.pl_segments.proofs.SlotLemmas.{total-append}
 use Rattle.pl_segments.proofs.LastSlot.{part-last, part-most}
 use Rattle.pl_ring.proofs.Merging.{joins-fit}
 use Rattle.pl_segments.proofs.Together.{is-last, one-solid, one-some, both-held, one-turns, one-read, all-together}
 use Rattle.pl_ring.proofs.Placing.{places-enough, push-merged, alone-plan, one-merged, one-plan}
-use Rattle.pl_ring.proofs.Lying.{strange-joined}
+use Rattle.pl_ring.proofs.Counting.{count-joined}
 use Rattle.pl_ring.proofs.places.push_slot.Given.{Over}
 use Rattle.pl_ring.proofs.places.push_slot.Goals.{After-joins}
 use Rattle.pl_ring.proofs.places.push_slot.Goals as goal
@@ -86,12 +85,21 @@ returns-then-joins-clause-parts g c =
     let y = c.join_reserved-joined.result in
     let s = c.args.slot in
     let fit = sym (asked g (goal.at.returns-then-joins-clause-parts g c).After-joins) ∙ c.if-joins.true in
-    λ parts.
+    λ test.
     let one : joining xs s ≡ 1 = ap one_if fit in
-    let is = ap (strange parts) (λ i. (c.put_last.ensures i).items) in
-    let all = ap (strange parts) (all-together m m xs front x y s c.take_last-last.ensures.items) in
-    let j = strange-joined parts front x s y in
+    let is = ap (count_by test) (λ i. (c.put_last.ensures i).items) in
+    let all = ap (count_by test) (all-together m m xs front x y s c.take_last-last.ensures.items) in
+    let j = count-joined test front x s y in
     omega (arith, one, is, all, j)
+
+pub returns-then-joins-clause-count : goal.returns-then-joins-clause-count
+returns-then-joins-clause-count g c =
+    let front = c.take_last-last.new.slots.items in
+    let fit = sym (asked g (goal.at.returns-then-joins-clause-count g c).After-joins) ∙ c.if-joins.true in
+    let one : joining c.args.slots.now.items c.args.slot ≡ 1 = ap one_if fit in
+    let was = ap length c.take_last-last.ensures.items ∙ length_push front c.take_last-last.result in
+    let now = ap length (λ i. (c.put_last.ensures i).items) ∙ length_push front c.join_reserved-joined.result in
+    omega (arith, one, was, now)
 
 pub put_last-requires-2 : goal.put_last-requires-2
 put_last-requires-2 g c =
@@ -114,6 +122,13 @@ returns-clause-plan g c =
     let s = c.args.slot in
     let apart = sym (asked g (goal.at.returns-clause-plan g c).After-joins) ∙ c.if-joins.false in
     λ rest. ap (λ zs. merges_onto zs rest + joining xs s) (λ i. (c.put_last-2.ensures i).items) ∙ alone-plan xs s apart rest
+
+pub returns-clause-count : goal.returns-clause-count
+returns-clause-count g c =
+    let xs = c.args.slots.now.items in
+    let none : joining xs c.args.slot ≡ 0 = ap one_if (sym (asked g (goal.at.returns-clause-count g c).After-joins) ∙ c.if-joins.false) in
+    let now = ap length (λ i. (c.put_last-2.ensures i).items) ∙ length_push xs c.args.slot in
+    omega (arith, none, now)
 
 pub returns-then-joins-clause-once : goal.returns-then-joins-clause-once
 returns-then-joins-clause-once g c =

@@ -1,16 +1,16 @@
-use Rattle.std.proofs.Common.{◌≡◌, ◌∙◌, ◌+◌, ◌++◌, List, length, refl, sym, ap, subst, arith}
+use Rattle.std.proofs.Common.{◌≡◌, ◌∙◌, ◌+◌, ◌++◌, List, length, count_by, refl, sym, ap, subst, arith}
+use Rattle.std.proofs.lemmas.List.{length-append}
 use Rattle.pl_segments.specs.declared.slice.Slice.{Slice}
 use Rattle.pl_segments.specs.Segments.{segment_at, live_count}
 use Rattle.pl_segments.specs.Slices.{all_read}
 use Rattle.pl_segments.specs.Turns.{Turns}
 use Rattle.pl_segments.specs.Slots.{AllSolid, solid_of}
 use Rattle.pl_ring.specs.Merging.{lens, AreMerged}
-use Rattle.pl_ring.specs.Parts.{strange}
 use Rattle.pl_segments.proofs.Turning.{turns-same}
 use Rattle.pl_segments.proofs.SlotLemmas.{solid-append, total-append, total-solid}
 use Rattle.pl_segments.proofs.Pushing.{solid-solid_of}
 use Rattle.pl_ring.proofs.Apart.{whole, apart-tight, apart-solid, apart-places}
-use Rattle.pl_ring.proofs.Underway.{underway-as, underway-first, underway-at, underway-past, underway-end, next-held, next-solid, next-total, next-room, underway-next, last-turns, last-read, last-solid, last-in_use, last-parts}
+use Rattle.pl_ring.proofs.Underway.{underway-as, underway-first, underway-at, underway-past, underway-end, next-held, next-solid, next-total, next-room, underway-next, last-turns, last-read, last-solid, last-in_use, last-count, last-parts}
 use Rattle.pl_ring.proofs.push.push_held.Given.{Over}
 use Rattle.pl_ring.proofs.push.push_held.Goals.{After-put_all, then-slice-ne0, else-slice-ne0}
 use Rattle.pl_ring.proofs.push.push_held.Goals as goal
@@ -52,9 +52,15 @@ returns-then-many-len-clause-merged g c =
     subst (λ zs. AreMerged (lens zs)) (sym (λ i. (c.put_all.ensures i).items)) (apart-tight c.args.slots.now.items c.args.slices.now c.args.many (many g k) c.requires.many c.requires.merged)
 
 pub returns-then-many-len-clause-parts : goal.returns-then-many-len-clause-parts
-returns-then-many-len-clause-parts g c = λ parts.
-    let same = ap (strange parts) (all g (goal.at.returns-then-many-len-clause-parts g c).After-put_all) in
+returns-then-many-len-clause-parts g c = λ test.
+    let same = ap (count_by test) (all g (goal.at.returns-then-many-len-clause-parts g c).After-put_all) in
     omega (arith, same)
+
+pub returns-then-many-len-clause-count : goal.returns-then-many-len-clause-count
+returns-then-many-len-clause-count g c =
+    ap length (λ i. (c.put_all.ensures i).items)
+    ∙ length-append c.args.slots.now.items c.args.slices.now
+    ∙ sym (many g (goal.at.returns-then-many-len-clause-count g c).After-put_all)
 
 pub loop-i-init : goal.loop-i-init
 loop-i-init g c = record {
@@ -95,7 +101,7 @@ loop-i-preserved g c =
           let e = w.push_slot.ensures in
           let u = underway-next c.requires.held (underway-at c.args.slices.now c.loop-i.i inv.underway c.loop-i-test.true w.if-slice-ne0.true)
           (segment_at w.push_slot.new.store) w.push_slot.new.slots.items (live_count w.push_slot.new.store.held) w.push_slot.new.store.room
-          e.turns e.read e.merged e.solid e.room e.once e.in_use e.plan e.parts in
+          e.turns e.read e.merged e.solid e.room e.once e.in_use e.plan e.count e.parts in
           record {
             underway = underway-as c.if-slice-ne0.store w.push_slot.new.store c.if-slice-ne0.slots.items w.push_slot.new.slots.items w.store-is (λ i. (w.slots-is i).items) u;
             capacity = (λ i. (w.slots-is i).capacity) ∙ e.capacity ∙ inv.capacity;
@@ -123,6 +129,11 @@ returns-clause-merged g c = c.loop-i.invariant.underway.merged
 
 pub returns-clause-in_use : goal.returns-clause-in_use
 returns-clause-in_use g c = last-in_use (underway-end c.args.slices.now c.loop-i.i c.loop-i.invariant.underway c.loop-i-test.false)
+
+pub returns-clause-count : goal.returns-clause-count
+returns-clause-count g c =
+    let n = last-count (underway-end c.args.slices.now c.loop-i.i c.loop-i.invariant.underway c.loop-i-test.false) in
+    omega (arith, n, c.requires.many)
 
 pub returns-clause-parts : goal.returns-clause-parts
 returns-clause-parts g c = last-parts (underway-end c.args.slices.now c.loop-i.i c.loop-i.invariant.underway c.loop-i-test.false)

@@ -7,10 +7,7 @@ use Rattle.pl_segments.specs.Turns.{Turns, Holds}
 use Rattle.pl_segments.proofs.Turning.{turns-then, holds-turned}
 use Rattle.pl_segments.proofs.SlotLemmas.{solid-append}
 use Rattle.pl_segments.proofs.Pushing.{push-turns, push-read, total-pushed}
-use Rattle.pl_segments.specs.Slots.{last_len}
-use Rattle.pl_ring.specs.Merging.{joins}
-use Rattle.pl_ring.proofs.Lying.{one-le}
-use Rattle.pl_ring.proofs.Placing.{full-alone}
+use Rattle.pl_ring.proofs.Placing.{full-alone, joining-most}
 use Rattle.pl_ring.proofs.push.push_new.Given.{Over}
 use Rattle.pl_ring.proofs.push.push_new.Goals.{After-make_reserved-slice}
 use Rattle.pl_ring.proofs.push.push_new.Goals as goal
@@ -74,7 +71,7 @@ loop-rest-preserved g c =
           let made = c.make_reserved-slice.ensures.in_use in
           let joined = c.push_slot.ensures.in_use in
           let count = c.min-count.ensures in
-          let one = one-le (joins (length ys) (last_len ys) x.len) in
+          let one = joining-most ys x in
           ((λ some. let alone = full-alone ys x inv.solid (omega (arith, n, count, some)) in omega (arith, all, made, joined, alone, n, count, some)), omega (arith, all, made, joined, one, n));
       capacity = c.push_slot.ensures.capacity ∙ inv.capacity;
       fits = omega (arith, sum, n, inv.fits);

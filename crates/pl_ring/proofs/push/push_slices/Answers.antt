@@ -1,4 +1,4 @@
-use Rattle.std.proofs.Common.{◌≡◌, ◌∙◌, ◌++◌, [], ap, sym, subst, arith}
+use Rattle.std.proofs.Common.{◌≡◌, ◌∙◌, ◌++◌, [], not, ap, sym, subst, arith}
 use Rattle.pl_segments.specs.Segments.{Map, Segments, at, segment_at}
 use Rattle.pl_segments.specs.Slices.{all_read}
 use Rattle.pl_segments.specs.Turns.{Turns}
@@ -8,7 +8,8 @@ use Rattle.pl_segments.proofs.SlotLemmas.{last-total}
 use Rattle.pl_segments.proofs.LastSlot.{part-most}
 use Rattle.pl_segments.proofs.Pushing.{pushes-turns, pushes-read}
 use Rattle.pl_ring.specs.Merging.{lens, merges, merges_onto}
-use Rattle.pl_ring.proofs.Lying.{strange-first}
+use Rattle.pl_ring.specs.Parts.{is_among}
+use Rattle.pl_ring.proofs.Counting.{fresh-first}
 use Rattle.pl_ring.proofs.push.push_slices.Given.{Over}
 use Rattle.pl_ring.proofs.push.push_slices.Goals.{After-hold_all}
 use Rattle.pl_ring.proofs.push.push_slices.Goals as goal
@@ -56,14 +57,22 @@ returns-clause-read g c =
 
 pub returns-clause-parts : goal.returns-clause-parts
 returns-clause-parts g c =
-    let p = c.push_held.ensures.parts (c.args.slots.now.items ++ c.args.slices.now) in
-    let z = strange-first c.args.slots.now.items c.args.slices.now in
+    let p = c.push_held.ensures.parts (λ x. not (is_among (c.args.slots.now.items ++ c.args.slices.now) x)) in
+    let z = fresh-first c.args.slots.now.items c.args.slices.now in
     omega (arith, p, z)
+
+-- what was planned
+planned : (g : Over) (c : After-hold_all g) → c.plan_of-plan.result.merges ≡ merges_onto c.args.slots.now.items (lens (solid_of c.args.slices.now))
+planned g c = c.plan_of-plan.ensures.merges ∙ (λ i. merges (c.len-count.ensures.len i) (c.last_len.ensures i) (lens (solid_of c.args.slices.now)))
+
+pub returns-clause-count : goal.returns-clause-count
+returns-clause-count g c =
+    let merged = planned g (goal.at.returns-clause-count g c).After-hold_all in
+    omega (arith, merged, c.plan_of-plan.ensures.slots, c.push_held.ensures.count, c.len-count.ensures.len)
 
 pub push_held-requires-clause-room : goal.push_held-requires-clause-room
 push_held-requires-clause-room g c =
     let part = part-most (segment_at c.hold_all.new.store) c.args.slots.now.items in
     let plan = c.plan_of-plan.ensures in
-    let merged : c.plan_of-plan.result.merges ≡ merges_onto c.args.slots.now.items (lens (solid_of c.args.slices.now)) =
-    plan.merges ∙ (λ i. merges (c.len-count.ensures.len i) (c.last_len.ensures i) (lens (solid_of c.args.slices.now))) in
+    let merged = planned g (goal.at.push_held-requires-clause-room g c).After-hold_all in
     omega (arith, part, merged, plan.slots, plan.more, c.in_ok-reserve.ensures.room, c.hold_all.ensures.room, c.len-count.ensures.len)

@@ -5,7 +5,7 @@ use Rattle.pl_segments.specs.Turns.{Holds}
 use Rattle.pl_ring.specs.Ring.{place_size, Ring, IsCapacity, IsBeside}
 use Rattle.pl_segments.specs.Slots.{total}
 use Rattle.pl_ring.specs.Merging.{IsFront}
-use Rattle.pl_ring.specs.Parts.{strange}
+use Rattle.pl_ring.specs.Parts.{fresh}
 use Rattle.pl_segments.proofs.SlotLemmas.{total-read}
 use Rattle.pl_ring.proofs.Merging.{front-merges}
 use Rattle.pl_segments.proofs.Pushing.{total-pushed}
@@ -50,6 +50,6 @@ returns-clause-front_parts g c = λ front.
     let is = c.as_slice.ensures in
     let most = front-merges c.self.inside.slots.items c.as_slice.result.now (subst IsFront (sym is) front) in
     let made = c.in_ok-bytes.ensures.parts in
-    let same : strange (c.self.inside.slots.items ++ c.as_slice.result.now) c.push_slices.new.slots.items ≡ strange (c.args.self.now.slots ++ c.args.slices.now) c.push_slices.new.slots.items =
-    (λ i. strange (slots i ++ is i) c.push_slices.new.slots.items) in
+    let same : fresh (c.self.inside.slots.items ++ c.as_slice.result.now) c.push_slices.new.slots.items ≡ fresh (c.args.self.now.slots ++ c.args.slices.now) c.push_slices.new.slots.items =
+    (λ i. fresh (slots i ++ is i) c.push_slices.new.slots.items) in
     omega (arith, most, made, same)

@@ -1,0 +1,80 @@
+"""Whether the programs in C that the documents show compile without a warning, and do what is said of them."""
+import concurrent.futures
+import re
+import subprocess
+from typing import NamedTuple, Optional
+
+import markdown
+import pages
+
+FLAGS = ["-std=c11", "-Wall", "-Wextra", "-Werror"]
+HEADERS = ["bindingclay.h", "fcntl.h", "poll.h", "stdio.h", "string.h"]
+# what a fragment tells of its last answer
+TELLS = re.compile(r'/\* done: value (\d+), "(\w*)" \*/')
+
+
+class Program(NamedTuple):
+    label: str
+    source: str
+    # what it prints; None if nothing says so
+    prints: Optional[str]
+
+
+def whole(fragment):
+    """A program of some statements. It fails if the last answer isn't as they say."""
+    told = TELLS.search(fragment)
+    holds = "1"
+    if told:
+        count, text = told.groups()
+        holds = f'answer.kind == BINDINGCLAY_DONE && answer.value == {count} && memcmp(into, "{text}", {len(text)}) == 0'
+    includes = "".join(f"#include <{name}>\n" for name in HEADERS)
+    return f"{includes}\nint main(void)\n{{\n{fragment}return {holds} ? 0 : 2;\n}}\n"
+
+
+def programs(project):
+    """Each program of the documents and of the manual pages, and the example of the library."""
+    for document, text in project.documents():
+        for block in markdown.blocks(text):
+            if block.language == "c":
+                source = block.text if "int main(" in block.text else whole(block.text)
+                yield Program(f"{project.short(document)}:{block.line}", source, None)
+    for path, text in project.pages():
+        shown = pages.literals(text, "EXAMPLES")
+        if shown and "int main(" in shown[0]:
+            yield Program(path.name, shown[0], shown[1] if len(shown) > 1 else None)
+    library = project.root / "library"
+    printed = [block.text for block in markdown.blocks((library / "README.md").read_text(encoding="utf-8")) if block.language == "console"]
+    yield Program("library/example.c", (library / "example.c").read_text(encoding="utf-8"), printed[0] if printed else "nothing says what")
+
+
+def fault_of(project, number, program):
+    """What is wrong with a program. It is run if the library is installed."""
+    built = project.work / f"program{number}"
+    source = built.with_suffix(".c")
+    source.write_text(program.source, encoding="utf-8")
+    words = [project.cc, *FLAGS, str(source)]
+    if project.prefix:
+        words += [f"-I{project.prefix}/include", "-o", str(built), f"-L{project.prefix}/lib", "-lbindingclay"]
+    else:
+        words += [f"-I{project.root}/library/include", "-fsyntax-only"]
+    compiled = subprocess.run(words, capture_output=True, text=True, check=False)
+    if compiled.returncode != 0 or not project.prefix:
+        return compiled.stderr.strip() or (None if compiled.returncode == 0 else "it doesn't compile")
+    run = subprocess.run([str(built)], capture_output=True, text=True, timeout=60, check=False)
+    if run.returncode != 0:
+        return f"status {run.returncode}"
+    if program.prints is not None and run.stdout != program.prints:
+        return f"it prints {run.stdout!r}, and not {program.prints!r}"
+    return None
+
+
+def check_programs(project):
+    if not project.has(project.cc):
+        project.pass_over("the programs in C")
+        return
+    if not project.prefix:
+        project.pass_over("running the programs in C")
+    with concurrent.futures.ThreadPoolExecutor() as pool:
+        asked = [(program.label, pool.submit(fault_of, project, number, program)) for number, program in enumerate(programs(project))]
+        for label, fault in asked:
+            yield f"{label}: the program", fault.result()
