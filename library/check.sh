@@ -136,6 +136,12 @@ build_by_pkg_config() {
     "$cc" -Wall -Wextra -Werror -std=c11 -o "$work/example" "$here/example.c" "$@"
 }
 
+# loop_prints_what_it_should PROGRAM
+# shellcheck disable=SC2317
+loop_prints_what_it_should() {
+    timeout 60 "$1" > "$work/printed" && printf 'process %d: 200000 bytes\n' 1 2 3 | diff - "$work/printed"
+}
+
 # shellcheck disable=SC2317
 example_prints_what_it_should() {
     "$work/example" > "$work/printed" && printf 'the child read hello\nand then 0 bytes\n' | diff - "$work/printed"
@@ -157,11 +163,11 @@ check "installing" "$here/install.sh" "$work/prefix" || end
 check "the names of the archive" defines_what_is_declared
 
 counted=-Wl,--wrap=malloc,--wrap=realloc,--wrap=free
-for name in processes pipes packets packet_waits descriptors files fifos splices polls waiting sizes limits; do
+for name in processes pipes packets packet_waits descriptors files fifos splices polls waiting progress progress_cases sizes limits; do
     build "$name" && run "$name"
 done
 build memory "$counted" && run memory
-build storms "$counted" && run storms 500
+build storms "$counted" && run storms 500 && plainly storms 20000
 if build growth "$counted"; then
     plainly growth 65536 && sed 's/^/growth: /' "$work/log"
     under_valgrind growth 600
@@ -224,6 +230,9 @@ fi
 
 check "building example" "$cc" -Wall -Wextra -Werror -std=c11 "-I$work/prefix/include" -o "$work/example" "$here/example.c" \
     "-L$work/prefix/lib" -lbindingclay && check "example" example_prints_what_it_should
+check "building example_loop" "$cc" -Wall -Wextra -Werror -std=c11 "-I$work/prefix/include" -o "$work/example_loop" \
+    "$here/example_loop.c" "-L$work/prefix/lib" -lbindingclay && check "example_loop" loop_prints_what_it_should "$work/example_loop" &&
+    under_valgrind example_loop
 if is_there pkg-config; then
     check "building example with pkg-config" build_by_pkg_config && check "example by pkg-config" example_prints_what_it_should
 else

@@ -9,23 +9,11 @@
  * anything except memory.
  *
  * Waiting. A call that would wait answers BINDINGCLAY_PARKED. That is an answer, and its value is the call's number. If as many calls
- * already wait as the limit waiting_calls allows, the call answers EAGAIN instead, and has taken and given nothing. Keep the number. Try
- * the call again with bindingclay_resume, or a poll with bindingclay_resume_poll, after any call that could help it. Nothing tells you
- * which call did. A call helps as follows:
- *
- * - A call that brings bytes into a pipe (write, splice, tee) helps a call that takes bytes from it.
- * - A call that makes room in a pipe (read, splice, set_pipe_sz) helps a call that puts bytes into it.
- * - A call that closes an end of a pipe (close, dup2, exit, interrupt, the end of another parked call) helps both.
- * - Each of these also helps a poll of the pipe.
- * - An open of a FIFO helps the open of its other end.
- * - A splice from a file into a full pipe answers 0 once the file has no bytes behind the splice's offset. An open with O_TRUNC can cause
- *   that. If the splice was given no offset, so can a call that moves the offset of the file's description (lseek, read, write, splice).
- *
- * A call helps in the same way when it is resumed.
- *
- * One rule is always right. After any call that isn't refused, try all calls that wait, round after round, until every try of two rounds in
- * a row answers BINDINGCLAY_PARKED. One round isn't enough, since a write that still waits may have put in some of its bytes. A call that
- * still waits answers its number again, and that costs little. bindingclay_interrupt ends a call that waits.
+ * already wait as the limit waiting_calls allows, the call answers EAGAIN instead, and has taken and given nothing. Keep the number.
+ * bindingclay_can_progress tells whether trying the call again gets it on: whether it would be answered, or a write would put in more of its
+ * bytes. So after any call, ask it for each call that waits. Try each call again that can get on, with bindingclay_resume, or a poll with
+ * bindingclay_resume_poll. Do so until none can get on: a call that is tried again can help another. Then no call waits that could go on,
+ * and none was tried in vain. bindingclay_interrupt ends a call that waits.
  *
  * A parked call keeps open what it found open, until it is answered, it is interrupted, or its process exits. An open of a FIFO keeps the
  * end that it makes, which counts as an end from then on.
@@ -66,7 +54,7 @@ extern "C" {
 #endif
 
 #define BINDINGCLAY_VERSION_MAJOR 0
-#define BINDINGCLAY_VERSION_MINOR 4
+#define BINDINGCLAY_VERSION_MINOR 5
 #define BINDINGCLAY_VERSION_PATCH 0
 #define BINDINGCLAY_VERSION \
     (BINDINGCLAY_VERSION_MAJOR * 1000000 + BINDINGCLAY_VERSION_MINOR * 1000 + BINDINGCLAY_VERSION_PATCH)
@@ -108,7 +96,8 @@ enum bindingclay_kind {
     BINDINGCLAY_CALLS_SPENT = 5,
     /* There is no memory. Nothing changed. */
     BINDINGCLAY_NO_MEMORY = 6,
-    /* A read that is resumed would give more bytes than there is room for, or a file has more. value: how many. Nothing changed. */
+    /* A read that is resumed would give more bytes than there is room for, or a file has more. value: how many. A poll that can get on was
+     * resumed without entries. value: how many it has. Nothing changed. */
     BINDINGCLAY_SHORT = 7
 };
 
@@ -252,8 +241,9 @@ bindingclay_answer bindingclay_exit(bindingclay clay, uint32_t pid);
  * always enough. If size is less than what the read gives, BINDINGCLAY_SHORT tells how many bytes that is, and the read still waits. The
  * bytes behind what it read stay as they are. A read that is resumed asks for no memory.
  *
- * Other calls leave all bytes at into alone, and size may be 0. For a poll this tells no revents: bindingclay_resume_poll resumes it. If no
- * call of this number waits, the answer is BINDINGCLAY_NO_CALL. */
+ * Other calls leave all bytes at into alone, and size may be 0. A poll that can get on isn't ended, since its revents have no room here:
+ * BINDINGCLAY_SHORT tells how many entries it has, and bindingclay_resume_poll resumes it. If no call of this number waits, the answer is
+ * BINDINGCLAY_NO_CALL. */
 bindingclay_answer bindingclay_resume(bindingclay clay, uint64_t number, uint8_t *into, size_t size);
 
 /* Tries again the poll that waits under a number. It answers as bindingclay_poll does, or BINDINGCLAY_PARKED with the same number. It looks
@@ -262,6 +252,15 @@ bindingclay_answer bindingclay_resume(bindingclay clay, uint64_t number, uint8_t
  * told, and the others are lost. If there are more, those behind stay as they are. Any other call is resumed as by bindingclay_resume with
  * a size of 0. */
 bindingclay_answer bindingclay_resume_poll(bindingclay clay, uint64_t number, bindingclay_pollfd *entries, size_t count);
+
+/* Tells whether the call that waits under a number can get on: if it is tried again now, it is answered, or it is a write that puts in more of
+ * its bytes. If it can't, trying it again answers BINDINGCLAY_PARKED and moves no byte. If no call of this number waits, the answer is
+ * true, since trying it again answers BINDINGCLAY_NO_CALL at once. Asks for no memory, and changes nothing. */
+bool bindingclay_can_progress(bindingclay clay, uint64_t number);
+
+/* Tells how many bytes the call that waits under a number has taken. Value: of a write, how many of its bytes are in the pipe or were read
+ * from it; of any other call, 0. If no call of this number waits, the answer is BINDINGCLAY_NO_CALL. Asks for no memory. */
+bindingclay_answer bindingclay_taken(bindingclay clay, uint64_t number);
 
 /* Ends a call that waits, as a signal does (read; write; open; poll). The answer is EINTR, or the count if it is a write that took bytes.
  * If no call of this number waits, the answer is BINDINGCLAY_NO_CALL. Asks for no memory. */

@@ -4,6 +4,8 @@
 //! the standard and its errors, and of all of them what holds of threads, waiting and memory. Cargo takes the folder of this file by path.
 //! As a module of your own it is linked with `-l static=bindingclay`.
 //!
+//! A call that would wait is no error. It answers `Answer::Parked` with a `ParkedCall`, by which it is tried again or interrupted.
+//!
 //! A `Clay` may move between threads, and is used by one at a time: put it into a `Mutex` to share it. Two of them need no lock.
 
 use std::ffi::c_void;
@@ -129,13 +131,72 @@ pub struct Done {
     pub sigpipe: bool,
 }
 
-/// Why a call isn't done.
-#[derive(Clone, Copy, Debug, PartialEq, Eq)]
+impl Done {
+    /// The value as a count of bytes, or of entries.
+    pub fn count(self) -> usize {
+        self.value as usize
+    }
+
+    /// The value as a descriptor.
+    pub fn fd(self) -> Fd {
+        self.value as Fd
+    }
+}
+
+/// What a call answers that may wait.
+#[derive(Debug, PartialEq, Eq, Hash)]
+#[must_use = "a call that waits stays parked until it is resumed or interrupted"]
+pub enum Answer<T> {
+    /// The call is done, with what it tells.
+    Done(T),
+    /// The call waits. Resume it once `can_progress` says so, or interrupt it.
+    Parked(ParkedCall),
+}
+
+impl<T> Answer<T> {
+    /// The same answer, with another value if the call is done.
+    pub fn map<U>(self, change: impl FnOnce(T) -> U) -> Answer<U> {
+        match self {
+            Answer::Done(value) => Answer::Done(change(value)),
+            Answer::Parked(call) => Answer::Parked(call),
+        }
+    }
+}
+
+/// The handle of a call that waits: what `Clay::resume`, `resume_read`, `resume_poll` and `interrupt` take.
+///
+/// A method that takes it gives it back, in its answer or in its error, if the call still waits.
+///
+/// Dropping it doesn't interrupt the call, as it borrows no kernel. The call then stays parked until its process exits, and nobody tries it
+/// again. It keeps open what it found open: the ends of its pipes count as open, so that another process sees no end of file and no EPIPE.
+/// An open of a FIFO keeps the end that it makes. A write keeps its copy of the bytes too.
+#[derive(Debug, PartialEq, Eq, PartialOrd, Ord, Hash)]
+#[must_use = "dropping it doesn't interrupt the call, which stays parked"]
+pub struct ParkedCall(CallNumber);
+
+impl ParkedCall {
+    /// The handle of the call of a number, for a program that keeps numbers itself. If no call of the number waits, `resume` and
+    /// `interrupt` are `NoCall`. It doesn't look whose call it is: for a number that a guest gave, `Clay::resume_of` and its like do.
+    pub const fn from_number(number: CallNumber) -> ParkedCall {
+        ParkedCall(number)
+    }
+
+    /// Its number. A kernel gives each number once.
+    pub const fn number(&self) -> CallNumber {
+        self.0
+    }
+
+    /// Lets go of the handle, for a program that keeps the number itself. The call still waits.
+    pub const fn into_number(self) -> CallNumber {
+        self.0
+    }
+}
+
+/// Why a call isn't done. A call that waits is no error, but an answer.
+#[derive(Debug, PartialEq, Eq)]
 pub enum NotDone {
     /// It failed, with a number of errno.h on Linux. With EPIPE a process would get SIGPIPE.
     Fault(i32),
-    /// It waits: try again by `resume` or `resume_poll` after any call that isn't refused, or give up by `interrupt`.
-    Parked(CallNumber),
     /// There is no process of this pid.
     NoProcess,
     /// No call of this number waits.
@@ -144,8 +205,21 @@ pub enum NotDone {
     CallsSpent,
     /// There is no memory, and nothing changed.
     NoMemory,
-    /// There is too little room for the bytes that the resumed read would give, which are so many. It waits on.
-    Short(u64),
+    /// There is no memory to resume this call. Nothing changed: it still waits.
+    NoMemoryToResume(ParkedCall),
+    /// The resumed read would give so many bytes, and has room for fewer. Or a poll that can get on has so many entries, and was resumed
+    /// without them. Nothing changed: it still waits.
+    Short { call: ParkedCall, wants: u64 },
+}
+
+impl NotDone {
+    /// The call that still waits, if this is the error of a call that was resumed and still waits.
+    pub fn into_parked(self) -> Option<ParkedCall> {
+        match self {
+            NotDone::NoMemoryToResume(call) | NotDone::Short { call, .. } => Some(call),
+            _ => None,
+        }
+    }
 }
 
 pub type Result<T> = std::result::Result<T, NotDone>;
@@ -154,12 +228,12 @@ impl fmt::Display for NotDone {
     fn fmt(&self, out: &mut fmt::Formatter<'_>) -> fmt::Result {
         match self {
             NotDone::Fault(errno) => write!(out, "{}", io::Error::from_raw_os_error(*errno)),
-            NotDone::Parked(number) => write!(out, "waits as call {number}"),
             NotDone::NoProcess => write!(out, "no such process"),
             NotDone::NoCall => write!(out, "no such call"),
             NotDone::CallsSpent => write!(out, "no number is left for a call that waits"),
             NotDone::NoMemory => write!(out, "no memory"),
-            NotDone::Short(bytes) => write!(out, "wants room for {bytes} bytes"),
+            NotDone::NoMemoryToResume(call) => write!(out, "no memory to resume call {}", call.0),
+            NotDone::Short { call, wants } => write!(out, "too little room: call {} wants {wants}", call.0),
         }
     }
 }
@@ -176,7 +250,7 @@ struct Handle {
 /// An answer as C has it.
 #[repr(C)]
 #[derive(Clone, Copy)]
-struct Answer {
+struct RawAnswer {
     value: u64,
     error: i32,
     kind: u8,
@@ -189,22 +263,24 @@ unsafe extern "C" {
     fn bindingclay_end(clay: Handle, budget: *mut *mut c_void);
     fn bindingclay_tell_memory(clay: Handle, memory: *mut Memory);
     fn bindingclay_version() -> u32;
-    fn bindingclay_start(clay: Handle) -> Answer;
-    fn bindingclay_fork(clay: Handle, pid: u32) -> Answer;
-    fn bindingclay_exit(clay: Handle, pid: u32) -> Answer;
-    fn bindingclay_resume(clay: Handle, number: u64, into: *mut u8, size: usize) -> Answer;
-    fn bindingclay_resume_poll(clay: Handle, number: u64, entries: *mut PollEntry, count: usize) -> Answer;
-    fn bindingclay_interrupt(clay: Handle, number: u64) -> Answer;
-    fn bindingclay_owner(clay: Handle, number: u64) -> Answer;
-    fn bindingclay_pipe(clay: Handle, pid: u32, nonblock: bool, ends: *mut Ends) -> Answer;
-    fn bindingclay_pipe2(clay: Handle, pid: u32, flags: u32, ends: *mut Ends) -> Answer;
-    fn bindingclay_mkfifo(clay: Handle, pid: u32, name: *const u8, size: usize) -> Answer;
-    fn bindingclay_open_name(clay: Handle, pid: u32, name: *const u8, size: usize, flags: u32) -> Answer;
-    fn bindingclay_unlink(clay: Handle, pid: u32, name: *const u8, size: usize) -> Answer;
-    fn bindingclay_file_bytes(clay: Handle, name: *const u8, size: usize, into: *mut u8, room: usize) -> Answer;
-    fn bindingclay_read(clay: Handle, pid: u32, fd: i32, into: *mut u8, size: usize) -> Answer;
-    fn bindingclay_write(clay: Handle, pid: u32, fd: i32, bytes: *const u8, size: usize) -> Answer;
-    fn bindingclay_lseek(clay: Handle, pid: u32, fd: i32, offset: i64, whence: i32) -> Answer;
+    fn bindingclay_start(clay: Handle) -> RawAnswer;
+    fn bindingclay_fork(clay: Handle, pid: u32) -> RawAnswer;
+    fn bindingclay_exit(clay: Handle, pid: u32) -> RawAnswer;
+    fn bindingclay_resume(clay: Handle, number: u64, into: *mut u8, size: usize) -> RawAnswer;
+    fn bindingclay_resume_poll(clay: Handle, number: u64, entries: *mut PollEntry, count: usize) -> RawAnswer;
+    fn bindingclay_can_progress(clay: Handle, number: u64) -> bool;
+    fn bindingclay_taken(clay: Handle, number: u64) -> RawAnswer;
+    fn bindingclay_interrupt(clay: Handle, number: u64) -> RawAnswer;
+    fn bindingclay_owner(clay: Handle, number: u64) -> RawAnswer;
+    fn bindingclay_pipe(clay: Handle, pid: u32, nonblock: bool, ends: *mut Ends) -> RawAnswer;
+    fn bindingclay_pipe2(clay: Handle, pid: u32, flags: u32, ends: *mut Ends) -> RawAnswer;
+    fn bindingclay_mkfifo(clay: Handle, pid: u32, name: *const u8, size: usize) -> RawAnswer;
+    fn bindingclay_open_name(clay: Handle, pid: u32, name: *const u8, size: usize, flags: u32) -> RawAnswer;
+    fn bindingclay_unlink(clay: Handle, pid: u32, name: *const u8, size: usize) -> RawAnswer;
+    fn bindingclay_file_bytes(clay: Handle, name: *const u8, size: usize, into: *mut u8, room: usize) -> RawAnswer;
+    fn bindingclay_read(clay: Handle, pid: u32, fd: i32, into: *mut u8, size: usize) -> RawAnswer;
+    fn bindingclay_write(clay: Handle, pid: u32, fd: i32, bytes: *const u8, size: usize) -> RawAnswer;
+    fn bindingclay_lseek(clay: Handle, pid: u32, fd: i32, offset: i64, whence: i32) -> RawAnswer;
     fn bindingclay_splice_at(
         clay: Handle,
         pid: u32,
@@ -216,32 +292,54 @@ unsafe extern "C" {
         to_offset: u64,
         len: u32,
         flags: u32,
-    ) -> Answer;
-    fn bindingclay_tee(clay: Handle, pid: u32, from: i32, to: i32, len: u32, flags: u32) -> Answer;
-    fn bindingclay_poll(clay: Handle, pid: u32, entries: *mut PollEntry, count: usize, wait: bool) -> Answer;
-    fn bindingclay_dup(clay: Handle, pid: u32, fd: i32) -> Answer;
-    fn bindingclay_dup2(clay: Handle, pid: u32, fd: i32, target: i32) -> Answer;
-    fn bindingclay_dup_fd(clay: Handle, pid: u32, fd: i32, least: i32) -> Answer;
-    fn bindingclay_close(clay: Handle, pid: u32, fd: i32) -> Answer;
-    fn bindingclay_get_fl(clay: Handle, pid: u32, fd: i32) -> Answer;
-    fn bindingclay_set_fl(clay: Handle, pid: u32, fd: i32, flags: u32) -> Answer;
-    fn bindingclay_get_pipe_sz(clay: Handle, pid: u32, fd: i32) -> Answer;
-    fn bindingclay_set_pipe_sz(clay: Handle, pid: u32, fd: i32, size: u32) -> Answer;
+    ) -> RawAnswer;
+    fn bindingclay_tee(clay: Handle, pid: u32, from: i32, to: i32, len: u32, flags: u32) -> RawAnswer;
+    fn bindingclay_poll(clay: Handle, pid: u32, entries: *mut PollEntry, count: usize, wait: bool) -> RawAnswer;
+    fn bindingclay_dup(clay: Handle, pid: u32, fd: i32) -> RawAnswer;
+    fn bindingclay_dup2(clay: Handle, pid: u32, fd: i32, target: i32) -> RawAnswer;
+    fn bindingclay_dup_fd(clay: Handle, pid: u32, fd: i32, least: i32) -> RawAnswer;
+    fn bindingclay_close(clay: Handle, pid: u32, fd: i32) -> RawAnswer;
+    fn bindingclay_get_fl(clay: Handle, pid: u32, fd: i32) -> RawAnswer;
+    fn bindingclay_set_fl(clay: Handle, pid: u32, fd: i32, flags: u32) -> RawAnswer;
+    fn bindingclay_get_pipe_sz(clay: Handle, pid: u32, fd: i32) -> RawAnswer;
+    fn bindingclay_set_pipe_sz(clay: Handle, pid: u32, fd: i32, size: u32) -> RawAnswer;
 }
 
-impl Answer {
-    fn done(self) -> Result<Done> {
-        let Answer { value, error, kind, sigpipe } = self;
+impl RawAnswer {
+    /// Of a call that may wait.
+    fn answer(self) -> Result<Answer<Done>> {
+        let RawAnswer { value, error, kind, sigpipe } = self;
         match kind {
-            0 => Ok(Done { value, sigpipe }),
+            0 => Ok(Answer::Done(Done { value, sigpipe })),
             1 => Err(NotDone::Fault(error)),
-            2 => Err(NotDone::Parked(value)),
+            2 => Ok(Answer::Parked(ParkedCall(value))),
             3 => Err(NotDone::NoProcess),
             4 => Err(NotDone::NoCall),
             5 => Err(NotDone::CallsSpent),
             6 => Err(NotDone::NoMemory),
-            7 => Err(NotDone::Short(value)),
             _ => unreachable!("an answer of kind {kind}, of which this version knows nothing"),
+        }
+    }
+
+    /// Of a call that may wait, and tells a count.
+    fn count(self) -> Result<Answer<usize>> {
+        Ok(self.answer()?.map(Done::count))
+    }
+
+    /// Of a call that was resumed: if it still waits, its handle comes back.
+    fn resumed(self, call: ParkedCall) -> Result<Answer<Done>> {
+        match self.kind {
+            6 => Err(NotDone::NoMemoryToResume(call)),
+            7 => Err(NotDone::Short { call, wants: self.value }),
+            _ => self.answer(),
+        }
+    }
+
+    /// Of a call that never waits.
+    fn done(self) -> Result<Done> {
+        match self.answer()? {
+            Answer::Done(done) => Ok(done),
+            Answer::Parked(call) => unreachable!("call {} waits, and its like never does", call.0),
         }
     }
 
@@ -249,25 +347,21 @@ impl Answer {
         Ok(self.done()?.value)
     }
 
-    fn count(self) -> Result<usize> {
-        Ok(self.value()? as usize)
-    }
-
     fn number(self) -> Result<u32> {
         Ok(self.value()? as u32)
     }
 
     fn fd(self) -> Result<Fd> {
-        Ok(self.value()? as Fd)
+        Ok(self.done()?.fd())
     }
 
     fn nothing(self) -> Result<()> {
-        self.value().map(|_| ())
+        self.done().map(|_| ())
     }
 }
 
 /// The version that this wrapper is of, as `version`.
-pub const VERSION: u32 = 4_000;
+pub const VERSION: u32 = 5_000;
 
 /// The version of the library: 1,000,000 times the first number, 1,000 times the second, and the third.
 pub fn version() -> u32 {
@@ -341,47 +435,106 @@ impl Clay {
         unsafe { bindingclay_exit(self.0, pid) }.nothing()
     }
 
-    /// A read gives its bytes into the first of these; every other call leaves them alone.
-    pub fn resume(&mut self, number: CallNumber, into: &mut [u8]) -> Result<Done> {
-        unsafe { bindingclay_resume(self.0, number, into.as_mut_ptr(), into.len()) }.done()
+    /// Tries a call again that waits: an open, a write, a splice or a tee. It is `Parked` again if it waits on.
+    ///
+    /// `resume_read` resumes a read, and `resume_poll` a poll. Resumed by this, a read that has bytes to give is `Short`, and so is a poll that
+    /// can get on.
+    ///
+    /// # Errors
+    ///
+    /// With `NoMemoryToResume` and `Short` the call still waits, and comes back in the error. With a `Fault` it has ended. `NoCall` says
+    /// that no call of its number waits.
+    pub fn resume(&mut self, call: ParkedCall) -> Result<Answer<Done>> {
+        self.resume_into(call, &mut [])
     }
 
-    /// The entries are as many as the poll began with. The value is how many of them aren't empty. Any other call is resumed as by
-    /// `resume` into no bytes.
-    pub fn resume_poll(&mut self, number: CallNumber, entries: &mut [PollEntry]) -> Result<Done> {
-        unsafe { bindingclay_resume_poll(self.0, number, entries.as_mut_ptr(), entries.len()) }.done()
+    /// Tries a read again that waits, which gives its bytes into the first of these. The value is how many; 0 at the end. Room for
+    /// 1,048,576 bytes is always enough. Any other call is resumed as by `resume`, and its `Done::value` comes back alone.
+    ///
+    /// # Errors
+    ///
+    /// As of `resume`. A read is `Short` if it would give more bytes than there is room for, and asks for no memory.
+    pub fn resume_read(&mut self, call: ParkedCall, into: &mut [u8]) -> Result<Answer<usize>> {
+        Ok(self.resume_into(call, into)?.map(Done::count))
     }
 
-    pub fn interrupt(&mut self, number: CallNumber) -> Result<Done> {
-        unsafe { bindingclay_interrupt(self.0, number) }.done()
+    /// Tries a poll again that waits. The entries are as many as it began with, and what was found is noted in them. The value is how many
+    /// of them aren't empty. Any other call is resumed as by `resume`, and its `Done::value` comes back alone.
+    ///
+    /// # Errors
+    ///
+    /// As of `resume`.
+    pub fn resume_poll(&mut self, call: ParkedCall, entries: &mut [PollEntry]) -> Result<Answer<usize>> {
+        let raw = unsafe { bindingclay_resume_poll(self.0, call.0, entries.as_mut_ptr(), entries.len()) };
+        Ok(raw.resumed(call)?.map(Done::count))
     }
 
-    /// The process that began the call that waits under a number.
-    pub fn owner(&self, number: CallNumber) -> Result<Pid> {
-        unsafe { bindingclay_owner(self.0, number) }.number()
+    fn resume_into(&mut self, call: ParkedCall, into: &mut [u8]) -> Result<Answer<Done>> {
+        unsafe { bindingclay_resume(self.0, call.0, into.as_mut_ptr(), into.len()) }.resumed(call)
+    }
+
+    /// Ends a call that waits, as a signal does. Of a write that took bytes it tells how many. It asks for no memory.
+    ///
+    /// # Errors
+    ///
+    /// `Fault` with EINTR says that the call ended and had taken nothing; so it is with every call but such a write. `NoCall` says that no
+    /// call of its number waits.
+    pub fn interrupt(&mut self, call: ParkedCall) -> Result<Done> {
+        unsafe { bindingclay_interrupt(self.0, call.0) }.done()
+    }
+
+    /// The process that began a call that waits.
+    ///
+    /// # Errors
+    ///
+    /// `NoCall` says that no call of its number waits.
+    pub fn owner(&self, call: &ParkedCall) -> Result<Pid> {
+        unsafe { bindingclay_owner(self.0, call.0) }.number()
+    }
+
+    /// Whether a call that waits can get on: a try now would answer it, or is of a write and would put in more of its bytes. Otherwise a try
+    /// is `Parked`, and moves no byte. If no call of this number waits, it is true: a try is `NoCall`.
+    pub fn can_progress(&self, call: &ParkedCall) -> bool {
+        unsafe { bindingclay_can_progress(self.0, call.0) }
+    }
+
+    /// How many bytes a call that waits has taken: of a write those that are in the pipe or were read from it, and of any other call 0.
+    ///
+    /// # Errors
+    ///
+    /// `NoCall` says that no call of its number waits.
+    pub fn taken(&self, call: &ParkedCall) -> Result<u32> {
+        unsafe { bindingclay_taken(self.0, call.0) }.number()
     }
 
     /// `resume` of a call of one process, for a host that passes on a number that a guest gave it: any other process's call is
     /// `NoCall`, and nothing changed.
-    pub fn resume_of(&mut self, pid: Pid, number: CallNumber, into: &mut [u8]) -> Result<Done> {
-        self.is_of(pid, number)?;
-        self.resume(number, into)
+    pub fn resume_of(&mut self, pid: Pid, number: CallNumber) -> Result<Answer<Done>> {
+        let call = self.call_of(pid, number)?;
+        self.resume(call)
+    }
+
+    /// `resume_read` of a call of one process, as `resume_of`.
+    pub fn resume_read_of(&mut self, pid: Pid, number: CallNumber, into: &mut [u8]) -> Result<Answer<usize>> {
+        let call = self.call_of(pid, number)?;
+        self.resume_read(call, into)
     }
 
     /// `resume_poll` of a call of one process, as `resume_of`.
-    pub fn resume_poll_of(&mut self, pid: Pid, number: CallNumber, entries: &mut [PollEntry]) -> Result<Done> {
-        self.is_of(pid, number)?;
-        self.resume_poll(number, entries)
+    pub fn resume_poll_of(&mut self, pid: Pid, number: CallNumber, entries: &mut [PollEntry]) -> Result<Answer<usize>> {
+        let call = self.call_of(pid, number)?;
+        self.resume_poll(call, entries)
     }
 
     /// `interrupt` of a call of one process, as `resume_of`.
     pub fn interrupt_of(&mut self, pid: Pid, number: CallNumber) -> Result<Done> {
-        self.is_of(pid, number)?;
-        self.interrupt(number)
+        let call = self.call_of(pid, number)?;
+        self.interrupt(call)
     }
 
-    fn is_of(&self, pid: Pid, number: CallNumber) -> Result<()> {
-        if self.owner(number)? == pid { Ok(()) } else { Err(NotDone::NoCall) }
+    fn call_of(&self, pid: Pid, number: CallNumber) -> Result<ParkedCall> {
+        let call = ParkedCall(number);
+        if self.owner(&call)? == pid { Ok(call) } else { Err(NotDone::NoCall) }
     }
 
     pub fn pipe(&mut self, pid: Pid, nonblock: bool) -> Result<Ends> {
@@ -407,8 +560,10 @@ impl Clay {
         unsafe { bindingclay_mkfifo(self.0, pid, name.as_ptr(), name.len()) }.nothing()
     }
 
-    pub fn open_name(&mut self, pid: Pid, name: &[u8], flags: u32) -> Result<Fd> {
-        unsafe { bindingclay_open_name(self.0, pid, name.as_ptr(), name.len(), flags) }.fd()
+    /// The value is the least free descriptor. It waits if it opens an end of a FIFO whose other end nobody has.
+    pub fn open_name(&mut self, pid: Pid, name: &[u8], flags: u32) -> Result<Answer<Fd>> {
+        let raw = unsafe { bindingclay_open_name(self.0, pid, name.as_ptr(), name.len(), flags) };
+        Ok(raw.answer()?.map(Done::fd))
     }
 
     pub fn unlink(&mut self, pid: Pid, name: &[u8]) -> Result<()> {
@@ -422,23 +577,23 @@ impl Clay {
             let given = unsafe {
                 bindingclay_file_bytes(self.0, name.as_ptr(), name.len(), bytes.as_mut_ptr(), bytes.len())
             };
-            match given.value() {
-                Ok(_) => return Ok(bytes),
-                Err(NotDone::Short(count)) => {
-                    bytes.try_reserve_exact(count as usize).map_err(|_| NotDone::NoMemory)?;
-                    bytes.resize(count as usize, 0);
-                }
-                Err(other) => return Err(other),
+            // there is too little room
+            if given.kind != 7 {
+                return given.done().map(|_| bytes);
             }
+            let count = given.value as usize;
+            bytes.try_reserve_exact(count).map_err(|_| NotDone::NoMemory)?;
+            bytes.resize(count, 0);
         }
     }
 
-    /// The value is how many bytes were read, into the first of these; 0 at the end.
-    pub fn read(&mut self, pid: Pid, fd: Fd, into: &mut [u8]) -> Result<usize> {
+    /// The value is how many bytes were read, into the first of these; 0 at the end. It waits if there are no bytes, and there is a writer.
+    pub fn read(&mut self, pid: Pid, fd: Fd, into: &mut [u8]) -> Result<Answer<usize>> {
         unsafe { bindingclay_read(self.0, pid, fd, into.as_mut_ptr(), into.len()) }.count()
     }
 
-    pub fn write(&mut self, pid: Pid, fd: Fd, bytes: &[u8]) -> Result<usize> {
+    /// The value is how many bytes went in. It waits until all did, and keeps a copy of them; `taken` tells how many went in so far.
+    pub fn write(&mut self, pid: Pid, fd: Fd, bytes: &[u8]) -> Result<Answer<usize>> {
         unsafe { bindingclay_write(self.0, pid, fd, bytes.as_ptr(), bytes.len()) }.count()
     }
 
@@ -446,7 +601,8 @@ impl Clay {
         unsafe { bindingclay_lseek(self.0, pid, fd, offset, whence) }.value()
     }
 
-    /// An offset is that of a file, and `None` for the file's own.
+    /// An offset is that of a file, and `None` for the file's own. The value is how many bytes were moved. Without `SPLICE_F_NONBLOCK` it
+    /// waits for bytes, and for room.
     pub fn splice(
         &mut self,
         pid: Pid,
@@ -454,7 +610,7 @@ impl Clay {
         to: (Fd, Option<u64>),
         len: u32,
         flags: u32,
-    ) -> Result<usize> {
+    ) -> Result<Answer<usize>> {
         let (from, from_offset) = from;
         let (to, to_offset) = to;
         unsafe {
@@ -474,12 +630,13 @@ impl Clay {
         .count()
     }
 
-    pub fn tee(&mut self, pid: Pid, from: Fd, to: Fd, len: u32, flags: u32) -> Result<usize> {
+    /// The value is how many bytes were copied. Without `SPLICE_F_NONBLOCK` it waits for bytes, and for room.
+    pub fn tee(&mut self, pid: Pid, from: Fd, to: Fd, len: u32, flags: u32) -> Result<Answer<usize>> {
         unsafe { bindingclay_tee(self.0, pid, from, to, len, flags) }.count()
     }
 
-    /// The value is how many entries aren't empty.
-    pub fn poll(&mut self, pid: Pid, entries: &mut [PollEntry], wait: bool) -> Result<usize> {
+    /// The value is how many entries aren't empty. With `wait` it waits until one isn't; without, it never waits.
+    pub fn poll(&mut self, pid: Pid, entries: &mut [PollEntry], wait: bool) -> Result<Answer<usize>> {
         unsafe { bindingclay_poll(self.0, pid, entries.as_mut_ptr(), entries.len(), wait) }.count()
     }
 

@@ -37,33 +37,117 @@ fn with_process() -> Clay {
     clay
 }
 
+/// What a call answers that is done, and one that waits.
+fn done<T>(value: T) -> Result<Answer<T>> {
+    Ok(Answer::Done(value))
+}
+
+fn parked<T>(number: CallNumber) -> Result<Answer<T>> {
+    Ok(Answer::Parked(call(number)))
+}
+
+fn call(number: CallNumber) -> ParkedCall {
+    ParkedCall::from_number(number)
+}
+
+fn short<T>(number: CallNumber, wants: u64) -> Result<T> {
+    Err(NotDone::Short { call: call(number), wants })
+}
+
 fn pipes(checks: &mut Checks) {
     let mut clay = with_process();
     let mut into = [0xa5; 16];
     checks.is(clay.pipe(1, false), Ok(Ends { read_end: 0, write_end: 1 }));
-    checks.is(clay.read(1, 0, &mut into), Err(NotDone::Parked(1)));
-    checks.is(clay.owner(1), Ok(1));
-    checks.is(clay.owner(2), Err(NotDone::NoCall));
-    checks.is(clay.write(1, 1, b"from rust"), Ok(9));
-    checks.is(clay.resume_of(2, 1, &mut into), Err(NotDone::NoCall));
+    checks.is(clay.read(1, 0, &mut into), parked(1));
+    checks.is(clay.owner(&call(1)), Ok(1));
+    checks.is(clay.owner(&call(2)), Err(NotDone::NoCall));
+    checks.is((clay.can_progress(&call(1)), clay.taken(&call(1))), (false, Ok(0)));
+    checks.is((clay.can_progress(&call(2)), clay.taken(&call(2))), (true, Err(NotDone::NoCall)));
+    checks.is(clay.resume_read(call(1), &mut into), parked(1));
+    checks.is(clay.resume(call(1)), parked(1));
+    checks.is(clay.write(1, 1, b"from rust"), done(9));
+    checks.is((clay.can_progress(&call(1)), clay.taken(&call(1))), (true, Ok(0)));
+    checks.is(clay.resume_of(2, 1), Err(NotDone::NoCall));
+    checks.is(clay.resume_read_of(2, 1, &mut into), Err(NotDone::NoCall));
     checks.is(clay.interrupt_of(2, 1), Err(NotDone::NoCall));
     checks.is(clay.resume_poll_of(2, 1, &mut []), Err(NotDone::NoCall));
-    checks.is(clay.resume(1, &mut into[..8]), Err(NotDone::Short(9)));
-    checks.is(clay.resume_of(1, 1, &mut into), Ok(Done { value: 9, sigpipe: false }));
+    checks.is(clay.resume_read(call(1), &mut into[..8]), short(1, 9));
+    checks.is(clay.resume(call(1)), short(1, 9));
+    checks.is(clay.resume_of(1, 1), short(1, 9));
+    let waits = clay.resume_poll(call(1), &mut []).expect_err("no room").into_parked();
+    checks.is(waits.as_ref().map(ParkedCall::number), Some(1));
+    checks.is(clay.resume_read_of(1, waits.map_or(0, ParkedCall::into_number), &mut into), done(9));
     checks.is(&into, b"from rust\xa5\xa5\xa5\xa5\xa5\xa5\xa5");
-    checks.is(clay.resume(1, &mut into), Err(NotDone::NoCall));
-    checks.is(clay.write(1, 1, &[]), Ok(0));
+    checks.is(clay.resume_read(call(1), &mut into), Err(NotDone::NoCall));
+    checks.is(clay.resume(call(1)), Err(NotDone::NoCall));
+    checks.is(clay.resume_poll(call(1), &mut []), Err(NotDone::NoCall));
+    checks.is(clay.interrupt(call(1)), Err(NotDone::NoCall));
+    checks.is(clay.write(1, 1, &[]), done(0));
     checks.is(clay.write(1, 0, b"a"), Err(NotDone::Fault(EBADF)));
     checks.is(clay.write(2, 1, b"a"), Err(NotDone::NoProcess));
-    checks.is(clay.write(1, 1, &[7; 70_000]), Err(NotDone::Parked(2)));
-    checks.is(clay.write(1, 1, b"a"), Err(NotDone::Parked(3)));
+    checks.is(clay.write(1, 1, &[7; 70_000]), parked(2));
+    checks.is(clay.write(1, 1, b"a"), parked(3));
+    checks.is((clay.can_progress(&call(2)), clay.taken(&call(2))), (false, Ok(65_536)));
+    checks.is((clay.can_progress(&call(3)), clay.taken(&call(3))), (false, Ok(0)));
     checks.is(clay.interrupt_of(1, 3), Err(NotDone::Fault(EINTR)));
     checks.is(clay.fork(1), Ok(2));
     checks.is(clay.close(1, 0), Ok(()));
     checks.is(clay.exit(2), Ok(()));
     // no reader is left, and 65,536 bytes went in
-    checks.is(clay.resume(2, &mut []), Ok(Done { value: 65_536, sigpipe: true }));
+    checks.is(clay.resume(call(2)), done(Done { value: 65_536, sigpipe: true }));
     checks.is(clay.write(1, 1, b"a"), Err(NotDone::Fault(EPIPE)));
+}
+
+/// Writes bytes to a pipe, and makes room in it each time that the write waits: it tells how many bytes went in, and how often it waited.
+fn write_through_a_full_pipe(clay: &mut Clay, ends: Ends, bytes: &[u8]) -> Result<(usize, usize)> {
+    let mut answer = clay.write(1, ends.write_end, bytes)?;
+    let mut waited = 0;
+    loop {
+        let call = match answer {
+            Answer::Done(count) => return Ok((count, waited)),
+            Answer::Parked(call) => call,
+        };
+        waited += 1;
+        assert_eq!(clay.read(1, ends.read_end, &mut [0; PACKET_BYTES])?, Answer::Done(PACKET_BYTES));
+        answer = clay.resume(call)?.map(Done::count);
+    }
+}
+
+/// A question mark strands no call: the write that waits is gone on with, and then nothing keeps the pipe's end open.
+fn question_marks(checks: &mut Checks) {
+    let mut clay = with_process();
+    let ends = clay.pipe(1, false).expect("memory for a pipe");
+    let count = 65_536 + 3 * PACKET_BYTES;
+    checks.is(write_through_a_full_pipe(&mut clay, ends, &vec![7; count]), Ok((count, 3)));
+    let mut into = vec![0; 100_000];
+    checks.is(clay.read(1, 0, &mut into), done(65_536));
+    checks.is(clay.close(1, 1), Ok(()));
+    checks.is(clay.read(1, 0, &mut into), done(0));
+}
+
+/// A write that finds no memory as it is resumed comes back in the error, and goes on once there is some.
+fn memory_to_resume(checks: &mut Checks) {
+    let mut clay = Clay::open_within(&Limits { memory: 200_000, ..Limits::default() }).expect("memory for a kernel");
+    checks.is(clay.start(), Ok(1));
+    checks.is(clay.pipe(1, false), Ok(Ends { read_end: 0, write_end: 1 }));
+    checks.is(clay.write(1, 1, &[7; 70_000]), parked(1));
+    checks.is(clay.read(1, 0, &mut [0; 4_096]), done(4_096));
+    // a file and another pipe take all segments that are left
+    checks.is(clay.open_name(1, b"f", O_WRONLY | O_CREAT), done(2));
+    checks.is(clay.pipe(1, true), Ok(Ends { read_end: 3, write_end: 4 }));
+    for fd in [2, 4] {
+        while clay.write(1, fd, &[0; 4_096]) == done(4_096) {}
+        checks.is(clay.write(1, fd, &[0; 4_096]), Err(NotDone::NoMemory));
+    }
+    checks.is((clay.can_progress(&call(1)), clay.taken(&call(1))), (true, Ok(65_536)));
+    let not_done = clay.resume(call(1)).expect_err("no memory");
+    checks.is(&not_done, &NotDone::NoMemoryToResume(call(1)));
+    checks.is((clay.can_progress(&call(1)), clay.taken(&call(1))), (true, Ok(65_536)));
+    checks.is(clay.open_name(1, b"f", O_WRONLY | O_TRUNC), done(5));
+    checks.is(not_done.into_parked().map(|call| clay.resume(call)), Some(parked(1)));
+    checks.is(clay.taken(&call(1)), Ok(69_632));
+    checks.is(clay.read(1, 0, &mut [0; 4_096]), done(4_096));
+    checks.is(clay.resume(call(1)), done(Done { value: 70_000, sigpipe: false }));
 }
 
 fn packets(checks: &mut Checks) {
@@ -75,21 +159,21 @@ fn packets(checks: &mut Checks) {
     checks.is(clay.pipe2(1, O_DIRECT), Ok(Ends { read_end: 0, write_end: 1 }));
     checks.is(clay.get_fl(1, 0), Ok(O_RDONLY));
     checks.is(clay.get_fl(1, 1), Ok(O_WRONLY | O_DIRECT));
-    checks.is(clay.write(1, 1, b"abc"), Ok(3));
-    checks.is(clay.write(1, 1, b"de"), Ok(2));
-    checks.is(clay.read(1, 0, &mut into[..2]), Ok(2));
+    checks.is(clay.write(1, 1, b"abc"), done(3));
+    checks.is(clay.write(1, 1, b"de"), done(2));
+    checks.is(clay.read(1, 0, &mut into[..2]), done(2));
     checks.is(&into[..3], b"ab\xa5");
-    checks.is(clay.read(1, 0, &mut into), Ok(2));
+    checks.is(clay.read(1, 0, &mut into), done(2));
     checks.is(&into[..3], b"de\xa5");
-    checks.is(clay.write(1, 1, &[7; 5_000]), Ok(5_000));
+    checks.is(clay.write(1, 1, &[7; 5_000]), done(5_000));
     checks.is(clay.set_pipe_sz(1, 1, 4_096), Err(NotDone::Fault(EBUSY)));
-    checks.is(clay.read(1, 0, &mut into), Ok(PACKET_BYTES));
+    checks.is(clay.read(1, 0, &mut into), done(PACKET_BYTES));
     checks.is(into[PACKET_BYTES - 1..].to_vec(), vec![7, 0xa5, 0xa5, 0xa5, 0xa5]);
-    checks.is(clay.read(1, 0, &mut into), Ok(904));
-    checks.is(clay.read(1, 0, &mut into), Err(NotDone::Parked(1)));
-    checks.is(clay.write(1, 1, b"hello"), Ok(5));
-    checks.is(clay.resume(1, &mut into[..4]), Err(NotDone::Short(5)));
-    checks.is(clay.resume(1, &mut into), Ok(Done { value: 5, sigpipe: false }));
+    checks.is(clay.read(1, 0, &mut into), done(904));
+    checks.is(clay.read(1, 0, &mut into), parked(1));
+    checks.is(clay.write(1, 1, b"hello"), done(5));
+    checks.is(clay.resume_read(call(1), &mut into[..4]), short(1, 5));
+    checks.is(clay.resume_read(call(1), &mut into), done(5));
     checks.is(&into[..5], b"hello");
     // without the flags, and with both
     checks.is(clay.pipe2(1, 0), Ok(Ends { read_end: 2, write_end: 3 }));
@@ -97,7 +181,7 @@ fn packets(checks: &mut Checks) {
     checks.is(clay.get_fl(1, 3), Ok(O_WRONLY));
     checks.is(clay.get_fl(1, 4), Ok(O_RDONLY | O_NONBLOCK));
     checks.is(clay.get_fl(1, 5), Ok(O_WRONLY | O_NONBLOCK | O_DIRECT));
-    checks.is(clay.write(1, 5, &[7; 70_000]), Ok(65_536));
+    checks.is(clay.write(1, 5, &[7; 70_000]), done(65_536));
     checks.is(clay.write(1, 5, b"a"), Err(NotDone::Fault(EAGAIN)));
     checks.is(clay.splice(1, (4, None), (3, None), 1, 0), Err(NotDone::Fault(EINVAL)));
     checks.is(clay.tee(1, 4, 3, 1, 0), Err(NotDone::Fault(EINVAL)));
@@ -118,56 +202,60 @@ fn descriptors(checks: &mut Checks) {
     checks.is(clay.get_pipe_sz(1, 0), Ok(65_536));
     checks.is(clay.set_pipe_sz(1, 0, 70_000), Ok(131_072));
     let mut entries = [PollEntry::new(0, POLLIN), PollEntry::new(1, POLLIN | POLLOUT), PollEntry::new(9, 0)];
-    checks.is(clay.poll(1, &mut entries, true), Ok(2));
+    checks.is(clay.poll(1, &mut entries, true), done(2));
     checks.is(entries.map(|entry| entry.revents), [0, POLLOUT, POLLNVAL]);
-    checks.is(clay.poll(1, &mut entries[..1], true), Err(NotDone::Parked(1)));
-    checks.is(clay.resume_poll(1, &mut entries[..1]), Err(NotDone::Parked(1)));
-    checks.is(clay.write(1, 1, b"a"), Ok(1));
-    checks.is(clay.resume_poll(1, &mut entries[..1]), Ok(Done { value: 1, sigpipe: false }));
+    checks.is(clay.poll(1, &mut entries[..1], true), parked(1));
+    checks.is(clay.resume_poll(call(1), &mut entries[..1]), parked(1));
+    checks.is(clay.write(1, 1, b"a"), done(1));
+    // without its entries it isn't ended
+    checks.is(clay.resume(call(1)), short(1, 1));
+    checks.is(clay.resume_read(call(1), &mut [0; 9]), short(1, 1));
+    checks.is(clay.resume_of(1, 1), short(1, 1));
+    checks.is(clay.resume_poll(call(1), &mut entries[..1]), done(1));
     checks.is(entries[0].revents, POLLIN);
     for fd in [1, 2, 200, 201] {
         checks.is(clay.close(1, fd), Ok(()));
     }
-    checks.is(clay.poll(1, &mut entries[..1], false), Ok(1));
+    checks.is(clay.poll(1, &mut entries[..1], false), done(1));
     checks.is(entries[0].revents, POLLIN | POLLHUP);
     checks.is(clay.pipe(1, false), Ok(Ends { read_end: 1, write_end: 2 }));
     checks.is(clay.close(1, 1), Ok(()));
     entries[0] = PollEntry::new(2, 0);
-    checks.is(clay.poll(1, &mut entries[..1], true), Ok(1));
+    checks.is(clay.poll(1, &mut entries[..1], true), done(1));
     checks.is(entries[0].revents, POLLERR);
-    // another call is resumed too, with all that it answers
+    // another call is resumed too, and its value comes back alone
     checks.is(clay.pipe(1, false), Ok(Ends { read_end: 1, write_end: 3 }));
-    checks.is(clay.write(1, 3, &[0; 65_537]), Err(NotDone::Parked(2)));
+    checks.is(clay.write(1, 3, &[0; 65_537]), parked(2));
     checks.is(clay.close(1, 1), Ok(()));
-    checks.is(clay.resume_poll(2, &mut []), Ok(Done { value: 65_536, sigpipe: true }));
+    checks.is(clay.resume_poll(call(2), &mut []), done(65_536));
 }
 
 fn names(checks: &mut Checks) {
     let mut clay = with_process();
     checks.is(clay.open_name(1, b"f", O_RDWR), Err(NotDone::Fault(ENOENT)));
     checks.is(clay.file_bytes(b"f"), Err(NotDone::Fault(ENOENT)));
-    checks.is(clay.open_name(1, b"f", O_RDWR | O_CREAT | O_EXCL), Ok(0));
+    checks.is(clay.open_name(1, b"f", O_RDWR | O_CREAT | O_EXCL), done(0));
     checks.is(clay.file_bytes(b"f"), Ok(vec![]));
-    checks.is(clay.write(1, 0, b"hello"), Ok(5));
+    checks.is(clay.write(1, 0, b"hello"), done(5));
     checks.is(clay.file_bytes(b"f"), Ok(b"hello".to_vec()));
     checks.is(clay.lseek(1, 0, -1, SEEK_END), Ok(4));
     checks.is(clay.lseek(1, 0, -1, SEEK_CUR), Ok(3));
     checks.is(clay.lseek(1, 0, 0, SEEK_SET), Ok(0));
     checks.is(clay.pipe(1, false), Ok(Ends { read_end: 1, write_end: 2 }));
     checks.is(clay.pipe(1, false), Ok(Ends { read_end: 3, write_end: 4 }));
-    checks.is(clay.splice(1, (0, Some(1)), (2, None), 3, 0), Ok(3));
-    checks.is(clay.tee(1, 1, 4, 2, 0), Ok(2));
-    checks.is(clay.splice(1, (1, None), (0, Some(6)), 9, 0), Ok(3));
+    checks.is(clay.splice(1, (0, Some(1)), (2, None), 3, 0), done(3));
+    checks.is(clay.tee(1, 1, 4, 2, 0), done(2));
+    checks.is(clay.splice(1, (1, None), (0, Some(6)), 9, 0), done(3));
     checks.is(clay.file_bytes(b"f"), Ok(b"hello\0ell".to_vec()));
     checks.is(clay.splice(1, (1, None), (0, None), 9, SPLICE_F_NONBLOCK), Err(NotDone::Fault(EAGAIN)));
     let mut into = [0; 9];
-    checks.is(clay.read(1, 3, &mut into), Ok(2));
+    checks.is(clay.read(1, 3, &mut into), done(2));
     checks.is(&into[..2], b"el");
     checks.is(clay.mkfifo(1, b"q"), Ok(()));
-    checks.is(clay.open_name(1, b"q", O_RDONLY), Err(NotDone::Parked(1)));
-    checks.is(clay.open_name(1, b"q", O_WRONLY), Ok(5));
-    checks.is(clay.resume(1, &mut []), Ok(Done { value: 6, sigpipe: false }));
-    checks.is(clay.open_name(1, b"f", O_WRONLY | O_TRUNC), Ok(7));
+    checks.is(clay.open_name(1, b"q", O_RDONLY), parked(1));
+    checks.is(clay.open_name(1, b"q", O_WRONLY), done(5));
+    checks.is(clay.resume(call(1)).map(|answer| answer.map(Done::fd)), done(6));
+    checks.is(clay.open_name(1, b"f", O_WRONLY | O_TRUNC), done(7));
     checks.is(clay.file_bytes(b"f"), Ok(vec![]));
     checks.is(clay.unlink(1, b"f"), Ok(()));
     checks.is(clay.unlink(1, b"f"), Err(NotDone::Fault(ENOENT)));
@@ -180,8 +268,9 @@ fn kernels(checks: &mut Checks) {
     checks.is(clay.start(), Ok(1));
     checks.is(clay.pipe(1, false), Ok(Ends { read_end: 0, write_end: 1 }));
     checks.is(clay.read(1, 0, &mut [0]), Err(NotDone::CallsSpent));
-    let texts = [NotDone::Parked(7), NotDone::NoMemory].map(|not_done| not_done.to_string());
-    checks.is(texts, ["waits as call 7".to_string(), "no memory".to_string()]);
+    let texts = [NotDone::NoMemory, NotDone::NoMemoryToResume(call(7)), NotDone::Short { call: call(7), wants: 9 }];
+    let wanted = ["no memory", "no memory to resume call 7", "too little room: call 7 wants 9"];
+    checks.is(texts.map(|not_done| not_done.to_string()), wanted.map(str::to_string));
 }
 
 fn limits(checks: &mut Checks) {
@@ -190,12 +279,12 @@ fn limits(checks: &mut Checks) {
     let few = Limits { first_call: 7, names: 1, waiting_calls: 1, capacity: 65_536, file_max: 3, ..default };
     let mut clay = Clay::open_within(&few).expect("memory for a kernel");
     checks.is(clay.start(), Ok(1));
-    checks.is(clay.open_name(1, b"f", O_RDWR | O_CREAT), Ok(0));
+    checks.is(clay.open_name(1, b"f", O_RDWR | O_CREAT), done(0));
     checks.is(clay.mkfifo(1, b"q"), Err(NotDone::Fault(ENOSPC)));
-    checks.is(clay.write(1, 0, b"hello"), Ok(3));
+    checks.is(clay.write(1, 0, b"hello"), done(3));
     checks.is(clay.pipe(1, false), Ok(Ends { read_end: 1, write_end: 2 }));
     checks.is(clay.set_pipe_sz(1, 1, 65_537), Err(NotDone::Fault(EPERM)));
-    checks.is(clay.read(1, 1, &mut [0]), Err(NotDone::Parked(7)));
+    checks.is(clay.read(1, 1, &mut [0]), parked(7));
     checks.is(clay.read(1, 1, &mut [0]), Err(NotDone::Fault(EAGAIN)));
 
     let mut clay = Clay::open_within(&Limits { memory: 65_536, ..default }).expect("memory for a kernel");
@@ -205,7 +294,7 @@ fn limits(checks: &mut Checks) {
     checks.is(clay.write(1, 1, &[0; 65_536]), Err(NotDone::NoMemory));
     let memory = clay.memory();
     checks.is(0 < memory.held && memory.held <= memory.peak && memory.peak <= memory.most, true);
-    checks.is(clay.write(1, 1, &[0; 4_096]), Ok(4_096));
+    checks.is(clay.write(1, 1, &[0; 4_096]), done(4_096));
 }
 
 /// A kernel that moves to another thread, and one that two threads share under a lock.
@@ -219,7 +308,7 @@ fn threads(checks: &mut Checks) {
     .join()
     .expect("the thread ends")
     .0;
-    checks.is(clay.write(1, 1, b"moved"), Ok(5));
+    checks.is(clay.write(1, 1, b"moved"), done(5));
     let shared = Arc::new((Mutex::new(clay), Condvar::new()));
     let writer = {
         let shared = shared.clone();
@@ -228,7 +317,7 @@ fn threads(checks: &mut Checks) {
             (0..1000).all(|_| {
                 let written = clay.lock().expect("the lock").write(1, 1, b"ab");
                 changed.notify_one();
-                written == Ok(2)
+                written == done(2)
             })
         })
     };
@@ -238,12 +327,12 @@ fn threads(checks: &mut Checks) {
         let mut clay = clay.lock().expect("the lock");
         let mut into = [0; 100];
         let mut reply = clay.read(1, 0, &mut into);
-        while let Err(NotDone::Parked(number)) = reply {
+        while let Ok(Answer::Parked(call)) = reply {
             clay = changed.wait(clay).expect("the lock");
-            reply = clay.resume(number, &mut into).map(|done| done.value as usize);
+            reply = clay.resume_read(call, &mut into);
         }
-        let Ok(count @ 1..=100) = reply else {
-            checks.is(reply, Ok(100));
+        let Ok(Answer::Done(count @ 1..=100)) = reply else {
+            checks.is(reply, done(100));
             break;
         };
         read.extend_from_slice(&into[..count]);
@@ -256,6 +345,8 @@ fn main() {
     let mut checks = Checks { failed: 0 };
     kernels(&mut checks);
     pipes(&mut checks);
+    question_marks(&mut checks);
+    memory_to_resume(&mut checks);
     packets(&mut checks);
     descriptors(&mut checks);
     names(&mut checks);

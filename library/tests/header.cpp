@@ -25,6 +25,7 @@ int main()
         && bindingclay_pipe(clay, 1, false, &ends).kind == BINDINGCLAY_DONE
         && bindingclay_pipe2(clay, 1, BINDINGCLAY_O_DIRECT, &ends).kind == BINDINGCLAY_DONE
         && bindingclay_get_fl(clay, 1, ends.write_end).value == (01 | BINDINGCLAY_O_DIRECT)
+        && bindingclay_can_progress(clay, 1) && bindingclay_taken(clay, 1).kind == BINDINGCLAY_NO_CALL
         && bindingclay_splice(clay, 1, ends.write_end, nullptr, ends.read_end, nullptr, 1, 0).error == 9;
     bindingclay_free(clay);
     bindingclay_limits limits = BINDINGCLAY_LIMITS;

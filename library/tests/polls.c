@@ -166,8 +166,8 @@ static void polls_that_wait(void)
     bindingclay_free(clay);
 }
 
-/* Of fewer entries than it began with the first are told, and where it is resumed as other calls are, none: it is done all the same. Of
- * more, those behind are left alone. */
+/* Of fewer entries than it began with the first are told. Of more, those behind are left alone. If it is resumed as other calls are, it is
+ * told how many entries it has, and waits on. */
 static void masks_that_are_lost(void)
 {
     bindingclay clay = kernel_with_process();
@@ -179,8 +179,14 @@ static void masks_that_are_lost(void)
     DONE(put(clay, 1, 1, "a"), 1);
     DONE(bindingclay_resume_poll(clay, 1, entries, 2), 2);
     HOLDS(entries[0].revents == POLLIN && entries[1].revents == 0 && entries[2].revents == UNWRITTEN);
-    DONE(again(clay, 2), 2);
-    OTHER(bindingclay_resume_poll(clay, 2, entries, 3), BINDINGCLAY_NO_CALL);
+    SHORT(again(clay, 2), 3);
+    SHORT(again(clay, 2), 3);
+    READS(clay, 1, 0, 9, "a");
+    PARKED(again(clay, 2), 2);
+    DONE(put(clay, 1, 1, "a"), 1);
+    DONE(bindingclay_resume_poll(clay, 2, entries, 3), 2);
+    HOLDS(entries[0].revents == POLLIN && entries[1].revents == 0 && entries[2].revents == POLLIN);
+    OTHER(again(clay, 2), BINDINGCLAY_NO_CALL);
     READS(clay, 1, 0, 9, "a");
     PARKED(bindingclay_poll(clay, 1, entries, 1, true), 3);
     DONE(put(clay, 1, 1, "a"), 1);

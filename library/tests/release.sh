@@ -93,6 +93,11 @@ example_of_archive() {
     ! needs_shared "$work/example" && prints_example "$work/example"
 }
 
+loop_of_archive() {
+    build_packaged example_loop "$prefix/share/bindingclay/examples/example_loop.c" bindingclay-static || return 1
+    loop_prints_what_it_should "$work/example_loop"
+}
+
 example_of_shared() {
     build_packaged example "$here/example.c" bindingclay || return 1
     needs_shared "$work/example" && prints_example env "LD_LIBRARY_PATH=$lib" "$work/example"
@@ -192,6 +197,7 @@ try_package() {
     check "what the shared library of $3 exports" exports_what_is_declared
     over pkg-config "the versions of $3" versions_agree
     over pkg-config "the example over the archive of $3" example_of_archive
+    over pkg-config "the loop over the archive of $3" loop_of_archive
     if is_there pkg-config; then
         check "the example over the shared library of $3" example_of_shared &&
             over "$valgrind" "the example over the shared library of $3 under valgrind" example_under_valgrind

@@ -5,7 +5,8 @@
  *
  * Each script is run as it is, and then nothing is left of it. What is to take no memory asks for none. A script that makes at most
  * MOST_REQUESTS requests for memory is run again with each of them refused in turn: the call that finds no memory has changed nothing, and
- * is made once more. Of one that makes up to ten times as many, only the first FIRST_REQUESTS are refused in turn. */
+ * is made once more. Of one that makes up to ten times as many, only the first FIRST_REQUESTS are refused in turn. Before a call is tried
+ * again, the kernel is asked whether it can get on, and that is held to what the trial does. */
 #define _GNU_SOURCE
 #include "counted.h"
 #include "script_text.h"
@@ -64,11 +65,36 @@ static uint64_t in_kernel(const struct script *script, const char *word)
     return strtoull(word, NULL, 10) - script->first_call + first_number;
 }
 
+/* How often a call that waited was tried again after it was told that it can get on, and after it was told that it can't: in all runs. */
+static long tried_in_time, tried_in_vain;
+
+/* A call that was tried again got on exactly if that was told before: it was answered, or it took more bytes than it had taken before. */
+static void got_on_as_told(uint64_t call_number, bool can, bindingclay_answer taken)
+{
+    bindingclay_answer taken_now = bindingclay_taken(clay, call_number);
+    bool is_there = taken.kind == BINDINGCLAY_DONE;
+    if (is_there)
+        *(can ? &tried_in_time : &tried_in_vain) += 1;
+    if (answer.kind == BINDINGCLAY_PARKED) {
+        HOLDS(is_there && taken_now.kind == BINDINGCLAY_DONE && can == (taken_now.value > taken.value));
+    } else if (answer.kind == BINDINGCLAY_NO_MEMORY) {
+        HOLDS(is_there && can);
+        DONE(taken_now, taken.value);
+    } else {
+        HOLDS(can && is_there == (answer.kind != BINDINGCLAY_NO_CALL));
+        OTHER(taken_now, BINDINGCLAY_NO_CALL);
+    }
+}
+
 static enum told resume(uint64_t call_number)
 {
     static const struct parked none = { .told = NOTHING };
     uint64_t place = call_number - first_number;
     const struct parked *call = place < parked_count ? &parked[place] : &none;
+    long granted = granted_before;
+    bool can = bindingclay_can_progress(clay, call_number);
+    bindingclay_answer taken = bindingclay_taken(clay, call_number);
+    HOLDS(granted_before == granted);
     if (call->told == MASKS) {
         entry_count = call->entry_count;
         memcpy(entries, call->entries, entry_count * sizeof *entries);
@@ -76,6 +102,7 @@ static enum told resume(uint64_t call_number)
     } else {
         answer = bindingclay_resume(clay, call_number, into, call->room);
     }
+    got_on_as_told(call_number, can, taken);
     return call->told;
 }
 
@@ -337,7 +364,9 @@ int main(int argc, char **argv)
         in_part += last < requests && last > 0;
         free_script(&script);
     }
-    printf("%d run; each request for memory refused in turn in %d of them, the first %ld in %d, and none in %d\n", argc - 3, whole,
-        first_requests, in_part, argc - 3 - whole - in_part);
+    HOLDS(tried_in_time > 0 && tried_in_vain > 0);
+    printf("%d run; each request for memory refused in turn in %d of them, the first %ld in %d, and none in %d; calls tried again %ld times"
+           " in time and %ld in vain\n",
+        argc - 3, whole, first_requests, in_part, argc - 3 - whole - in_part, tried_in_time, tried_in_vain);
     return end();
 }

@@ -1,6 +1,7 @@
 /* Many calls that wait, and processes that end under them. 200 calls of one process wait, and it exits. Then four guests make calls at random
  * in one kernel: they end each other's processes and calls, and use numbers of calls that are gone. Which processes there are, and whose calls
- * wait, is kept here too, and each answer is held to it. At the end nothing is left. Link with -Wl,--wrap=malloc,--wrap=realloc,--wrap=free.
+ * wait, is kept here too, and each answer is held to it. So is what is told of each call before it is tried again: whether it can get on. At
+ * the end nothing is left. Link with -Wl,--wrap=malloc,--wrap=realloc,--wrap=free.
  *
  *   storms CALLS    so many calls of each guest */
 #define _GNU_SOURCE
@@ -26,7 +27,8 @@ static bool is_no_call(bindingclay clay, uint32_t pid, uint64_t number)
 {
     uint8_t byte = UNTOUCHED;
     bindingclay_pollfd entry = { .fd = 0, .events = POLLIN, .revents = 77 };
-    return OTHER(bindingclay_owner(clay, number), BINDINGCLAY_NO_CALL)
+    return OTHER(bindingclay_owner(clay, number), BINDINGCLAY_NO_CALL) && HOLDS(bindingclay_can_progress(clay, number))
+        && OTHER(bindingclay_taken(clay, number), BINDINGCLAY_NO_CALL)
         && OTHER(bindingclay_resume(clay, number, &byte, 1), BINDINGCLAY_NO_CALL)
         && OTHER(bindingclay_resume_poll(clay, number, &entry, 1), BINDINGCLAY_NO_CALL)
         && OTHER(bindingclay_interrupt(clay, number), BINDINGCLAY_NO_CALL)
@@ -197,17 +199,46 @@ static bool is_end(bindingclay_answer answer)
     return answer.kind == BINDINGCLAY_DONE || (answer.kind == BINDINGCLAY_FAULT && answer.error != 0 && answer.value == 0);
 }
 
-/* Tries a call again. There is room for all that a read may give, so none is told to be short. */
+/* How many calls that waited were tried again after it was told that they can get on, and after it was told that they can't. */
+static long tried_in_time, tried_in_vain;
+
+/* How many bytes the call of a number has taken, if it waits. */
+static uint64_t taken_by(uint64_t number)
+{
+    bindingclay_answer taken = bindingclay_taken(clay, number);
+    if (owner_of[number] == 0)
+        OTHER(taken, BINDINGCLAY_NO_CALL);
+    else
+        HOLDS(taken.kind == BINDINGCLAY_DONE && taken.value < ROOM);
+    return taken.value;
+}
+
+/* Tries a call again, and it gets on exactly if that was told before. There is room for all that a read may give, so only a poll is told to be
+ * short: of its one entry. */
 static void resume(uint64_t number)
 {
     uint32_t owner = owner_of[number];
+    bool can = bindingclay_can_progress(clay, number);
+    uint64_t taken = taken_by(number);
     bindingclay_answer answer = bindingclay_resume(clay, number, into, ROOM);
+    if (answer.kind == BINDINGCLAY_SHORT) {
+        bindingclay_pollfd entry = { .fd = 0, .events = 0, .revents = 0 };
+        SHORT(answer, 1);
+        answer = bindingclay_resume_poll(clay, number, &entry, 1);
+        DONE(answer, 1);
+        HOLDS(entry.revents != 0);
+    }
     if (owner == 0) {
+        HOLDS(can);
         OTHER(answer, BINDINGCLAY_NO_CALL);
-    } else if (answer.kind == BINDINGCLAY_PARKED) {
+        return;
+    }
+    *(can ? &tried_in_time : &tried_in_vain) += 1;
+    if (answer.kind == BINDINGCLAY_PARKED) {
         PARKED(answer, number);
+        HOLDS(can == (taken_by(number) > taken));
     } else {
-        HOLDS(is_end(answer));
+        HOLDS(can && is_end(answer));
         owner_of[number] = 0;
     }
 }
@@ -312,6 +343,25 @@ static void owners_are_told(void)
             OTHER(bindingclay_owner(clay, number), BINDINGCLAY_NO_CALL);
 }
 
+/* Tries each call again that can get on, until none can. Then none of those that wait gets on. */
+static void try_all(void)
+{
+    bool was_tried = true;
+    while (was_tried) {
+        was_tried = false;
+        for (uint64_t number = first_number; number < next_number; number++)
+            if (owner_of[number] != 0 && bindingclay_can_progress(clay, number)) {
+                resume(number);
+                was_tried = true;
+            }
+    }
+    for (uint64_t number = first_number; number < next_number; number++)
+        if (owner_of[number] != 0) {
+            resume(number);
+            HOLDS(owner_of[number] != 0 && !bindingclay_can_progress(clay, number));
+        }
+}
+
 /* Ends all processes and takes all names away: then none of the calls waits. */
 static void leave(void)
 {
@@ -338,7 +388,7 @@ static void start(struct guest *guest)
     DONE(bindingclay_set_pipe_sz(clay, guest->pid, ends.write_end, 4096), 4096);
 }
 
-/* All calls of the guests, in turns, of which some wait. */
+/* All calls of the guests, in turns, of which some wait. Now and then those are tried again that can get on. */
 static void storm(long calls)
 {
     first_number = next_number;
@@ -352,6 +402,8 @@ static void storm(long calls)
         }
         if (turn % 50 == 0)
             owners_are_told();
+        if (turn % 20 == 0)
+            try_all();
     }
     HOLDS(next_number - first_number >= (uint64_t)calls / 8);
     owners_are_told();
@@ -368,7 +420,10 @@ static void storms(long calls)
     storm(calls);
     leave();
     HOLDS(beside_spare(clay) < left + SEGMENT);
-    printf("%" PRIu64 " calls waited; %" PRIu64 " bytes at most, and %" PRIu64 " left beside what is spare\n", next_number, peak, left);
+    HOLDS(tried_in_time >= calls / 50 && tried_in_vain >= calls / 50);
+    printf("%" PRIu64 " calls waited, tried again %ld times in time and %ld in vain; %" PRIu64 " bytes at most, and %" PRIu64
+           " left beside what is spare\n",
+        next_number, tried_in_time, tried_in_vain, peak, left);
     bindingclay_free(clay);
     HOLDS(blocks_left == 0 && bytes_left == 0);
 }

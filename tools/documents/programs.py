@@ -2,13 +2,14 @@
 import concurrent.futures
 import re
 import subprocess
+from itertools import zip_longest
 from typing import NamedTuple, Optional
 
 import markdown
 import pages
 
 FLAGS = ["-std=c11", "-Wall", "-Wextra", "-Werror"]
-HEADERS = ["bindingclay.h", "fcntl.h", "poll.h", "stdio.h", "string.h"]
+HEADERS = ["bindingclay.h", "assert.h", "errno.h", "fcntl.h", "poll.h", "stdio.h", "string.h"]
 # what a fragment tells of its last answer
 TELLS = re.compile(r'/\* done: value (\d+), "(\w*)" \*/')
 
@@ -32,19 +33,24 @@ def whole(fragment):
 
 
 def programs(project):
-    """Each program of the documents and of the manual pages, and the example of the library."""
+    """Each program of the documents and of the manual pages, and the examples of the library with what its README says that they print."""
     for document, text in project.documents():
-        for block in markdown.blocks(text):
+        shown = markdown.blocks(text)
+        for block, after in zip_longest(shown, shown[1:]):
             if block.language == "c":
                 source = block.text if "int main(" in block.text else whole(block.text)
-                yield Program(f"{project.short(document)}:{block.line}", source, None)
+                # a block of a console behind a program is what that prints, if it has no command
+                prints = after.text if after and after.language == "console" and not after.text.startswith("$ ") else None
+                yield Program(f"{project.short(document)}:{block.line}", source, prints)
     for path, text in project.pages():
         shown = pages.literals(text, "EXAMPLES")
         if shown and "int main(" in shown[0]:
             yield Program(path.name, shown[0], shown[1] if len(shown) > 1 else None)
     library = project.root / "library"
     printed = [block.text for block in markdown.blocks((library / "README.md").read_text(encoding="utf-8")) if block.language == "console"]
-    yield Program("library/example.c", (library / "example.c").read_text(encoding="utf-8"), printed[0] if printed else "nothing says what")
+    printed += ["nothing says what"] * 2
+    for name, prints in zip(("example", "example_loop"), printed):
+        yield Program(f"library/{name}.c", (library / f"{name}.c").read_text(encoding="utf-8"), prints)
 
 
 def fault_of(project, number, program):

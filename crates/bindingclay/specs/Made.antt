@@ -15,7 +15,8 @@ use Rattle.pl_state.specs.Makes.{Stands, WantsMemory}
 use Rattle.pl_state.specs.Parking.{ReadWaits}
 use Rattle.pl_kernel.specs.declared.kernel.buffers.Resumed.{Resumed as KernelResumed}
 use Rattle.pl_kernel.specs.declared.kernel.buffers.Resumed.TheVariants as kernel
-use Rattle.pl_kernel.specs.Taken.{owner_by}
+use Rattle.pl_kernel.specs.Progress.{ready_entries}
+use Rattle.pl_kernel.specs.Taken.{owner_by, taken_by}
 use Rattle.pl_numbers.specs.declared.answer.Answer.{Answer}
 use Rattle.pl_polls.specs.declared.entries.PollEntry.{PollEntry}
 use Rattle.pl_transfers.specs.declared.reading.ReadReply.{ReadReply}
@@ -71,6 +72,11 @@ pub record Gathers (old : Contents InBudget) (number : ℕ) (before : List ℕ) 
   pub unread : a.kind ≡ no_memory → after ≡ before
   pub kept : a.kind ≡ short → after ≡ before
 
+-- The same of a call, unless it is a poll that can get on. Such a poll isn't tried: the answer tells how many entries it has, and nothing changes.
+pub record TriesAgain (old : Contents InBudget) (number : ℕ) (before : List ℕ) (a : Answer) (after : List ℕ) (new : Contents InBudget) : Type 0 where
+  pub polls : 0 < ready_entries old number → (a ≡ plain (ready_entries old number) short) × (after ≡ before) × (new ≡ old)
+  pub others : ready_entries old number ≡ 0 → Resumes old number (length before) a new × Gathers old number before a after
+
 -- What it leaves in the entries of a poll. A read that gives bytes is told to have too little room.
 pub record Notes (old : Contents InBudget) (number : ℕ) (before : List PollEntry) (a : Answer) (after : List PollEntry) : Type 0 where
   pub entries : Resumed old number a (λ reply. after ≡ entries_after before reply)
@@ -104,14 +110,18 @@ abbrev pub resumed_entries : {E : Type 0} → List PollEntry → Result (KernelR
 resumed_entries old (Ok (kernel.Other reply)) = entries_after old reply
 resumed_entries old other = old
 
--- the answer that tells whose a parked call is: the pid, or that there is none
-abbrev pub owner_answer : Option ℕ → Answer
-owner_answer None = plain 0 4
-owner_answer (Some pid) = plain pid 0
+-- the answer that tells a number of a parked call, or that there is no such call
+abbrev pub number_answer : Option ℕ → Answer
+number_answer None = plain 0 4
+number_answer (Some n) = plain n 0
 
--- so it is for each state for which the kernel stands
+-- so its process is told, for each state for which the kernel stands
 abbrev pub Owns : Contents InBudget → ℕ → Answer → Type 0
-Owns k number a = (s : State InBudget) → Stands k s → a ≡ owner_answer (owner_by s number)
+Owns k number a = (s : State InBudget) → Stands k s → a ≡ number_answer (owner_by s number)
+
+-- so are the bytes that it has taken
+abbrev pub Takes : Contents InBudget → ℕ → Answer → Type 0
+Takes k number a = (s : State InBudget) → Stands k s → a ≡ number_answer (taken_by s number)
 
 -- Bytes were copied to the front of the caller's; or there is too little room for them, and the answer says how many they are.
 abbrev pub Copies : (is_short : Bool) → List ℕ → Answer → (old new : List ℕ) → Type 0

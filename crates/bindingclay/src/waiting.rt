@@ -1,7 +1,9 @@
 //! Calls that wait.
 ghost use Rattle.std.specs.Prelude.{◌≡◌, ◌<◌, length};
-ghost use Rattle.pl_numbers.specs.Answers.{said};
-ghost use Rattle.bindingclay.specs.Made.{Says, Wants, Resumed, Gathers, Notes, Owns};
+ghost use Rattle.pl_numbers.specs.Answers.{said, plain};
+ghost use Rattle.pl_kernel.specs.Progress.{TellsProgress, OrWaitsInVain, ready_entries};
+ghost use Rattle.bindingclay.specs.Heap.{InBudget};
+ghost use Rattle.bindingclay.specs.Made.{Says, Wants, Resumed, Gathers, Notes, Owns, Takes};
 
 use crate::handle::Handle;
 use pl_kernel::PollEntry;
@@ -9,13 +11,14 @@ use pl_model::Step;
 use pl_numbers::Answer;
 
 /// Tries the parked call of a number again, where a read gives its bytes into the caller's. Where it would give more than
-/// these, the answer says how many, and nothing changed.
+/// these, the answer says how many, and nothing changed. A poll that can get on isn't tried: the answer says how many entries it has.
 #[unsafe(no_mangle)]
 pub extern "C" fn bindingclay_resume(handle: Handle, number: u64, into: &mut [u8]) -> Answer
     ensures says { Resumed handle.layer.kernel number result (λ reply. result ≡ said reply) }
     ensures wants { Wants handle.layer.kernel (Step.Resume number) result }
-    ensures wider { result.kind ≡ 7 → length into.old < result.value }
-    ensures bytes { Gathers handle.layer.kernel number into.old result into.new }
+    ensures polls { 0 < ready_entries handle.layer.kernel number → (result ≡ plain (ready_entries handle.layer.kernel number) 7) × (into.new ≡ into.old) }
+    ensures wider { ready_entries handle.layer.kernel number ≡ 0 → result.kind ≡ 7 → length into.old < result.value }
+    ensures bytes { ready_entries handle.layer.kernel number ≡ 0 → Gathers handle.layer.kernel number into.old result into.new }
 {
     let mut layer = handle.into_box();
     let answer = layer.resume(number, into);
@@ -50,6 +53,31 @@ pub extern "C" fn bindingclay_owner(handle: Handle, number: u64) -> Answer
     let answer = layer.owner(number);
     let _kept = Box::into_raw(layer);
     answer
+}
+
+/// Tells how many bytes the parked call of a number has taken, as a write has that waits with some of its bytes in the pipe: the value is
+/// how many.
+#[unsafe(no_mangle)]
+pub extern "C" fn bindingclay_taken(handle: Handle, number: u64) -> Answer
+    ensures { Takes handle.layer.kernel number result }
+{
+    let layer = handle.into_box();
+    let answer = layer.taken(number);
+    let _kept = Box::into_raw(layer);
+    answer
+}
+
+/// Tells whether the parked call of a number can get on: tried again now, it is answered, or takes more of its bytes. Where it can't, trying
+/// it again answers that it waits on, and moves no byte.
+#[unsafe(no_mangle)]
+pub extern "C" fn bindingclay_can_progress(handle: Handle, number: u64) -> bool
+    ensures value { TellsProgress {A = InBudget} handle.layer.kernel number result }
+    ensures vain { OrWaitsInVain {A = InBudget} handle.layer.kernel number result }
+{
+    let layer = handle.into_box();
+    let can = layer.can_progress(number);
+    let _kept = Box::into_raw(layer);
+    can
 }
 
 /// Ends the parked call of a number, as a signal does (POSIX.1-2017, Interrupted functions: `EINTR`).

@@ -250,6 +250,7 @@ impl<A: Allocator + Copy> Descs<A> {
     ///
     /// - `Enfile` exactly where there are 4,096 descriptions. It takes no memory.
     /// - `NoMemory` where there are fewer, and there is neither room nor memory for one more.
+    #[inline(always)]
     pub fn open_desc(
         &mut self,
         node: Node,

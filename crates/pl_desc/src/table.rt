@@ -72,10 +72,9 @@ impl<A: Allocator> Table<A> {
     pub fn find(&self, fd: i32) -> Option<usize>
         ensures { result ≡ row_in self.now fd }
     {
-        if fd < 0 || OPEN_MAX <= fd as usize {
-            return None;
-        }
-        self.get(fd as usize)
+        // One comparison finds all that aren't open: without its sign a negative one is above all places.
+        let key = *self.keys.get(fd.cast_unsigned() as usize)?;
+        if key == FREE { None } else { Some(key) }
     }
 
     /// Lets a descriptor name a key.

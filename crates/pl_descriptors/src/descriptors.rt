@@ -131,6 +131,7 @@ pub fn set_fl<A: Allocator + Copy>(
 }
 
 // Closes an open descriptor.
+#[inline(always)]
 pub(crate) fn close_open<A: Allocator + Copy>(kernel: &mut KernelState<A>, pid: u32, fd: i32)
     requires process { IsProcess kernel.old pid }
     requires here { IsSome (row_of kernel.old.tables pid fd) }

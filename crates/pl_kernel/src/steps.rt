@@ -3,7 +3,8 @@ ghost use Rattle.std.specs.Prelude.{◌≡◌, ◌≢◌, ◌≤◌, ◌<◌, �
 ghost use Rattle.pl_model.specs.Numbers.{most_bytes};
 ghost use Rattle.pl_model.specs.Memory.{is_frugal, is_frugal_call};
 ghost use Rattle.pl_model.specs.Map.{get};
-ghost use Rattle.pl_state.specs.Contents.{IsProcess};
+ghost use Rattle.pl_model.specs.Waking.{can_progress};
+ghost use Rattle.pl_state.specs.Contents.{IsProcess, core_of};
 ghost use Rattle.pl_state.specs.Sound.{IsPoll};
 ghost use Rattle.pl_state.specs.Makes.{MakesAtKeys, MayWantAtKeys, ParksAtKeys};
 ghost use Rattle.pl_splices.specs.Shares.{SharesByStep};
@@ -15,7 +16,7 @@ ghost use Rattle.pl_polls.specs.Into.{told as poll_told};
 use pl_descriptors::{close, dup, dup_fd, dup2, exit, fork, get_fl, set_fl, start};
 use pl_model::{Call, Reply, Step};
 use pl_naming::{mkfifo, open_name, unlink};
-use pl_polls::{PollEntry, PollReply, poll, poll_into, resume_poll};
+use pl_polls::{PollEntry, PollReply, poll, poll_can_progress, poll_into, resume_poll};
 use pl_splices::{resume, splice, tee};
 use pl_state::{KernelState, NoMemory};
 use pl_transfers::{
@@ -175,6 +176,16 @@ pub(crate) fn try_again<A: Allocator + Copy>(
         return resume_poll(kernel, number);
     }
     resume(kernel, number)
+}
+
+// Whether the parked call of a number can get on where it is tried again now.
+pub(crate) fn can_progress<A: Allocator + Copy>(kernel: &KernelState<A>, number: u64) -> bool
+    ensures { result ≡ can_progress (core_of {A = A} kernel.now) number }
+{
+    if is_poll(kernel, number) {
+        return poll_can_progress(kernel, number);
+    }
+    pl_splices::can_progress(kernel, number)
 }
 
 #[inline(always)]

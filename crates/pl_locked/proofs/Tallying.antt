@@ -11,13 +11,12 @@ use Rattle.pl_locked.specs.Journals.{Tallies}
 
 module _ {A : Type 0} where
   -- no step was made
-  pub tallies_none : (callers most : ℕ) → Tallies {A = A} callers most [] (replicate callers 0) 0
+  pub tallies_none : (callers most : ℕ) → Tallies {A = A} callers most [] (replicate callers 0)
   tallies_none callers most =
       record {
         many = length-replicate callers 0;
         counts = λ k lt. get_or-replicate callers k 0 0 lt;
         room = omega arith;
-        changes = omega arith;
       }
 
   -- the tally after an entry
@@ -35,6 +34,6 @@ module _ {A : Type 0} where
       get_or-set_other tally e.caller j (n + 1) 0 other ∙ (all j lj ∙ sym (ap length (of-other j h e (λ x. other (sym x))))))
 
   -- no caller made more steps than the journal takes
-  pub tally_small : (callers most : ℕ) (h : List (Entry A)) (tally : List ℕ) (changed : ℕ) → Tallies callers most h tally changed → (k : ℕ) → k < callers → slice_index tally k ≤ most
-  tally_small callers most h tally changed kept k lt =
+  pub tally_small : (callers most : ℕ) (h : List (Entry A)) (tally : List ℕ) → Tallies callers most h tally → (k : ℕ) → k < callers → slice_index tally k ≤ most
+  tally_small callers most h tally kept k lt =
       let a : slice_index tally k ≡ length (of k h) = kept.counts k lt in let b : length (of k h) ≤ length h = of-few k h in let c : length h ≤ most = kept.room in omega arith

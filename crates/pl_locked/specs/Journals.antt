@@ -24,13 +24,11 @@ module _ {A : Type 0} where
   KeepsItsNumber (Resume c) (Parked d) = d ≡ c
   KeepsItsNumber x r = Unit {0}
 
-  -- How many steps each caller made stands in the tally. The journal has at most so many steps, and each changed something at most
-  -- once.
-  pub record Tallies (callers most : ℕ) (journal : List (Entry A)) (tally : List ℕ) (changed : ℕ) : Type 0 where
+  -- How many steps each caller made stands in the tally. The journal has at most so many steps.
+  pub record Tallies (callers most : ℕ) (journal : List (Entry A)) (tally : List ℕ) : Type 0 where
     pub many : length tally ≡ callers
     pub counts : (k : ℕ) → k < callers → slice_index tally k ≡ length (of k journal)
     pub room : length journal ≤ most
-    pub changes : changed ≤ length journal
 
 -- The ledger: its total is the length of the journal, and of its 64 parts each caller has one, the desk the rest, on which nothing
 -- was made.

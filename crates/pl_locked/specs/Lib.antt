@@ -4,5 +4,5 @@ pub mod Logs
 pub mod Views
 -- What the journal under the lock keeps.
 pub mod Journals
--- When callers that wait are woken.
+-- Which callers that wait a step helps.
 pub mod Waking

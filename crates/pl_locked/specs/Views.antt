@@ -24,10 +24,10 @@ pub record CallerView (A : Type 0) : Type 0 where
   pub seen : List (Entry A)
   pub made : List (Entry A)
 
--- What lies under the lock: the journal, and how often something changed.
+-- What lies under the lock: the journal, and for each caller the number of the call that it waits for, if for one.
 pub record Held (A : Type 0) : Type 0 where
   pub journal : List (Entry A)
-  pub changes : ℕ
+  pub waiting : List (Option ℕ)
 
 module _ {A : Type 0} where
   -- a caller that has seen and made nothing

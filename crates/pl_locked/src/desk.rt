@@ -1,11 +1,12 @@
 //! What lies under the lock.
-ghost use Rattle.std.specs.Prelude.{◌≡◌, ℕ, ◌<◌, ◌≤◌, [], ◌∷◌, ◌++◌, ◌+◌, length, IfOk, OnErr, IsErrOf, ◌↔◌, replicate};
+ghost use Rattle.std.specs.Prelude.{◌≡◌, ℕ, ◌<◌, ◌≤◌, [], ◌∷◌, ◌++◌, ◌+◌, length, IfOk, OnErr, IsErrOf, None, ◌↔◌, replicate, slice_index_or, slice_set};
 ghost use Rattle.std.specs.List.{All};
 ghost use Rattle.pl_model.specs.History.{entry, of, IsLegal, state_of_history};
 ghost use Rattle.pl_state.specs.Makes.{Stands};
 ghost use Rattle.pl_locked.specs.Views.{Full, Gains, HasCaller, IsDone, Shown, total_made};
 ghost use Rattle.pl_locked.specs.Journals.{Owes, KeepsItsNumber};
-ghost use Rattle.pl_locked.specs.Waking.{tried, changes_of};
+ghost use Rattle.pl_locked.specs.Waking.{is_helped};
+ghost use Rattle.pl_model.specs.Waking.{can_progress};
 
 use crate::caller::{Caller, gather};
 use crate::fault::StepFault;
@@ -18,7 +19,7 @@ use std::alloc::{Allocator, Global};
 use std::marker::Model;
 use std::sync::ledger::{Book, Share};
 
-/// What lies under the lock of a layer. Contracts see the journal, and how often something changed.
+/// What lies under the lock of a layer. Contracts see the journal, and for which calls the callers wait.
 #[derive(Drop)]
 pub(crate) struct Desk<N: Layer, A: Allocator = Global> {
     recorded: Recorded<N, A>,
@@ -29,8 +30,8 @@ pub(crate) struct Desk<N: Layer, A: Allocator = Global> {
     rest: Share<N>,
     /// How many steps the journal takes.
     most: u32,
-    /// How many steps changed something: a parked call is tried again only after one more.
-    changes: u64,
+    /// For which call each caller waits, by its number.
+    waiting: Vec<Option<u64>, A>,
 }
 
 impl<N: Layer, A: Allocator> Model for Desk<N, A> {
@@ -40,9 +41,9 @@ impl<N: Layer, A: Allocator> Model for Desk<N, A> {
 
     ghost Value = { Held A };
 
-    ghost view = { λ d. record { journal = d.recorded; changes = d.changes } };
+    ghost view = { λ d. record { journal = d.recorded; waiting = d.waiting.items } };
 
-    ghost invariant = { λ d. Tallies N.callers N.max_steps d.recorded d.counts.items d.changes × Owes N.callers (length d.recorded) d.book.total d.rest.parts d.rest.amount × (d.most ≡ N.max_steps) × (N.parts ≡ 64) };
+    ghost invariant = { λ d. Tallies N.callers N.max_steps d.recorded d.counts.items × Owes N.callers (length d.recorded) d.book.total d.rest.parts d.rest.amount × (d.most ≡ N.max_steps) × (N.parts ≡ 64) × (length d.waiting.items ≡ N.callers) };
 }
 
 impl<N: Layer, A: Allocator + Copy> Desk<N, A> {
@@ -53,12 +54,15 @@ impl<N: Layer, A: Allocator + Copy> Desk<N, A> {
         book: Book<N>,
         rest: Share<N>,
         most: u32,
+        waiting: Vec<Option<u64>, A>,
     ) -> Desk<N, A>
         requires recorded { recorded ≡ [] }
         requires counts { counts.items ≡ replicate N.callers 0 }
         requires shares { Owes N.callers 0 book.total rest.parts rest.amount }
         requires most { (most ≡ N.max_steps) × (N.parts ≡ 64) }
-        ensures { result.journal ≡ [] }
+        requires waiting { waiting.items ≡ replicate N.callers None }
+        ensures journal { result.journal ≡ [] }
+        ensures waiting { result.waiting ≡ replicate N.callers None }
     {
         Desk {
             recorded,
@@ -66,7 +70,7 @@ impl<N: Layer, A: Allocator + Copy> Desk<N, A> {
             book,
             rest,
             most,
-            changes: 0,
+            waiting,
         }
     }
 
@@ -77,11 +81,39 @@ impl<N: Layer, A: Allocator + Copy> Desk<N, A> {
         self.recorded.len()
     }
 
-    /// How many steps changed something.
-    pub(crate) fn changes(&self) -> u64
-        ensures { result ≡ self.now.changes }
+    /// Notes for which call a caller waits, if for one.
+    pub(crate) fn wait_for(&mut self, caller: u32, call: Option<u64>)
+        requires { caller < N.callers }
+        ensures journal { self.new.journal ≡ self.old.journal }
+        ensures waiting { self.new.waiting ≡ slice_set self.old.waiting caller call }
     {
-        self.changes
+        self.waiting[caller as usize] = call;
+    }
+
+    /// Whether the parked call of a number can get on.
+    pub(crate) fn can_progress(&self, call: u64) -> bool
+        ensures { result ≡ can_progress (state_of_history {A = A} N.limits self.now.journal).core call }
+    {
+        self.recorded.can_progress(call)
+    }
+
+    /// How many callers there are.
+    pub(crate) fn callers(&self) -> usize
+        ensures value { result ≡ length self.now.waiting }
+        ensures all { result ≡ N.callers }
+    {
+        self.waiting.len()
+    }
+
+    /// Whether a caller waits for a call that can get on.
+    pub(crate) fn is_helped(&self, caller: usize) -> bool
+        requires { caller < N.callers }
+        ensures { result ≡ is_helped (state_of_history {A = A} N.limits self.now.journal) (slice_index_or self.now.waiting caller None) }
+    {
+        match self.waiting[caller] {
+            Some(call) => self.can_progress(call),
+            None => false,
+        }
     }
 
     /// Lets a caller see the whole journal.
@@ -108,7 +140,7 @@ impl<N: Layer, A: Allocator + Copy> Desk<N, A> {
         ensures wanted { IsErrOf result StepFault.NoMemory → ¬ Full N.max_steps me.new }
         ensures unmade { OnErr result ((self.new ≡ self.old) × Shown N.limits N.max_steps me.old me.new) }
         ensures number { IfOk result (KeepsItsNumber step) }
-        ensures woken { IfOk result (λ reply. self.new.changes ≡ self.old.changes + changes_of {A = A} (state_of_history {A = A} N.limits self.new.journal) (tried {A = A} (state_of_history {A = A} N.limits self.old.journal) step) reply) }
+        ensures waiting { self.new.waiting ≡ self.old.waiting }
     {
         self.show(word, me);
         if self.recorded.len() >= self.most as usize {
@@ -116,24 +148,12 @@ impl<N: Layer, A: Allocator + Copy> Desk<N, A> {
         }
         let place = me.number as usize;
         let number = self.counts[place];
-        let taken = self.tried(&step);
         let reply = self
             .recorded
             .step(word, &mut me.made, &mut me.eye, me.number, number, step)?;
         self.book.add(&mut me.share, 1);
         self.counts[place] = number + 1;
-        self.changes += change(&self.recorded, taken, &reply);
         Ok(reply)
-    }
-
-    /// How many bytes the call has taken that the step tries again, if it does and the call is parked.
-    fn tried(&self, step: &Step<A>) -> Option<u32>
-        ensures { result ≡ tried {A = A} (state_of_history {A = A} N.limits self.now.journal) step.now }
-    {
-        match step {
-            Step::Resume(call) => self.recorded.taken(*call),
-            _ => None,
-        }
     }
 
     /// The journal and the kernel, where all callers are here. It takes no memory.
@@ -155,26 +175,11 @@ impl<N: Layer, A: Allocator + Copy> Desk<N, A> {
             mut book,
             rest,
             most: _,
-            changes: _,
+            waiting: _,
         } = self;
         let mut all = rest;
         gather(callers, &mut all, word, &mut recorded);
         book.audit(&mut all);
         recorded.into_parts()
-    }
-}
-
-// How many changes a step is that was answered so: one, unless it left a call parked that was parked before, with as many bytes taken.
-fn change<N: Layer, A: Allocator + Copy>(
-    recorded: &Recorded<N, A>,
-    taken: Option<u32>,
-    reply: &Reply<A>,
-) -> u64
-    ensures few { result ≤ 1 }
-    ensures value { result ≡ changes_of {A = A} (state_of_history {A = A} N.limits recorded.now) taken reply.now }
-{
-    match reply {
-        Reply::Parked(call) if recorded.taken(*call) == taken => 0,
-        _ => 1,
     }
 }

@@ -1,11 +1,12 @@
 //! The layer: one lock, and the steps of its callers.
-ghost use Rattle.std.specs.Prelude.{◌≡◌, ℕ, ◌<◌, ◌≤◌, length, IfOk, IfErr, OnOk, OnErr, IsErrOf, ◌↔◌, ◌⊎◌};
-ghost use Rattle.std.specs.List.{All};
+ghost use Rattle.std.specs.Prelude.{◌≡◌, ℕ, ◌<◌, ◌≤◌, length, IfOk, IfErr, OnOk, OnErr, IsErrOf, None, ◌↔◌, ◌⊎◌, replicate};
+ghost use Rattle.std.specs.List.{All, count_by};
 ghost use Rattle.pl_model.specs.Numbers.{most_file_bytes};
 ghost use Rattle.pl_model.specs.History.{IsLegal, state_of_history};
 ghost use Rattle.pl_state.specs.Makes.{Stands};
 ghost use Rattle.pl_locked.specs.Views.{Full, Gains, IsDone, Sees, Shown, newcomers, HasCaller, IsLeastMissing, total_made};
 ghost use Rattle.pl_locked.specs.Journals.{KeepsItsNumber};
+ghost use Rattle.pl_locked.specs.Waking.{is_helped};
 
 mod calls;
 
@@ -33,21 +34,37 @@ pub struct CallerMissing<N: Layer, A: Allocator = Global> {
     pub callers: Vec<Caller<N, A>, A>,
 }
 
+// For which calls so many callers wait at first: for none.
+fn no_calls<A: Allocator + Copy>(alloc: A, callers: u32) -> Result<Vec<Option<u64>, A>, NoMemory>
+    ensures { IfOk result (λ calls. calls.items ≡ replicate callers None) }
+{
+    let mut calls = Vec::with_capacity(alloc, callers as usize)?;
+    for _ in 0..callers {
+        calls.push_reserved(None);
+    }
+    Ok(calls)
+}
+
+// What so many callers wait at.
+fn turns_of<A: Allocator + Copy>(alloc: A, callers: u32) -> Result<Vec<Condvar, A>, NoMemory>
+    ensures { IfOk result (λ turns. length turns.items ≡ callers) }
+{
+    let mut turns = Vec::with_capacity(alloc, callers as usize)?;
+    for _ in 0..callers {
+        turns.push_reserved(Condvar::new());
+    }
+    Ok(turns)
+}
+
 /// A kernel under one lock, with a journal of its steps. Threads share it by reference, each with a `Caller` of its own.
 #[derive(Drop)]
 pub struct Locked<N: Layer, A: Allocator = Global> {
     count: u32,
     desk: Mutex<Desk<N, A>>,
-    changed: Condvar,
+    /// What each caller waits at, by its number.
+    turns: Vec<Condvar, A>,
     word: Word<N, A>,
-    ghost known: { count ≡ N.callers },
-}
-
-/// What a caller's last step left: how often something had changed then, and how many steps there were.
-#[derive(Clone, Copy)]
-struct Mark {
-    changes: u64,
-    len: u64,
+    ghost known: { (count ≡ N.callers) × (length turns.items ≡ N.callers) },
 }
 
 impl<N: Layer, A: Allocator + Copy> Locked<N, A> {
@@ -102,19 +119,22 @@ impl<N: Layer, A: Allocator + Copy> Locked<N, A> {
         let (word, mut recorder) = Word::<N, A>::named(history, seat);
         let (book, mut rest) = blank.open::<N>();
         let counts = Vec::from_elem(alloc, 0, callers as usize)?;
+        let waiting = no_calls(alloc, callers)?;
+        let turns = turns_of(alloc, callers)?;
         let tokens = deal(alloc, callers, &mut rest, &word, &mut recorder)?;
         let recorded = Recorded::new(alloc, limits, recorder);
-        let desk = Desk::new(recorded, counts, book, rest, max_steps);
-        Ok((Locked::over(callers, desk, word), tokens))
+        let desk = Desk::new(recorded, counts, book, rest, max_steps, waiting);
+        Ok((Locked::over(callers, desk, turns, word), tokens))
     }
 
-    fn over(count: u32, desk: Desk<N, A>, word: Word<N, A>) -> Locked<N, A>
-        requires { count ≡ N.callers }
+    fn over(count: u32, desk: Desk<N, A>, turns: Vec<Condvar, A>, word: Word<N, A>) -> Locked<N, A>
+        requires count { count ≡ N.callers }
+        requires turns { length turns.items ≡ N.callers }
     {
         Locked {
             count,
             desk: Mutex::new(desk),
-            changed: Condvar::new(),
+            turns,
             word,
         }
     }
@@ -145,7 +165,7 @@ impl<N: Layer, A: Allocator + Copy> Locked<N, A> {
                 let Locked {
                     count: _,
                     desk,
-                    changed: _,
+                    turns: _,
                     word,
                 } = self;
                 Ok(desk.into_inner().finish(&word, callers))
@@ -161,30 +181,37 @@ impl<N: Layer, A: Allocator + Copy> Locked<N, A> {
         self.word.look(&mut me.eye)
     }
 
-    // One step on the desk, which is locked. It wakes all that wait where something changed.
+    // Wakes each caller that waits for a call which can get on. It answers how many these are.
+    fn wake(&self, desk: &Desk<N, A>) -> usize
+        ensures { result ≡ count_by (is_helped (state_of_history {A = A} N.limits desk.now.journal)) desk.now.waiting }
+    {
+        let mut woken = 0;
+        for caller in 0..desk.callers() {
+            if desk.is_helped(caller) {
+                self.turns[caller].notify_one();
+                woken += 1;
+            }
+        }
+        woken
+    }
+
+    // One step on the desk, which is locked: the reply, and how many steps there are then. It wakes the callers that it helps.
     fn make(
         &self,
         desk: &mut Desk<N, A>,
         me: &mut Caller<N, A>,
         step: Step<A>,
-    ) -> Result<(Reply<A>, Mark), StepFault>
+    ) -> Result<(Reply<A>, u64), StepFault>
         ensures made { IfOk result (λ r. Gains N.limits N.max_steps me.old me.new step r.0) }
         ensures number { IfOk result (λ r. KeepsItsNumber step r.0) }
         ensures full { IsErrOf result StepFault.JournalFull → Full N.max_steps me.new }
         ensures wanted { IsErrOf result StepFault.NoMemory → ¬ Full N.max_steps me.new }
         ensures unmade { OnErr result (Shown N.limits N.max_steps me.old me.new) }
     {
-        let before = desk.changes();
         match desk.step(&self.word, me, step) {
             Ok(reply) => {
-                let mark = Mark {
-                    changes: desk.changes(),
-                    len: desk.len() as u64,
-                };
-                if mark.changes != before {
-                    self.changed.notify_all();
-                }
-                Ok((reply, mark))
+                self.wake(desk);
+                Ok((reply, desk.len() as u64))
             }
             Err(fault) => Err(fault),
         }
@@ -196,7 +223,7 @@ impl<N: Layer, A: Allocator + Copy> Locked<N, A> {
         rt: &R,
         me: &mut Caller<N, A>,
         step: Step<A>,
-    ) -> Result<(Reply<A>, Mark), StepFault>
+    ) -> Result<(Reply<A>, u64), StepFault>
         ensures made { IfOk result (λ r. Gains N.limits N.max_steps me.old me.new step r.0) }
         ensures number { IfOk result (λ r. KeepsItsNumber step r.0) }
         ensures full { IsErrOf result StepFault.JournalFull → Full N.max_steps me.new }

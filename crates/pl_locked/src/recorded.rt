@@ -4,7 +4,7 @@ ghost use mathlib.Core.List.{IsPrefix};
 ghost use Rattle.pl_model.specs.Numbers.{most_file_bytes};
 ghost use Rattle.pl_model.specs.History.{entry, of, IsLegal, state_of_history};
 ghost use Rattle.pl_state.specs.Makes.{Stands};
-ghost use Rattle.pl_kernel.specs.Taken.{taken_by};
+ghost use Rattle.pl_model.specs.Waking.{can_progress};
 ghost use Rattle.pl_locked.specs.Journals.{KeepsItsNumber};
 
 use crate::journal::Journal;
@@ -119,11 +119,11 @@ impl<N: Layer, A: Allocator + Copy> Recorded<N, A> {
         Ok(reply)
     }
 
-    /// How many bytes the parked call of this number has taken, if there is one.
-    pub(crate) fn taken(&self, call: u64) -> Option<u32>
-        ensures { result ≡ taken_by {A = A} (state_of_history {A = A} N.limits self.now) call }
+    /// Whether the parked call of a number can get on.
+    pub(crate) fn can_progress(&self, call: u64) -> bool
+        ensures { result ≡ can_progress (state_of_history {A = A} N.limits self.now).core call }
     {
-        self.kernel.taken(call)
+        self.kernel.can_progress(call)
     }
 
     /// The journal, and the kernel.

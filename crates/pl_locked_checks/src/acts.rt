@@ -15,6 +15,8 @@ pub(crate) enum Act {
     Steps(u32, Ask),
     /// It makes a whole call, which waits until it is answered.
     Call(Ask),
+    /// It makes two whole calls one after the other, so many times.
+    Rounds(u32, Ask, Ask),
     /// It makes whole calls, each a read of at most 70,000 bytes, until it has read so many `a`.
     Drain(u32),
     /// It makes a whole call, which takes at most so many turns.
@@ -112,6 +114,29 @@ fn call<N: Layer, R: Wait, A: Allocator + Copy>(
     }
 }
 
+/// The caller makes two whole calls one after the other, so many times. It comes to what the second call does, or to `Other` unless each call
+/// comes to the same in each round.
+fn rounds<N: Layer, R: Wait, A: Allocator + Copy>(
+    rt: &R,
+    alloc: A,
+    locked: &Locked<N, A>,
+    me: &mut Caller<N, A>,
+    times: u32,
+    asks: (Ask, Ask),
+) -> Came {
+    let (first, second) = asks;
+    let began = call(rt, alloc, locked, me, first);
+    let ended = call(rt, alloc, locked, me, second);
+    for _round in 1..times {
+        if call(rt, alloc, locked, me, first) != began
+            || call(rt, alloc, locked, me, second) != ended
+        {
+            return Came::Other;
+        }
+    }
+    ended
+}
+
 /// The caller reads by whole calls until it has so many `a`. It comes to `Other` if a read gives none, or anything else.
 fn drain<N: Layer, R: Wait, A: Allocator + Copy>(
     rt: &R,
@@ -185,6 +210,9 @@ fn does<N: Layer, R: Wait, A: Allocator + Copy>(
         Act::Step(ask) => attempt(rt, alloc, locked, me, *ask),
         Act::Steps(times, ask) => attempts(rt, alloc, locked, me, *times, *ask),
         Act::Call(ask) => call(rt, alloc, locked, me, *ask),
+        Act::Rounds(times, first, second) => {
+            rounds(rt, alloc, locked, me, *times, (*first, *second))
+        }
         Act::Drain(count) => drain(rt, alloc, locked, me, *count),
         Act::Turns(ask, turns) => call_turns(rt, alloc, locked, me, *ask, *turns),
         Act::Glance => Came::Steps(glance(locked, me)),

@@ -92,9 +92,53 @@ const READERS: Scene = Scene {
         ONE_READ,
     ],
     read: (1, 1),
-    kept: Kept::Between(5, 20),
+    kept: Kept::Of(&[3, 2, 2]),
     left: Left::Anything,
 };
+
+/// Three callers wait for a byte each, and one writes the bytes one at a time. Each read is tried again once: no try is in vain, though each byte
+/// is for one read of three.
+const BYTE_BY_BYTE: Scene = Scene {
+    name: "three are served byte by byte",
+    callers: 4,
+    max_steps: 11,
+    in_turn: &[&[START, PIPE]],
+    at_once: &[
+        &[
+            (Act::Sees(5), Came::Steps(5)),
+            (Act::Steps(3, Ask::Write("a")), Came::Count(1)),
+        ],
+        ONE_READ,
+        ONE_READ,
+        ONE_READ,
+    ],
+    read: (3, 0),
+    kept: Kept::Of(&[5, 2, 2, 2]),
+    left: Left::Anything,
+};
+
+/// Two callers write an `a` and wait for a `b`, and two wait for an `a` and write a `b`, a thousand times each. A round takes two or three steps
+/// of a caller, so the journal is full if a try is in vain.
+const PING_PONG: Scene = Scene {
+    name: "ping-pong",
+    callers: 4,
+    max_steps: 12_003,
+    in_turn: &[&[START, PIPE, (Act::Step(Ask::Pipe), Came::Fds(2, 3))]],
+    at_once: &[PING, PONG, PING, PONG],
+    read: (0, 2),
+    kept: Kept::Between(8_003, 12_003),
+    left: Left::Anything,
+};
+
+const PING: Acts = &[(
+    Act::Rounds(1_000, Ask::Write("a"), Ask::ReadOther),
+    Came::Bytes(0, 1),
+)];
+
+const PONG: Acts = &[(
+    Act::Rounds(1_000, Ask::Read(1), Ask::WriteOther),
+    Came::Count(1),
+)];
 
 /// A caller waits for a byte.
 const ONE_READ: Acts = &[(Act::Call(Ask::Read(1)), Came::OneByte)];
@@ -187,7 +231,7 @@ const LONG_READ: Scene = Scene {
         &[(Act::Call(Ask::WriteLong(70_000)), Came::Count(70_000))],
     ],
     read: (65_536, 0),
-    kept: Kept::Between(5, 100),
+    kept: Kept::Between(5, 6),
     left: Left::Anything,
 };
 
@@ -202,12 +246,11 @@ const LONG_WRITE: Scene = Scene {
         &[(Act::Call(Ask::WriteLong(300_000)), Came::Count(300_000))],
     ],
     read: (300_000, 0),
-    kept: Kept::Between(12, 1_000),
+    kept: Kept::Between(12, 17),
     left: Left::Anything,
 };
 
-/// One caller waits on a pipe, and then another on another pipe. A byte for the second one reaches it, though the first is told too; the
-/// second then writes for the first.
+/// One caller waits on a pipe, and then another on another pipe. A byte for the second one reaches it; the second then writes for the first.
 const TWO_PIPES: Scene = Scene {
     name: "two wait on two pipes",
     callers: 3,
@@ -226,7 +269,7 @@ const TWO_PIPES: Scene = Scene {
         ],
     ],
     read: (1, 1),
-    kept: Kept::Between(9, 100),
+    kept: Kept::Of(&[4, 2, 3]),
     left: Left::Anything,
 };
 
@@ -279,8 +322,16 @@ fn turns_that_come_too_late(rt: HostRuntime) -> Result<(), Fail> {
 
 #[test]
 fn callers_that_wait_are_told(rt: HostRuntime) -> Result<(), Fail> {
-    for scene in [&LONG_READ, &LONG_WRITE, &TWO_PIPES] {
+    for scene in [&LONG_READ, &LONG_WRITE, &TWO_PIPES, &BYTE_BY_BYTE] {
         assert!(rt; together(&rt, rt.alloc(), scene)? == 0);
+    }
+    Ok(())
+}
+
+#[test]
+fn nobody_waits_for_ever(rt: HostRuntime) -> Result<(), Fail> {
+    for _time in 0..20u8 {
+        assert!(rt; together(&rt, rt.alloc(), &PING_PONG)? == 0);
     }
     Ok(())
 }

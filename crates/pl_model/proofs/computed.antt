@@ -22,3 +22,5 @@ pub mod PacketExamples
 pub mod LimitExamples
 -- The small examples of the versions of scripts, computed from the definitions.
 pub mod VersionExamples
+-- The small examples of calls that can get on, computed from the definitions.
+pub mod WakingExamples

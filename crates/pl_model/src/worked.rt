@@ -10,6 +10,7 @@ ghost use Rattle.pl_model.specs.WorkedPoll.{PollsOfAPipe, EndsThatLeave, Hanging
 ghost use Rattle.pl_model.specs.WorkedSpliceLines.{LinesOfSplices};
 ghost use Rattle.pl_model.specs.WorkedStream.{RunsInPieces};
 ghost use Rattle.pl_model.specs.WorkedVersions.{PiecesOfBytes, BytesByRuns, LinesWithPackets, FirstLines, ScriptOfVersion2};
+ghost use Rattle.pl_model.specs.WorkedWaking.{ReadGetsOn, SmallWriteGetsOn, LargeWriteGetsOn, PollGetsOn, OpenGetsOn, SpliceGetsOn, TeeGetsOn};
 ghost use Rattle.pl_model.specs.WorkedSplice.{SharedTail, BytesOfTheMoment, SpliceToAnOffset, SplicesAndTeesRefused, MovesThatWait, SplicesAtTheEndOfAFile, PiecesOfMoves};
 
 use std::alloc::Allocator;
@@ -99,6 +100,17 @@ pub fn polls<A: Allocator>()
     ensures polls_that_dont_wait { PollsThatDontWait A }
     ensures polls_keep_their_ends { PollsKeepTheirEnds A }
     ensures poll_without_a_number { PollWithoutANumber A }
+{}
+
+/// Which calls that wait can get on.
+pub fn waking<A: Allocator>()
+    ensures read { ReadGetsOn A }
+    ensures small_write { SmallWriteGetsOn A }
+    ensures large_write { LargeWriteGetsOn A }
+    ensures poll { PollGetsOn A }
+    ensures open { OpenGetsOn A }
+    ensures splice { SpliceGetsOn A }
+    ensures tee { TeeGetsOn A }
 {}
 
 /// Packet pipes.

@@ -1,4 +1,5 @@
-//! The call that tells what several descriptors are ready for, and waits until one is ready: poll, and how it is tried again.
+//! The call that tells what several descriptors are ready for, and waits until one is ready: poll, how it is tried again, and
+//! whether it can get on.
 #![tactic(auto)]
 
 mod begin;
@@ -12,4 +13,4 @@ pub use begin::poll;
 pub use counts::{masks_to_begin, masks_to_resume};
 pub use entries::{PollEntry, mark_entries};
 pub use into::{PollReply, poll_into};
-pub use waiting::resume_poll;
+pub use waiting::{poll_can_progress, resume_poll};

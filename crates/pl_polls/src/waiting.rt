@@ -1,6 +1,8 @@
-//! How a poll that waits is tried again.
+//! How a poll that waits is tried again, and whether it can get on.
 ghost use Rattle.std.specs.Prelude.{◌≡◌, nat_eq, IfOk, OnErr, IfSome};
 ghost use Rattle.pl_model.specs.Map.{get};
+ghost use Rattle.pl_model.specs.Waking.{can_progress};
+ghost use Rattle.pl_state.specs.Contents.{core_of};
 ghost use Rattle.pl_state.specs.Sound.{IsPoll};
 ghost use Rattle.pl_state.specs.Makes.{MakesAtKeys, MayWantAtKeys};
 
@@ -35,4 +37,22 @@ pub fn resume_poll<A: Allocator + Copy>(
     let reply = masks_reply(kernel, kept, entries.as_slice())?;
     end_call(kernel, number);
     Ok(reply)
+}
+
+/// Whether the parked poll of a number can get on where it is tried again now: something that it asks for is there. Where there is no such
+/// call, the answer comes at once too. It takes no memory.
+pub fn poll_can_progress<A: Allocator + Copy>(kernel: &KernelState<A>, number: u64) -> bool
+    requires { IfSome (get nat_eq kernel.now.calls.calls number) (λ w. IsPoll w.call) }
+    ensures { result ≡ can_progress (core_of {A = A} kernel.now) number }
+{
+    // A proof learns here what holds of the kernel.
+    let _ = &kernel.descs;
+    let Some(call) = kernel.parked.get(number) else {
+        return true;
+    };
+    let Call::Poll { entries, .. } = &call.call else {
+        unreachable!()
+    };
+    let kept = Descriptions::Kept(call.kept.as_slice());
+    is_ready(kernel, kept, entries.as_slice())
 }

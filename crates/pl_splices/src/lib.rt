@@ -1,4 +1,5 @@
-//! The calls by which bytes go from what one descriptor names to what another does: splice and tee, and how they are tried again.
+//! The calls by which bytes go from what one descriptor names to what another does: splice and tee, how they are tried again, and whether
+//! they can get on.
 #![tactic(auto)]
 
 mod begin;
@@ -7,4 +8,4 @@ mod sides;
 mod waiting;
 
 pub use begin::{splice, tee};
-pub use waiting::resume;
+pub use waiting::{can_progress, resume};

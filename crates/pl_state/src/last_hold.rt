@@ -17,6 +17,7 @@ use std::alloc::Allocator;
 
 // Leaves a pipe with these ends. One without ends goes, or has nothing left where it has a name; one is hung once its last
 // writer left (POSIX.1-2017, close; poll, POLLHUP). It takes no memory.
+#[inline(always)]
 fn leave_pipe<A: Allocator + Copy>(
     nodes: &mut Nodes<A>,
     pipe: usize,

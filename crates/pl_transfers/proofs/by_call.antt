@@ -26,3 +26,5 @@ pub mod Refusing
 pub mod Again
 -- How many bytes a read gives, at the kernel's keys.
 pub mod Measuring
+-- Whether a call that waits can get on.
+pub mod Progress

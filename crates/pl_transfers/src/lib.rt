@@ -5,6 +5,7 @@ mod capacities;
 mod files;
 mod offsets;
 mod parking;
+mod progress;
 mod readable;
 mod reading;
 mod refused;
@@ -13,6 +14,7 @@ mod waiting;
 
 pub use capacities::{get_pipe_sz, set_pipe_sz, slots};
 pub use offsets::lseek;
+pub use progress::one_can_progress;
 pub use readable::{bytes_to_read, bytes_to_resume};
 pub use reading::{ReadReply, read, read_into};
 pub use refused::refused_write;

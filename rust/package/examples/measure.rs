@@ -2,9 +2,7 @@
 //! measures them over the library for C. Run it by `cargo run --release --example measure`.
 
 use bindingclay::memory::Global;
-use bindingclay::{
-    Call, Kernel, Limits, PollEntry, PollReply, ReadReply, Reply, SpliceFlags, Step, WriteReply,
-};
+use bindingclay::{Answer, Call, Kernel, Limits, PollEntry, Reply, SpliceFlags, Step};
 use std::hint::black_box;
 use std::io::{Read, Write};
 use std::time::Instant;
@@ -63,11 +61,9 @@ fn pairs(kernel: &mut Kernel) {
         });
         let ours = least(times, || {
             let wrote = kernel.write_from(1, writer, black_box(&data[..size]));
-            assert!(
-                matches!(wrote, Ok(WriteReply::Wrote { n, sigpipe: false }) if n as usize == size)
-            );
+            assert!(matches!(wrote, Ok(Answer::Done(n)) if n == size));
             let read = kernel.read_into(1, reader, black_box(&mut into[..size]));
-            assert!(matches!(read, Ok(ReadReply::Read(n)) if n == size));
+            assert!(matches!(read, Ok(Answer::Done(n)) if n == size));
         });
         println!(
             "write and read {size:>7}   host's pipe {theirs:>9.1}   here {ours:>9.1}   ratio {:.3}",
@@ -96,7 +92,7 @@ fn polls(kernel: &mut Kernel) {
         let ours = least(2_000 / count, || {
             assert!(matches!(
                 kernel.poll_into(1, black_box(&mut entries), false),
-                Ok(PollReply::Ready(_))
+                Ok(Answer::Done(_))
             ));
         });
         println!("poll of {count:>3} entries {ours:>43.1}");
@@ -115,7 +111,8 @@ fn moves(kernel: &mut Kernel) {
         );
     }
     for _ in 0..256 {
-        kernel.write_from(1, first.1, &[7; 4096]).expect("memory");
+        let wrote = kernel.write_from(1, first.1, &[7; 4096]);
+        assert_eq!(wrote, Ok(Answer::Done(4096)));
     }
     let (mut tee, mut splice) = (f64::MAX, f64::MAX);
     let mut into = vec![0; MIB as usize];
@@ -145,7 +142,8 @@ fn moves(kernel: &mut Kernel) {
             },
         );
         splice = splice.min(begun.elapsed().as_nanos() as f64);
-        kernel.read_into(1, third.0, &mut into).expect("memory");
+        let read = kernel.read_into(1, third.0, &mut into);
+        assert_eq!(read, Ok(Answer::Done(into.len())));
     }
     println!("tee of 1 MiB {tee:>49.1}\nsplice of 1 MiB {splice:>46.1}");
 }

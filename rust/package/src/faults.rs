@@ -1,7 +1,7 @@
 //! What goes wrong, as errors of Rust.
 
-use crate::Errno;
 use crate::parts::numbers::error_number;
+use crate::{Errno, ParkedCall};
 use core::error::Error;
 use core::fmt;
 
@@ -19,24 +19,62 @@ pub use crate::parts::state::NoMemory;
 #[derive(Clone, Copy, Debug, PartialEq, Eq)]
 pub struct FileMaxFault;
 
-/// Why a call on the caller's bytes was not made. Nothing changed.
+/// Why a call isn't done. A call that waits is no error, but an [`Answer`](crate::Answer).
 ///
 /// ```
-/// use bindingclay::{BufferFault, NoMemory};
+/// use bindingclay::{NoMemory, NotDone, ParkedCall};
 ///
-/// assert_eq!(BufferFault::from(NoMemory), BufferFault::NoMemory);
+/// assert_eq!(NotDone::from(NoMemory), NotDone::NoMemory);
+/// let short = NotDone::Short { call: ParkedCall::from_number(7), wants: 9 };
+/// assert_eq!(short.to_string(), "too little room: call 7 wants 9");
 /// ```
-#[derive(Clone, Copy, Debug, PartialEq, Eq)]
-pub enum BufferFault {
-    /// The bytes are more than such a call takes.
+#[derive(Debug, PartialEq, Eq)]
+pub enum NotDone {
+    /// It failed. `EPIPE` stands for the error and the signal `SIGPIPE`.
+    Fault(Errno),
+    /// There is no process of this pid.
+    NoProcess,
+    /// No call is parked under this number.
+    NoCall,
+    /// It would wait, and no number is left for it.
+    CallsSpent,
+    /// The bytes are more than such a call takes, and nothing changed.
     TooLong,
-    /// There is no memory for what was asked.
+    /// There is no memory, and nothing changed.
     NoMemory,
+    /// There is no memory to resume this call. Nothing changed: it still waits.
+    NoMemoryToResume(ParkedCall),
+    /// The resumed read would give so many bytes, and has room for fewer. Or a poll that can get on has so many entries, and was resumed
+    /// without them. Nothing changed: it still waits.
+    Short {
+        /// The call, which still waits.
+        call: ParkedCall,
+        /// For how many bytes or entries it wants room.
+        wants: u64,
+    },
 }
 
-impl From<NoMemory> for BufferFault {
-    fn from(_fault: NoMemory) -> BufferFault {
-        BufferFault::NoMemory
+impl NotDone {
+    /// The call that still waits, if this is the error of a call that was resumed and still waits.
+    ///
+    /// ```
+    /// use bindingclay::{NotDone, ParkedCall};
+    ///
+    /// let call = NotDone::NoMemoryToResume(ParkedCall::from_number(7)).into_parked();
+    /// assert_eq!(call, Some(ParkedCall::from_number(7)));
+    /// assert_eq!(NotDone::NoMemory.into_parked(), None);
+    /// ```
+    pub fn into_parked(self) -> Option<ParkedCall> {
+        match self {
+            NotDone::NoMemoryToResume(call) | NotDone::Short { call, .. } => Some(call),
+            _ => None,
+        }
+    }
+}
+
+impl From<NoMemory> for NotDone {
+    fn from(_fault: NoMemory) -> NotDone {
+        NotDone::NoMemory
     }
 }
 
@@ -52,12 +90,22 @@ impl fmt::Display for FileMaxFault {
     }
 }
 
-impl fmt::Display for BufferFault {
+impl fmt::Display for NotDone {
     fn fmt(&self, f: &mut fmt::Formatter<'_>) -> fmt::Result {
-        f.write_str(match self {
-            BufferFault::TooLong => "more bytes than a call takes",
-            BufferFault::NoMemory => "no memory",
-        })
+        match self {
+            NotDone::Fault(errno) => errno.fmt(f),
+            NotDone::NoProcess => f.write_str("no such process"),
+            NotDone::NoCall => f.write_str("no such call"),
+            NotDone::CallsSpent => f.write_str("no number is left for a call that waits"),
+            NotDone::TooLong => f.write_str("more bytes than a call takes"),
+            NotDone::NoMemory => f.write_str("no memory"),
+            NotDone::NoMemoryToResume(call) => {
+                write!(f, "no memory to resume call {}", call.number())
+            }
+            NotDone::Short { call, wants } => {
+                write!(f, "too little room: call {} wants {wants}", call.number())
+            }
+        }
     }
 }
 
@@ -71,13 +119,13 @@ impl Error for NoMemory {}
 
 impl Error for FileMaxFault {}
 
-impl Error for BufferFault {}
+impl Error for NotDone {}
 
 impl Error for Errno {}
 
 #[cfg(feature = "script")]
 mod of_std {
-    use super::{BufferFault, Errno, NoMemory, error_number};
+    use super::{Errno, NoMemory, NotDone, error_number};
     use std::io::{Error, ErrorKind};
 
     /// The kind of an error, where its number on Linux is that of another error on this host.
@@ -112,12 +160,16 @@ mod of_std {
         }
     }
 
-    impl From<BufferFault> for Error {
-        fn from(fault: BufferFault) -> Error {
-            match fault {
-                BufferFault::TooLong => ErrorKind::InvalidInput.into(),
-                BufferFault::NoMemory => ErrorKind::OutOfMemory.into(),
-            }
+    /// A fault with its number or kind. Any other error is kept whole, so that [`Error::into_inner`] gives back a call that still waits.
+    impl From<NotDone> for Error {
+        fn from(fault: NotDone) -> Error {
+            let kind = match fault {
+                NotDone::Fault(errno) => return errno.into(),
+                NotDone::NoMemory | NotDone::NoMemoryToResume(_) => ErrorKind::OutOfMemory,
+                NotDone::TooLong | NotDone::Short { .. } => ErrorKind::InvalidInput,
+                NotDone::NoProcess | NotDone::NoCall | NotDone::CallsSpent => ErrorKind::Other,
+            };
+            Error::new(kind, fault)
         }
     }
 }

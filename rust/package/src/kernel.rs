@@ -1,13 +1,14 @@
 //! The kernel as a Rust program uses it: what has to be kept is tested here, and answered with an error.
 
-use crate::faults::{BufferFault, FileMaxFault, NoMemory};
+use crate::answers::{Answer, ParkedCall};
+use crate::faults::{FileMaxFault, NoMemory, NotDone};
 use crate::memory::{Allocator, Global, Vec};
 use crate::parts::kernel as inner;
+use crate::parts::kernel::{PollReply, ReadReply, Resumed, WriteReply};
 use crate::parts::model::numbers::{MAX_BYTES, MAX_FILE_BYTES};
-use crate::{
-    Bytes8, Limits, Name, Outcome, PollEntry, PollReply, ReadReply, Reply, Resumed, Stats, Step,
-    WriteReply,
-};
+use crate::parts::numbers::answer_of;
+use crate::parts::polls::mark_entries;
+use crate::{Bytes8, Call, Limits, Name, Outcome, PollEntry, Reply, Stats, Step};
 use core::fmt;
 use core::num::NonZero;
 
@@ -15,6 +16,9 @@ use core::num::NonZero;
 ///
 /// A step is a value, and so is what it answers. A call that would wait is parked under a number, by which it is tried again or interrupted:
 /// no thread ever blocks here.
+///
+/// [`step`](Self::step) tells of a parked call by its number, so that steps and replies can be kept and made again. The other methods that
+/// begin or resume a call tell of it by its handle, a [`ParkedCall`], and have a `Result` whose errors are [`NotDone`].
 ///
 /// ```
 /// use bindingclay::memory::{Global, Vec};
@@ -123,22 +127,51 @@ impl<A: Allocator + Copy> Kernel<A> {
         self.inner.run(steps)
     }
 
-    /// Begins a write of the caller's bytes. Where the call is parked, it keeps a copy of them all.
+    /// Begins a call, as `Step::Begin` does, and tells by its handle if it waits.
     ///
     /// # Errors
     ///
-    /// [`BufferFault::TooLong`] where they are more than 16,777,216, and nothing changed; [`BufferFault::NoMemory`] as of
-    /// [`step`](Self::step).
+    /// [`NotDone::Fault`] if it failed, [`NotDone::NoProcess`] if there is no process of the pid, and [`NotDone::CallsSpent`] if it would
+    /// wait and no number is left. [`NotDone::NoMemory`] comes as of [`step`](Self::step). Each of them leaves the kernel as it was. So a
+    /// reply in [`Answer::Done`] is none of `Fault`, `Parked`, `NoProcess`, `NoCall` and `CallsSpent`.
+    ///
+    /// ```
+    /// use bindingclay::memory::{Global, Vec};
+    /// use bindingclay::{Answer, Call, Kernel, Limits, Mode, Name, OpenFlags, Reply, Step};
+    ///
+    /// let mut kernel = Kernel::new(Global, Limits::default())?;
+    /// kernel.step(Step::Start)?;
+    /// let name = || Vec::from_slice(Global, b"inbox").map(Name::from_vec);
+    /// kernel.step(Step::Begin(1, Call::Mkfifo { name: name()? }))?;
+    /// let flags = OpenFlags::empty();
+    /// // a FIFO is opened once it has both ends
+    /// let open = Call::OpenName { name: name()?, mode: Mode::Read, flags };
+    /// let Answer::Parked(call) = kernel.begin(1, open)? else { panic!("no wait") };
+    /// let open = Call::OpenName { name: name()?, mode: Mode::Write, flags };
+    /// assert_eq!(kernel.begin(1, open)?, Answer::Done(Reply::Fd(0)));
+    /// assert_eq!(kernel.resume(call)?, Answer::Done(Reply::Fd(1)));
+    /// # Ok::<(), Box<dyn std::error::Error>>(())
+    /// ```
+    #[inline]
+    pub fn begin(&mut self, pid: u32, call: Call<A>) -> Result<Answer<Reply<A>>, NotDone> {
+        answer_of_reply(self.inner.step(Step::Begin(pid, call))?)
+    }
+
+    /// Begins a write of the caller's bytes, and tells how many went in. If the call is parked, it keeps a copy of them all.
+    ///
+    /// # Errors
+    ///
+    /// [`NotDone::TooLong`] if they are more than 16,777,216; all others as of [`begin`](Self::begin). Each leaves the kernel as it was.
     ///
     /// ```
     /// use bindingclay::memory::Global;
-    /// use bindingclay::{BufferFault, Call, Kernel, Limits, Step, WriteReply};
+    /// use bindingclay::{Answer, Call, Kernel, Limits, NotDone, Step};
     ///
     /// let mut kernel = Kernel::new(Global, Limits::default())?;
     /// kernel.step(Step::Start)?;
     /// kernel.step(Step::Begin(1, Call::Pipe { nonblock: false, direct: false }))?;
-    /// assert_eq!(kernel.write_from(1, 1, b"hello")?, WriteReply::Wrote { n: 5, sigpipe: false });
-    /// assert_eq!(kernel.write_from(1, 1, &vec![0; 100_000_000]), Err(BufferFault::TooLong));
+    /// assert_eq!(kernel.write_from(1, 1, b"hello")?, Answer::Done(5));
+    /// assert_eq!(kernel.write_from(1, 1, &vec![0; 100_000_000]), Err(NotDone::TooLong));
     /// # Ok::<(), Box<dyn std::error::Error>>(())
     /// ```
     #[inline]
@@ -147,11 +180,18 @@ impl<A: Allocator + Copy> Kernel<A> {
         pid: u32,
         fd: i32,
         bytes: &[u8],
-    ) -> Result<WriteReply, BufferFault> {
+    ) -> Result<Answer<usize>, NotDone> {
         if bytes.len() > MAX_BYTES {
-            return Err(BufferFault::TooLong);
+            return Err(NotDone::TooLong);
         }
-        Ok(self.inner.write_from(pid, fd, bytes)?)
+        match self.inner.write_from(pid, fd, bytes)? {
+            // a write that didn't wait never tells a signal
+            WriteReply::Wrote { n, .. } => Ok(Answer::Done(n as usize)),
+            WriteReply::Parked(number) => Ok(parked(number)),
+            WriteReply::Fault(errno) => Err(NotDone::Fault(errno)),
+            WriteReply::NoProcess => Err(NotDone::NoProcess),
+            WriteReply::CallsSpent => Err(NotDone::CallsSpent),
+        }
     }
 
     /// What the beginning of a write of so many bytes answers where it is refused, whatever the bytes are; `None` where it isn't, so that it
@@ -172,23 +212,24 @@ impl<A: Allocator + Copy> Kernel<A> {
         self.inner.refusal_of_write(pid, fd, count.get())
     }
 
-    /// Begins a read of as many bytes as the caller's are, into the first of these; the others stay as they are.
+    /// Begins a read of as many bytes as the caller's are, into the first of these; the others stay as they are. It tells how many were
+    /// read; 0 at the end of the file.
     ///
     /// # Errors
     ///
-    /// [`BufferFault::TooLong`] where they are 2^32 or more, and nothing changed; [`BufferFault::NoMemory`] only where the call would be
-    /// parked.
+    /// [`NotDone::TooLong`] if they are 2^32 or more; all others as of [`begin`](Self::begin), but [`NotDone::NoMemory`] only if the call
+    /// would be parked. Each leaves the kernel as it was.
     ///
     /// ```
     /// use bindingclay::memory::Global;
-    /// use bindingclay::{Call, Kernel, Limits, ReadReply, Step};
+    /// use bindingclay::{Answer, Call, Kernel, Limits, Step};
     ///
     /// let mut kernel = Kernel::new(Global, Limits::default())?;
     /// kernel.step(Step::Start)?;
     /// kernel.step(Step::Begin(1, Call::Pipe { nonblock: false, direct: false }))?;
-    /// kernel.write_from(1, 1, b"hello")?;
+    /// assert_eq!(kernel.write_from(1, 1, b"hello")?, Answer::Done(5));
     /// let mut into = *b"........";
-    /// assert_eq!(kernel.read_into(1, 0, &mut into)?, ReadReply::Read(5));
+    /// assert_eq!(kernel.read_into(1, 0, &mut into)?, Answer::Done(5));
     /// assert_eq!(&into, b"hello...");
     /// # Ok::<(), Box<dyn std::error::Error>>(())
     /// ```
@@ -198,30 +239,31 @@ impl<A: Allocator + Copy> Kernel<A> {
         pid: u32,
         fd: i32,
         into: &mut [u8],
-    ) -> Result<ReadReply, BufferFault> {
+    ) -> Result<Answer<usize>, NotDone> {
         if u32::try_from(into.len()).is_err() {
-            return Err(BufferFault::TooLong);
+            return Err(NotDone::TooLong);
         }
-        Ok(self.inner.read_into(pid, fd, into)?)
+        answer_of_read(self.inner.read_into(pid, fd, into)?)
     }
 
-    /// Begins a poll of what the caller's entries ask. Where it is answered, what was found of each is noted in it.
+    /// Begins a poll of what the caller's entries ask. If it is answered, what was found of each is noted in it. It tells of how many
+    /// entries something was found. Without `wait` it never waits.
     ///
     /// # Errors
     ///
-    /// [`NoMemory`] only where the call would be parked, which keeps a copy of what is asked.
+    /// As of [`begin`](Self::begin), but [`NotDone::NoMemory`] only if the call would be parked, which keeps a copy of what is asked.
     ///
     /// ```
     /// use bindingclay::memory::Global;
-    /// use bindingclay::{Call, Kernel, Limits, PollEntry, PollReply, Step};
+    /// use bindingclay::{Answer, Call, Kernel, Limits, PollEntry, Step};
     ///
     /// let mut kernel = Kernel::new(Global, Limits::default())?;
     /// kernel.step(Step::Start)?;
     /// kernel.step(Step::Begin(1, Call::Pipe { nonblock: false, direct: false }))?;
-    /// kernel.write_from(1, 1, b"hello")?;
+    /// assert_eq!(kernel.write_from(1, 1, b"hello")?, Answer::Done(5));
     /// // the numbers are those of `poll.h` on Linux: `POLLIN` is 1
     /// let mut entries = [PollEntry { fd: 0, events: 1, revents: 0 }];
-    /// assert_eq!(kernel.poll_into(1, &mut entries, false)?, PollReply::Ready(1));
+    /// assert_eq!(kernel.poll_into(1, &mut entries, false)?, Answer::Done(1));
     /// assert_eq!(entries[0].revents, 1);
     /// # Ok::<(), Box<dyn std::error::Error>>(())
     /// ```
@@ -231,34 +273,157 @@ impl<A: Allocator + Copy> Kernel<A> {
         pid: u32,
         entries: &mut [PollEntry],
         wait: bool,
-    ) -> Result<PollReply, NoMemory> {
-        self.inner.poll_into(pid, entries, wait)
+    ) -> Result<Answer<usize>, NotDone> {
+        match self.inner.poll_into(pid, entries, wait)? {
+            PollReply::Ready(count) => Ok(Answer::Done(count as usize)),
+            PollReply::Parked(number) => Ok(parked(number)),
+            PollReply::Fault(errno) => Err(NotDone::Fault(errno)),
+            PollReply::NoProcess => Err(NotDone::NoProcess),
+            PollReply::CallsSpent => Err(NotDone::CallsSpent),
+        }
     }
 
-    /// Tries the parked call of a number again, where a read gives its bytes into the first of the caller's. A read that would give more
-    /// bytes than the caller has room for isn't tried; room for 1,048,576 is always enough.
+    /// Tries a parked call again, as `Step::Resume` does. It is [`Answer::Parked`] again if it waits on.
     ///
     /// # Errors
     ///
-    /// [`NoMemory`], as of [`step`](Self::step), but never where the call is a read.
+    /// [`NotDone::NoMemoryToResume`] gives the call back, which still waits, and leaves the kernel as it was. At [`NotDone::Fault`] the call
+    /// has ended. [`NotDone::NoCall`] says that no call is parked under its number.
     ///
     /// ```
     /// use bindingclay::memory::Global;
-    /// use bindingclay::{Call, Kernel, Limits, ReadReply, Resumed, Step};
+    /// use bindingclay::{Answer, Call, Kernel, Limits, Reply, Step};
+    ///
+    /// let mut kernel = Kernel::new(Global, Limits::default())?;
+    /// kernel.step(Step::Start)?;
+    /// kernel.step(Step::Begin(1, Call::Pipe { nonblock: false, direct: false }))?;
+    /// let Answer::Parked(call) = kernel.write_from(1, 1, &[7; 65_537])? else { panic!("no wait") };
+    /// // the pipe is still full
+    /// let Answer::Parked(call) = kernel.resume(call)? else { panic!("no wait") };
+    /// assert_eq!(kernel.read_into(1, 0, &mut [0; 4_096])?, Answer::Done(4_096));
+    /// assert_eq!(kernel.resume(call)?, Answer::Done(Reply::Count { n: 65_537, sigpipe: false }));
+    /// # Ok::<(), Box<dyn std::error::Error>>(())
+    /// ```
+    #[inline]
+    pub fn resume(&mut self, call: ParkedCall) -> Result<Answer<Reply<A>>, NotDone> {
+        match self.inner.step(Step::Resume(call.number())) {
+            Ok(reply) => answer_of_reply(reply),
+            Err(NoMemory) => Err(NotDone::NoMemoryToResume(call)),
+        }
+    }
+
+    /// Tries a parked read again, which gives its bytes into the first of the caller's. It tells how many; 0 at the end of the file. Room
+    /// for 1,048,576 bytes is always enough. Any other call is resumed as by [`resume`](Self::resume), and only a number of its reply is
+    /// told: a count, or a descriptor.
+    ///
+    /// # Errors
+    ///
+    /// [`NotDone::Short`] if the read would give more bytes than the caller has room for, or if the call is a poll that can get on. It gives
+    /// the call back, which still waits, and leaves the kernel as it was. All others come as of `resume`, but
+    /// [`NotDone::NoMemoryToResume`] never if the call is a read.
+    ///
+    /// ```
+    /// use bindingclay::memory::Global;
+    /// use bindingclay::{Answer, Call, Kernel, Limits, NotDone, Step};
     ///
     /// let mut kernel = Kernel::new(Global, Limits::default())?;
     /// kernel.step(Step::Start)?;
     /// kernel.step(Step::Begin(1, Call::Pipe { nonblock: false, direct: false }))?;
     /// let mut into = [0; 8];
-    /// assert_eq!(kernel.read_into(1, 0, &mut into)?, ReadReply::Parked(1));
-    /// kernel.write_from(1, 1, b"hello")?;
-    /// let Resumed::Read(reply) = kernel.resume_into(1, &mut into)? else { panic!("no read") };
-    /// assert_eq!(reply, ReadReply::Read(5));
+    /// let Answer::Parked(call) = kernel.read_into(1, 0, &mut into)? else { panic!("no wait") };
+    /// assert_eq!(kernel.write_from(1, 1, b"hello")?, Answer::Done(5));
+    /// // too little room, and the call comes back
+    /// let Err(NotDone::Short { call, wants: 5 }) = kernel.resume_read(call, &mut into[..4]) else { panic!("room") };
+    /// assert_eq!(kernel.resume_read(call, &mut into)?, Answer::Done(5));
     /// # Ok::<(), Box<dyn std::error::Error>>(())
     /// ```
     #[inline]
-    pub fn resume_into(&mut self, number: u64, into: &mut [u8]) -> Result<Resumed<A>, NoMemory> {
-        self.inner.resume_into(number, into)
+    pub fn resume_read(
+        &mut self,
+        call: ParkedCall,
+        into: &mut [u8],
+    ) -> Result<Answer<usize>, NotDone> {
+        let entries = self.inner.ready_entries(call.number());
+        if entries > 0 {
+            let wants = entries as u64;
+            return Err(NotDone::Short { call, wants });
+        }
+        match self.inner.resume_into(call.number(), into) {
+            Ok(Resumed::Read(reply)) => answer_of_read(reply),
+            Ok(Resumed::Short(bytes)) => Err(NotDone::Short {
+                call,
+                wants: u64::from(bytes),
+            }),
+            Ok(Resumed::Other(reply)) => Ok(answer_of_reply(reply)?.map(number_of)),
+            Err(NoMemory) => Err(NotDone::NoMemoryToResume(call)),
+        }
+    }
+
+    /// Tries a parked poll again. The entries are as many as it began with, and what was found of each is noted in it. It tells of how many
+    /// entries something was found. Any other call is resumed as by [`resume`](Self::resume), and only a number of its reply is told; a
+    /// read that would give bytes is [`NotDone::Short`].
+    ///
+    /// # Errors
+    ///
+    /// As of `resume`.
+    ///
+    /// ```
+    /// use bindingclay::memory::Global;
+    /// use bindingclay::{Answer, Call, Kernel, Limits, PollEntry, Step};
+    ///
+    /// let mut kernel = Kernel::new(Global, Limits::default())?;
+    /// kernel.step(Step::Start)?;
+    /// kernel.step(Step::Begin(1, Call::Pipe { nonblock: false, direct: false }))?;
+    /// let mut entries = [PollEntry { fd: 0, events: 1, revents: 0 }];
+    /// let Answer::Parked(call) = kernel.poll_into(1, &mut entries, true)? else { panic!("no wait") };
+    /// assert_eq!(kernel.write_from(1, 1, b"hello")?, Answer::Done(5));
+    /// assert_eq!(kernel.resume_poll(call, &mut entries)?, Answer::Done(1));
+    /// assert_eq!(entries[0].revents, 1);
+    /// # Ok::<(), Box<dyn std::error::Error>>(())
+    /// ```
+    pub fn resume_poll(
+        &mut self,
+        call: ParkedCall,
+        entries: &mut [PollEntry],
+    ) -> Result<Answer<usize>, NotDone> {
+        match self.inner.resume_into(call.number(), &mut []) {
+            Ok(Resumed::Read(reply)) => answer_of_read(reply),
+            Ok(Resumed::Short(bytes)) => Err(NotDone::Short {
+                call,
+                wants: u64::from(bytes),
+            }),
+            Ok(Resumed::Other(reply)) => {
+                mark_entries(&reply, entries);
+                Ok(answer_of_reply(reply)?.map(number_of))
+            }
+            Err(NoMemory) => Err(NotDone::NoMemoryToResume(call)),
+        }
+    }
+
+    /// Ends a parked call, as `Step::Interrupt` does. Of a write that took bytes it tells how many. It takes no memory.
+    ///
+    /// # Errors
+    ///
+    /// [`NotDone::Fault`] with `EINTR` says that the call ended and had taken nothing; so it is with every call but such a write.
+    /// [`NotDone::NoCall`] says that no call is parked under its number.
+    ///
+    /// ```
+    /// use bindingclay::memory::Global;
+    /// use bindingclay::{Answer, Call, Kernel, Limits, Reply, Step};
+    ///
+    /// let mut kernel = Kernel::new(Global, Limits::default())?;
+    /// kernel.step(Step::Start)?;
+    /// kernel.step(Step::Begin(1, Call::Pipe { nonblock: false, direct: false }))?;
+    /// let Answer::Parked(call) = kernel.write_from(1, 1, &[7; 70_000])? else { panic!("no wait") };
+    /// assert_eq!(kernel.interrupt(call)?, Reply::Count { n: 65_536, sigpipe: false });
+    /// # Ok::<(), Box<dyn std::error::Error>>(())
+    /// ```
+    pub fn interrupt(&mut self, call: ParkedCall) -> Result<Reply<A>, NotDone> {
+        match self.inner.step(Step::Interrupt(call.number()))? {
+            Reply::Fault(errno) => Err(NotDone::Fault(errno)),
+            Reply::NoCall => Err(NotDone::NoCall),
+            reply => Ok(reply),
+        }
     }
 
     /// What it takes of its memory.
@@ -288,39 +453,62 @@ impl<A: Allocator + Copy> Kernel<A> {
         self.inner.slots(pid, fd)
     }
 
-    /// How many bytes the parked call of a number has taken, as a write has that waits with some of its bytes in the pipe; `None` where no
-    /// call is parked under it.
+    /// How many bytes a parked call has taken, as a write has that waits with some of its bytes in the pipe; `None` if no call is parked
+    /// under its number.
     ///
     /// ```
     /// use bindingclay::memory::Global;
-    /// use bindingclay::{Call, Kernel, Limits, Step, WriteReply};
+    /// use bindingclay::{Answer, Call, Kernel, Limits, Step};
     ///
     /// let mut kernel = Kernel::new(Global, Limits::default())?;
     /// kernel.step(Step::Start)?;
     /// kernel.step(Step::Begin(1, Call::Pipe { nonblock: false, direct: false }))?;
-    /// assert_eq!(kernel.write_from(1, 1, &[7; 70_000])?, WriteReply::Parked(1));
-    /// assert_eq!(kernel.taken(1), Some(65_536));
+    /// let Answer::Parked(call) = kernel.write_from(1, 1, &[7; 70_000])? else { panic!("no wait") };
+    /// assert_eq!(kernel.taken(&call), Some(65_536));
     /// # Ok::<(), Box<dyn std::error::Error>>(())
     /// ```
-    pub fn taken(&self, number: u64) -> Option<u32> {
-        self.inner.taken(number)
+    pub fn taken(&self, call: &ParkedCall) -> Option<u32> {
+        self.inner.taken(call.number())
     }
 
-    /// The process that began the parked call of a number; `None` where no call is parked under it.
+    /// Whether a parked call can get on: tried again now it is answered, or it is a write that puts in more of its bytes. If it can't, a try
+    /// is [`Answer::Parked`] and moves no byte. If no call is parked under its number, it is true, and a try is [`NotDone::NoCall`].
+    /// Nothing changes, and it takes no memory.
+    ///
+    /// After any step, ask it for each parked call, and try those that can get on, until none can.
     ///
     /// ```
     /// use bindingclay::memory::Global;
-    /// use bindingclay::{Call, Kernel, Limits, Step};
+    /// use bindingclay::{Answer, Call, Kernel, Limits, Step};
     ///
     /// let mut kernel = Kernel::new(Global, Limits::default())?;
     /// kernel.step(Step::Start)?;
     /// kernel.step(Step::Begin(1, Call::Pipe { nonblock: false, direct: false }))?;
-    /// kernel.step(Step::Begin(1, Call::Read { fd: 0, n: 1 }))?;
-    /// assert_eq!(kernel.owner(1), Some(1));
+    /// let Answer::Parked(call) = kernel.read_into(1, 0, &mut [0])? else { panic!("no wait") };
+    /// assert!(!kernel.can_progress(&call)); // there is nothing to read yet
+    /// assert_eq!(kernel.write_from(1, 1, b"a")?, Answer::Done(1));
+    /// assert!(kernel.can_progress(&call));
     /// # Ok::<(), Box<dyn std::error::Error>>(())
     /// ```
-    pub fn owner(&self, number: u64) -> Option<u32> {
-        self.inner.owner(number)
+    pub fn can_progress(&self, call: &ParkedCall) -> bool {
+        self.inner.can_progress(call.number())
+    }
+
+    /// The process that began a parked call; `None` if no call is parked under its number.
+    ///
+    /// ```
+    /// use bindingclay::memory::Global;
+    /// use bindingclay::{Answer, Call, Kernel, Limits, Step};
+    ///
+    /// let mut kernel = Kernel::new(Global, Limits::default())?;
+    /// kernel.step(Step::Start)?;
+    /// kernel.step(Step::Begin(1, Call::Pipe { nonblock: false, direct: false }))?;
+    /// let Answer::Parked(call) = kernel.read_into(1, 0, &mut [0])? else { panic!("no wait") };
+    /// assert_eq!(kernel.owner(&call), Some(1));
+    /// # Ok::<(), Box<dyn std::error::Error>>(())
+    /// ```
+    pub fn owner(&self, call: &ParkedCall) -> Option<u32> {
+        self.inner.owner(call.number())
     }
 
     /// The bytes of the file that a name stands for, all of them; `None` where it stands for nothing, or for what is no file.
@@ -331,14 +519,14 @@ impl<A: Allocator + Copy> Kernel<A> {
     ///
     /// ```
     /// use bindingclay::memory::{Global, Vec};
-    /// use bindingclay::{Call, Kernel, Limits, Mode, Name, OpenFlags, Step};
+    /// use bindingclay::{Answer, Call, Kernel, Limits, Mode, Name, OpenFlags, Step};
     ///
     /// let name = || Vec::from_slice(Global, b"log").map(Name::from_vec);
     /// let mut kernel = Kernel::new(Global, Limits::default())?;
     /// kernel.step(Step::Start)?;
     /// let open = Call::OpenName { name: name()?, mode: Mode::Write, flags: OpenFlags::CREAT };
     /// kernel.step(Step::Begin(1, open))?;
-    /// kernel.write_from(1, 0, b"hello")?;
+    /// assert_eq!(kernel.write_from(1, 0, b"hello")?, Answer::Done(5));
     /// let bytes = kernel.file_bytes(&name()?)?.expect("a file");
     /// assert_eq!(bytes.as_slice(), b"hello");
     /// # Ok::<(), Box<dyn std::error::Error>>(())
@@ -354,4 +542,36 @@ impl<A: Allocator + Copy> fmt::Debug for Kernel<A> {
             .field("stats", &self.stats())
             .finish_non_exhaustive()
     }
+}
+
+fn parked<T>(number: u64) -> Answer<T> {
+    Answer::Parked(ParkedCall::from_number(number))
+}
+
+#[inline]
+fn answer_of_read(reply: ReadReply) -> Result<Answer<usize>, NotDone> {
+    match reply {
+        ReadReply::Read(count) => Ok(Answer::Done(count)),
+        ReadReply::Parked(number) => Ok(parked(number)),
+        ReadReply::Fault(errno) => Err(NotDone::Fault(errno)),
+        ReadReply::NoProcess => Err(NotDone::NoProcess),
+        ReadReply::CallsSpent => Err(NotDone::CallsSpent),
+    }
+}
+
+#[inline]
+fn answer_of_reply<A: Allocator>(reply: Reply<A>) -> Result<Answer<Reply<A>>, NotDone> {
+    match reply {
+        Reply::Parked(number) => Ok(parked(number)),
+        Reply::Fault(errno) => Err(NotDone::Fault(errno)),
+        Reply::NoProcess => Err(NotDone::NoProcess),
+        Reply::NoCall => Err(NotDone::NoCall),
+        Reply::CallsSpent => Err(NotDone::CallsSpent),
+        reply => Ok(Answer::Done(reply)),
+    }
+}
+
+/// The number of a reply that the library for C tells: a count, or a descriptor.
+fn number_of<A: Allocator>(reply: Reply<A>) -> usize {
+    answer_of(&reply).value as usize
 }

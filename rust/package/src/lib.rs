@@ -2,20 +2,24 @@
 //!
 //! Processes of a [`Kernel`] talk through pipes, FIFOs and files that are in memory alone. Each thing that they do is a [`Step`], and each
 //! answer a [`Reply`]: there are no threads, no clock and no host behind it, so that a list of steps is always answered the same. A call that
-//! would wait is parked, and whoever runs the kernel tries it again at any time.
+//! would wait is parked, which is an [`Answer`] and no error: whoever runs the kernel tries it again at any time, by its [`ParkedCall`].
+//! [`Kernel::can_progress`] tells when that gets it on.
 //!
 //! ```
 //! use bindingclay::memory::Global;
-//! use bindingclay::{Call, Kernel, Limits, ReadReply, Reply, Step};
+//! use bindingclay::{Answer, Call, Kernel, Limits, Reply, Step};
 //!
 //! let mut kernel = Kernel::new(Global, Limits::default())?;
 //! assert_eq!(kernel.step(Step::Start)?, Reply::Pid(1));
 //! assert_eq!(kernel.step(Step::Begin(1, Call::Pipe { nonblock: false, direct: false }))?, Reply::Fds(0, 1));
 //! // a child has the descriptors of its parent
 //! assert_eq!(kernel.step(Step::Begin(1, Call::Fork))?, Reply::Pid(2));
-//! kernel.write_from(2, 1, b"hello")?;
 //! let mut into = [0; 5];
-//! assert_eq!(kernel.read_into(1, 0, &mut into)?, ReadReply::Read(5));
+//! // nothing is there to read, so the call waits
+//! let Answer::Parked(call) = kernel.read_into(1, 0, &mut into)? else { panic!("no wait") };
+//! assert_eq!(kernel.write_from(2, 1, b"hello")?, Answer::Done(5));
+//! assert!(kernel.can_progress(&call));
+//! assert_eq!(kernel.resume_read(call, &mut into)?, Answer::Done(5));
 //! assert_eq!(&into, b"hello");
 //! # Ok::<(), Box<dyn std::error::Error>>(())
 //! ```
@@ -29,6 +33,7 @@
 
 extern crate alloc;
 
+mod answers;
 mod faults;
 mod kernel;
 pub mod memory;
@@ -63,13 +68,19 @@ mod c_memory;
 #[allow(clippy::style, clippy::complexity)]
 mod checks;
 
-pub use faults::{BufferFault, FileMaxFault};
+pub use answers::{Answer, ParkedCall};
+pub use faults::{FileMaxFault, NotDone};
 pub use kernel::Kernel;
-pub use parts::kernel::{PollEntry, PollReply, ReadReply, Resumed, Stats, WriteReply};
+pub use parts::kernel::{PollEntry, Stats};
 pub use parts::model::{
     Bytes8, Call, Errno, Limits, MaskList, Mode, Name, OpenFlags, Outcome, PollList, PollMask,
     Reply, SpliceFlags, Step, Whence,
 };
+
+/// The program of the package's README, as a test.
+#[cfg(doctest)]
+#[doc = include_str!("../README.md")]
+mod readme {}
 
 /// There is no memory for what was asked. Nothing changed.
 ///

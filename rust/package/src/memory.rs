@@ -6,7 +6,7 @@
 //!
 //! ```
 //! use bindingclay::memory::Allocator;
-//! use bindingclay::{BufferFault, Call, Kernel, Limits, Step, WriteReply};
+//! use bindingclay::{Answer, Call, Kernel, Limits, NotDone, Step};
 //! use std::cell::Cell;
 //!
 //! /// Permits as long as no more than so many bytes are held.
@@ -34,8 +34,8 @@
 //! kernel.step(Step::Start)?;
 //! kernel.step(Step::Begin(1, Call::Pipe { nonblock: false, direct: false }))?;
 //! // a pipe keeps its bytes in segments of 4,096, and this write is parked with a copy of all
-//! assert_eq!(kernel.write_from(1, 1, &[7; 70_000]), Err(BufferFault::NoMemory));
-//! assert_eq!(kernel.write_from(1, 1, &[7; 50_000]), Ok(WriteReply::Wrote { n: 50_000, sigpipe: false }));
+//! assert_eq!(kernel.write_from(1, 1, &[7; 70_000]), Err(NotDone::NoMemory));
+//! assert_eq!(kernel.write_from(1, 1, &[7; 50_000]), Ok(Answer::Done(50_000)));
 //! assert!(budget.held.get() > 50_000);
 //! drop(kernel);
 //! assert_eq!(budget.held.get(), 0);

@@ -65,10 +65,11 @@ fn answer_of_write(reply: &WriteReply) -> Answer
     ensures { result ≡ said {A = InBudget} (reply_of reply.now) }
 {
     match reply {
-        WriteReply::Wrote { n, sigpipe } => Answer {
-            sigpipe: *sigpipe,
+        WriteReply::Wrote { n, sigpipe } if *sigpipe => Answer {
+            sigpipe: true,
             ..Answer::done(*n as u64)
         },
+        WriteReply::Wrote { n, .. } => Answer::done(*n as u64),
         WriteReply::Fault(errno) => Answer::fault(*errno),
         WriteReply::Parked(number) => Answer::of_kind(kind::PARKED, *number),
         WriteReply::NoProcess => Answer::of_kind(kind::NO_PROCESS, 0),

@@ -1,6 +1,8 @@
 //! Parked calls, tried again.
 ghost use Rattle.std.specs.Prelude.{◌≡◌, length};
-ghost use Rattle.bindingclay.specs.Made.{Gathers, Notes, Owns, Resumes, Wants, resumed_answer, resumed_entries};
+ghost use Rattle.pl_kernel.specs.Progress.{TellsProgress, OrWaitsInVain};
+ghost use Rattle.bindingclay.specs.Heap.{InBudget};
+ghost use Rattle.bindingclay.specs.Made.{Gathers, Notes, Owns, Resumes, Takes, TriesAgain, Wants, number_answer, resumed_answer, resumed_entries};
 
 use super::transfers::answer_of_read;
 use super::{Heap, Layer, no_memory};
@@ -30,20 +32,55 @@ fn mark_resumed(resumed: &Result<Resumed<Heap>, NoMemory>, entries: &mut [PollEn
     }
 }
 
+// The answer of a question about a parked call: the number that was told, if there is such a call.
+fn answer_of_number(told: Option<u32>) -> Answer
+    ensures { result ≡ number_answer told }
+{
+    match told {
+        Some(number) => Answer::done(number as u64),
+        None => Answer::of_kind(kind::NO_CALL, 0),
+    }
+}
+
 impl Layer {
     /// Tells which process began the parked call of a number: the value is its pid.
     pub fn owner(&self, number: u64) -> Answer
         ensures { Owns self.now.kernel number result }
     {
-        match self.kernel.owner(number) {
-            Some(pid) => Answer::done(pid as u64),
-            None => Answer::of_kind(kind::NO_CALL, 0),
-        }
+        answer_of_number(self.kernel.owner(number))
+    }
+
+    /// Tells how many bytes the parked call of a number has taken, as a write has that waits with some of its bytes in the pipe.
+    pub fn taken(&self, number: u64) -> Answer
+        ensures { Takes self.now.kernel number result }
+    {
+        answer_of_number(self.kernel.taken(number))
+    }
+
+    /// Tells whether the parked call of a number can get on: tried again now, it is answered, or takes more of its bytes.
+    pub fn can_progress(&self, number: u64) -> bool
+        ensures value { TellsProgress {A = InBudget} self.now.kernel number result }
+        ensures vain { OrWaitsInVain {A = InBudget} self.now.kernel number result }
+    {
+        self.kernel.can_progress(number)
     }
 
     /// Tries the parked call of a number again; a read gives its bytes into the caller's. Where it would give more bytes than
-    /// these, the answer says how many, and nothing changed.
+    /// these, the answer says how many, and nothing changed. So it says of a poll that can get on how many entries it has: bytes have no
+    /// room for what it found.
     pub fn resume(&mut self, number: u64, into: &mut [u8]) -> Answer
+        ensures tries { TriesAgain self.old.kernel number into.old result into.new self.new.kernel }
+        ensures wants { Wants self.old.kernel (Step.Resume number) result }
+    {
+        let entries = self.kernel.ready_entries(number);
+        if entries > 0 {
+            return Answer::of_kind(kind::SHORT, entries as u64);
+        }
+        self.gather(number, into)
+    }
+
+    // Tries the parked call of a number again; a read gives its bytes into the caller's, if they fit.
+    fn gather(&mut self, number: u64, into: &mut [u8]) -> Answer
         ensures made { Resumes self.old.kernel number (length into.old) result self.new.kernel }
         ensures wants { Wants self.old.kernel (Step.Resume number) result }
         ensures bytes { Gathers self.old.kernel number into.old result into.new }

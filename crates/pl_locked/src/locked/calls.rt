@@ -2,7 +2,7 @@
 ghost use Rattle.std.specs.Prelude.{◌≡◌, IfOk, IfErr, OnErr, IsErrOf};
 ghost use Rattle.pl_locked.specs.Views.{Called, CalledIn, Failed, Full, Glanced, Shown, Turned};
 
-use super::{Locked, Mark};
+use super::Locked;
 use crate::caller::Caller;
 use crate::fault::{CallFault, StepFault};
 use pl_history::Layer;
@@ -11,9 +11,8 @@ use std::alloc::Allocator;
 use std::sync::Wait;
 
 impl<N: Layer, A: Allocator + Copy> Locked<N, A> {
-    /// Begins a call of a process. Where it is parked it waits, without the lock, until a step of some caller has changed something,
-    /// and tries the call again, until it is answered. Where another caller interrupts the call or ends its process, the answer is
-    /// `NoCall`.
+    /// Begins a call of a process. Where it is parked it waits, without the lock, until the call can get on, and tries it again, until it is
+    /// answered. So no try is in vain. Where another caller interrupts the call or ends its process, the answer is `NoCall`.
     ///
     /// # Errors
     ///
@@ -30,7 +29,7 @@ impl<N: Layer, A: Allocator + Copy> Locked<N, A> {
         ensures wanted { IfErr result (λ fault. fault.cause ≡ StepFault.NoMemory → ¬ Full N.max_steps me.new) }
         ensures fault { IfErr result (λ fault. Failed N.limits N.max_steps me.old me.new pid call fault.parked) }
     {
-        let (reply, mut mark) = match self.step(rt, me, Step::Begin(pid, call)) {
+        let (reply, _) = match self.step(rt, me, Step::Begin(pid, call)) {
             Ok(begun) => begun,
             Err(cause) => {
                 return Err(CallFault {
@@ -43,7 +42,7 @@ impl<N: Layer, A: Allocator + Copy> Locked<N, A> {
             return Ok(reply);
         };
         'turns: for _ in rt.forever() {
-            match self.turn(rt, me, number, &mut mark) {
+            match self.turn(rt, me, number) {
                 Ok(None) => {}
                 Ok(Some(reply)) => return Ok(reply),
                 Err(cause) => {
@@ -57,28 +56,29 @@ impl<N: Layer, A: Allocator + Copy> Locked<N, A> {
         unreachable!()
     }
 
-    // Waits until something has changed since the mark, and tries the call again.
+    // Waits until the call can get on, and tries it again.
     fn turn<R: Wait>(
         &self,
         rt: &R,
         me: &mut Caller<N, A>,
         number: u64,
-        mark: &mut Mark,
     ) -> Result<Option<Reply<A>>, StepFault>
         ensures made { IfOk result (λ answer. Turned N.limits N.max_steps me.old me.new number answer) }
         ensures full { IsErrOf result StepFault.JournalFull → Full N.max_steps me.new }
         ensures wanted { IsErrOf result StepFault.NoMemory → ¬ Full N.max_steps me.new }
         ensures unmade { OnErr result (Shown N.limits N.max_steps me.old me.new) }
     {
-        let last = mark.changes;
-        let mut desk = self
-            .changed
-            .wait_while(rt, self.desk.lock(rt), |desk| desk.changes() == last);
+        let caller = me.number();
+        let mut desk = self.desk.lock(rt);
+        desk.wait_for(caller, Some(number));
+        let mut desk = self.turns[caller as usize].wait_while(
+            rt,
+            desk,
+            |desk| !desk.can_progress(number),
+        );
+        desk.wait_for(caller, None);
         match self.make(&mut *desk, me, Step::Resume(number)) {
-            Ok((Reply::Parked(_), now)) => {
-                *mark = now;
-                Ok(None)
-            }
+            Ok((Reply::Parked(_), _)) => Ok(None),
             Ok((reply, _)) => Ok(Some(reply)),
             Err(fault) => Err(fault),
         }
@@ -104,7 +104,7 @@ impl<N: Layer, A: Allocator + Copy> Locked<N, A> {
         ensures wanted { IfErr result (λ fault. fault.cause ≡ StepFault.NoMemory → ¬ Full N.max_steps me.new) }
         ensures fault { IfErr result (λ fault. Failed N.limits N.max_steps me.old me.new pid call fault.parked) }
     {
-        let (reply, mut mark) = match self.step(rt, me, Step::Begin(pid, call)) {
+        let (reply, mut seen) = match self.step(rt, me, Step::Begin(pid, call)) {
             Ok(begun) => begun,
             Err(cause) => {
                 return Err(CallFault {
@@ -117,7 +117,7 @@ impl<N: Layer, A: Allocator + Copy> Locked<N, A> {
             return Ok(reply);
         };
         for turn in 0..turns {
-            match self.glance_turn(rt, me, number, &mut mark) {
+            match self.glance_turn(rt, me, number, &mut seen) {
                 Ok(None) => {}
                 Ok(Some(reply)) => return Ok(reply),
                 Err(cause) => {
@@ -131,25 +131,25 @@ impl<N: Layer, A: Allocator + Copy> Locked<N, A> {
         Ok(Reply::Parked(number))
     }
 
-    // One glance, and where there are more steps than at the mark the call is tried again.
+    // One glance, and where there are more steps than were seen at the last try the call is tried again.
     fn glance_turn<R: Wait>(
         &self,
         rt: &R,
         me: &mut Caller<N, A>,
         number: u64,
-        mark: &mut Mark,
+        seen: &mut u64,
     ) -> Result<Option<Reply<A>>, StepFault>
         ensures made { IfOk result (λ answer. Glanced N.limits N.max_steps me.old me.new number answer) }
         ensures full { IsErrOf result StepFault.JournalFull → Full N.max_steps me.new }
         ensures wanted { IsErrOf result StepFault.NoMemory → ¬ Full N.max_steps me.new }
         ensures unmade { OnErr result (Shown N.limits N.max_steps me.old me.new) }
     {
-        if self.glance(me) <= mark.len {
+        if self.glance(me) <= *seen {
             return Ok(None);
         }
         match self.step(rt, me, Step::Resume(number)) {
             Ok((Reply::Parked(_), now)) => {
-                *mark = now;
+                *seen = now;
                 Ok(None)
             }
             Ok((reply, _)) => Ok(Some(reply)),

@@ -1,6 +1,7 @@
 -- What a poll that is tried again comes to, at the kernel's keys.
-use Rattle.std.proofs.Common.{◌≡◌, ℕ, ℤ, Bool, true, false, List, map, drop, Some, refl, ap, nat_eq, Bor}
+use Rattle.std.proofs.Common.{◌≡◌, ℕ, ℤ, Bool, true, false, cond, List, map, drop, Some, refl, ◌∙◌, ap, nat_eq, Bor}
 use Rattle.std.specs.List.{list_any}
+use Rattle.std.specs.Prelude.{◌||◌, not}
 use Rattle.pl_model.specs.declared.calls.Call.TheVariants.{Poll}
 use Rattle.pl_model.specs.declared.calls.Step.TheVariants.{Resume}
 use Rattle.pl_model.specs.declared.flags.PollMask.{PollMask}
@@ -8,8 +9,10 @@ use Rattle.pl_model.specs.declared.replies.Reply.TheVariants.{Parked}
 use Rattle.pl_model.specs.Map.{get}
 use Rattle.pl_model.specs.State.{Core, described}
 use Rattle.pl_model.specs.Settle.{settle}
-use Rattle.pl_model.specs.Poll.{masks, masks_reply, is_ready}
-use Rattle.pl_model.specs.Step.{without_call}
+use Rattle.pl_model.specs.Poll.{masks, masks_reply, is_ready, try_poll}
+use Rattle.pl_model.specs.Step.{try, without_call}
+use Rattle.pl_model.specs.Trial.{Done, Wait, still}
+use Rattle.pl_model.specs.Waking.{gets_on, can_progress}
 use Rattle.pl_model.specs.Numbered.{numbers}
 use Rattle.pl_model.proofs.by_call.Polls.{again-found, again-waits}
 use Rattle.pl_parked.specs.declared.call.ParkedCall.{ParkedCall}
@@ -17,7 +20,7 @@ use Rattle.pl_state.specs.Contents.{Contents, core_of, waiting_of}
 use Rattle.pl_state.specs.Sound.{IsSound}
 use Rattle.pl_state.specs.Makes.{MakesAtKeys, MayWantAtKeys}
 use Rattle.pl_state.proofs.by_call.Begun.{wants_plain}
-use Rattle.pl_state.proofs.by_call.Resumed.{parked-is, ends_still, waits_still}
+use Rattle.pl_state.proofs.by_call.Resumed.{parked-is, progress-is, ends_still, waits_still}
 use Rattle.pl_polls.specs.declared.masks.Descriptions.TheVariants.{Kept}
 use Rattle.pl_polls.specs.Masks.{masks_of}
 
@@ -43,3 +46,12 @@ module _ {A : Type 0} (k : Contents A) (sound : IsSound A k) (n : ℕ) (w : Park
 
   pub retry-waits : list_any is_ready found ≡ false → w.taken ≡ 0 → MakesAtKeys k (Resume n) (Parked n) k
   retry-waits none none_taken = waits_still k sound n w here 0 none_taken (again-waits c n (waiting_of w) entries wait stands is none)
+
+  -- it gets on where something is found
+  pub poll-progress : w.taken ≡ 0 → can_progress c n ≡ list_any is_ready found
+  unfolding try try_poll
+  poll-progress none = progress-is k sound n w here (try c (waiting_of w) (Poll entries wait) true) (ap (λ z. try c (waiting_of w) z true) is) ∙ by (list_any is_ready found)
+    where
+      by : (ready : Bool) → gets_on w.taken (cond (ready || false) (Done c still (masks_reply found)) (Wait c still 0)) ≡ ready
+      by true = refl
+      by false = ap (λ t. not (nat_eq 0 t)) none

@@ -1,11 +1,10 @@
 -- What a splice or a tee that is tried again comes to at the kernel's keys.
-use Rattle.std.proofs.Common.{◌≡◌, ℕ, Bool, true, false, List, [], ◌∷◌, Option, Some, IfSome, IsSome, refl, sym, ◌∙◌, ap, subst, nat_eq, slice_index_or, arith}
-use Rattle.std.specs.Prelude.{◌||◌, All, ℤ}
+use Rattle.std.proofs.Common.{◌≡◌, ℕ, Bool, true, false, List, [], ◌∷◌, Option, Some, None, IfSome, IsSome, refl, sym, ◌∙◌, ap, subst, nat_eq, slice_index_or, arith}
+use Rattle.std.specs.Prelude.{◌||◌, All}
 use Rattle.std.specs.Set.{is_member}
 use Rattle.std.proofs.lemmas.Bool.{eq-eqb}
 use Rattle.pl_model.specs.declared.calls.Call.{Call}
 use Rattle.pl_model.specs.declared.calls.Call.TheVariants as call
-use Rattle.pl_model.specs.declared.flags.SpliceFlags.{SpliceFlags}
 use Rattle.pl_model.specs.declared.calls.Step.TheVariants.{Resume}
 use Rattle.pl_model.specs.declared.node.Node.{Node}
 use Rattle.pl_model.specs.declared.replies.Reply.{Reply}
@@ -17,6 +16,7 @@ use Rattle.pl_model.specs.Settle.{settle}
 use Rattle.pl_model.specs.Trial.{Trial, Done, Wait, still}
 use Rattle.pl_model.specs.Transfer.{count}
 use Rattle.pl_model.specs.Step.{core_step, ended, tried_again, without_call}
+use Rattle.pl_model.specs.Waking.{gets_on, can_progress}
 use Rattle.pl_model.specs.Numbered.{numbers}
 use Rattle.pl_model.proofs.settling.Members.{or_right}
 use Rattle.pl_parked.specs.declared.call.ParkedCall.{ParkedCall}
@@ -24,15 +24,16 @@ use Rattle.pl_desc.specs.Rows.{at}
 use Rattle.pl_desc.specs.Descs.{Opened}
 use Rattle.pl_state.specs.Contents.{Contents, waiting_of, core_of}
 use Rattle.pl_state.specs.Opens.{OpenOn}
-use Rattle.pl_state.specs.Sound.{IsSound, IsPipe, IsPoll, AreBoth, AreApart, Keeps, KeepsOne, MayGo, MayKeepFile, GoApart, OnNode, KeepsNodes}
+use Rattle.pl_state.specs.Sound.{IsSound, IsPipe, IsPoll, IsWaiting, AreBoth, AreApart, Keeps, KeepsOne, MayGo, MayKeepFile, GoApart, OnNode, KeepsNodes}
 use Rattle.pl_state.specs.Makes.{MakesAtKeys, MayWantAtKeys}
 use Rattle.pl_state.proofs.Known.{Parts}
 use Rattle.pl_state.proofs.holders.OnNodes.{is-pipe}
 use Rattle.pl_state.proofs.waiting.Ending.{member_there}
 use Rattle.pl_state.proofs.by_call.Begun.{does_plain, wants_plain}
-use Rattle.pl_state.proofs.by_call.Resumed.{came, waits_still}
+use Rattle.pl_state.proofs.by_call.Resumed.{came, progress-is, waits_still}
 use Rattle.pl_splices.specs.declared.sides.Side.{Side}
 use Rattle.pl_splices.specs.Moves.{Ends, StillWaits, WouldMove, MoveWaits, Goes, IsMove, trial}
+use Rattle.pl_splices.specs.Waits.{IsNoMove}
 use Rattle.pl_splices.proofs.Resembling.{settles-from}
 use Rattle.pl_splices.proofs.by_call.Trying.{move-tries, of_one}
 
@@ -42,6 +43,10 @@ module _ {A : Type 0} (k : Contents A) (sound : IsSound A k) (n : ℕ) (from to 
 
   comes : (t : Trial A numbers) → trial k from to len is_tee ≡ t → core_step c (Resume n) ≡ Plain (ended c (tried_again n (waiting_of w.call) t))
   comes t e = came k sound n w.call w.here t (move-tries k from to len is_tee w.call.call (waiting_of w.call) true w.asked w.kept ∙ e)
+
+  -- whether it can get on is told by its try
+  pub move-progress : (t : Trial A numbers) → trial k from to len is_tee ≡ t → can_progress c n ≡ gets_on 0 t
+  move-progress t e = progress-is k sound n w.call w.here t (move-tries k from to len is_tee w.call.call (waiting_of w.call) true w.asked w.kept ∙ e) ∙ ap (λ z. gets_on z t) w.none_taken
 
   -- it ends
   pub retry-ends : (reply : Reply A) (between new : Contents A) → Ends k from to len is_tee reply between → core_of new ≡ settle (core_of between) (without_call (core_of between) n) → MakesAtKeys k (Resume n) reply new
@@ -113,13 +118,15 @@ module _ {A : Type 0} (k : Contents A) (sound : IsSound A k) (n : ℕ) (w : Park
   }
 
 -- any other call that waits keeps one description
-pub keeps_one : {A : Type 0} (x : Call A) (kept : List ℕ) → Keeps x kept
-    → ((a : ℤ) (f : Option ℕ) (b : ℤ) (h : Option ℕ) (n : ℕ) (flags : SpliceFlags) → x ≡ call.Splice a f b h n flags → ⊥)
-    → ((a b : ℤ) (n : ℕ) (flags : SpliceFlags) → x ≡ call.Tee a b n flags → ⊥) → ¬ IsPoll x → KeepsOne x
-keeps_one (call.Read fd n) kept k no_splice no_tee no_poll = tt
-keeps_one (call.Write fd bytes) kept k no_splice no_tee no_poll = tt
-keeps_one (call.OpenName name mode flags) kept k no_splice no_tee no_poll = tt
-keeps_one (call.Splice a f b h n flags) kept k no_splice no_tee no_poll = absurd (no_splice a f b h n flags refl)
-keeps_one (call.Tee a b n flags) kept k no_splice no_tee no_poll = absurd (no_tee a b n flags refl)
-keeps_one (call.Poll entries wait) kept k no_splice no_tee no_poll = absurd (no_poll tt)
-keeps_one other kept k no_splice no_tee no_poll = absurd k
+keeps_one : {A : Type 0} (x : Call A) (kept : List ℕ) → Keeps x kept → IsNoMove x → ¬ IsPoll x → KeepsOne x
+keeps_one (call.Read fd n) kept k no_move no_poll = tt
+keeps_one (call.Write fd bytes) kept k no_move no_poll = tt
+keeps_one (call.OpenName name mode flags) kept k no_move no_poll = tt
+keeps_one (call.Splice a f b h n flags) kept k no_move no_poll = absurd no_move
+keeps_one (call.Tee a b n flags) kept k no_move no_poll = absurd no_move
+keeps_one (call.Poll entries wait) kept k no_move no_poll = absurd (no_poll tt)
+keeps_one other kept k no_move no_poll = absurd k
+
+pub others_keep_one : {A : Type 0} (o : Option (ParkedCall A)) → IfSome o (IsWaiting A) → IfSome o (λ w. IsNoMove w.call) → IfSome o (λ w. ¬ IsPoll w.call) → IfSome o (λ w. KeepsOne w.call)
+others_keep_one None waiting no_move no_poll = tt
+others_keep_one (Some w) waiting no_move no_poll = keeps_one w.call w.kept waiting.keeps no_move no_poll

@@ -1,9 +1,8 @@
 -- What a splice or a tee that moves nothing, is parked, or ends with its call, leaves of memory.
-use Rattle.std.proofs.Common.{◌≡◌, ◌≤◌, ℕ, ℤ, Bool, true, false, List, [], ◌∷◌, ◌++◌, Option, Some, None, IfSome, refl, sym, ◌∙◌, ap, subst, nat_eq, arith}
+use Rattle.std.proofs.Common.{◌≡◌, ◌≤◌, ℕ, ℤ, Bool, true, false, List, [], ◌∷◌, Option, Some, None, IfSome, refl, sym, ◌∙◌, ap, subst, nat_eq, arith}
 use Rattle.std.specs.Prelude.{Result, Ok, Err, OnOk, OnErr, if◌then◌else◌, option_and_then}
 use Rattle.pl_model.specs.declared.calls.Call.{Call}
 use Rattle.pl_model.specs.declared.calls.Call.TheVariants as call
-use Rattle.pl_model.specs.declared.flags.SpliceFlags.{SpliceFlags}
 use Rattle.pl_model.specs.declared.calls.Step.{Step}
 use Rattle.pl_model.specs.declared.calls.Step.TheVariants.{Resume}
 use Rattle.pl_model.specs.declared.node.Node.{Node}
@@ -23,6 +22,7 @@ use Rattle.pl_state.specs.Opens.{OpenOn, Opens}
 use Rattle.pl_state.specs.Sound.{IsPoll}
 use Rattle.pl_splices.specs.declared.sides.Side.{Side}
 use Rattle.pl_splices.specs.Moves.{IsMove, MoveWaits}
+use Rattle.pl_splices.specs.Waits.{IsNoMove}
 use Rattle.pl_splices.specs.Shares.{Shares, SharesBetween, SharesByStep, Way, place_in, way_between, way_named, way_kept, way_waiting, way_of}
 
 -- slots that were there aren't strange
@@ -118,19 +118,17 @@ pub by_way : {A : Type 0} (old : Contents A) (x : Step A) (road : Way) (new : Co
 by_way old x road new is shares = subst (λ o. IfSome o (λ (way : Way). Shares old way.from way.to way.place new.nodes.memory)) (sym is) shares
 
 -- another call has no such way
-no_way : {A : Type 0} (k : Contents A) (x : Call A) (kept : List ℕ)
-    → ((a : ℤ) (f : Option ℕ) (b : ℤ) (h : Option ℕ) (n : ℕ) (flags : SpliceFlags) → x ≡ call.Splice a f b h n flags → ⊥)
-    → ((a b : ℤ) (n : ℕ) (flags : SpliceFlags) → x ≡ call.Tee a b n flags → ⊥) → way_waiting k x kept ≡ None
-no_way k (call.Splice a f b h n flags) kept no_splice no_tee = absurd (no_splice a f b h n flags refl)
-no_way k (call.Tee a b n flags) kept no_splice no_tee = absurd (no_tee a b n flags refl)
-no_way k other kept no_splice no_tee = refl
+no_way : {A : Type 0} (k : Contents A) (x : Call A) (kept : List ℕ) → IsNoMove x → way_waiting k x kept ≡ None
+no_way k (call.Splice a f b h n flags) kept neither = absurd neither
+no_way k (call.Tee a b n flags) kept neither = absurd neither
+no_way k other kept neither = refl
 
-pub by_other : {A : Type 0} (k : Contents A) (number : ℕ) (w : ParkedCall A) → get nat_eq k.calls.calls number ≡ Some w
-    → ((a : ℤ) (f : Option ℕ) (b : ℤ) (h : Option ℕ) (n : ℕ) (flags : SpliceFlags) → w.call ≡ call.Splice a f b h n flags → ⊥)
-    → ((a b : ℤ) (n : ℕ) (flags : SpliceFlags) → w.call ≡ call.Tee a b n flags → ⊥) → (new : Contents A) → SharesByStep k (Resume number) new
-by_other {A} k number w here no_splice no_tee new =
-    subst (λ o. IfSome o (λ (way : Way). Shares k way.from way.to way.place new.nodes.memory))
-    (sym (ap (option_and_then (λ (w : ParkedCall A). way_waiting k w.call w.kept)) here ∙ no_way k w.call w.kept no_splice no_tee)) tt
+pub by_other : {A : Type 0} (k : Contents A) (number : ℕ) → IfSome (get nat_eq k.calls.calls number) (λ w. IsNoMove w.call) → (new : Contents A) → SharesByStep k (Resume number) new
+by_other {A} k number others new = by (get nat_eq k.calls.calls number) others
+  where
+    by : (o : Option (ParkedCall A)) → IfSome o (λ w. IsNoMove w.call) → IfSome (option_and_then (λ (w : ParkedCall A). way_waiting k w.call w.kept) o) (λ (way : Way). Shares k way.from way.to way.place new.nodes.memory)
+    by None neither = tt
+    by (Some w) neither = subst (λ o. IfSome o (λ (way : Way). Shares k way.from way.to way.place new.nodes.memory)) (sym (no_way k w.call w.kept neither)) tt
 
 -- nor has a poll
 poll_way : {A : Type 0} (k : Contents A) (x : Call A) (kept : List ℕ) → IsPoll x → way_waiting k x kept ≡ None

@@ -9,6 +9,7 @@ use Rattle.pl_model.specs.Keys.{Plain}
 use Rattle.pl_model.specs.State.{Core}
 use Rattle.pl_model.specs.Settle.{settle}
 use Rattle.pl_model.specs.Trial.{Trial, Done, Wait, still, flowed}
+use Rattle.pl_model.specs.Waking.{gets_on, progresses, can_progress}
 use Rattle.pl_model.specs.Step.{core_step, happen, ended, stepped, resumed, tried_again, try, without_call, parked_again}
 use Rattle.pl_model.specs.Numbered.{numbers}
 use Rattle.pl_parked.specs.declared.call.ParkedCall.{ParkedCall}
@@ -31,7 +32,15 @@ module _ {A : Type 0} (k : Contents A) (sound : IsSound A k) (n : ℕ) where
   unfolding core_step happen
   resume-none none = does_same k sound (Resume n) (stepped c NoCall) NoCall (ap (λ o. Plain (ended c (resumed c n o))) (parked-is None none)) refl refl
 
+  -- where there is no call, the answer comes at once
+  pub none-progresses : get nat_eq k.calls.calls n ≡ None → can_progress c n ≡ true
+  none-progresses none = ap (progresses c) (parked-is None none)
+
   module _ (w : ParkedCall A) (here : get nat_eq k.calls.calls n ≡ Some w) where
+    -- whether it can get on is told by its try
+    pub progress-is : (t : Trial A numbers) → try c (waiting_of w) w.call true ≡ t → can_progress c n ≡ gets_on w.taken t
+    progress-is t e = ap (progresses c) (parked-is (Some w) here) ∙ ap (gets_on w.taken) e
+
     -- what the try of it is makes the step
     abbrev pub Becomes : Trial A numbers → Type 0
     Becomes t = core_step c (Resume n) ≡ Plain (ended c (tried_again n (waiting_of w) t))

@@ -52,10 +52,10 @@ module _ {A : Type 0} (m : Known A) (n pid d : ℕ) (met : Bool) (waits : OpenWa
   pub held : 0 < count_at descs.loose d
   held = let all = keeping_without 0 calls.next n calls.calls w d sound.rise here in omega (arith, all, are.counted d, ap (λ ks. times ks d) kept ∙ times_one d d ∙ ap (λ z. cond z 1 0) (eq-eqb d d refl))
 
-  abbrev tried : Bool → Option ℕ → Trial A numbers
+  abbrev pub tried : Bool → Option ℕ → Trial A numbers
   tried has_met place = cond has_met (opened_by c pid d place) (Wait c still w.taken)
 
-  tries : try c (waiting_of w) w.call true ≡ tried met (lowest c pid 0)
+  pub tries : try c (waiting_of w) w.call true ≡ tried met (lowest c pid 0)
   unfolding try core_of
   tries =
       ap (λ z. try c (waiting_of w) z true) asked

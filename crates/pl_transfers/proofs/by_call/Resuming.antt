@@ -77,7 +77,7 @@ module _ {A : Type 0} (k : Contents A) (o : CallOnPipe k) where
     abbrev read : ReadCase
     read = read_case m (front y) (has_writer k.opened p)
 
-    tries_read : (row : ReadCase) → read ≡ row → try state (waiting_of w) w.call true ≡ read_row state p y row
+    pub tries_read : (row : ReadCase) → read ≡ row → try state (waiting_of w) w.call true ≡ read_row state p y row
     tries_read row r = ap (λ z. try state (waiting_of w) z true) asked ∙ read-tries k sound d p on y is (waiting_of w) kept fd m true ∙ ap (read_row state p y) r
 
     pub resume-read-end : (new : Contents A) → read ≡ ReadCase.EndOfFile → core_of new ≡ settle state (without_call state n) → MakesAtKeys k (Resume n) (Bytes []) new
@@ -102,7 +102,7 @@ module _ {A : Type 0} (k : Contents A) (o : CallOnPipe k) where
     abbrev pub Comes_to : WriteCase → Type 0
     Comes_to row = write_case (length bytes) w.taken (room y) (has_reader k.opened p) true ≡ row
 
-    tries_write : (row : WriteCase) → Comes_to row → try state (waiting_of w) w.call true ≡ write_row state p bytes w.taken row
+    pub tries_write : (row : WriteCase) → Comes_to row → try state (waiting_of w) w.call true ≡ write_row state p bytes w.taken row
     tries_write row r = ap (λ z. try state (waiting_of w) z true) asked ∙ write-tries k sound d p on y is (waiting_of w) kept fd bytes true ∙ ap (write_row state p bytes w.taken) r
 
     pub resume-write-broken : (new : Contents A) → Comes_to WriteCase.Broken → core_of new ≡ settle state (without_call state n) → MakesAtKeys k (Resume n) (Fault EPIPE) new

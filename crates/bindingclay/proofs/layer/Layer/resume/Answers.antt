@@ -1,24 +1,21 @@
-use Rattle.std.proofs.Common.{subst, sym, length}
-use Rattle.pl_model.specs.declared.calls.Step.TheVariants.{Resume}
-use Rattle.bindingclay.specs.Made.{Resumes, Wants, Gathers}
-use Rattle.bindingclay.proofs.Resuming.{resumes_of, wants_of, gathers_of}
+use Rattle.std.proofs.Common.{ap, refl, ◌∙◌, arith}
+use Rattle.pl_numbers.specs.Answers.{plain}
 use Rattle.bindingclay.proofs.layer.Layer.resume.Goals as goal
 
-pub returns-clause-made : goal.returns-clause-made
-returns-clause-made c =
-    let z = c.resume_into-resumed in
-    subst (λ a. Resumes c.args.self.now.kernel c.args.number (length c.args.into.now) a z.new.self) (sym c.answer_of_resumed.ensures)
-    (resumes_of c.args.self.now.kernel z.new.self c.args.number c.args.into.now z.new.into z.result z.ensures.made z.ensures.within z.ensures.unmade)
+pub returns-then-entries-gt0-clause-tries : goal.returns-then-entries-gt0-clause-tries
+returns-then-entries-gt0-clause-tries c =
+    let some = c.if-entries-gt0.true in
+    let told = c.ready_entries-entries.ensures in
+    record {
+      polls = λ ready. (c.of_kind.ensures ∙ ap (λ n. plain n 7) told, refl, refl);
+      others = λ none. absurd (omega (arith, some, told, none));
+    }
 
-pub returns-clause-wants : goal.returns-clause-wants
-returns-clause-wants c =
-    let z = c.resume_into-resumed in
-    subst (λ a. Wants c.args.self.now.kernel (Resume c.args.number) a) (sym c.answer_of_resumed.ensures)
-    (wants_of c.args.self.now.kernel z.new.self c.args.number c.args.into.now z.new.into z.result z.ensures.wanted)
-
-pub returns-clause-bytes : goal.returns-clause-bytes
-returns-clause-bytes c =
-    let z = c.resume_into-resumed in
-    subst (λ a. Gathers c.args.self.now.kernel c.args.number c.args.into.now a z.new.into) (sym c.answer_of_resumed.ensures)
-    (gathers_of c.args.self.now.kernel z.new.self c.args.number c.args.into.now z.new.into z.result z.ensures.made z.ensures.short z.ensures.fits z.ensures.enough z.ensures.reads z.ensures.others z.ensures.within z.ensures.rest
-    z.ensures.unread z.ensures.frugal)
+pub returns-clause-tries : goal.returns-clause-tries
+returns-clause-tries c =
+    let few = c.if-entries-gt0.false in
+    let told = c.ready_entries-entries.ensures in
+    record {
+      polls = λ ready. absurd (omega (arith, few, told, ready));
+      others = λ none. (c.gather.ensures.made, c.gather.ensures.bytes);
+    }

@@ -9,11 +9,11 @@ use Rattle.pl_locked.proofs.Subs.{sub_made}
 use Rattle.pl_locked.proofs.Tallying.{tally_small}
 use Rattle.pl_locked.proofs.Waiting.{gains}
 use Rattle.pl_locked.proofs.desk.Desk.step.Given.{Over}
-use Rattle.pl_locked.proofs.desk.Desk.step.Goals.{After-change}
+use Rattle.pl_locked.proofs.desk.Desk.step.Goals.{After-add}
 use Rattle.pl_locked.proofs.desk.Desk.step.Goals as goal
 
 -- the journal before the step, and the entry that comes
-module _ (g : Over) (c : After-change g) where
+module _ (g : Over) (c : After-add g) where
   abbrev A : Type 0
   A = g.row.A.Denot
 
@@ -66,13 +66,13 @@ overflow_add-number g c =
     let lt : k < g.N.Layer.callers = c.me.invariant.0 in
     let many : length c.self.inside.counts.items ≡ g.N.Layer.callers = tallies.many in
     let number : c.index-number.result.now ≡ slice_index c.self.inside.counts.items k = get_or_read c.self.inside.counts.items k c.index-number.result.now (omega arith) c.index-number.ensures 0 in
-    let small : slice_index c.self.inside.counts.items k ≤ g.N.Layer.max_steps = tally_small _ _ _ _ _ tallies k lt in
+    let small : slice_index c.self.inside.counts.items k ≤ g.N.Layer.max_steps = tally_small _ _ _ _ tallies k lt in
     let most : c.self.inside.most ≡ g.N.Layer.max_steps = c.self.invariant.2 in
     omega arith
 
 pub invariant_of-me-2 : goal.invariant_of-me-2
 invariant_of-me-2 g c =
-    let w = (goal.at.invariant_of-me-2 g c).After-change in
+    let w = (goal.at.invariant_of-me-2 g c).After-add in
     let inv = c.me.invariant in
     let made : length c.step.new.made ≡ length (c.me.inside.made ++ now g w ∷ []) = ap length c.in_ok-reply.ensures.made in
     let more : length (c.me.inside.made ++ now g w ∷ []) ≡ length c.me.inside.made + 1 = length-append c.me.inside.made (now g w ∷ []) in
@@ -82,7 +82,7 @@ invariant_of-me-2 g c =
 
 pub returns-clause-made : goal.returns-clause-made
 returns-clause-made g c =
-    let w = (goal.at.returns-clause-made g c).After-change in
+    let w = (goal.at.returns-clause-made g c).After-add in
     let h = before g w in
     let n = c.index-number.result.now in
     let most : c.self.inside.most ≡ g.N.Layer.max_steps = c.self.invariant.2 in

@@ -1,0 +1,20 @@
+-- Splices and tees that wait.
+use Rattle.std.specs.Prelude.{◌≢◌, ℕ}
+use Rattle.pl_model.specs.declared.calls.Call.{Call}
+use Rattle.pl_model.specs.declared.calls.Call.TheVariants.{Splice, Tee}
+use Rattle.pl_state.specs.Contents.{Contents}
+use Rattle.pl_splices.specs.declared.waiting.WaitingMove.{WaitingMove}
+use Rattle.pl_splices.specs.Moves.{Goes, MoveWaits}
+
+module _ {A : Type 0} where
+  -- the call of the number is this splice or tee, which waits on its two sides for some bytes
+  pub record WaitsToMove (k : Contents A) (number : ℕ) (m : WaitingMove) : Type 0 where
+    pub waits : MoveWaits k number m.from m.to m.len m.is_tee
+    pub goes : Goes k m.from m.to m.is_tee
+    pub some : m.len ≢ 0
+
+  -- the call is neither a splice nor a tee
+  abbrev pub IsNoMove : Call A → Type 0
+  IsNoMove (Splice from from_offset to to_offset len flags) = ⊥
+  IsNoMove (Tee from to len flags) = ⊥
+  IsNoMove other = Unit {0}
