@@ -163,7 +163,7 @@ check "installing" "$here/install.sh" "$work/prefix" || end
 check "the names of the archive" defines_what_is_declared
 
 counted=-Wl,--wrap=malloc,--wrap=realloc,--wrap=free
-for name in processes pipes packets packet_waits descriptors files fifos splices polls waiting progress progress_cases sizes limits; do
+for name in processes pipes packets packet_waits descriptors files fifos splices polls waiting progress progress_cases facts sizes limits; do
     build "$name" && run "$name"
 done
 build memory "$counted" && run memory

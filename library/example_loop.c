@@ -34,14 +34,21 @@ static void goes_on(int guest, bindingclay_answer answer)
         bindingclay_exit(clay, pid[guest]);
 }
 
-/* Tries again each call that can get on, until none can. */
+/* The process whose call waits under a number. */
+static int waiting(uint64_t call)
+{
+    int guest = 0;
+    while (!waits[guest] || number[guest] != call)
+        guest++;
+    return guest;
+}
+
+/* Tries again each call that can get on, until none can: each may have helped any other. */
 static void try_all(void)
 {
-    for (int guest = 0; guest < GUESTS; guest++)
-        if (waits[guest] && bindingclay_can_progress(clay, number[guest])) {
-            goes_on(guest, bindingclay_resume(clay, number[guest], bytes, sizeof bytes));
-            guest = -1; /* it may have helped any other */
-        }
+    bindingclay_answer next;
+    while ((next = bindingclay_next_ready(clay, 0)).kind == BINDINGCLAY_DONE)
+        goes_on(waiting(next.value), bindingclay_resume(clay, next.value, bytes, sizeof bytes));
 }
 
 int main(void)

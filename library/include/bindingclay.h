@@ -11,9 +11,9 @@
  * Waiting. A call that would wait answers BINDINGCLAY_PARKED. That is an answer, and its value is the call's number. If as many calls
  * already wait as the limit waiting_calls allows, the call answers EAGAIN instead, and has taken and given nothing. Keep the number.
  * bindingclay_can_progress tells whether trying the call again gets it on: whether it would be answered, or a write would put in more of its
- * bytes. So after any call, ask it for each call that waits. Try each call again that can get on, with bindingclay_resume, or a poll with
- * bindingclay_resume_poll. Do so until none can get on: a call that is tried again can help another. Then no call waits that could go on,
- * and none was tried in vain. bindingclay_interrupt ends a call that waits.
+ * bytes. bindingclay_next_ready tells the number of a call that can. So after any call, try again the call that it names, with
+ * bindingclay_resume, or a poll with bindingclay_resume_poll. Do so until it names none: a call that is tried again can help another. Then no
+ * call waits that could go on, and none was tried in vain. bindingclay_interrupt ends a call that waits.
  *
  * A parked call keeps open what it found open, until it is answered, it is interrupted, or its process exits. An open of a FIFO keeps the
  * end that it makes, which counts as an end from then on.
@@ -54,7 +54,7 @@ extern "C" {
 #endif
 
 #define BINDINGCLAY_VERSION_MAJOR 0
-#define BINDINGCLAY_VERSION_MINOR 5
+#define BINDINGCLAY_VERSION_MINOR 6
 #define BINDINGCLAY_VERSION_PATCH 0
 #define BINDINGCLAY_VERSION \
     (BINDINGCLAY_VERSION_MAJOR * 1000000 + BINDINGCLAY_VERSION_MINOR * 1000 + BINDINGCLAY_VERSION_PATCH)
@@ -258,6 +258,11 @@ bindingclay_answer bindingclay_resume_poll(bindingclay clay, uint64_t number, bi
  * true, since trying it again answers BINDINGCLAY_NO_CALL at once. Asks for no memory, and changes nothing. */
 bool bindingclay_can_progress(bindingclay clay, uint64_t number);
 
+/* Tells the least number, `from` or above, of a call that waits and can get on. Value: that number. If no call from there on can, the answer
+ * is BINDINGCLAY_NO_CALL. A call that answers BINDINGCLAY_SHORT or BINDINGCLAY_NO_MEMORY when it is tried again still waits, and still can
+ * get on: ask from the number behind it to pass over it. Asks for no memory, and changes nothing. */
+bindingclay_answer bindingclay_next_ready(bindingclay clay, uint64_t from);
+
 /* Tells how many bytes the call that waits under a number has taken. Value: of a write, how many of its bytes are in the pipe or were read
  * from it; of any other call, 0. If no call of this number waits, the answer is BINDINGCLAY_NO_CALL. Asks for no memory. */
 bindingclay_answer bindingclay_taken(bindingclay clay, uint64_t number);
@@ -447,6 +452,83 @@ bindingclay_answer bindingclay_get_pipe_sz(bindingclay clay, uint32_t pid, int32
  * - EBUSY: the pipe holds more bytes than that number. A packet counts as 4,096 bytes, however few it has. */
 bindingclay_answer bindingclay_set_pipe_sz(bindingclay clay, uint32_t pid, int32_t fd, uint32_t size);
 
+/* ---- What is there ----
+ *
+ * These calls tell what a kernel has. They make no step, change nothing, and ask for no memory. */
+
+/* What a descriptor or a name stands for: the kind of bindingclay_node_facts. */
+enum bindingclay_node_kind {
+    /* A pipe that is a byte queue, with a name or without. */
+    BINDINGCLAY_PIPE = 1,
+    /* A packet pipe. */
+    BINDINGCLAY_PACKET_PIPE = 2,
+    /* A regular file. */
+    BINDINGCLAY_FILE = 3
+};
+
+/* What is told of a pipe or a file. */
+typedef struct {
+    /* Its key, as st_ino of fstat is one. Two descriptors or names have the same kind and the same key exactly if they stand for the same
+     * pipe or file. A pipe or a file keeps its key as long as it lives. Then another one may get that key. */
+    uint64_t key;
+    /* How many bytes a pipe holds, or how many a file has, as st_size of fstat. */
+    uint64_t size;
+    /* A number of enum bindingclay_node_kind. */
+    uint32_t kind;
+} bindingclay_node_facts;
+
+/* What a call is that waits: the kind of bindingclay_waiting_facts. */
+enum bindingclay_call_kind {
+    BINDINGCLAY_READ = 1,
+    BINDINGCLAY_WRITE = 2,
+    /* The open of a FIFO. */
+    BINDINGCLAY_OPEN = 3,
+    BINDINGCLAY_SPLICE = 4,
+    BINDINGCLAY_TEE = 5,
+    BINDINGCLAY_POLL = 6
+};
+
+/* What is told of a call that waits. Its descriptors are those that it began with. By now they may be closed, or name something else: the
+ * call goes on with what they named then. */
+typedef struct {
+    /* A number of enum bindingclay_call_kind. */
+    uint32_t kind;
+    /* The process that began it. */
+    uint32_t pid;
+    /* The descriptor of a read or a write, that from which a splice or a tee takes, or that of the first entry of a poll, which may be below
+     * 0. Of an open, and of a poll without entries, it is -1. */
+    int32_t first;
+    /* The descriptor to which a splice or a tee gives. Of any other call it is -1. */
+    int32_t second;
+} bindingclay_waiting_facts;
+
+/* In how many segments, each of 4,096 bytes of memory, a kernel keeps the bytes of its pipes and files. */
+typedef struct {
+    /* Those in which bytes are. If there is no process and no name, there are none. */
+    uint64_t used;
+    /* Those that are kept for further bytes: at most 256. */
+    uint64_t spare;
+} bindingclay_segment_use;
+
+/* Tells how many bytes a pipe holds, by either end (pipe(7), FIONREAD). Value: how many; of a packet pipe, the bytes of all its packets. Fails
+ * with EBADF if fd isn't open on a pipe. */
+bindingclay_answer bindingclay_held(bindingclay clay, uint32_t pid, int32_t fd);
+
+/* Tells what a descriptor stands for (fstat), and writes it to *facts if it is done. Fails with EBADF if fd isn't open. */
+bindingclay_answer bindingclay_fd_facts(bindingclay clay, uint32_t pid, int32_t fd, bindingclay_node_facts *facts);
+
+/* Tells what a name stands for (stat), and writes it to *facts if it is done. It opens nothing, and needs no process. Fails with ENOENT if the
+ * name stands for nothing. */
+bindingclay_answer bindingclay_name_facts(
+    bindingclay clay, const uint8_t *name, size_t size, bindingclay_node_facts *facts);
+
+/* Tells of the call that waits under a number, and writes it to *facts if it is done. If no call of this number waits, the answer is
+ * BINDINGCLAY_NO_CALL. */
+bindingclay_answer bindingclay_call_facts(bindingclay clay, uint64_t number, bindingclay_waiting_facts *facts);
+
+/* Tells in how many segments a kernel keeps bytes, and writes it to *segments. */
+void bindingclay_stats(bindingclay clay, bindingclay_segment_use *segments);
+
 /* ---- Buffers of no bytes ---- */
 
 /* The functions of the library take no null pointer. So in C and C++ the calls with a buffer go through the functions below. They put
@@ -502,6 +584,12 @@ static inline bindingclay_answer bindingclay_c_file_bytes(
     return bindingclay_file_bytes(clay, bindingclay_c_bytes(name, size), size, bindingclay_c_room(into, room), room);
 }
 
+static inline bindingclay_answer bindingclay_c_name_facts(
+    bindingclay clay, const uint8_t *name, size_t size, bindingclay_node_facts *facts)
+{
+    return bindingclay_name_facts(clay, bindingclay_c_bytes(name, size), size, facts);
+}
+
 static inline bindingclay_answer bindingclay_c_read(
     bindingclay clay, uint32_t pid, int32_t fd, uint8_t *into, size_t size)
 {
@@ -526,6 +614,7 @@ static inline bindingclay_answer bindingclay_c_poll(
 #define bindingclay_open_name bindingclay_c_open_name
 #define bindingclay_unlink bindingclay_c_unlink
 #define bindingclay_file_bytes bindingclay_c_file_bytes
+#define bindingclay_name_facts bindingclay_c_name_facts
 #define bindingclay_read bindingclay_c_read
 #define bindingclay_write bindingclay_c_write
 #define bindingclay_poll bindingclay_c_poll

@@ -123,6 +123,63 @@ impl PollEntry {
     }
 }
 
+/// What a descriptor or a name stands for.
+#[derive(Clone, Copy, Debug, PartialEq, Eq, Hash)]
+pub enum NodeKind {
+    /// A pipe that is a byte queue, with a name or without.
+    Pipe,
+    /// A packet pipe.
+    PacketPipe,
+    /// A regular file.
+    File,
+}
+
+/// What is told of a pipe or a file.
+#[derive(Clone, Copy, Debug, PartialEq, Eq)]
+pub struct NodeFacts {
+    pub kind: NodeKind,
+    /// How many bytes a pipe holds, or how many a file has.
+    pub size: u64,
+    /// Its key. Two descriptors or names have the same kind and the same key exactly if they stand for the same pipe or file. It keeps its key
+    /// as long as it lives. Then another one may get that key.
+    pub key: u64,
+}
+
+/// What a call is that waits.
+#[derive(Clone, Copy, Debug, PartialEq, Eq, Hash)]
+pub enum CallKind {
+    Read,
+    Write,
+    /// The open of a FIFO.
+    Open,
+    Splice,
+    Tee,
+    Poll,
+}
+
+/// What is told of a call that waits. Its descriptors are those that it began with, whatever they name by now.
+#[derive(Clone, Copy, Debug, PartialEq, Eq)]
+pub struct CallFacts {
+    pub kind: CallKind,
+    /// The process that began it.
+    pub pid: Pid,
+    /// The descriptor of a read or a write, that from which a splice or a tee takes, or that of the first entry of a poll, which may be below 0.
+    /// Of an open, and of a poll without entries, it is -1.
+    pub first: Fd,
+    /// The descriptor to which a splice or a tee gives. Of any other call it is -1.
+    pub second: Fd,
+}
+
+/// In how many segments, each of 4,096 bytes of memory, a kernel keeps the bytes of its pipes and files.
+#[repr(C)]
+#[derive(Clone, Copy, Debug, Default, PartialEq, Eq)]
+pub struct SegmentUse {
+    /// Those in which bytes are. If there is no process and no name, there are none.
+    pub used: u64,
+    /// Those that are kept for further bytes: at most 256.
+    pub spare: u64,
+}
+
 /// What a resumed or interrupted call answers: a count, or of an open a descriptor.
 #[derive(Clone, Copy, Debug, PartialEq, Eq)]
 pub struct Done {
@@ -257,6 +314,54 @@ struct RawAnswer {
     sigpipe: bool,
 }
 
+/// What is told of a pipe or a file, as C has it.
+#[repr(C)]
+#[derive(Default)]
+struct RawNode {
+    key: u64,
+    size: u64,
+    kind: u32,
+}
+
+impl RawNode {
+    fn facts(self) -> NodeFacts {
+        let RawNode { key, size, kind } = self;
+        let kind = match kind {
+            1 => NodeKind::Pipe,
+            2 => NodeKind::PacketPipe,
+            3 => NodeKind::File,
+            _ => unreachable!("a pipe or file of kind {kind}, of which this version knows nothing"),
+        };
+        NodeFacts { kind, size, key }
+    }
+}
+
+/// What is told of a call that waits, as C has it.
+#[repr(C)]
+#[derive(Default)]
+struct RawCall {
+    kind: u32,
+    pid: u32,
+    first: i32,
+    second: i32,
+}
+
+impl RawCall {
+    fn facts(self) -> CallFacts {
+        let RawCall { kind, pid, first, second } = self;
+        let kind = match kind {
+            1 => CallKind::Read,
+            2 => CallKind::Write,
+            3 => CallKind::Open,
+            4 => CallKind::Splice,
+            5 => CallKind::Tee,
+            6 => CallKind::Poll,
+            _ => unreachable!("a call of kind {kind}, of which this version knows nothing"),
+        };
+        CallFacts { kind, pid, first, second }
+    }
+}
+
 unsafe extern "C" {
     fn free(block: *mut c_void);
     fn bindingclay_open_words(limits: *const u64, count: usize, kernel: *mut *mut c_void, budget: *mut *mut c_void) -> bool;
@@ -270,6 +375,7 @@ unsafe extern "C" {
     fn bindingclay_resume_poll(clay: Handle, number: u64, entries: *mut PollEntry, count: usize) -> RawAnswer;
     fn bindingclay_can_progress(clay: Handle, number: u64) -> bool;
     fn bindingclay_taken(clay: Handle, number: u64) -> RawAnswer;
+    fn bindingclay_next_ready(clay: Handle, from: u64) -> RawAnswer;
     fn bindingclay_interrupt(clay: Handle, number: u64) -> RawAnswer;
     fn bindingclay_owner(clay: Handle, number: u64) -> RawAnswer;
     fn bindingclay_pipe(clay: Handle, pid: u32, nonblock: bool, ends: *mut Ends) -> RawAnswer;
@@ -303,6 +409,11 @@ unsafe extern "C" {
     fn bindingclay_set_fl(clay: Handle, pid: u32, fd: i32, flags: u32) -> RawAnswer;
     fn bindingclay_get_pipe_sz(clay: Handle, pid: u32, fd: i32) -> RawAnswer;
     fn bindingclay_set_pipe_sz(clay: Handle, pid: u32, fd: i32, size: u32) -> RawAnswer;
+    fn bindingclay_held(clay: Handle, pid: u32, fd: i32) -> RawAnswer;
+    fn bindingclay_fd_facts(clay: Handle, pid: u32, fd: i32, facts: *mut RawNode) -> RawAnswer;
+    fn bindingclay_name_facts(clay: Handle, name: *const u8, size: usize, facts: *mut RawNode) -> RawAnswer;
+    fn bindingclay_call_facts(clay: Handle, number: u64, facts: *mut RawCall) -> RawAnswer;
+    fn bindingclay_stats(clay: Handle, segments: *mut SegmentUse);
 }
 
 impl RawAnswer {
@@ -361,7 +472,7 @@ impl RawAnswer {
 }
 
 /// The version that this wrapper is of, as `version`.
-pub const VERSION: u32 = 5_000;
+pub const VERSION: u32 = 6_000;
 
 /// The version of the library: 1,000,000 times the first number, 1,000 times the second, and the third.
 pub fn version() -> u32 {
@@ -496,6 +607,12 @@ impl Clay {
     /// is `Parked`, and moves no byte. If no call of this number waits, it is true: a try is `NoCall`.
     pub fn can_progress(&self, call: &ParkedCall) -> bool {
         unsafe { bindingclay_can_progress(self.0, call.0) }
+    }
+
+    /// The least number, `from` or above, of a call that waits and can get on; `None` if no call from there on can. Resume what it answers
+    /// for 0 until it is `None`: then no call waits that could go on.
+    pub fn next_ready(&self, from: u64) -> Option<u64> {
+        unsafe { bindingclay_next_ready(self.0, from) }.value().ok()
     }
 
     /// How many bytes a call that waits has taken: of a write those that are in the pipe or were read from it, and of any other call 0.
@@ -670,5 +787,42 @@ impl Clay {
 
     pub fn set_pipe_sz(&mut self, pid: Pid, fd: Fd, size: u32) -> Result<u32> {
         unsafe { bindingclay_set_pipe_sz(self.0, pid, fd, size) }.number()
+    }
+
+    /// How many bytes the pipe holds that a descriptor is open on, by either end. A descriptor that isn't open on a pipe is EBADF.
+    pub fn held(&self, pid: Pid, fd: Fd) -> Result<u32> {
+        unsafe { bindingclay_held(self.0, pid, fd) }.number()
+    }
+
+    /// What a descriptor stands for. One that isn't open is EBADF.
+    pub fn fd_facts(&self, pid: Pid, fd: Fd) -> Result<NodeFacts> {
+        let mut node = RawNode::default();
+        unsafe { bindingclay_fd_facts(self.0, pid, fd, &mut node) }.nothing()?;
+        Ok(node.facts())
+    }
+
+    /// What a name stands for, which isn't opened. If it stands for nothing it is ENOENT.
+    pub fn name_facts(&self, name: &[u8]) -> Result<NodeFacts> {
+        let mut node = RawNode::default();
+        unsafe { bindingclay_name_facts(self.0, name.as_ptr(), name.len(), &mut node) }.nothing()?;
+        Ok(node.facts())
+    }
+
+    /// What a call is that waits, whose it is, and the descriptors that it began with.
+    ///
+    /// # Errors
+    ///
+    /// `NoCall` says that no call of its number waits.
+    pub fn call_facts(&self, call: &ParkedCall) -> Result<CallFacts> {
+        let mut facts = RawCall::default();
+        unsafe { bindingclay_call_facts(self.0, call.0, &mut facts) }.nothing()?;
+        Ok(facts.facts())
+    }
+
+    /// In how many segments the kernel keeps bytes.
+    pub fn stats(&self) -> SegmentUse {
+        let mut segments = SegmentUse::default();
+        unsafe { bindingclay_stats(self.0, &mut segments) }
+        segments
     }
 }

@@ -63,9 +63,11 @@ fn pipes(checks: &mut Checks) {
     checks.is(clay.owner(&call(2)), Err(NotDone::NoCall));
     checks.is((clay.can_progress(&call(1)), clay.taken(&call(1))), (false, Ok(0)));
     checks.is((clay.can_progress(&call(2)), clay.taken(&call(2))), (true, Err(NotDone::NoCall)));
+    checks.is(clay.next_ready(0), None);
     checks.is(clay.resume_read(call(1), &mut into), parked(1));
     checks.is(clay.resume(call(1)), parked(1));
     checks.is(clay.write(1, 1, b"from rust"), done(9));
+    checks.is((clay.next_ready(0), clay.next_ready(1), clay.next_ready(2)), (Some(1), Some(1), None));
     checks.is((clay.can_progress(&call(1)), clay.taken(&call(1))), (true, Ok(0)));
     checks.is(clay.resume_of(2, 1), Err(NotDone::NoCall));
     checks.is(clay.resume_read_of(2, 1, &mut into), Err(NotDone::NoCall));
@@ -93,6 +95,7 @@ fn pipes(checks: &mut Checks) {
     checks.is(clay.fork(1), Ok(2));
     checks.is(clay.close(1, 0), Ok(()));
     checks.is(clay.exit(2), Ok(()));
+    checks.is((clay.next_ready(0), clay.next_ready(3)), (Some(2), None));
     // no reader is left, and 65,536 bytes went in
     checks.is(clay.resume(call(2)), done(Done { value: 65_536, sigpipe: true }));
     checks.is(clay.write(1, 1, b"a"), Err(NotDone::Fault(EPIPE)));
@@ -297,6 +300,38 @@ fn limits(checks: &mut Checks) {
     checks.is(clay.write(1, 1, &[0; 4_096]), done(4_096));
 }
 
+fn facts(checks: &mut Checks) {
+    let mut clay = with_process();
+    checks.is(clay.pipe(1, false), Ok(Ends { read_end: 0, write_end: 1 }));
+    checks.is(clay.pipe2(1, O_DIRECT), Ok(Ends { read_end: 2, write_end: 3 }));
+    checks.is(clay.open_name(1, b"f", O_RDWR | O_CREAT), done(4));
+    checks.is(clay.stats(), SegmentUse { used: 0, spare: 0 });
+    checks.is(clay.write(1, 4, b"hello"), done(5));
+    checks.is(clay.stats().used, 1);
+    checks.is(clay.write(1, 3, b"abc"), done(3));
+    checks.is(clay.held(1, 3), Ok(3));
+    checks.is(clay.held(1, 4), Err(NotDone::Fault(EBADF)));
+    checks.is(clay.held(2, 3), Err(NotDone::NoProcess));
+    let kind_and_size = |facts: NodeFacts| (facts.kind, facts.size);
+    checks.is(clay.fd_facts(1, 0).map(kind_and_size), Ok((NodeKind::Pipe, 0)));
+    checks.is(clay.fd_facts(1, 2).map(kind_and_size), Ok((NodeKind::PacketPipe, 3)));
+    checks.is(clay.fd_facts(1, 4).map(kind_and_size), Ok((NodeKind::File, 5)));
+    checks.is(clay.fd_facts(1, 0), clay.fd_facts(1, 1));
+    checks.is(clay.fd_facts(1, 4), clay.name_facts(b"f"));
+    checks.is(clay.fd_facts(1, 5), Err(NotDone::Fault(EBADF)));
+    checks.is(clay.fd_facts(2, 0), Err(NotDone::NoProcess));
+    checks.is(clay.name_facts(b"g"), Err(NotDone::Fault(ENOENT)));
+    checks.is(clay.tee(1, 0, 1, 9, 0), Err(NotDone::Fault(EINVAL)));
+    checks.is(clay.splice(1, (0, None), (4, None), 9, 0), parked(1));
+    checks.is(clay.poll(1, &mut [PollEntry::new(0, POLLIN)], true), parked(2));
+    checks.is(clay.mkfifo(1, b"p"), Ok(()));
+    checks.is(clay.open_name(1, b"p", O_RDONLY), parked(3));
+    checks.is(clay.call_facts(&call(1)), Ok(CallFacts { kind: CallKind::Splice, pid: 1, first: 0, second: 4 }));
+    checks.is(clay.call_facts(&call(2)), Ok(CallFacts { kind: CallKind::Poll, pid: 1, first: 0, second: -1 }));
+    checks.is(clay.call_facts(&call(3)), Ok(CallFacts { kind: CallKind::Open, pid: 1, first: -1, second: -1 }));
+    checks.is(clay.call_facts(&call(4)), Err(NotDone::NoCall));
+}
+
 /// A kernel that moves to another thread, and one that two threads share under a lock.
 fn threads(checks: &mut Checks) {
     let clay = with_process();
@@ -351,6 +386,7 @@ fn main() {
     descriptors(&mut checks);
     names(&mut checks);
     limits(&mut checks);
+    facts(&mut checks);
     threads(&mut checks);
     std::process::exit(if checks.failed == 0 { 0 } else { 1 });
 }

@@ -14,11 +14,17 @@ static_assert(sizeof(bindingclay_pollfd) == sizeof(pollfd) && offsetof(bindingcl
         && offsetof(bindingclay_pollfd, revents) == offsetof(pollfd, revents), "an entry of a poll");
 static_assert(sizeof(bindingclay_limits) == 48 && offsetof(bindingclay_limits, waiting_calls) == 32
         && offsetof(bindingclay_limits, capacity) == 40 && offsetof(bindingclay_limits, file_max) == 44, "limits");
+static_assert(sizeof(bindingclay_node_facts) == 24 && offsetof(bindingclay_node_facts, size) == 8
+        && offsetof(bindingclay_node_facts, kind) == 16, "facts of a pipe or a file");
+static_assert(sizeof(bindingclay_waiting_facts) == 16 && offsetof(bindingclay_waiting_facts, pid) == 4
+        && offsetof(bindingclay_waiting_facts, first) == 8 && offsetof(bindingclay_waiting_facts, second) == 12, "facts of a call");
+static_assert(sizeof(bindingclay_segment_use) == 16 && offsetof(bindingclay_segment_use, spare) == 8, "segments");
 
 int main()
 {
     bindingclay clay{};
     bindingclay_ends ends{};
+    bindingclay_node_facts node{};
     if (!bindingclay_open(1, BINDINGCLAY_MOST_FILE_BYTES, &clay.kernel))
         return 1;
     bool as_wanted = bindingclay_start(clay).value == 1
@@ -26,6 +32,8 @@ int main()
         && bindingclay_pipe2(clay, 1, BINDINGCLAY_O_DIRECT, &ends).kind == BINDINGCLAY_DONE
         && bindingclay_get_fl(clay, 1, ends.write_end).value == (01 | BINDINGCLAY_O_DIRECT)
         && bindingclay_can_progress(clay, 1) && bindingclay_taken(clay, 1).kind == BINDINGCLAY_NO_CALL
+        && bindingclay_next_ready(clay, 0).kind == BINDINGCLAY_NO_CALL
+        && bindingclay_held(clay, 1, ends.read_end).value == 0 && bindingclay_name_facts(clay, nullptr, 0, &node).error == 2
         && bindingclay_splice(clay, 1, ends.write_end, nullptr, ends.read_end, nullptr, 1, 0).error == 9;
     bindingclay_free(clay);
     bindingclay_limits limits = BINDINGCLAY_LIMITS;

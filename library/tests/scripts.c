@@ -94,6 +94,8 @@ static enum told resume(uint64_t call_number)
     long granted = granted_before;
     bool can = bindingclay_can_progress(clay, call_number);
     bindingclay_answer taken = bindingclay_taken(clay, call_number);
+    bindingclay_answer next = bindingclay_next_ready(clay, call_number);
+    HOLDS((next.kind == BINDINGCLAY_DONE && next.value == call_number) == (can && taken.kind == BINDINGCLAY_DONE));
     HOLDS(granted_before == granted);
     if (call->told == MASKS) {
         entry_count = call->entry_count;

@@ -343,18 +343,24 @@ static void owners_are_told(void)
             OTHER(bindingclay_owner(clay, number), BINDINGCLAY_NO_CALL);
 }
 
-/* Tries each call again that can get on, until none can. Then none of those that wait gets on. */
+/* Just the calls that wait and can get on are told, one after another. */
+static void tells_all_ready(void)
+{
+    bindingclay_answer next = bindingclay_next_ready(clay, 0);
+    for (uint64_t number = first_number; number < next_number; number++)
+        if (owner_of[number] != 0 && bindingclay_can_progress(clay, number)) {
+            DONE(next, number);
+            next = bindingclay_next_ready(clay, number + 1);
+        }
+    OTHER(next, BINDINGCLAY_NO_CALL);
+}
+
+/* Tries each call again that can get on, until none is told. Then none of those that wait gets on. */
 static void try_all(void)
 {
-    bool was_tried = true;
-    while (was_tried) {
-        was_tried = false;
-        for (uint64_t number = first_number; number < next_number; number++)
-            if (owner_of[number] != 0 && bindingclay_can_progress(clay, number)) {
-                resume(number);
-                was_tried = true;
-            }
-    }
+    bindingclay_answer next;
+    while ((next = bindingclay_next_ready(clay, 0)).kind == BINDINGCLAY_DONE)
+        resume(next.value);
     for (uint64_t number = first_number; number < next_number; number++)
         if (owner_of[number] != 0) {
             resume(number);
@@ -402,6 +408,8 @@ static void storm(long calls)
         }
         if (turn % 50 == 0)
             owners_are_told();
+        if (turn % 10 == 0)
+            tells_all_ready();
         if (turn % 20 == 0)
             try_all();
     }

@@ -36,9 +36,9 @@ CHECKS = _modules("checks/", "refusing testing") | {
 # A place may be that of a crate that isn't there, as a crate may come or go with another change.
 PLACES = LIBRARY | SCRIPT | EXPORTS | CHECKS
 
-# Crates that the edition leaves out: the threads, whose promise is a history that a proof speaks of, and the examples, which a test of
-# the package's own reads.
-LEFT_OUT = {"pl_history", "pl_locked", "pl_locked_checks", "pl_talk", "pl_examples"}
+# Crates that the edition leaves out: the threads, whose promise is a history that a proof speaks of, the examples, which a test of the
+# package's own reads, and an index that the kernel doesn't use yet.
+LEFT_OUT = {"pl_history", "pl_locked", "pl_locked_checks", "pl_talk", "pl_examples", "pl_waiters"}
 
 # Files of which the edition has a form of its own, in `rust/replaced`: allocators, which in Rust only permit.
 REPLACED = {

@@ -15,7 +15,7 @@ use Rattle.pl_state.specs.Makes.{Stands, WantsMemory}
 use Rattle.pl_state.specs.Parking.{ReadWaits}
 use Rattle.pl_kernel.specs.declared.kernel.buffers.Resumed.{Resumed as KernelResumed}
 use Rattle.pl_kernel.specs.declared.kernel.buffers.Resumed.TheVariants as kernel
-use Rattle.pl_kernel.specs.Progress.{ready_entries}
+use Rattle.pl_kernel.specs.Progress.{ready_entries, TellsNextReady}
 use Rattle.pl_kernel.specs.Taken.{owner_by, taken_by}
 use Rattle.pl_numbers.specs.declared.answer.Answer.{Answer}
 use Rattle.pl_polls.specs.declared.entries.PollEntry.{PollEntry}
@@ -122,6 +122,10 @@ Owns k number a = (s : State InBudget) → Stands k s → a ≡ number_answer (o
 -- so are the bytes that it has taken
 abbrev pub Takes : Contents InBudget → ℕ → Answer → Type 0
 Takes k number a = (s : State InBudget) → Stands k s → a ≡ number_answer (taken_by s number)
+
+-- The answer tells the least number, from one on, of a parked call that can get on, or that there is none.
+abbrev pub TellsNext : Contents InBudget → ℕ → Answer → Type 0
+TellsNext k from a = (told : Option ℕ) × (a ≡ number_answer told) × TellsNextReady k from told
 
 -- Bytes were copied to the front of the caller's; or there is too little room for them, and the answer says how many they are.
 abbrev pub Copies : (is_short : Bool) → List ℕ → Answer → (old new : List ℕ) → Type 0

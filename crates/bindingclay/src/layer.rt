@@ -1,4 +1,5 @@
 //! What lies behind a handle: a kernel in the memory of `malloc`, within a budget.
+mod facts;
 mod memory;
 mod names;
 mod transfers;
@@ -15,6 +16,7 @@ ghost use Rattle.pl_numbers.specs.Flags.{pipe_flags_of_bits};
 ghost use Rattle.pl_numbers.specs.Places.{whence_of_number};
 ghost use Rattle.bindingclay.specs.Made.{Makes, Wants, Replied};
 
+pub use facts::{SegmentUse, ToldCall, ToldNode};
 pub use memory::{Memory, address};
 use pl_budget::Budget;
 use pl_kernel::{Kernel, NoMemory};

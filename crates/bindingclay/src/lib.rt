@@ -8,6 +8,7 @@
 
 mod bytes;
 mod descriptors;
+mod facts;
 mod handle;
 mod layer;
 mod life;

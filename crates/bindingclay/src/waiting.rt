@@ -3,7 +3,7 @@ ghost use Rattle.std.specs.Prelude.{◌≡◌, ◌<◌, length};
 ghost use Rattle.pl_numbers.specs.Answers.{said, plain};
 ghost use Rattle.pl_kernel.specs.Progress.{TellsProgress, OrWaitsInVain, ready_entries};
 ghost use Rattle.bindingclay.specs.Heap.{InBudget};
-ghost use Rattle.bindingclay.specs.Made.{Says, Wants, Resumed, Gathers, Notes, Owns, Takes};
+ghost use Rattle.bindingclay.specs.Made.{Says, Wants, Resumed, Gathers, Notes, Owns, Takes, TellsNext};
 
 use crate::handle::Handle;
 use pl_kernel::PollEntry;
@@ -78,6 +78,18 @@ pub extern "C" fn bindingclay_can_progress(handle: Handle, number: u64) -> bool
     let can = layer.can_progress(number);
     let _kept = Box::into_raw(layer);
     can
+}
+
+/// Tells the least number, `from` or above, of a parked call that can get on: the value is that number. If no call from there on can, the
+/// answer is that there is no such call.
+#[unsafe(no_mangle)]
+pub extern "C" fn bindingclay_next_ready(handle: Handle, from: u64) -> Answer
+    ensures { TellsNext handle.layer.kernel from result }
+{
+    let layer = handle.into_box();
+    let answer = layer.next_ready(from);
+    let _kept = Box::into_raw(layer);
+    answer
 }
 
 /// Ends the parked call of a number, as a signal does (POSIX.1-2017, Interrupted functions: `EINTR`).

@@ -8,9 +8,13 @@ mod kernel;
 mod sizes;
 mod stats;
 mod steps;
+mod told_calls;
+mod told_nodes;
 
 pub use kernel::{Kernel, Resumed};
 pub use pl_polls::{PollEntry, PollReply};
 pub use pl_state::NoMemory;
 pub use pl_transfers::{ReadReply, WriteReply};
 pub use stats::Stats;
+pub use told_calls::{CallFacts, CallKind};
+pub use told_nodes::{NodeFacts, NodeKind};

@@ -24,3 +24,5 @@ pub mod LimitExamples
 pub mod VersionExamples
 -- The small examples of calls that can get on, computed from the definitions.
 pub mod WakingExamples
+-- The small examples of what steps touch, computed from the definitions.
+pub mod TouchingExamples

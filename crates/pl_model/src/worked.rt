@@ -11,6 +11,7 @@ ghost use Rattle.pl_model.specs.WorkedSpliceLines.{LinesOfSplices};
 ghost use Rattle.pl_model.specs.WorkedStream.{RunsInPieces};
 ghost use Rattle.pl_model.specs.WorkedVersions.{PiecesOfBytes, BytesByRuns, LinesWithPackets, FirstLines, ScriptOfVersion2};
 ghost use Rattle.pl_model.specs.WorkedWaking.{ReadGetsOn, SmallWriteGetsOn, LargeWriteGetsOn, PollGetsOn, OpenGetsOn, SpliceGetsOn, TeeGetsOn};
+ghost use Rattle.pl_model.specs.WorkedTouching.{PipesAreTouched, FileIsTouched, FifoIsTouched};
 ghost use Rattle.pl_model.specs.WorkedSplice.{SharedTail, BytesOfTheMoment, SpliceToAnOffset, SplicesAndTeesRefused, MovesThatWait, SplicesAtTheEndOfAFile, PiecesOfMoves};
 
 use std::alloc::Allocator;
@@ -111,6 +112,13 @@ pub fn waking<A: Allocator>()
     ensures open { OpenGetsOn A }
     ensures splice { SpliceGetsOn A }
     ensures tee { TeeGetsOn A }
+{}
+
+/// Which pipes and files a step touches.
+pub fn touching<A: Allocator>()
+    ensures pipes { PipesAreTouched A }
+    ensures file { FileIsTouched A }
+    ensures fifo { FifoIsTouched A }
 {}
 
 /// Packet pipes.

@@ -21,7 +21,7 @@ module _ {X : Type 0} where
   joined-rise low next n (Some x) es l r = (l, r)
 
   module _ (next n : ℕ) (es : Map ℕ X) (r : Rise (n + 1) next es) where
-    joined-get : (o : Option X) → get nat_eq (joined n o es) n ≡ o
+    pub joined-get : (o : Option X) → get nat_eq (joined n o es) n ≡ o
     joined-get None = get-low n (n + 1) next es r (omega arith)
     joined-get (Some x) = get_first n (n, x) es refl
 
@@ -34,7 +34,7 @@ module _ {X : Type 0} where
     joined-put (Some z) x y h = put_first n (n, z) es y refl
 
   module _ (n m : ℕ) (es : Map ℕ X) (other : n ≢ m) where
-    other-get : (o : Option X) → get nat_eq (joined n o es) m ≡ get nat_eq es m
+    pub other-get : (o : Option X) → get nat_eq (joined n o es) m ≡ get nat_eq es m
     other-get None = refl
     other-get (Some x) = get_later m (n, x) es other
 

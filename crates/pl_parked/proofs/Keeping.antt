@@ -7,12 +7,13 @@ use Rattle.std.proofs.lemmas.List.{set-get_or}
 use Rattle.pl_model.specs.Map.{Map, get, put, without}
 use Rattle.pl_parked.specs.declared.call.ParkedCall.{ParkedCall}
 use Rattle.pl_parked.specs.declared.opens.WaitingOpen.{WaitingOpen}
-use Rattle.pl_parked.specs.declared.owners.OwnCall.{OwnCall}
+use Rattle.pl_parked.specs.declared.groups.GroupedCall.{GroupedCall}
 use Rattle.pl_parked.specs.declared.parked.Parked.TheInside.{Inside}
 use Rattle.pl_parked.specs.Calls.{Calls, Rise, number_at}
 use Rattle.pl_parked.specs.CallsView.{view_of, IsSound}
 use Rattle.pl_parked.specs.Entries.{calls_in, is_empty}
-use Rattle.pl_parked.specs.Owned.{owns, is_own, ListsAll}
+use Rattle.pl_parked.specs.InGroups.{has_call, is_call_in}
+use Rattle.pl_parked.specs.Owned.{ListsAll}
 use Rattle.pl_parked.specs.Waiting.{is_in, is_named, waiting_open, Lists}
 use Rattle.pl_parked.proofs.EntryLemmas.{calls-rise, no-entry, get-call, call-at, emptied-calls, changed-calls, empties-set, empties-push, calls-push, full, full-calls, full-rise, full-empties}
 use Rattle.pl_parked.proofs.Listed.{opens-more, opens-same, opens-fewer}
@@ -21,7 +22,7 @@ use Rattle.pl_parked.proofs.Replacing.{replaces-push, replaces-pop, replaces-wit
 use Rattle.pl_parked.proofs.Rising.{Rise-push, Rise-pop, Rise-set, at-within, number_here, last_number, get-last}
 
 module _ {A : Type 0} where
-  module _ (es : Map ℕ (Option (ParkedCall A))) (empty next : ℕ) (owners : BTreeSet OwnCall) (opens : BTreeSet WaitingOpen) (s : IsSound es empty owners opens next) where
+  module _ (es : Map ℕ (Option (ParkedCall A))) (empty next : ℕ) (owners : BTreeSet GroupedCall) (opens : BTreeSet WaitingOpen) (s : IsSound es empty owners opens next) where
     pub keeps-full : IsSound (full es) 0 owners opens next
     keeps-full = record {
       rise = full-rise 0 next es s.rise;
@@ -31,11 +32,11 @@ module _ {A : Type 0} where
     }
 
     -- another set with the same calls
-    pub keeps-own : (same : BTreeSet OwnCall) → ((key : OwnCall) → owns same key ≡ owns owners key) → IsSound es empty same opens next
+    pub keeps-own : (same : BTreeSet GroupedCall) → ((key : GroupedCall) → has_call same key ≡ has_call owners key) → IsSound es empty same opens next
     keeps-own same is = record { rise = s.rise; empty_ones = s.empty_ones; owned = λ key. is key ∙ s.owned key; listed = s.listed }
 
     -- a call that is added to the set
-    module _ (x : ParkedCall A) (more : BTreeSet OwnCall) (own : (key : OwnCall) → owns more key ≡ (is_own x.pid next key || owns owners key)) where
+    module _ (x : ParkedCall A) (more : BTreeSet GroupedCall) (own : (key : GroupedCall) → has_call more key ≡ (is_call_in x.pid next key || has_call owners key)) where
       rises : Rise 0 next (calls_in es)
       rises = calls-rise 0 next es s.rise
 
@@ -53,7 +54,7 @@ module _ {A : Type 0} where
       }
 
       -- it is removed again, and the other set has what it had
-      pub keeps-undone : (back : BTreeSet OwnCall) (new : BTreeSet WaitingOpen) → ((key : OwnCall) → owns back key ≡ (not (is_own x.pid next key) && owns more key)) → ((key : WaitingOpen) → is_in new key ≡ is_in opens key)
+      pub keeps-undone : (back : BTreeSet GroupedCall) (new : BTreeSet WaitingOpen) → ((key : GroupedCall) → has_call back key ≡ (not (is_call_in x.pid next key) && has_call more key)) → ((key : WaitingOpen) → is_in new key ≡ is_in opens key)
           → IsSound es empty back new next
       keeps-undone back new fewer same = record {
         rise = s.rise;
@@ -87,7 +88,7 @@ pub record Found (A : Type 0) : Type 0 where
   pub entries : Map ℕ (Option (ParkedCall A))
   pub empty : ℕ
   pub next : ℕ
-  pub owners : BTreeSet OwnCall
+  pub owners : BTreeSet GroupedCall
   pub opens : BTreeSet WaitingOpen
   pub number : ℕ
   pub place : ℕ
@@ -136,7 +137,7 @@ module _ {A : Type 0} (f : Found A) where
     pub leaves : calls_in (slice_set entries place (entry.0, None)) ≡ without nat_eq (calls_in entries) number
     leaves = ap (λ m. calls_in (slice_set entries place (m, None))) numbered ∙ emptied-calls number 0 next place entries sound.rise at
 
-    pub keeps-emptied : (fewer : BTreeSet OwnCall) (new : BTreeSet WaitingOpen) → ((key : OwnCall) → owns fewer key ≡ (not (is_own x.pid number key) && owns owners key))
+    pub keeps-emptied : (fewer : BTreeSet GroupedCall) (new : BTreeSet WaitingOpen) → ((key : GroupedCall) → has_call fewer key ≡ (not (is_call_in x.pid number key) && has_call owners key))
         → ((key : WaitingOpen) → is_in new key ≡ (not (is_named (waiting_open number x) key) && is_in opens key))
         → IsSound (slice_set entries place (entry.0, None)) (empty + 1) fewer new next
     keeps-emptied fewer new own listed = record {
@@ -193,7 +194,7 @@ pub record Ended (A : Type 0) : Type 0 where
   pub entries : Map ℕ (Option (ParkedCall A))
   pub empty : ℕ
   pub next : ℕ
-  pub owners : BTreeSet OwnCall
+  pub owners : BTreeSet GroupedCall
   pub opens : BTreeSet WaitingOpen
   pub number : ℕ
   pub before : Map ℕ (Option (ParkedCall A))
@@ -229,7 +230,7 @@ module _ {A : Type 0} (f : Ended A) where
     pub last-call : calls_in entries ≡ calls_in before ++ (number, x) ∷ []
     last-call = ap calls_in ends-there ∙ calls-push before number x
 
-    pub keeps-popped : (fewer : BTreeSet OwnCall) (new : BTreeSet WaitingOpen) → ((key : OwnCall) → owns fewer key ≡ (not (is_own x.pid number key) && owns owners key))
+    pub keeps-popped : (fewer : BTreeSet GroupedCall) (new : BTreeSet WaitingOpen) → ((key : GroupedCall) → has_call fewer key ≡ (not (is_call_in x.pid number key) && has_call owners key))
         → ((key : WaitingOpen) → is_in new key ≡ (not (is_named (waiting_open number x) key) && is_in opens key)) → IsSound before empty fewer new number
     keeps-popped fewer new own listed =
         let there = subst (λ (z : Map ℕ (Option (ParkedCall A))). IsSound z empty owners opens next) ends-there sound in

@@ -1,5 +1,7 @@
 pub mod EntryLemmas
 pub mod Finding
+pub mod FromNumber
+pub mod InGroups
 pub mod Keeping
 pub mod Listed
 pub mod Meeting

@@ -11,19 +11,19 @@ use Rattle.pl_model.specs.Map.{Map, get}
 use Rattle.pl_parked.specs.Calls.{Rise, number_at}
 use Rattle.pl_parked.proofs.Rising.{number_here, get-absent, Rise-lower}
 
-order : (a b : ℕ) → (a < b) ⊎ (b ≤ a)
+pub order : (a b : ℕ) → (a < b) ⊎ (b ≤ a)
 order a b = ⊎_elim (λ e. inr (omega arith)) (λ o. ⊎_elim (λ l. inl l) (λ l. inr (omega arith)) o) (cases_order a b)
 
-higher : (x a b : ℕ) → a ≤ b → ordering_index (nat_cmp a x) ≤ ordering_index (nat_cmp b x)
+pub higher : (x a b : ℕ) → a ≤ b → ordering_index (nat_cmp a x) ≤ ordering_index (nat_cmp b x)
 higher x a b le = grind (arith, nat_tests)
 
 module _ {X : Type 0} where
-  all_high : (low next j : ℕ) (es : Map ℕ X) (d : ℕ × X) → Rise low next es → j < length es → low ≤ (slice_index_or es j d).0
+  pub all_high : (low next j : ℕ) (es : Map ℕ X) (d : ℕ × X) → Rise low next es → j < length es → low ≤ (slice_index_or es j d).0
   all_high low next j [] d r l = absurd (omega arith)
   all_high low next zero (e ∷ es) d r l = r.0
   all_high low next (suc j) (e ∷ es) d r l = all_high low next j es d (Rise-lower low (e.0 + 1) next es (let a = r.0 in omega arith) r.1) (omega arith)
 
-  rising : (low next i j : ℕ) (es : Map ℕ X) (d : ℕ × X) → Rise low next es → i ≤ j → j < length es → (slice_index_or es i d).0 ≤ (slice_index_or es j d).0
+  pub rising : (low next i j : ℕ) (es : Map ℕ X) (d : ℕ × X) → Rise low next es → i ≤ j → j < length es → (slice_index_or es i d).0 ≤ (slice_index_or es j d).0
   rising low next i j [] d r le l = absurd (omega arith)
   rising low next zero j (e ∷ es) d r le l = all_high e.0 next j (e ∷ es) d (let a : e.0 ≤ e.0 = omega arith in (a, r.1)) l
   rising low next (suc i) zero (e ∷ es) d r le l = absurd (omega arith)

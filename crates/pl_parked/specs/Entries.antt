@@ -1,5 +1,5 @@
 -- The entries in which calls stand: an entry is empty once its call ended.
-use Rattle.std.specs.Prelude.{ℕ, Bool, Option, option_map, is_some, not}
+use Rattle.std.specs.Prelude.{ℕ, ◌<◌, ◌≤◌, Bool, Option, option_map, is_some, not, length, slice_index_or}
 use Rattle.std.specs.List.{filter_map, count_by}
 use Rattle.pl_model.specs.Map.{Map}
 
@@ -14,3 +14,11 @@ is_empty e = not (is_some e.1)
 -- how many entries are empty
 abbrev pub empties : {X : Type 0} → Map ℕ (Option X) → ℕ
 empties entries = count_by is_empty entries
+
+-- the numbers of the first k entries are below n
+abbrev pub AllBelow : {X : Type 0} → (n k : ℕ) → Map ℕ X → Type 0
+AllBelow {X} n k entries = (j : ℕ) (d : ℕ × X) → j < k → (slice_index_or entries j d).0 < n
+
+-- those of the others aren't
+abbrev pub NoneBelow : {X : Type 0} → (n k : ℕ) → Map ℕ X → Type 0
+NoneBelow {X} n k entries = (j : ℕ) (d : ℕ × X) → k ≤ j → j < length entries → n ≤ (slice_index_or entries j d).0

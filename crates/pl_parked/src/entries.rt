@@ -1,7 +1,8 @@
 //! The entries in which parked calls stand, in rising order of number. An entry is empty once its call ended.
-ghost use Rattle.std.specs.Prelude.{◌≡◌, ℕ, IfSome, IfNone, Some, None, nat_eq};
+ghost use Rattle.std.specs.Prelude.{◌≡◌, ℕ, ◌≤◌, IfSome, IfNone, Some, None, nat_eq, length};
 ghost use Rattle.pl_model.specs.Map.{get};
 ghost use Rattle.pl_parked.specs.Calls.{Rise, number_at};
+ghost use Rattle.pl_parked.specs.Entries.{AllBelow, NoneBelow};
 
 use crate::call::ParkedCall;
 use std::alloc::Allocator;
@@ -15,4 +16,16 @@ pub(crate) fn place_of<A: Allocator>(entries: &[Entry<A>], number: u64) -> Optio
     ensures none { (next : ℕ) → Rise 0 next entries.now → IfNone result (get nat_eq entries.now number ≡ None) }
 {
     entries.binary_search_by_key(&number, |entry| entry.0).ok()
+}
+
+/// How many entries have a number below this one.
+pub(crate) fn count_below<A: Allocator>(entries: &[Entry<A>], number: u64) -> usize
+    ensures within { result ≤ length entries.now }
+    ensures below { (next : ℕ) → Rise 0 next entries.now → AllBelow number result entries.now }
+    ensures above { (next : ℕ) → Rise 0 next entries.now → NoneBelow number result entries.now }
+{
+    match entries.binary_search_by_key(&number, |entry| entry.0) {
+        Ok(place) => place,
+        Err(place) => place,
+    }
 }

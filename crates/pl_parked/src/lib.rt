@@ -6,10 +6,11 @@
 mod call;
 mod entries;
 mod fault;
+mod groups;
 mod opens;
-mod owners;
 mod parked;
 
 pub use call::ParkedCall;
 pub use fault::ParkFault;
+pub use groups::{GroupedCall, Groups};
 pub use parked::Parked;

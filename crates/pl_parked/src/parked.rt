@@ -8,10 +8,10 @@ ghost use Rattle.pl_parked.specs.Calls.{Rise, is_of_from};
 ghost use Rattle.pl_parked.specs.Meeting.{meets, all_marked};
 
 use crate::call::ParkedCall;
-use crate::entries::{Entry, place_of};
+use crate::entries::{Entry, count_below, place_of};
 use crate::fault::ParkFault;
+use crate::groups::Groups;
 use crate::opens::Opens;
-use crate::owners::Owners;
 use pl_model::numbers::LAST_CALL;
 use pl_model::{KeyList, Mode};
 use std::alloc::{Allocator, Global};
@@ -25,7 +25,7 @@ pub struct Parked<A: Allocator = Global> {
     /// How many entries are empty.
     empty: usize,
     /// All calls, by their processes.
-    owners: Owners<A>,
+    owners: Groups<A>,
     /// The calls that are opens of FIFOs which wait and weren't met.
     opens: Opens<A>,
     next: u64,
@@ -51,7 +51,7 @@ impl<A: Allocator + Copy> Parked<A> {
         Parked {
             entries: Vec::new(alloc),
             empty: 0,
-            owners: Owners::new(alloc),
+            owners: Groups::new(alloc),
             opens: Opens::new(alloc),
             next: first,
         }
@@ -74,11 +74,13 @@ impl<A: Allocator + Copy> Parked<A> {
             return Err(ParkFault::CallsSpent);
         }
         let number = self.next;
-        if self.entries.try_reserve(1).is_err() || self.owners.add(call.pid, number).is_err() {
+        if self.entries.try_reserve(1).is_err()
+            || self.owners.add(call.pid as u64, number).is_err()
+        {
             return Err(ParkFault::NoMemory);
         }
         if self.opens.list(&call, number).is_err() {
-            self.owners.remove(call.pid, number);
+            self.owners.remove(call.pid as u64, number);
             return Err(ParkFault::NoMemory);
         }
         self.entries.push_reserved((number, Some(call)));
@@ -120,7 +122,7 @@ impl<A: Allocator> Parked<A> {
         let (_, entry) = self.entries.pop().unwrap();
         let call = entry.unwrap();
         self.opens.unlist(&call, number);
-        self.owners.remove(call.pid, number);
+        self.owners.remove(call.pid as u64, number);
         self.next = number;
         call
     }
@@ -141,7 +143,7 @@ impl<A: Allocator> Parked<A> {
         let place = place_of(&self.entries, number)?;
         let call = self.entries[place].1.take()?;
         self.opens.unlist(&call, number);
-        self.owners.remove(call.pid, number);
+        self.owners.remove(call.pid as u64, number);
         self.empty += 1;
         self.close_gaps();
         Some(call)
@@ -155,7 +157,23 @@ impl<A: Allocator> Parked<A> {
         ensures least { IfSome result (λ number. (other : ℕ) → from ≤ other → IfSome (get nat_eq self.now.calls other) (λ call. call.pid ≡ pid → number ≤ other)) }
         ensures none { IfNone result ((number : ℕ) → from ≤ number → IfSome (get nat_eq self.now.calls number) (λ call. ¬ (call.pid ≡ pid))) }
     {
-        self.owners.first_from(pid, from)
+        self.owners.first_from(pid as u64, from)
+    }
+
+    /// The least number, `from` or above, of the calls that wait.
+    pub fn next_from(&self, from: u64) -> Option<u64>
+        ensures parked { IfSome result (λ number. (from ≤ number) × IsSome (get nat_eq self.now.calls number)) }
+        ensures least { IfSome result (λ number. (other : ℕ) → from ≤ other → IsSome (get nat_eq self.now.calls other) → number ≤ other) }
+        ensures none { IfNone result ((number : ℕ) → from ≤ number → get nat_eq self.now.calls number ≡ None) }
+    {
+        let start = count_below(&self.entries, from);
+        for place in start..self.entries.len() {
+            let entry = &self.entries[place];
+            if entry.1.is_some() {
+                return Some(entry.0);
+            }
+        }
+        None
     }
 
     /// Says how many bytes the write of a number took so far. It takes no memory.

@@ -181,6 +181,27 @@ pub(crate) fn pop_into<A: Allocator + Copy>(
     pop_parts(store, slots, into);
 }
 
+/// Takes all bytes, which stand in one slot, into a list of so many. It takes no memory.
+#[inline(always)]
+pub(crate) fn pop_only<A: Allocator + Copy>(
+    store: &mut Store<A>,
+    slots: &mut HeapCircularBuffer<Slice, A>,
+    into: &mut [u8],
+)
+    requires held { Holds (segment_at store.old) slots.old.items }
+    requires one { length slots.old.items ≡ 1 }
+    requires all { length into.old ≡ total slots.old.items }
+    ensures bytes { into.new ≡ take (length into.old) (all_read (segment_at store.old) slots.old.items) }
+    ensures slots { slots.new.items ≡ drop_bytes (length into.old) slots.old.items }
+    ensures turns { Turns (segment_at store.old) slots.old.items (segment_at store.new) slots.new.items }
+    ensures read { all_read (segment_at store.new) slots.new.items ≡ drop (length into.old) (all_read (segment_at store.old) slots.old.items) }
+    ensures capacity { slots.new.capacity ≡ slots.old.capacity }
+    ensures spare { store.old.room ≤ most_spare → store.new.room ≤ most_spare }
+{
+    let first = take_first(slots);
+    store.read_out(first, into);
+}
+
 // Takes the first bytes, which may stand in several slots or be a part of one, into a list of so many.
 #[inline(never)]
 fn pop_parts<A: Allocator + Copy>(

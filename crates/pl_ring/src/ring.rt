@@ -10,7 +10,7 @@ ghost use Rattle.pl_ring.specs.Parts.{fresh};
 ghost use Rattle.pl_ring.specs.Ring.{IsCapacity, IsBeside};
 
 use crate::fault::CapacityFault;
-use crate::front::{copy_front, drop_front, front_slices, pop_into};
+use crate::front::{copy_front, drop_front, front_slices, pop_into, pop_only};
 use crate::push::{push_bytes, push_slices};
 use circular_buffer::HeapCircularBuffer;
 use pl_model::numbers::FIRST_CAPACITY;
@@ -180,6 +180,12 @@ impl<A: Allocator + Copy> Ring<A> {
         ensures capacity { self.new.capacity ≡ self.old.capacity }
         ensures spare { store.old.room ≤ most_spare → store.new.room ≤ most_spare }
     {
+        // Most reads take all that is held, as one write brought it: the place of the first slot isn't worked out then.
+        if into.len() == self.held && self.slots.len() == 1 {
+            self.held = 0;
+            pop_only(store, &mut self.slots, into);
+            return;
+        }
         self.held -= into.len();
         pop_into(store, &mut self.slots, into);
     }
@@ -200,6 +206,7 @@ impl<A: Allocator + Copy> Ring<A> {
     }
 
     /// Lets all bytes go, and has the capacity of a new pipe. It takes no memory.
+    #[inline(always)]
     pub fn reset(&mut self, store: &mut Store<A>)
         requires { Holds (segment_at store.old) self.old.slots }
         ensures value { self.new ≡ record { slots = []; capacity = first_capacity } }

@@ -4,3 +4,4 @@ pub mod Turns
 pub mod Slots
 pub mod Sharing
 pub mod StoreView
+pub mod Keys

@@ -3,6 +3,7 @@
 
 mod block;
 mod fault;
+mod keys;
 mod segment;
 mod sharing;
 mod slice;

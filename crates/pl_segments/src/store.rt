@@ -6,15 +6,12 @@ ghost use Rattle.pl_segments.specs.Turns.{Holds, Turns};
 
 use crate::block::{Block, SEGMENT_SIZE, put};
 use crate::fault::{AppendFault, NoMemory};
+use crate::keys::{Keys, MOST_SPARE};
 use crate::segment::Segment;
 use crate::slice::Slice;
 use slab::Slab;
 use std::alloc::{Allocator, Global};
 use std::marker::Model;
-
-/// The segments that are kept for their memory when nobody holds them any more: 1,048,576 bytes of memory, as much as one full
-/// pipe of the greatest capacity holds, so that filling and draining it again takes memory for one segment at most.
-const MOST_SPARE: usize = 256;
 
 /// Segments of at most 4,096 bytes, which are only added to, each with the number of its holders. A segment is there as long
 /// as it is held.
@@ -24,7 +21,7 @@ pub struct Store<A: Allocator = Global> {
     segments: Slab<Segment<A>, A>,
     // The keys of the segments that nobody holds. They stay where they are, with their memory, so that a segment comes and goes
     // without being moved; only one that a join takes is.
-    spare: Vec<usize, A>,
+    spare: Keys<A>,
 }
 
 impl<A: Allocator> Model for Store<A> {
@@ -47,7 +44,7 @@ impl<A: Allocator + Copy> Store<A> {
         Store {
             alloc,
             segments: Slab::new(alloc),
-            spare: Vec::new(alloc),
+            spare: Keys::new(alloc),
         }
     }
 
@@ -225,8 +222,7 @@ impl<A: Allocator + Copy> Store<A> {
             return;
         }
         // It is kept where fewer than `MOST_SPARE` are and there is a place for its key.
-        if self.spare.len() < MOST_SPARE && self.spare.len() < self.spare.capacity() {
-            self.spare.push_reserved(slice.segment);
+        if self.spare.keep(slice.segment) {
             put(into, bytes);
         } else {
             put(into, bytes);

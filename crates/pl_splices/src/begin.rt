@@ -64,6 +64,7 @@ fn park_between<A: Allocator + Copy>(
 }
 
 // The first try of a splice or a tee whose checks are passed.
+#[inline(always)]
 fn begin_move<A: Allocator + Copy>(
     kernel: &mut KernelState<A>,
     pid: u32,

@@ -129,6 +129,7 @@ fn move_bytes<A: Allocator + Copy>(
 
 /// Tries to move, or to copy, at most `len` bytes, `len` not 0: the reply, or `None` where the call waits, and nothing changes. The only
 /// error is want of memory, which leaves all as it was.
+#[inline(always)]
 pub(crate) fn try_move<A: Allocator + Copy>(
     kernel: &mut KernelState<A>,
     from: Side,

@@ -26,6 +26,7 @@ pub(crate) struct Side {
 }
 
 // Where a side that is a file begins: at the offset that was given, or at the description's own (splice(2)).
+#[inline(always)]
 pub(crate) fn start_of<A: Allocator + Copy>(kernel: &KernelState<A>, side: Side) -> usize
     requires { IsSome (at kernel.now.opened side.key) }
     ensures { IfSome (at kernel.now.opened side.key) (λ o. result ≡ unwrap_or side.given o.offset) }
@@ -37,6 +38,7 @@ pub(crate) fn start_of<A: Allocator + Copy>(kernel: &KernelState<A>, side: Side)
 }
 
 // What a side has to give.
+#[inline(always)]
 pub(crate) fn source_of<A: Allocator + Copy>(kernel: &KernelState<A>, side: Side) -> Source
     requires { OpenOn kernel.now side.key side.node }
     ensures { IfSome (at kernel.now.opened side.key) (λ o. result ≡ machine_source (core_of {A = A} kernel.now) (side_of side o) (node_of side.node)) }
@@ -56,6 +58,7 @@ pub(crate) fn source_of<A: Allocator + Copy>(kernel: &KernelState<A>, side: Side
 }
 
 // Whether a side is a packet pipe (pipe(2), O_DIRECT).
+#[inline(always)]
 fn is_packet<A: Allocator + Copy>(kernel: &KernelState<A>, side: Side) -> bool
     requires { OpenOn kernel.now side.key side.node }
     ensures { result ≡ is_packet_pipe (core_of {A = A} kernel.now) (node_of side.node) }
@@ -67,6 +70,7 @@ fn is_packet<A: Allocator + Copy>(kernel: &KernelState<A>, side: Side) -> bool
 }
 
 // Whether a side of the two is a packet pipe.
+#[inline(always)]
 pub(crate) fn either_is_packet<A: Allocator + Copy>(
     kernel: &KernelState<A>,
     from: Side,
@@ -84,6 +88,7 @@ pub(crate) fn either_is_packet<A: Allocator + Copy>(
 }
 
 // What a side has room for.
+#[inline(always)]
 pub(crate) fn target_of<A: Allocator + Copy>(kernel: &KernelState<A>, side: Side) -> Target
     requires { OpenOn kernel.now side.key side.node }
     ensures { IfSome (at kernel.now.opened side.key) (λ o. result ≡ machine_target (core_of {A = A} kernel.now) (side_of side o) (node_of side.node)) }

@@ -64,13 +64,14 @@ fn goes_on(
     }
 }
 
-/// The first process whose call can get on, and the call.
+/// A process whose call can get on, and the call.
 fn one_that_can<'a>(
     kernel: &Kernel,
     guests: &'a mut [Guest],
 ) -> Option<(&'a mut Guest, ParkedCall)> {
+    let number = kernel.next_ready(0)?;
     guests.iter_mut().find_map(|guest| {
-        let call = guest.waits.take_if(|call| kernel.can_progress(call))?;
+        let call = guest.waits.take_if(|call| call.number() == number)?;
         Some((guest, call))
     })
 }

@@ -71,7 +71,7 @@ mod checks;
 pub use answers::{Answer, ParkedCall};
 pub use faults::{FileMaxFault, NotDone};
 pub use kernel::Kernel;
-pub use parts::kernel::{PollEntry, Stats};
+pub use parts::kernel::{CallFacts, CallKind, NodeFacts, NodeKind, PollEntry, Stats};
 pub use parts::model::{
     Bytes8, Call, Errno, Limits, MaskList, Mode, Name, OpenFlags, Outcome, PollList, PollMask,
     Reply, SpliceFlags, Step, Whence,

@@ -163,8 +163,21 @@ impl Run {
         kernel
     }
 
+    /// Just the parked calls that can get on are told, one after another.
+    fn tells_all_ready(&self) {
+        let mut from = 0;
+        let told = std::iter::from_fn(|| {
+            let number = self.kernel.next_ready(from)?;
+            from = number + 1;
+            Some(number)
+        });
+        let ready = self.parked.keys().copied().filter(|number| self.can_progress(*number));
+        assert!(told.eq(ready));
+    }
+
     /// Asks of each parked call whether it can get on, and tries it.
     fn ask(&mut self, met: &mut Met) {
+        self.tells_all_ready();
         for (&number, call) in &self.parked {
             let handle = ParkedCall::from_number(number);
             assert_eq!(self.kernel.owner(&handle), Some(call.pid));
@@ -351,13 +364,9 @@ impl Run {
         self.step(step);
     }
 
-    /// Tries each parked call that can get on, until none can.
+    /// Tries each parked call that can get on, until none is told.
     fn try_all(&mut self) {
-        let first_that_can = |run: &Run| {
-            let mut numbers = run.parked.keys();
-            numbers.find(|number| run.can_progress(**number)).copied()
-        };
-        while let Some(number) = first_that_can(self) {
+        while let Some(number) = self.kernel.next_ready(0) {
             self.step(Step::Resume(number));
         }
     }
@@ -390,6 +399,7 @@ fn a_number_without_a_call_is_answered_at_once() {
         assert!(kernel.can_progress(&call()));
         assert_eq!(kernel.taken(&call()), None);
         assert_eq!(kernel.owner(&call()), None);
+        assert_eq!(kernel.next_ready(number), None);
         assert_eq!(kernel.step(Step::Resume(number)), Ok(Reply::NoCall));
         assert_eq!(kernel.resume(call()), Err(NotDone::NoCall));
         assert_eq!(kernel.resume_read(call(), &mut [0]), Err(NotDone::NoCall));

@@ -2,7 +2,7 @@
 ghost use Rattle.std.specs.Prelude.{◌≡◌, length};
 ghost use Rattle.pl_kernel.specs.Progress.{TellsProgress, OrWaitsInVain};
 ghost use Rattle.bindingclay.specs.Heap.{InBudget};
-ghost use Rattle.bindingclay.specs.Made.{Gathers, Notes, Owns, Resumes, Takes, TriesAgain, Wants, number_answer, resumed_answer, resumed_entries};
+ghost use Rattle.bindingclay.specs.Made.{Gathers, Notes, Owns, Resumes, Takes, TellsNext, TriesAgain, Wants, number_answer, resumed_answer, resumed_entries};
 
 use super::transfers::answer_of_read;
 use super::{Heap, Layer, no_memory};
@@ -42,6 +42,16 @@ fn answer_of_number(told: Option<u32>) -> Answer
     }
 }
 
+// The answer that tells the number of a call, if there is one.
+fn answer_of_call(told: Option<u64>) -> Answer
+    ensures { result ≡ number_answer told }
+{
+    let Some(number) = told else {
+        return Answer::of_kind(kind::NO_CALL, 0);
+    };
+    Answer::done(number)
+}
+
 impl Layer {
     /// Tells which process began the parked call of a number: the value is its pid.
     pub fn owner(&self, number: u64) -> Answer
@@ -63,6 +73,13 @@ impl Layer {
         ensures vain { OrWaitsInVain {A = InBudget} self.now.kernel number result }
     {
         self.kernel.can_progress(number)
+    }
+
+    /// Tells the least number, `from` or above, of a parked call that can get on: the value is that number.
+    pub fn next_ready(&self, from: u64) -> Answer
+        ensures { TellsNext self.now.kernel from result }
+    {
+        answer_of_call(self.kernel.next_ready(from))
     }
 
     /// Tries the parked call of a number again; a read gives its bytes into the caller's. Where it would give more bytes than

@@ -1,9 +1,9 @@
 //! Which calls that wait can get on.
 ghost use Rattle.std.specs.Prelude.{◌≡◌};
-ghost use Rattle.pl_kernel.specs.Progress.{TellsProgress, OrWaitsInVain, ready_entries};
+ghost use Rattle.pl_kernel.specs.Progress.{TellsProgress, OrWaitsInVain, TellsNextReady, ready_entries};
 
 use super::Kernel;
-use crate::steps::can_progress;
+use crate::steps::{can_progress, next_ready};
 use pl_polls::masks_to_resume;
 use std::alloc::Allocator;
 
@@ -18,6 +18,16 @@ impl<A: Allocator + Copy> Kernel<A> {
         ensures vain { OrWaitsInVain {A = A} self.now number result }
     {
         can_progress(&self.state, number)
+    }
+
+    /// The least number, `from` or above, of a parked call that can get on; `None` if no call from there on can. So a loop that makes a step,
+    /// and then resumes what this answers for 0 until it is `None`, forgets no call that waits. Each try ends a call or takes bytes of a write.
+    ///
+    /// It changes nothing and takes no memory. It asks the calls that wait, one after another, from `from` on.
+    pub fn next_ready(&self, from: u64) -> Option<u64>
+        ensures { TellsNextReady {A = A} self.now from result }
+    {
+        next_ready(&self.state, from)
     }
 
     /// How many entries the parked call of a number has, if it is a poll that can get on: a Resume made now answers as many masks. Else 0. It

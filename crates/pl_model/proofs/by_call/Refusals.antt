@@ -13,7 +13,7 @@ use Rattle.pl_model.specs.declared.flags.OpenFlags.{OpenFlags}
 use Rattle.pl_model.specs.declared.flags.PollMask.{PollMask}
 use Rattle.pl_model.specs.declared.replies.Reply.{Reply}
 use Rattle.pl_model.specs.declared.replies.Reply.TheVariants.{Fault, NoProcess, NoCall, CallsSpent, Parked}
-use Rattle.pl_model.specs.declared.replies.Errno.TheVariants.{EAGAIN, EEXIST, EINTR, ENOSPC, EINVAL}
+use Rattle.pl_model.specs.declared.replies.Errno.TheVariants.{EEXIST, EINTR, ENOSPC, EINVAL}
 use Rattle.pl_model.specs.declared.replies.Errno.{Errno}
 use Rattle.pl_model.specs.Numbers.{last_call}
 use Rattle.pl_model.specs.Map.{get}

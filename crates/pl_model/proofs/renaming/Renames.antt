@@ -13,6 +13,7 @@ use Rattle.pl_model.specs.Trial.{Flow}
 use Rattle.pl_model.specs.Step.{Stepped, core_step}
 use Rattle.pl_model.specs.Numbered.{numbers}
 use Rattle.pl_model.specs.Waking.{can_progress}
+use Rattle.pl_model.specs.Touching.{touches}
 use Rattle.pl_model.specs.Renaming.{Renaming, Renamings, rename, rename_node, rename_description, rename_keys, rename_waiting, rename_flow, rename_stepped, rename_back, rename_drawing}
 
 abbrev equiv : Renaming → ℕ ≃ ℕ
@@ -146,3 +147,7 @@ module _ (r : Renamings) where
   -- a call gets on under other names where it does
   pub can_progress-rename : {A : Type 0} (c : Core A numbers) (number : ℕ) → can_progress (rename r c) number ≡ can_progress c number
   can_progress-rename {A} c number = sym (λ i. can_progress {K = names_line i} (core_line c i) number)
+
+  -- and a step touches the nodes under other names that it does
+  pub touches-rename : {A : Type 0} (c : Core A numbers) (x : Step A) (node : Node numbers) → touches (rename r c) x (rename_node r node) ≡ touches c x node
+  touches-rename {A} c x node = sym (λ i. touches {K = names_line i} (core_line c i) x (node_line node i))

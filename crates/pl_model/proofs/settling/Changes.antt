@@ -12,7 +12,7 @@ use Rattle.pl_model.specs.Numbers.{open_max, most_processes}
 use Rattle.pl_model.specs.Modes.{any_mode, reads, writes}
 use Rattle.pl_model.specs.Map.{set_at}
 use Rattle.pl_model.specs.Keys.{Node, NewKeys, PipeNode, FileNode, same_node}
-use Rattle.pl_model.specs.State.{Core, Description, Pipe, empty_pipe, pipe_made, set_pipe, set_description}
+use Rattle.pl_model.specs.State.{Core, Description, Pipe, pipe_made, set_pipe, set_description}
 use Rattle.pl_model.specs.Live.{in_rows, in_parked, pids, in_use, is_live, is_end, is_open, has_name}
 use Rattle.pl_model.specs.Settle.{settle, settled_pipe, is_kept, is_hung, with_ends}
 use Rattle.pl_model.specs.Tables.{install, close_row}

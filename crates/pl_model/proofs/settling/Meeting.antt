@@ -184,7 +184,7 @@ module _ {A : Type 0} where
       by false is none rest = ap (λ b. cond (not b) (e ∷ without nat_eq es n) (without nat_eq es n)) (nat_eq_equiv.symm n e.0 ∙ is) ∙ ap (λ ds. e ∷ ds) (rest none)
 
   -- a call goes: a description that it didn't keep is kept by another
-  keeps_without : (calls : Map ℕ (Waiting A numbers)) (n q : ℕ) (w : Waiting A numbers) → EachOnce nat_eq calls → get nat_eq calls n ≡ Some w → is_member nat_eq w.kept q ≡ false →
+  pub keeps_without : (calls : Map ℕ (Waiting A numbers)) (n q : ℕ) (w : Waiting A numbers) → EachOnce nat_eq calls → get nat_eq calls n ≡ Some w → is_member nat_eq w.kept q ≡ false →
       keeps calls q ≡ true → keeps (without nat_eq calls n) q ≡ true
   keeps_without [] n q w once here not_kept k = k
   keeps_without (e ∷ es) n q w once here not_kept k = by (nat_eq e.0 n) refl here (keeps_without es n q w once.1)

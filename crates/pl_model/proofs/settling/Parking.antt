@@ -26,7 +26,7 @@ module _ {A : Type 0} where
       list_any-append (nat_eq d) (in_rows c) (in_parked c)
       ∙ ap (λ b. is_member nat_eq (in_rows c) d || b) (member_flat d (λ (e : ℕ × Waiting A numbers). e.1.kept) c.parked)
 
-  keeps_put : (calls : Map ℕ (Waiting A numbers)) (n : ℕ) (w now : Waiting A numbers) (d : ℕ) → get nat_eq calls n ≡ Some w → now.kept ≡ w.kept →
+  pub keeps_put : (calls : Map ℕ (Waiting A numbers)) (n : ℕ) (w now : Waiting A numbers) (d : ℕ) → get nat_eq calls n ≡ Some w → now.kept ≡ w.kept →
       keeps (put nat_eq calls n now) d ≡ keeps calls d
   keeps_put [] n w now d here same = absurd (cc)
   keeps_put (e ∷ es) n w now d here same = by (nat_eq e.0 n) here (keeps_put es n w now d)

@@ -1,6 +1,5 @@
-use Rattle.std.proofs.Common.{◌≡◌, ◌+◌, length, ap, arith}
+use Rattle.std.proofs.Common.{length, ap, arith}
 use Rattle.pl_parked.specs.Calls.{Calls}
-use Rattle.pl_parked.specs.Entries.{empties}
 use Rattle.pl_parked.proofs.EntryLemmas.{length-calls}
 use Rattle.pl_parked.proofs.parked.Parked.len.Goals as goal
 

@@ -28,7 +28,7 @@ pub invariant_of-self-then-is_err-3 : goal.invariant_of-self-then-is_err-3
 invariant_of-self-then-is_err-3 g c =
     keeps-undone c.try_reserve.new.self.items c.self.inside.empty c.self.inside.next c.self.inside.owners.set c.self.inside.opens.set (roomy g (goal.at.invariant_of-self-then-is_err-3 g c).After-try_reserve)
     c.args.call c.add.new.self.set (OnOk_by _ c.add.result c.if-is_err-2.ensures.value c.add.ensures.ok)
-    c.remove.new.self.set c.list.new.self.set c.remove.ensures (OnErr_by _ c.list.result c.if-is_err-3.ensures.value c.list.ensures.err)
+    c.remove.new.self.set c.list.new.self.set c.remove.ensures.rest (OnErr_by _ c.list.result c.if-is_err-3.ensures.value c.list.ensures.err)
 
 pub returns-then-is_err-clause-err : goal.returns-then-is_err-clause-err
 returns-then-is_err-clause-err g c = elim c.then-is_err.branch [

@@ -72,7 +72,7 @@ returns-in_err-call-clause-rest g c =
 pub invariant_of-self-2 : goal.invariant_of-self-2
 invariant_of-self-2 g c =
     let w = (goal.at.invariant_of-self-2 g c).After-take in
-    rw c.take.ensures.after (keeps-emptied (found g w) c.in_ok-call.call (sym c.in_ok-call.ensures.value) c.remove.new.self.set c.unlist.new.self.set c.remove.ensures c.unlist.ensures)
+    rw c.take.ensures.after (keeps-emptied (found g w) c.in_ok-call.call (sym c.in_ok-call.ensures.value) c.remove.new.self.set c.unlist.new.self.set c.remove.ensures.rest c.unlist.ensures)
 
 pub returns-clause-call : goal.returns-clause-call
 returns-clause-call g c = let w = (goal.at.returns-clause-call g c).After-take in c.in_ok-call.ensures.value ∙ sym (is-had g w)

@@ -30,7 +30,7 @@ unwrap-call-requires g c = last-full (ended g c)
 
 pub invariant_of-self : goal.invariant_of-self
 invariant_of-self g c =
-    keeps-popped (ended g (goal.at.invariant_of-self g c).After-unwrap-entry) c.unwrap-call.result c.unwrap-call.ensures c.remove.new.self.set c.unlist.new.self.set c.remove.ensures c.unlist.ensures
+    keeps-popped (ended g (goal.at.invariant_of-self g c).After-unwrap-entry) c.unwrap-call.result c.unwrap-call.ensures c.remove.new.self.set c.unlist.new.self.set c.remove.ensures.rest c.unlist.ensures
 
 pub returns-clause-calls : goal.returns-clause-calls
 returns-clause-calls g c =

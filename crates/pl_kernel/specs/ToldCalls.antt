@@ -1,0 +1,48 @@
+-- What is told of parked calls.
+use Rattle.std.specs.Prelude.{◌≡◌, ℕ, ℤ, negsuc, List, [], ◌∷◌, nat_eq, Option, option_and_then, IsSome}
+use Rattle.std.specs.declared.option.Option.TheVariants.{None, Some}
+use Rattle.pl_model.specs.declared.calls.Call.{Call}
+use Rattle.pl_model.specs.declared.flags.PollMask.{PollMask}
+use Rattle.pl_model.specs.Map.{get}
+use Rattle.pl_model.specs.Numbered.{State}
+use Rattle.pl_state.specs.Contents.{Contents}
+use Rattle.pl_state.specs.Makes.{Stands}
+use Rattle.pl_kernel.specs.declared.told_calls.CallFacts.{CallFacts}
+use Rattle.pl_kernel.specs.declared.told_calls.CallKind.{CallKind}
+use Rattle.pl_kernel.specs.declared.told_calls.CallKind.TheVariants as kind
+
+-- in place of a descriptor, where a call has none
+abbrev pub no_fd : ℤ
+no_fd = negsuc 0
+
+-- the descriptor of the first entry of a poll
+abbrev pub first_fd : List (ℤ × PollMask) → ℤ
+first_fd [] = no_fd
+first_fd (entry ∷ entries) = entry.0
+
+abbrev pub facts_with : CallKind → ℕ → (first second : ℤ) → Option CallFacts
+facts_with of_kind pid first second = Some (record { kind = of_kind; pid = pid; first = first; second = second })
+
+module _ {A : Type 0} where
+  -- what is told of a call that a process began, if it is one that can wait
+  abbrev pub facts_of_call : ℕ → Call A → Option CallFacts
+  facts_of_call pid (Call.Read fd n) = facts_with kind.Read pid fd no_fd
+  facts_of_call pid (Call.Write fd bytes) = facts_with kind.Write pid fd no_fd
+  facts_of_call pid (Call.OpenName name mode flags) = facts_with kind.Open pid no_fd no_fd
+  facts_of_call pid (Call.Splice from from_offset to to_offset len flags) = facts_with kind.Splice pid from to
+  facts_of_call pid (Call.Tee from to len flags) = facts_with kind.Tee pid from to
+  facts_of_call pid (Call.Poll entries wait) = facts_with kind.Poll pid (first_fd entries) no_fd
+  facts_of_call pid other = None
+
+  -- what is told of the parked call of a number, if it is there
+  abbrev pub call_facts_by : State A → ℕ → Option CallFacts
+  call_facts_by s number = option_and_then (λ w. facts_of_call w.pid w.call) (get nat_eq s.core.parked number)
+
+module _ {A : Type 0} (k : Contents A) (number : ℕ) where
+  -- It was told so: for each state for which the kernel stands, it is the flat machine's.
+  abbrev pub TellsCall : Option CallFacts → Type 0
+  TellsCall told = (s : State A) → Stands k s → told ≡ call_facts_by s number
+
+  -- and of each call that is parked something is told
+  abbrev pub TellsEach : Option CallFacts → Type 0
+  TellsEach told = (s : State A) → Stands k s → IsSome (get nat_eq s.core.parked number) → IsSome told

@@ -1,0 +1,7 @@
+use Rattle.pl_waiters.proofs.Kept.{may-forgotten}
+use Rattle.pl_waiters.proofs.waiters.Waiters.forget.Goals as goal
+
+pub returns-clause-may : goal.returns-clause-may
+returns-clause-may g c = λ call apart.
+    let w = c.args.self.now in
+    may-forgotten w.lost w.looked w.pending.set w.places.set c.remove.new.self.set w.touched.items c.args.node c.args.number call apart c.remove.ensures.rest
