@@ -54,7 +54,7 @@ extern "C" {
 #endif
 
 #define BINDINGCLAY_VERSION_MAJOR 0
-#define BINDINGCLAY_VERSION_MINOR 6
+#define BINDINGCLAY_VERSION_MINOR 7
 #define BINDINGCLAY_VERSION_PATCH 0
 #define BINDINGCLAY_VERSION \
     (BINDINGCLAY_VERSION_MAJOR * 1000000 + BINDINGCLAY_VERSION_MINOR * 1000 + BINDINGCLAY_VERSION_PATCH)
@@ -86,7 +86,8 @@ enum bindingclay_kind {
     BINDINGCLAY_DONE = 0,
     /* The call failed. error: the reason, a number of errno.h. With EPIPE, sigpipe is set. */
     BINDINGCLAY_FAULT = 1,
-    /* The call waits. value: its number, for bindingclay_resume and bindingclay_interrupt. */
+    /* The call waits. value: its number, for bindingclay_resume and bindingclay_interrupt. moved: whether this step put bytes of a write
+     * into the pipe. */
     BINDINGCLAY_PARKED = 2,
     /* There is no process of this pid. Nothing changed. */
     BINDINGCLAY_NO_PROCESS = 3,
@@ -108,6 +109,9 @@ typedef struct {
     uint8_t kind;
     /* A process would get SIGPIPE here: with EPIPE, and with the count of a write that is resumed after its last reader left. */
     bool sigpipe;
+    /* With BINDINGCLAY_PARKED of bindingclay_write, bindingclay_resume and bindingclay_resume_poll: a write put some of its bytes into the pipe,
+     * and waits with the others. So another call may get on. bindingclay_taken tells how many bytes went in so far. */
+    bool moved;
 } bindingclay_answer;
 
 /* The descriptors of a pipe. */
@@ -234,8 +238,8 @@ bindingclay_answer bindingclay_exit(bindingclay clay, uint32_t pid);
 /* ---- Calls that wait ---- */
 
 /* Tries again the call that waits under a number. It answers what the call would answer, or BINDINGCLAY_PARKED with the same number if the
- * call still waits. A fault ends the call too. For example, EMFILE ends the open of a FIFO that has met its other end, if no descriptor is
- * free.
+ * call still waits. Then moved tells whether it is a write that put in more of its bytes. A fault ends the call too. For example, EMFILE
+ * ends the open of a FIFO that has met its other end, if no descriptor is free.
  *
  * A read gives what its pipe holds, and no more than it asked for, into the first of the size bytes at into. Room for 1,048,576 bytes is
  * always enough. If size is less than what the read gives, BINDINGCLAY_SHORT tells how many bytes that is, and the read still waits. The
@@ -260,7 +264,8 @@ bool bindingclay_can_progress(bindingclay clay, uint64_t number);
 
 /* Tells the least number, `from` or above, of a call that waits and can get on. Value: that number. If no call from there on can, the answer
  * is BINDINGCLAY_NO_CALL. A call that answers BINDINGCLAY_SHORT or BINDINGCLAY_NO_MEMORY when it is tried again still waits, and still can
- * get on: ask from the number behind it to pass over it. Asks for no memory, and changes nothing. */
+ * get on: ask from the number behind it to pass over it. Changes nothing that another call tells. Asks for memory of its own, and answers the
+ * same if there is none. */
 bindingclay_answer bindingclay_next_ready(bindingclay clay, uint64_t from);
 
 /* Tells how many bytes the call that waits under a number has taken. Value: of a write, how many of its bytes are in the pipe or were read
@@ -358,7 +363,8 @@ bindingclay_answer bindingclay_read(bindingclay clay, uint32_t pid, int32_t fd, 
  * - 0: size is 0.
  * - EPIPE: the pipe has no reader.
  * - EAGAIN, or a wait: the pipe has too little room. With O_NONBLOCK the write fails with EAGAIN, except that of more than 4,096 bytes some
- *   go in if there is some room. Without O_NONBLOCK the write waits until all its bytes went in.
+ *   go in if there is some room. Without O_NONBLOCK the write waits until all its bytes went in, and moved tells whether some went in at
+ *   once.
  * - EFBIG: the file has no room.
  *
  * At most 4,096 bytes go into a pipe whole or not at all (pipe(7), PIPE_BUF). Into a packet pipe go whole packets, as bindingclay_pipe2
@@ -632,7 +638,7 @@ static inline bool bindingclay_c_is_of(bindingclay clay, uint32_t pid, uint64_t 
 
 static inline bindingclay_answer bindingclay_c_no_call(void)
 {
-    bindingclay_answer none = { 0, 0, BINDINGCLAY_NO_CALL, false };
+    bindingclay_answer none = { 0, 0, BINDINGCLAY_NO_CALL, false, false };
     return none;
 }
 

@@ -277,7 +277,7 @@ static bindingclay_answer made_by(struct kernel kernel, const struct call *call,
 
 static bool is_same(bindingclay_answer a, bindingclay_answer b)
 {
-    return a.kind == b.kind && a.value == b.value && a.error == b.error && a.sigpipe == b.sigpipe
+    return a.kind == b.kind && a.value == b.value && a.error == b.error && a.sigpipe == b.sigpipe && a.moved == b.moved
         && memcmp(&by_first, &by_second, sizeof by_first) == 0;
 }
 

@@ -18,11 +18,12 @@ static int checks_failed;
 /* Whether an answer is the wanted one; where it isn't, a line. */
 static inline bool answers(const char *file, int line, const char *call, bindingclay_answer got, bindingclay_answer wanted)
 {
-    if (got.kind == wanted.kind && got.value == wanted.value && got.error == wanted.error && got.sigpipe == wanted.sigpipe)
+    if (got.kind == wanted.kind && got.value == wanted.value && got.error == wanted.error && got.sigpipe == wanted.sigpipe
+        && got.moved == wanted.moved)
         return true;
     checks_failed++;
-    printf("%s:%d: %s: kind %d, value %" PRIu64 ", error %d, sigpipe %d, and not %d, %" PRIu64 ", %d, %d\n", file, line, call,
-        got.kind, got.value, got.error, got.sigpipe, wanted.kind, wanted.value, wanted.error, wanted.sigpipe);
+    printf("%s:%d: %s: kind %d, value %" PRIu64 ", error %d, sigpipe %d, moved %d, and not %d, %" PRIu64 ", %d, %d, %d\n", file, line,
+        call, got.kind, got.value, got.error, got.sigpipe, got.moved, wanted.kind, wanted.value, wanted.error, wanted.sigpipe, wanted.moved);
     return false;
 }
 
@@ -31,12 +32,19 @@ static inline bindingclay_answer an_answer(uint8_t kind, uint64_t value, int32_t
     return (bindingclay_answer){ .value = value, .error = error, .kind = kind, .sigpipe = sigpipe };
 }
 
+/* The answer of a call that waits under a number: of a write that put in some of its bytes, or of a call that moved none. */
+static inline bindingclay_answer that_waits(uint64_t number, bool moved)
+{
+    return (bindingclay_answer){ .value = number, .kind = BINDINGCLAY_PARKED, .moved = moved };
+}
+
 #define ANSWERS(call, kind, value, error, sigpipe) \
     answers(__FILE__, __LINE__, #call, call, an_answer(kind, (uint64_t)(value), error, sigpipe))
 #define DONE(call, value) ANSWERS(call, BINDINGCLAY_DONE, value, 0, false)
 #define DONE_WITH_SIGPIPE(call, value) ANSWERS(call, BINDINGCLAY_DONE, value, 0, true)
 #define FAULT(call, number) ANSWERS(call, BINDINGCLAY_FAULT, 0, number, (number) == EPIPE)
-#define PARKED(call, number) ANSWERS(call, BINDINGCLAY_PARKED, number, 0, false)
+#define PARKED(call, number) answers(__FILE__, __LINE__, #call, call, that_waits(number, false))
+#define PARKED_WITH_BYTES(call, number) answers(__FILE__, __LINE__, #call, call, that_waits(number, true))
 #define SHORT(call, room) ANSWERS(call, BINDINGCLAY_SHORT, room, 0, false)
 #define OTHER(call, kind) ANSWERS(call, kind, 0, 0, false)
 

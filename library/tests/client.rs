@@ -101,6 +101,36 @@ fn pipes(checks: &mut Checks) {
     checks.is(clay.write(1, 1, b"a"), Err(NotDone::Fault(EPIPE)));
 }
 
+/// Whether the answer tells that bytes moved, if it is that of a call that waits.
+fn moved<T>(answer: Result<Answer<T>>) -> Option<bool> {
+    match answer {
+        Ok(Answer::Parked(call)) => Some(call.moved()),
+        _ => None,
+    }
+}
+
+/// The handle of a write that waits tells whether the step put some of its bytes into the pipe.
+fn moves(checks: &mut Checks) {
+    let mut clay = with_process();
+    checks.is(clay.pipe(1, false), Ok(Ends { read_end: 0, write_end: 1 }));
+    checks.is(moved(clay.read(1, 0, &mut [0])), Some(false));
+    checks.is(moved(clay.write(1, 1, &[7; 65_539])), Some(true));
+    checks.is(moved(clay.write(1, 1, b"a")), Some(false));
+    checks.is(moved(clay.write(1, 1, &[7; 4_096])), Some(false));
+    checks.is(moved(clay.resume(call(2))), Some(false));
+    checks.is(clay.read(1, 0, &mut [0]), done(1));
+    checks.is(moved(clay.resume(call(2))), Some(true));
+    checks.is(clay.read(1, 0, &mut [0]), done(1));
+    let waits = clay.resume_poll(call(2), &mut []);
+    // handles are compared by their numbers
+    checks.is(&waits, &parked(2));
+    checks.is(moved(waits), Some(true));
+    checks.is(call(2).moved(), false);
+    checks.is(clay.read(1, 0, &mut [0]), done(1));
+    checks.is(moved(clay.resume_of(1, 2)), None);
+    checks.is(clay.resume_read(call(1), &mut []), short(1, 1));
+}
+
 /// Writes bytes to a pipe, and makes room in it each time that the write waits: it tells how many bytes went in, and how often it waited.
 fn write_through_a_full_pipe(clay: &mut Clay, ends: Ends, bytes: &[u8]) -> Result<(usize, usize)> {
     let mut answer = clay.write(1, ends.write_end, bytes)?;
@@ -133,7 +163,8 @@ fn memory_to_resume(checks: &mut Checks) {
     let mut clay = Clay::open_within(&Limits { memory: 200_000, ..Limits::default() }).expect("memory for a kernel");
     checks.is(clay.start(), Ok(1));
     checks.is(clay.pipe(1, false), Ok(Ends { read_end: 0, write_end: 1 }));
-    checks.is(clay.write(1, 1, &[7; 70_000]), parked(1));
+    let Ok(Answer::Parked(large)) = clay.write(1, 1, &[7; 70_000]) else { panic!("no wait") };
+    checks.is((large.number(), large.moved()), (1, true));
     checks.is(clay.read(1, 0, &mut [0; 4_096]), done(4_096));
     // a file and another pipe take all segments that are left
     checks.is(clay.open_name(1, b"f", O_WRONLY | O_CREAT), done(2));
@@ -143,11 +174,13 @@ fn memory_to_resume(checks: &mut Checks) {
         checks.is(clay.write(1, fd, &[0; 4_096]), Err(NotDone::NoMemory));
     }
     checks.is((clay.can_progress(&call(1)), clay.taken(&call(1))), (true, Ok(65_536)));
-    let not_done = clay.resume(call(1)).expect_err("no memory");
+    let not_done = clay.resume(large).expect_err("no memory");
     checks.is(&not_done, &NotDone::NoMemoryToResume(call(1)));
+    let large = not_done.into_parked().expect("a handle");
+    checks.is(large.moved(), false);
     checks.is((clay.can_progress(&call(1)), clay.taken(&call(1))), (true, Ok(65_536)));
     checks.is(clay.open_name(1, b"f", O_WRONLY | O_TRUNC), done(5));
-    checks.is(not_done.into_parked().map(|call| clay.resume(call)), Some(parked(1)));
+    checks.is(moved(clay.resume(large)), Some(true));
     checks.is(clay.taken(&call(1)), Ok(69_632));
     checks.is(clay.read(1, 0, &mut [0; 4_096]), done(4_096));
     checks.is(clay.resume(call(1)), done(Done { value: 70_000, sigpipe: false }));
@@ -380,6 +413,7 @@ fn main() {
     let mut checks = Checks { failed: 0 };
     kernels(&mut checks);
     pipes(&mut checks);
+    moves(&mut checks);
     question_marks(&mut checks);
     memory_to_resume(&mut checks);
     packets(&mut checks);

@@ -227,7 +227,7 @@ static void calls(void)
     bindingclay_pollfd entries[] = { { -7, POLLIN, 0 }, { PIPE_READ, POLLIN, 0 } };
     no_call(clay, 1);
     PARKED(take(clay, 2, PIPE_READ, 9), 1);
-    PARKED(put_many(clay, 1, BEHIND, 70000), 2);
+    PARKED_WITH_BYTES(put_many(clay, 1, BEHIND, 70000), 2);
     PARKED(open_text(clay, 2, "p", O_RDONLY), 3);
     PARKED(bindingclay_splice(clay, 1, PIPE_READ, NULL, BEHIND, NULL, 9, 0), 4);
     PARKED(bindingclay_tee(clay, 2, PIPE_READ, BEHIND, 9, 0), 5);

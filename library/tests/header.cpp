@@ -8,7 +8,7 @@
 
 static_assert(sizeof(bindingclay_answer) == 16 && std::is_trivially_copyable<bindingclay_answer>::value, "an answer");
 static_assert(offsetof(bindingclay_answer, error) == 8 && offsetof(bindingclay_answer, kind) == 12
-        && offsetof(bindingclay_answer, sigpipe) == 13, "its fields");
+        && offsetof(bindingclay_answer, sigpipe) == 13 && offsetof(bindingclay_answer, moved) == 14, "its fields");
 static_assert(sizeof(bindingclay) == sizeof(void *), "a kernel");
 static_assert(sizeof(bindingclay_pollfd) == sizeof(pollfd) && offsetof(bindingclay_pollfd, events) == offsetof(pollfd, events)
         && offsetof(bindingclay_pollfd, revents) == offsetof(pollfd, revents), "an entry of a poll");

@@ -41,7 +41,7 @@ static bool is_clear(void)
 }
 
 /* Makes a call, and again where there was no memory for it. */
-#define MADE(call, wanted_kind, wanted_value) \
+#define MADE_SO(call, wanted) \
     do { \
         clear(); \
         bindingclay_answer got = call; \
@@ -51,8 +51,9 @@ static bool is_clear(void)
             HOLDS(is_clear()); \
             got = call; \
         } \
-        answers(__FILE__, __LINE__, #call, got, an_answer(wanted_kind, wanted_value, 0, false)); \
+        answers(__FILE__, __LINE__, #call, got, wanted); \
     } while (0)
+#define MADE(call, kind, value) MADE_SO(call, an_answer(kind, value, 0, false))
 
 enum { D = BINDINGCLAY_DONE, P = BINDINGCLAY_PARKED };
 
@@ -67,7 +68,7 @@ static void bytes_in_turn(bindingclay clay)
     MADE(put(clay, 1, 1, "hello"), D, 5);
     MADE(bindingclay_resume(clay, 1, into, 5), D, 5);
     HOLDS(memcmp(into, "hello\xa5", 6) == 0);
-    MADE(bindingclay_write(clay, 1, 1, large, 70000), P, 2);
+    MADE_SO(bindingclay_write(clay, 1, 1, large, 70000), that_waits(2, true));
     MADE(bindingclay_read(clay, 1, 0, into, 5000), D, 5000);
     HOLDS(memcmp(into, large, 5000) == 0);
     MADE(bindingclay_resume(clay, 2, into, 0), D, 70000);
@@ -139,7 +140,7 @@ static void packets_in_turn(bindingclay clay)
     MADE(bindingclay_read(clay, 2, 0, into, 9), D, 3);
     HOLDS(memcmp(into, "fgh\xa5", 4) == 0);
     MADE(bindingclay_set_pipe_sz(clay, 2, 0, 8192), D, 8192);
-    MADE(bindingclay_write(clay, 2, 1, large, 10000), P, 8);
+    MADE_SO(bindingclay_write(clay, 2, 1, large, 10000), that_waits(8, true));
     MADE(bindingclay_read(clay, 2, 0, into, 5000), D, 4096);
     HOLDS(memcmp(into, large, 4096) == 0 && into[4096] == UNTOUCHED);
     MADE(bindingclay_set_pipe_sz(clay, 2, 1, 16384), D, 16384);

@@ -8,13 +8,13 @@ static void writes_that_wait(void)
     bindingclay clay = kernel_with_packets(0);
     DONE(bindingclay_set_fl(clay, 1, PIPE_READ, O_NONBLOCK), 0);
     DONE(bindingclay_set_pipe_sz(clay, 1, PIPE_READ, 4096), 4096);
-    PARKED(put_from(clay, 1, PIPE_WRITE, 0, 10000), 1);
+    PARKED_WITH_BYTES(put_from(clay, 1, PIPE_WRITE, 0, 10000), 1);
     PARKED(again(clay, 1), 1);
     READS(clay, 1, PIPE_READ, 0, "");
     PARKED(again(clay, 1), 1);
     READS_FROM(clay, 1, PIPE_READ, 100, 0, 100);
     FAULT(take(clay, 1, PIPE_READ, 1), EAGAIN);
-    PARKED(again(clay, 1), 1);
+    PARKED_WITH_BYTES(again(clay, 1), 1);
     READS_FROM(clay, 1, PIPE_READ, 5000, 4096, 4096);
     DONE(again(clay, 1), 10000);
     OTHER(again(clay, 1), BINDINGCLAY_NO_CALL);
@@ -22,9 +22,9 @@ static void writes_that_wait(void)
     FAULT(take(clay, 1, PIPE_READ, 1), EAGAIN);
     /* with two places, five packets: two, then one, then two as they fit */
     DONE(bindingclay_set_pipe_sz(clay, 1, PIPE_READ, 8192), 8192);
-    PARKED(put_from(clay, 1, PIPE_WRITE, 0, 4 * PACKET + 1), 2);
+    PARKED_WITH_BYTES(put_from(clay, 1, PIPE_WRITE, 0, 4 * PACKET + 1), 2);
     READS_FROM(clay, 1, PIPE_READ, 1, 0, 1);
-    PARKED(again(clay, 2), 2);
+    PARKED_WITH_BYTES(again(clay, 2), 2);
     READS_FROM(clay, 1, PIPE_READ, MOST_ROOM, PACKET, PACKET);
     READS_FROM(clay, 1, PIPE_READ, 7, 2 * PACKET, 7);
     FAULT(take(clay, 1, PIPE_READ, 1), EAGAIN);
@@ -56,11 +56,11 @@ static void writes_in_turn(void)
 {
     bindingclay clay = kernel_with_packets(0);
     DONE(bindingclay_set_pipe_sz(clay, 1, PIPE_READ, 4096), 4096);
-    PARKED(put_from(clay, 1, PIPE_WRITE, 0, PACKET + 1), 1);
+    PARKED_WITH_BYTES(put_from(clay, 1, PIPE_WRITE, 0, PACKET + 1), 1);
     PARKED(put_from(clay, 1, PIPE_WRITE, 20000, PACKET + 2), 2);
     PARKED(again(clay, 2), 2);
     READS_FROM(clay, 1, PIPE_READ, 9, 0, 9);
-    PARKED(again(clay, 2), 2);
+    PARKED_WITH_BYTES(again(clay, 2), 2);
     PARKED(again(clay, 1), 1);
     READS_FROM(clay, 1, PIPE_READ, MOST_ROOM, 20000, PACKET);
     DONE(again(clay, 1), PACKET + 1);
@@ -77,12 +77,12 @@ static void longest_writes(void)
     bindingclay clay = kernel_with_packets(0);
     enum { TURNS = BINDINGCLAY_MOST_BYTES / BINDINGCLAY_MOST_CAPACITY, PLACES = BINDINGCLAY_MOST_CAPACITY / PACKET };
     DONE(bindingclay_set_pipe_sz(clay, 1, PIPE_READ, BINDINGCLAY_MOST_CAPACITY), BINDINGCLAY_MOST_CAPACITY);
-    PARKED(put_from(clay, 1, PIPE_WRITE, 0, BINDINGCLAY_MOST_BYTES + 1), 1);
+    PARKED_WITH_BYTES(put_from(clay, 1, PIPE_WRITE, 0, BINDINGCLAY_MOST_BYTES + 1), 1);
     for (size_t turn = 1; turn <= TURNS; turn++) {
         for (size_t i = 0; i < PLACES; i++)
             READS_FROM(clay, 1, PIPE_READ, 1, ((turn - 1) * PLACES + i) * PACKET, 1);
         if (turn < TURNS - 1)
-            PARKED(again(clay, 1), 1);
+            PARKED_WITH_BYTES(again(clay, 1), 1);
         else if (turn == TURNS - 1)
             DONE(again(clay, 1), BINDINGCLAY_MOST_BYTES);
     }
@@ -94,7 +94,7 @@ static void interrupted_writes(void)
 {
     bindingclay clay = kernel_with_packets(0);
     DONE(bindingclay_set_pipe_sz(clay, 1, PIPE_READ, 4096), 4096);
-    PARKED(put_from(clay, 1, PIPE_WRITE, 0, 3 * PACKET), 1);
+    PARKED_WITH_BYTES(put_from(clay, 1, PIPE_WRITE, 0, 3 * PACKET), 1);
     PARKED(put_from(clay, 1, PIPE_WRITE, 50000, 3 * PACKET), 2);
     PARKED(put(clay, 1, PIPE_WRITE, "abc"), 3);
     /* of the one a packet went in, of the others none */
@@ -186,7 +186,7 @@ static void without_a_reader(void)
     bindingclay clay = kernel_with_packets(0);
     DONE(bindingclay_set_pipe_sz(clay, 1, PIPE_READ, 8192), 8192);
     DONE(put(clay, 1, PIPE_WRITE, "abc"), 3);
-    PARKED(put_from(clay, 1, PIPE_WRITE, 0, 10000), 1);
+    PARKED_WITH_BYTES(put_from(clay, 1, PIPE_WRITE, 0, 10000), 1);
     PARKED(put(clay, 1, PIPE_WRITE, "b"), 2);
     DONE(bindingclay_dup(clay, 1, PIPE_READ), 2);
     DONE(bindingclay_close(clay, 1, PIPE_READ), 0);
@@ -221,7 +221,7 @@ static void shared_ends(void)
     READS(clay, 2, PIPE_READ, 9, "de");
     DONE(put(clay, 2, 10, "fg"), 2);
     DONE(put(clay, 2, 10, "hi"), 2);
-    PARKED(put_from(clay, 2, PIPE_WRITE, 0, 70000), 1);
+    PARKED_WITH_BYTES(put_from(clay, 2, PIPE_WRITE, 0, 70000), 1);
     /* the parent has the child's packets, and 14 of the write that is gone */
     DONE(bindingclay_exit(clay, 2), 0);
     OTHER(again(clay, 1), BINDINGCLAY_NO_CALL);
@@ -258,7 +258,7 @@ static void within_limits(void)
     DONE(bindingclay_get_pipe_sz(clay, 1, PIPE_READ), FIRST_CAPACITY);
     FAULT(bindingclay_set_pipe_sz(clay, 1, PIPE_READ, FIRST_CAPACITY), EPERM);
     DONE(bindingclay_set_pipe_sz(clay, 1, PIPE_READ, 4096), 4096);
-    PARKED(put_from(clay, 1, PIPE_WRITE, 0, PACKET + 1), 1);
+    PARKED_WITH_BYTES(put_from(clay, 1, PIPE_WRITE, 0, PACKET + 1), 1);
     FAULT(put(clay, 1, PIPE_WRITE, "a"), EAGAIN);
     READS_FROM(clay, 1, PIPE_READ, 9, 0, 9);
     /* a write that would wait puts in nothing */

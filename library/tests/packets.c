@@ -13,7 +13,7 @@ static void one_packet_for_a_read(void)
     READS_FROM(clay, 1, PIPE_READ, 9000, 0, 4096);
     READS_FROM(clay, 1, PIPE_READ, 9000, 4096, 904);
     DONE(bindingclay_set_pipe_sz(clay, 1, PIPE_WRITE, 4096), 4096);
-    PARKED(put_from(clay, 1, PIPE_WRITE, 0, 5000), 1);
+    PARKED_WITH_BYTES(put_from(clay, 1, PIPE_WRITE, 0, 5000), 1);
     READS_FROM(clay, 1, PIPE_READ, 1, 0, 1);
     DONE(again(clay, 1), 5000);
     READS_FROM(clay, 1, PIPE_READ, 9000, 4096, 904);

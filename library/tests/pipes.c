@@ -134,10 +134,10 @@ static void large_writes(void)
     /* where it may, it waits until all went in */
     DONE(bindingclay_set_fl(clay, 1, 1, 0), 0);
     DONE(take(clay, 1, 0, 65536), 65536);
-    PARKED(put_many(clay, 1, 1, 70000), 1);
+    PARKED_WITH_BYTES(put_many(clay, 1, 1, 70000), 1);
     PARKED(again(clay, 1), 1);
     DONE(take(clay, 1, 0, 4463), 4463);
-    PARKED(again(clay, 1), 1);
+    PARKED_WITH_BYTES(again(clay, 1), 1);
     DONE(take(clay, 1, 0, 1), 1);
     DONE(again(clay, 1), 70000);
     DONE(take(clay, 1, 0, 70000), 65536);
@@ -150,11 +150,11 @@ static void longest_writes(void)
 {
     bindingclay clay = kernel_with_process();
     NEW_PIPE(clay, 1, false);
-    PARKED(put_many(clay, 1, 1, 16777217), 1);
+    PARKED_WITH_BYTES(put_many(clay, 1, 1, 16777217), 1);
     /* 65,536 went in as it began, and as many go in at each turn: 256 times in all */
     for (int turn = 1; turn < 255; turn++) {
         DONE(take(clay, 1, 0, 65536), 65536);
-        PARKED(again(clay, 1), 1);
+        PARKED_WITH_BYTES(again(clay, 1), 1);
     }
     DONE(take(clay, 1, 0, 65536), 65536);
     DONE(again(clay, 1), 16777216);
@@ -169,7 +169,7 @@ static void without_a_reader(void)
 {
     bindingclay clay = kernel_with_process();
     NEW_PIPE(clay, 1, false);
-    PARKED(put_many(clay, 1, 1, 70000), 1);
+    PARKED_WITH_BYTES(put_many(clay, 1, 1, 70000), 1);
     PARKED(put(clay, 1, 1, "b"), 2);
     DONE(bindingclay_close(clay, 1, 0), 0);
     /* of the one some bytes were taken, of the other none */

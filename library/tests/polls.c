@@ -202,7 +202,7 @@ static void other_calls(void)
     bindingclay clay = kernel_with_process();
     NEW_PIPE(clay, 1, false);
     bindingclay_pollfd entry = asking(0, POLLIN);
-    PARKED(put_many(clay, 1, 1, 65537), 1);
+    PARKED_WITH_BYTES(put_many(clay, 1, 1, 65537), 1);
     DONE(take(clay, 1, 0, 9), 9);
     DONE(bindingclay_resume_poll(clay, 1, &entry, 1), 65537);
     DONE(take(clay, 1, 0, 65536), 65528);

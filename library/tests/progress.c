@@ -45,7 +45,7 @@ static bindingclay with_call(enum kind kind, bool wants_room)
         if (kind != LARGE_WRITE)
             DONE(put_many(clay, 1, INTO_WRITE, WHOLE), WHOLE);
     }
-    PARKED(begin(clay, kind, wants_room), 1);
+    answers(__FILE__, __LINE__, "begin", begin(clay, kind, wants_room), that_waits(1, kind == LARGE_WRITE));
     return clay;
 }
 

@@ -8,15 +8,15 @@ static void a_large_write_in_turns(void)
 {
     bindingclay clay = kernel_with_process();
     NEW_PIPE(clay, 1, false);
-    PARKED(put_many(clay, 1, 1, LARGE), 1);
+    PARKED_WITH_BYTES(put_many(clay, 1, 1, LARGE), 1);
     WAITS_ON(clay, 1, WHOLE);
     DONE(take(clay, 1, 0, 1), 1);
     CAN(clay, 1);
-    PARKED(again(clay, 1), 1);
+    PARKED_WITH_BYTES(again(clay, 1), 1);
     WAITS_ON(clay, 1, WHOLE + 1);
     DONE(take(clay, 1, 0, 4462), 4462);
     CAN(clay, 1);
-    PARKED(again(clay, 1), 1);
+    PARKED_WITH_BYTES(again(clay, 1), 1);
     WAITS_ON(clay, 1, LARGE - 1);
     DONE(take(clay, 1, 0, 1), 1);
     CAN(clay, 1);
@@ -51,6 +51,46 @@ static void room_for_a_whole_write(void)
     bindingclay_free(clay);
 }
 
+/* An answer tells whether its step put bytes of a write into the pipe, and the write waits on. The answer that ends a write doesn't. */
+static void what_moved(void)
+{
+    bindingclay clay = kernel_with_process();
+    NEW_PIPE(clay, 1, false);
+    NEW_PIPE(clay, 1, false);
+    bindingclay_pollfd out = { .fd = 1, .events = POLLOUT };
+    PARKED(take(clay, 1, 0, 9), 1);
+    PARKED_WITH_BYTES(put_many(clay, 1, 1, WHOLE + 4), 2);
+    /* in vain, by each function that tries again */
+    PARKED(again(clay, 2), 2);
+    PARKED(bindingclay_resume_poll(clay, 2, &out, 1), 2);
+    PARKED(bindingclay_resume_of(clay, 1, 2, NULL, 0), 2);
+    /* a write that has to go in whole, and one of a byte, find no room */
+    PARKED(put_many(clay, 1, 1, SMALL), 3);
+    PARKED(put(clay, 1, 1, "z"), 4);
+    /* calls that never tell it, though a splice and a tee are of bytes */
+    PARKED(bindingclay_poll(clay, 1, &out, 1, true), 5);
+    PARKED(bindingclay_splice(clay, 1, 2, NULL, 1, NULL, 9, 0), 6);
+    PARKED(bindingclay_tee(clay, 1, 2, 1, 9, 0), 7);
+    SHORT(again(clay, 1), 9);
+    RESUMES(clay, 1, 9, "aaaaaaaaa");
+    DONE(take(clay, 1, 0, WHOLE), WHOLE - 9);
+    DONE(again(clay, 4), 1);
+    DONE(put_many(clay, 1, 1, WHOLE - 2), WHOLE - 2);
+    /* one byte at a time, and the last one ends the write */
+    PARKED_WITH_BYTES(again(clay, 2), 2);
+    PARKED(again(clay, 2), 2);
+    DONE(take(clay, 1, 0, 1), 1);
+    PARKED_WITH_BYTES(bindingclay_resume_poll(clay, 2, &out, 1), 2);
+    DONE(take(clay, 1, 0, 1), 1);
+    PARKED_WITH_BYTES(bindingclay_resume_of(clay, 1, 2, NULL, 0), 2);
+    DONE(take(clay, 1, 0, 1), 1);
+    DONE(again(clay, 2), WHOLE + 4);
+    OTHER(again(clay, 2), BINDINGCLAY_NO_CALL);
+    PARKED(again(clay, 3), 3);
+    FAULT(bindingclay_interrupt(clay, 3), EINTR);
+    bindingclay_free(clay);
+}
+
 /* Two reads wait, and one of them gets what came. A read that is told to have too little room can still get on. */
 static void who_comes_first(void)
 {
@@ -80,7 +120,7 @@ static void packets(void)
     DONE(put(clay, 1, 1, "hello"), HELLO);
     CAN(clay, 1);
     RESUMES(clay, 1, 9, "hello");
-    PARKED(put_many(clay, 1, 1, LARGE), 2);
+    PARKED_WITH_BYTES(put_many(clay, 1, 1, LARGE), 2);
     PARKED(put(clay, 1, 1, "z"), 3);
     bindingclay_pollfd out = { .fd = 1, .events = POLLOUT };
     PARKED(bindingclay_poll(clay, 1, &out, 1, true), 4);
@@ -90,7 +130,7 @@ static void packets(void)
     DONE(take(clay, 1, 0, 1), 1);
     for (uint64_t number = 2; number <= 4; number++)
         CAN(clay, number);
-    PARKED(again(clay, 2), 2);
+    PARKED_WITH_BYTES(again(clay, 2), 2);
     WAITS_ON(clay, 2, WHOLE + 4096);
     WAITS_ON(clay, 3, 0);
     DONE(take(clay, 1, 0, 1), 1);
@@ -272,7 +312,7 @@ static void numbers_without_a_call(void)
     DONE(bindingclay_start(clay), 1);
     NEW_PIPE(clay, 1, false);
     GONE(clay, 0);
-    PARKED(put_many(clay, 1, 1, LARGE), 0);
+    PARKED_WITH_BYTES(put_many(clay, 1, 1, LARGE), 0);
     WAITS_ON(clay, 0, WHOLE);
     GONE(clay, 1);
     bindingclay_free(clay);
@@ -282,6 +322,7 @@ int main(void)
 {
     a_large_write_in_turns();
     room_for_a_whole_write();
+    what_moved();
     who_comes_first();
     packets();
     sources_that_end();

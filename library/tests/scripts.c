@@ -76,12 +76,12 @@ static void got_on_as_told(uint64_t call_number, bool can, bindingclay_answer ta
     if (is_there)
         *(can ? &tried_in_time : &tried_in_vain) += 1;
     if (answer.kind == BINDINGCLAY_PARKED) {
-        HOLDS(is_there && taken_now.kind == BINDINGCLAY_DONE && can == (taken_now.value > taken.value));
+        HOLDS(is_there && taken_now.kind == BINDINGCLAY_DONE && can == (taken_now.value > taken.value) && answer.moved == can);
     } else if (answer.kind == BINDINGCLAY_NO_MEMORY) {
-        HOLDS(is_there && can);
+        HOLDS(is_there && can && !answer.moved);
         DONE(taken_now, taken.value);
     } else {
-        HOLDS(can && is_there == (answer.kind != BINDINGCLAY_NO_CALL));
+        HOLDS(can && is_there == (answer.kind != BINDINGCLAY_NO_CALL) && !answer.moved);
         OTHER(taken_now, BINDINGCLAY_NO_CALL);
     }
 }
@@ -117,6 +117,8 @@ static bool makes_name(const char *call)
 /* Notes what a new call leaves behind. */
 static void note(const char *call, enum told told)
 {
+    /* it moved bytes exactly if it waits and has taken some */
+    HOLDS(answer.moved == (answer.kind == BINDINGCLAY_PARKED && bindingclay_taken(clay, answer.value).value > 0));
     if (answer.kind == BINDINGCLAY_PARKED)
         keep(told);
     if (answer.kind != BINDINGCLAY_DONE || !makes_name(call))

@@ -196,7 +196,8 @@ static void goes(uint32_t pid, bindingclay_answer answer)
 /* Whether a call has ended: it is done, or it failed and the reason is told. */
 static bool is_end(bindingclay_answer answer)
 {
-    return answer.kind == BINDINGCLAY_DONE || (answer.kind == BINDINGCLAY_FAULT && answer.error != 0 && answer.value == 0);
+    return !answer.moved
+        && (answer.kind == BINDINGCLAY_DONE || (answer.kind == BINDINGCLAY_FAULT && answer.error != 0 && answer.value == 0));
 }
 
 /* How many calls that waited were tried again after it was told that they can get on, and after it was told that they can't. */
@@ -235,7 +236,7 @@ static void resume(uint64_t number)
     }
     *(can ? &tried_in_time : &tried_in_vain) += 1;
     if (answer.kind == BINDINGCLAY_PARKED) {
-        PARKED(answer, number);
+        answers(__FILE__, __LINE__, "a call that waits on", answer, that_waits(number, can));
         HOLDS(can == (taken_by(number) > taken));
     } else {
         HOLDS(can && is_end(answer));
@@ -253,7 +254,7 @@ static void interrupt(uint64_t number)
         FAULT(answer, EINTR);
     else
         /* a write that took some of its bytes */
-        HOLDS(answer.kind == BINDINGCLAY_DONE && answer.value > 0 && answer.value < ROOM && !answer.sigpipe);
+        HOLDS(is_end(answer) && answer.value > 0 && answer.value < ROOM && !answer.sigpipe);
     owner_of[number] = 0;
 }
 
@@ -263,8 +264,9 @@ static void begun(uint32_t pid, bindingclay_answer answer)
     if (!is_there[pid]) {
         OTHER(answer, BINDINGCLAY_NO_PROCESS);
     } else if (answer.kind == BINDINGCLAY_PARKED) {
-        PARKED(answer, next_number);
-        owner_of[next_number++] = pid;
+        owner_of[next_number] = pid;
+        answers(__FILE__, __LINE__, "a call that waits", answer, that_waits(next_number, taken_by(next_number) > 0));
+        next_number++;
     } else {
         HOLDS(is_end(answer));
     }
@@ -436,6 +438,62 @@ static void storms(long calls)
     HOLDS(blocks_left == 0 && bytes_left == 0);
 }
 
+/* ---- A crowd ---- */
+
+/* How many calls wait at most. */
+enum { MOST_WAITING = 1000 };
+
+static long waiting_calls(void)
+{
+    long waiting = 0;
+    for (uint64_t number = 0; number < next_number; number++)
+        waiting += owner_of[number] != 0;
+    return waiting;
+}
+
+/* A step of a guest. Seldom is a call tried again or interrupted, so that more and more wait, up to the most. */
+static void crowd_step(struct guest *guest, long waiting)
+{
+    int32_t fd = (int32_t)drawn(guest, 4);
+    uint32_t kind = drawn(guest, 256);
+    if (kind < 200 && waiting < MOST_WAITING) {
+        begun(guest->pid, moves(guest, guest->pid, fd));
+    } else if (kind < 224 && waiting < MOST_WAITING) {
+        begun(guest->pid, names_or_closes(guest, guest->pid, fd));
+    } else if (kind < 250) {
+        bindingclay_answer next = bindingclay_next_ready(clay, drawn_number(guest));
+        if (next.kind == BINDINGCLAY_DONE)
+            resume(next.value);
+    } else {
+        interrupt(drawn_number(guest));
+    }
+}
+
+/* Many calls wait at once. After each step just those are told that can get on. Now and then a guest's process ends. */
+static void crowd(long steps)
+{
+    clay = new_kernel(0, BINDINGCLAY_MOST_FILE_BYTES);
+    first_number = next_number = 0;
+    long most = 0;
+    for (long step = 0; step < steps; step++) {
+        struct guest *guest = &guests[step % GUESTS];
+        if (step % 4096 == 4095)
+            goes(guest->pid, bindingclay_exit(clay, guest->pid));
+        if (!is_there[guest->pid])
+            start(guest);
+        long waiting = waiting_calls();
+        most = waiting > most ? waiting : most;
+        crowd_step(guest, waiting);
+        tells_all_ready();
+    }
+    printf("up to %ld calls waited at once\n", most);
+    HOLDS(most >= MOST_WAITING || steps < 10000);
+    try_all();
+    leave();
+    bindingclay_free(clay);
+    HOLDS(blocks_left == 0 && bytes_left == 0);
+}
+
 int main(int words, char **word)
 {
     long calls = words == 2 ? atol(word[1]) : 0;
@@ -445,5 +503,6 @@ int main(int words, char **word)
     }
     many_calls_of_one_process();
     storms(calls);
+    crowd(calls / 2);
     return end();
 }

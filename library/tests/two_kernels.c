@@ -19,7 +19,7 @@ struct party {
 
 static bool is_done(bindingclay_answer answer, uint64_t value)
 {
-    return answer.kind == BINDINGCLAY_DONE && answer.value == value && answer.error == 0 && !answer.sigpipe;
+    return answer.kind == BINDINGCLAY_DONE && answer.value == value && answer.error == 0 && !answer.sigpipe && !answer.moved;
 }
 
 /* A write through a pipe, a tee and a file, and all of it read back. */

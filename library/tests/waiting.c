@@ -168,7 +168,7 @@ static void kept_ends(void)
     FAULT(put(clay, 1, 1, "a"), EPIPE);
     /* a write that waits is a writer */
     bindingclay_ends ends = NEW_PIPE(clay, 1, false);
-    PARKED(put_many(clay, 1, ends.write_end, 65537), 2);
+    PARKED_WITH_BYTES(put_many(clay, 1, ends.write_end, 65537), 2);
     DONE(bindingclay_close(clay, 1, ends.write_end), 0);
     DONE(take(clay, 1, ends.read_end, 70000), 65536);
     PARKED(take(clay, 1, ends.read_end, 9), 3);
@@ -192,9 +192,9 @@ static void interrupted(void)
     FAULT(bindingclay_interrupt(clay, 1), EINTR);
     OTHER(bindingclay_interrupt(clay, 1), BINDINGCLAY_NO_CALL);
     /* a write that took bytes answers their count */
-    PARKED(put_many(clay, 1, 1, 70000), 2);
+    PARKED_WITH_BYTES(put_many(clay, 1, 1, 70000), 2);
     DONE(take(clay, 1, 0, 4), 4);
-    PARKED(again(clay, 2), 2);
+    PARKED_WITH_BYTES(again(clay, 2), 2);
     DONE(bindingclay_interrupt(clay, 2), 65540);
     /* of a small one none was taken */
     PARKED(put(clay, 1, 1, "b"), 3);

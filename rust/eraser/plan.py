@@ -22,7 +22,7 @@ def _modules(prefix: str, names: str) -> dict[str, Place]:
 # The crates of the library, in the order of its modules.
 LIBRARY = _modules(
     "parts/",
-    "budget model segments ring packets file parked desc nodes decisions state descriptors naming transfers splices polls kernel numbers",
+    "budget model segments ring packets file parked waiters desc nodes decisions state descriptors naming transfers splices polls kernel numbers",
 )
 # Scripts, and the program that runs them.
 SCRIPT = _modules("parts/", "words lines script run") | {"piperun": Place("parts/piperun", "crate::parts::piperun")}
@@ -36,9 +36,9 @@ CHECKS = _modules("checks/", "refusing testing") | {
 # A place may be that of a crate that isn't there, as a crate may come or go with another change.
 PLACES = LIBRARY | SCRIPT | EXPORTS | CHECKS
 
-# Crates that the edition leaves out: the threads, whose promise is a history that a proof speaks of, the examples, which a test of the
-# package's own reads, and an index that the kernel doesn't use yet.
-LEFT_OUT = {"pl_history", "pl_locked", "pl_locked_checks", "pl_talk", "pl_examples", "pl_waiters"}
+# Crates that the edition leaves out: the threads, whose promise is a history that a proof speaks of, and the examples, which a test of the
+# package's own reads.
+LEFT_OUT = {"pl_history", "pl_locked", "pl_locked_checks", "pl_talk", "pl_examples"}
 
 # Files of which the edition has a form of its own, in `rust/replaced`: allocators, which in Rust only permit.
 REPLACED = {
@@ -116,11 +116,11 @@ FOR_ALL = {"Clone", "Into", "TryInto", "ToString", "ToOwned"}
 # The crates whose public functions anybody can call in the edition, and the preconditions there that something else keeps: by crate and
 # function, the clause without white space, and what keeps it.
 EXPOSED = set(LIBRARY) & {"pl_model", "pl_kernel", "pl_numbers"} | {"pl_script", "pl_run", "bindingclay"}
-AT_THE_DOOR = "kernel.rs or script.rs of the package answers an error"
+AT_THE_DOOR = "kernel/calls.rs or script.rs of the package answers an error"
 GUARDED: dict[tuple[str, str], dict[str, str]] = {
     ("pl_kernel", "new"): {"{limits.file_max≤most_file_bytes}": AT_THE_DOOR},
     ("pl_kernel", "write_from"): {"{lengthbytes.now≤most_bytes}": AT_THE_DOOR},
-    ("pl_kernel", "refusal_of_write"): {"{count≢0}": "kernel.rs of the package takes a number that isn't 0"},
+    ("pl_kernel", "refusal_of_write"): {"{count≢0}": "kernel/calls.rs of the package takes a number that isn't 0"},
     ("pl_kernel", "read_into"): {"{lengthinto.old<2^32}": AT_THE_DOOR},
     ("pl_script", "run_script"): {
         "{limits.file_max≤most_file_bytes}": AT_THE_DOOR,

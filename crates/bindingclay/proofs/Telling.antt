@@ -13,7 +13,7 @@ use Rattle.pl_transfers.specs.declared.reading.ReadReply.{ReadReply}
 use Rattle.pl_transfers.specs.declared.reading.ReadReply.TheVariants as Read
 use Rattle.pl_numbers.specs.declared.answer.Answer.{Answer}
 use Rattle.pl_numbers.specs.Answers.{said, plain, no_memory, short}
-use Rattle.bindingclay.specs.Made.{Makes, Replied, Resumed, Resumes, read_answer, bytes_after}
+use Rattle.bindingclay.specs.Made.{Makes, Replied, Resumed, Resumes, unmoved, read_answer, bytes_after}
 
 -- no reply has the kind of what is no reply
 pub said_at_most : (r : Reply InBudget) → (said r).kind ≤ 5
@@ -33,7 +33,28 @@ said_at_most NoProcess = omega arith
 said_at_most NoCall = omega arith
 said_at_most CallsSpent = omega arith
 
+-- no reply tells whether bytes moved
+pub still_said : (r : Reply InBudget) → unmoved (said r) ≡ said r
+still_said (Pid pid) = refl
+still_said (Fd fd) = refl
+still_said (Fds reader writer) = refl
+still_said (Count n sigpipe) = refl
+still_said (Bytes bytes) = refl
+still_said (Offset offset) = refl
+still_said (Flags mode flags) = refl
+still_said (Size size) = refl
+still_said (Masks ready masks) = refl
+still_said Unit = refl
+still_said (Fault e) = refl
+still_said (Parked n) = refl
+still_said NoProcess = refl
+still_said NoCall = refl
+still_said CallsSpent = refl
+
 module _ (a : Answer) (r : Reply InBudget) (says : a ≡ said r) where
+  pub says_unmoved : unmoved a ≡ said r
+  says_unmoved = ap unmoved says ∙ still_said r
+
   kind_at_most : a.kind ≤ 5
   kind_at_most = subst (λ (z : Answer). z.kind ≤ 5) (sym says) (said_at_most r)
 
@@ -123,7 +144,7 @@ module _ (old new : Contents InBudget) (number room : ℕ) (a : Answer) where
     pub resumed : a ≡ said r → Resumes old number room a new
     resumed says =
         record {
-          says = again_of (λ reply. a ≡ said reply) says;
+          says = again_of (λ reply. unmoved a ≡ said reply) (says_unmoved a r says);
           made = λ some room s stands. (made s stands).1;
           wider = λ e. absurd (has_room a r says e);
           unmade = λ e. absurd (has_memory a r says e);

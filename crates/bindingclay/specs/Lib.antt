@@ -1,5 +1,6 @@
 pub mod Asked
 pub mod Heap
 pub mod Made
+pub mod Moved
 pub mod Owned
 pub mod Facts

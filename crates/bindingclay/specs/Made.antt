@@ -9,6 +9,7 @@ use Rattle.pl_model.specs.declared.replies.Errno.TheVariants.{ENOENT}
 use Rattle.pl_model.specs.Numbers.{most_capacity}
 use Rattle.pl_model.specs.declared.replies.Reply.{Reply}
 use Rattle.pl_model.specs.declared.replies.Reply.TheVariants.{Bytes}
+use Rattle.pl_model.specs.InOrder.{AreInOrder}
 use Rattle.pl_model.specs.Numbered.{State, step}
 use Rattle.pl_state.specs.Contents.{Contents}
 use Rattle.pl_state.specs.Makes.{Stands, WantsMemory}
@@ -22,8 +23,9 @@ use Rattle.pl_polls.specs.declared.entries.PollEntry.{PollEntry}
 use Rattle.pl_transfers.specs.declared.reading.ReadReply.{ReadReply}
 use Rattle.pl_transfers.specs.declared.reading.ReadReply.TheVariants as read
 use Rattle.pl_transfers.specs.Readable.{gives_again}
-use Rattle.pl_numbers.specs.Answers.{said, plain, faulty, no_memory, short}
+use Rattle.pl_numbers.specs.Answers.{said, plain, faulty, parked, no_memory, short}
 use Rattle.pl_polls.specs.Entries.{entries_after}
+use Rattle.bindingclay.specs.Moved.{takes_more, FlowsAsTold}
 
 -- Where memory was found, this holds of the machine's reply, for each state for which the kernel stood.
 abbrev pub Replied : Contents InBudget → Step InBudget → Answer → (Reply InBudget → Type 0) → Type 0
@@ -38,6 +40,17 @@ pub record Makes (old : Contents InBudget) (x : Step InBudget) (a : Answer) (new
   pub says : Says old x a
   pub made : ((a.kind ≡ no_memory) → ⊥) → (s : State InBudget) → Stands old s → Stands new (step s x).state
   pub unmade : a.kind ≡ no_memory → new ≡ old
+
+-- the answer but for whether bytes moved, which no reply tells
+abbrev pub unmoved : Answer → Answer
+unmoved a = record a { moved = false }
+
+-- The answer tells whether the step took bytes of a call that waits on; an answer of another kind than parked tells that it didn't. If the call
+-- waits, the step moved bytes as is told: so of each state that a run comes to, whose calls are in order (`laws::order`).
+pub record Moves (old : Contents InBudget) (x : Step InBudget) (a : Answer) : Type 0 where
+  pub value : ((a.kind ≡ no_memory) → ⊥) → ((a.kind ≡ short) → ⊥) → (s : State InBudget) → Stands old s → a.moved ≡ takes_more s x
+  pub others : ((a.kind ≡ parked) → ⊥) → a.moved ≡ false
+  pub flows : a.kind ≡ parked → (s : State InBudget) → Stands old s → AreInOrder s.core → FlowsAsTold a.moved (step s x).flow
 
 -- no memory is wanted but where the machine's step may want it
 abbrev pub Wants : Contents InBudget → Step InBudget → Answer → Type 0
@@ -55,7 +68,7 @@ Resumed old number a P = ((a.kind ≡ no_memory) → ⊥) → ((a.kind ≡ short
 
 -- What trying a parked call again comes to, with so much room for bytes.
 pub record Resumes (old : Contents InBudget) (number room : ℕ) (a : Answer) (new : Contents InBudget) : Type 0 where
-  pub says : Resumed old number a (λ reply. a ≡ said reply)
+  pub says : Resumed old number a (λ reply. unmoved a ≡ said reply)
   pub made : ((a.kind ≡ no_memory) → ⊥) → ((a.kind ≡ short) → ⊥) → (s : State InBudget) → Stands old s → Stands new (step s (Resume number)).state
   pub wider : a.kind ≡ short → (room < a.value) × (new ≡ old)
   pub unmade : a.kind ≡ no_memory → new ≡ old

@@ -7,7 +7,7 @@ ghost use Rattle.pl_model.specs.declared.calls.Call.{Call};
 ghost use Rattle.pl_model.specs.declared.calls.Step.{Step};
 ghost use Rattle.pl_numbers.specs.Answers.{faulty};
 ghost use Rattle.pl_numbers.specs.Flags.{splice_flags_of_bits};
-ghost use Rattle.bindingclay.specs.Made.{Says, Wants, Replied, bytes_after, offset_of};
+ghost use Rattle.bindingclay.specs.Made.{Says, Moves, Wants, Replied, unmoved, bytes_after, offset_of};
 
 use crate::handle::Handle;
 use pl_numbers::Answer;
@@ -27,10 +27,11 @@ pub extern "C" fn bindingclay_read(handle: Handle, pid: u32, fd: i32, into: &mut
 }
 
 /// Writes the first of the caller's bytes, at most 16,777,216 (POSIX.1-2017, write): the value is how many. A call that is parked keeps a
-/// copy of them all.
+/// copy of them all, and the answer tells whether some of them went in.
 #[unsafe(no_mangle)]
 pub extern "C" fn bindingclay_write(handle: Handle, pid: u32, fd: i32, bytes: &[u8]) -> Answer
-    ensures says { Says handle.layer.kernel (Step.Begin pid (Call.Write fd (take most_bytes bytes.now))) result }
+    ensures says { Says handle.layer.kernel (Step.Begin pid (Call.Write fd (take most_bytes bytes.now))) (unmoved result) }
+    ensures moved { Moves handle.layer.kernel (Step.Begin pid (Call.Write fd (take most_bytes bytes.now))) result }
     ensures wants { Wants handle.layer.kernel (Step.Begin pid (Call.Write fd (take most_bytes bytes.now))) result }
 {
     let mut layer = handle.into_box();

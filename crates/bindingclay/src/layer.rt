@@ -1,6 +1,7 @@
 //! What lies behind a handle: a kernel in the memory of `malloc`, within a budget.
 mod facts;
 mod memory;
+mod moved;
 mod names;
 mod transfers;
 mod waiting;

@@ -3,7 +3,7 @@ ghost use Rattle.std.specs.Prelude.{◌≡◌, ◌<◌, length};
 ghost use Rattle.pl_numbers.specs.Answers.{said, plain};
 ghost use Rattle.pl_kernel.specs.Progress.{TellsProgress, OrWaitsInVain, ready_entries};
 ghost use Rattle.bindingclay.specs.Heap.{InBudget};
-ghost use Rattle.bindingclay.specs.Made.{Says, Wants, Resumed, Gathers, Notes, Owns, Takes, TellsNext};
+ghost use Rattle.bindingclay.specs.Made.{Says, Moves, Wants, Resumed, unmoved, Gathers, Notes, Owns, Takes, TellsNext};
 
 use crate::handle::Handle;
 use pl_kernel::PollEntry;
@@ -11,10 +11,12 @@ use pl_model::Step;
 use pl_numbers::Answer;
 
 /// Tries the parked call of a number again, where a read gives its bytes into the caller's. Where it would give more than
-/// these, the answer says how many, and nothing changed. A poll that can get on isn't tried: the answer says how many entries it has.
+/// these, the answer says how many, and nothing changed. A poll that can get on isn't tried: the answer says how many entries it has. Of a
+/// write that waits on it tells whether more of its bytes went in.
 #[unsafe(no_mangle)]
 pub extern "C" fn bindingclay_resume(handle: Handle, number: u64, into: &mut [u8]) -> Answer
-    ensures says { Resumed handle.layer.kernel number result (λ reply. result ≡ said reply) }
+    ensures says { Resumed handle.layer.kernel number result (λ reply. unmoved result ≡ said reply) }
+    ensures moved { Moves handle.layer.kernel (Step.Resume number) result }
     ensures wants { Wants handle.layer.kernel (Step.Resume number) result }
     ensures polls { 0 < ready_entries handle.layer.kernel number → (result ≡ plain (ready_entries handle.layer.kernel number) 7) × (into.new ≡ into.old) }
     ensures wider { ready_entries handle.layer.kernel number ≡ 0 → result.kind ≡ 7 → length into.old < result.value }
@@ -34,7 +36,8 @@ pub extern "C" fn bindingclay_resume_poll(
     number: u64,
     entries: &mut [PollEntry],
 ) -> Answer
-    ensures says { Resumed handle.layer.kernel number result (λ reply. result ≡ said reply) }
+    ensures says { Resumed handle.layer.kernel number result (λ reply. unmoved result ≡ said reply) }
+    ensures moved { Moves handle.layer.kernel (Step.Resume number) result }
     ensures wants { Wants handle.layer.kernel (Step.Resume number) result }
     ensures entries { Notes handle.layer.kernel number entries.old result entries.new }
 {
@@ -86,7 +89,7 @@ pub extern "C" fn bindingclay_can_progress(handle: Handle, number: u64) -> bool
 pub extern "C" fn bindingclay_next_ready(handle: Handle, from: u64) -> Answer
     ensures { TellsNext handle.layer.kernel from result }
 {
-    let layer = handle.into_box();
+    let mut layer = handle.into_box();
     let answer = layer.next_ready(from);
     let _kept = Box::into_raw(layer);
     answer

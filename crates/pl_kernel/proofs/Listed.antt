@@ -1,5 +1,5 @@
 -- Which lists the machine's replies have: only a read answers bytes, and only a poll masks.
-use Rattle.std.proofs.Common.{◌≡◌, ℕ, ℤ, Bool, true, false, cond, Option, List, [], ◌∷◌, refl, sym, ◌∙◌, ap, nat_eq, length, take, drop, min, arith}
+use Rattle.std.proofs.Common.{◌≡◌, ℕ, ℤ, Bool, true, false, cond, Option, List, [], ◌∷◌, refl, sym, ◌∙◌, ap, nat_eq, length, drop, min, arith}
 use Rattle.std.specs.Prelude.{◌||◌, ◌&&◌, ◌==◌, not, nat_lt, map, ⊤, if◌then◌else◌}
 use Rattle.std.specs.List.{list_any}
 use Rattle.std.specs.declared.option.Option.TheVariants.{None, Some}

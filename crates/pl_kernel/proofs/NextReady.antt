@@ -6,7 +6,7 @@ use Rattle.std.proofs.lemmas.Bool.{cases_order}
 use Rattle.pl_model.specs.Map.{get}
 use Rattle.pl_model.specs.Waking.{can_progress}
 use Rattle.pl_model.specs.Numbered.{State, numbers}
-use Rattle.pl_model.specs.State.{Core, Waiting}
+use Rattle.pl_model.specs.State.{Core}
 use Rattle.pl_model.specs.Renaming.{rename_waiting}
 use Rattle.pl_model.proofs.renaming.Renames.{can_progress-rename}
 use Rattle.pl_parked.specs.declared.call.ParkedCall.{ParkedCall}
@@ -18,10 +18,10 @@ use Rattle.pl_state.proofs.waiting.Calls.{get-each}
 use Rattle.pl_kernel.specs.Progress.{is_ready, IsLeastFrom, TellsNextReady}
 
 -- one number is below the other, or it isn't
-sides : (a b : ℕ) → (a < b) ⊎ (b ≤ a)
+pub sides : (a b : ℕ) → (a < b) ⊎ (b ≤ a)
 sides a b = ⊎_elim (λ e. inr (omega arith)) (λ o. ⊎_elim (λ l. inl l) (λ l. inr (omega arith)) o) (cases_order a b)
 
-mapped : {X Y : Type 0} (f : X → Y) (o : Option X) → is_some (option_map f o) ≡ is_some o
+pub mapped : {X Y : Type 0} (f : X → Y) (o : Option X) → is_some (option_map f o) ≡ is_some o
 mapped f None = refl
 mapped f (Some x) = refl
 

@@ -5,11 +5,14 @@
 #![tactic(auto)]
 
 mod kernel;
+mod noted;
+mod ready;
 mod sizes;
 mod stats;
 mod steps;
 mod told_calls;
 mod told_nodes;
+mod watch;
 
 pub use kernel::{Kernel, Resumed};
 pub use pl_polls::{PollEntry, PollReply};

@@ -10,7 +10,6 @@ ghost use Rattle.pl_state.specs.Makes.{MakesAtKeys, MayWantAtKeys, ParksAtKeys};
 ghost use Rattle.pl_splices.specs.Shares.{SharesByStep};
 ghost use Rattle.pl_transfers.specs.ReadInto.{told, read_count};
 ghost use Rattle.pl_transfers.specs.Waits.{reply_of};
-ghost use Rattle.pl_kernel.specs.Progress.{is_ready, IsLeastFrom};
 ghost use Rattle.pl_polls.specs.Entries.{asked, entries_after};
 ghost use Rattle.pl_polls.specs.Into.{told as poll_told};
 
@@ -77,6 +76,7 @@ fn begin<A: Allocator + Copy>(
 }
 
 // Begins a write of the caller's bytes.
+#[inline(always)]
 pub(crate) fn begin_write_from<A: Allocator + Copy>(
     kernel: &mut KernelState<A>,
     pid: u32,
@@ -112,6 +112,7 @@ pub(crate) fn refusal_of_write<A: Allocator + Copy>(
 }
 
 // Begins a read into the caller's bytes.
+#[inline(always)]
 pub(crate) fn begin_read_into<A: Allocator + Copy>(
     kernel: &mut KernelState<A>,
     pid: u32,
@@ -187,22 +188,6 @@ pub(crate) fn can_progress<A: Allocator + Copy>(kernel: &KernelState<A>, number:
         return poll_can_progress(kernel, number);
     }
     pl_splices::can_progress(kernel, number)
-}
-
-// The least number, `from` or above, of a parked call that can get on.
-pub(crate) fn next_ready<A: Allocator + Copy>(kernel: &KernelState<A>, from: u64) -> Option<u64>
-    ensures { IsLeastFrom (is_ready (core_of {A = A} kernel.now)) from result }
-{
-    let mut least = from;
-    while let Some(number) = kernel.parked.next_from(least) {
-        if can_progress(kernel, number) {
-            return Some(number);
-        }
-        // A proof learns here that a number is never the greatest of its type.
-        let _next = kernel.parked.next_number();
-        least = number + 1;
-    }
-    None
 }
 
 #[inline(always)]

@@ -77,8 +77,12 @@ fn facts_of<A: Allocator + Copy>(kernel: &KernelState<A>, node: Node) -> NodeFac
     }
 }
 
-// What a descriptor of a process is open on.
-fn node_of_fd<A: Allocator + Copy>(kernel: &KernelState<A>, pid: u32, fd: i32) -> Option<Node>
+/// What a descriptor of a process is open on.
+pub(crate) fn node_of_fd<A: Allocator + Copy>(
+    kernel: &KernelState<A>,
+    pid: u32,
+    fd: i32,
+) -> Option<Node>
     ensures value { option_map node_of result ≡ node_at (core_of {A = A} kernel.now) (OfFd pid fd) }
     ensures there { IfSome result (IsThere kernel.now.nodes) }
 {
@@ -86,8 +90,11 @@ fn node_of_fd<A: Allocator + Copy>(kernel: &KernelState<A>, pid: u32, fd: i32) -
     Some(kernel.descs.node(key))
 }
 
-// What a name stands for.
-fn node_of_name<A: Allocator + Copy>(kernel: &KernelState<A>, name: &[u8]) -> Option<Node>
+/// What a name stands for.
+pub(crate) fn node_of_name<A: Allocator + Copy>(
+    kernel: &KernelState<A>,
+    name: &[u8],
+) -> Option<Node>
     ensures value { option_map node_of result ≡ node_at (core_of {A = A} kernel.now) (OfName name.now) }
     ensures there { IfSome result (IsThere kernel.now.nodes) }
 {

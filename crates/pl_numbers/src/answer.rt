@@ -40,6 +40,8 @@ pub struct Answer {
     pub kind: u8,
     /// Whether the process gets `SIGPIPE`: no reader was left for what it wrote.
     pub sigpipe: bool,
+    /// Whether the call waits, and this step took some of its bytes.
+    pub moved: bool,
 }
 
 impl Answer {
@@ -59,6 +61,7 @@ impl Answer {
             error: 0,
             kind,
             sigpipe: false,
+            moved: false,
         }
     }
 
@@ -71,12 +74,13 @@ impl Answer {
             error: error_number(errno),
             kind: kind::FAULT,
             sigpipe: matches!(errno, Errno::EPIPE),
+            moved: false,
         }
     }
 }
 
 /// The answer that says a reply. The two ends of a pipe, the bytes of a read and the masks of a poll don't find room in it: it has 0,
-/// their count, and how many masks aren't empty.
+/// their count, and how many masks aren't empty. A reply doesn't tell whether bytes moved, so `moved` is false.
 pub fn answer_of<A: Allocator>(reply: &Reply<A>) -> Answer
     ensures { result ≡ said reply.now }
 {

@@ -5,7 +5,7 @@ ghost use Rattle.pl_segments.specs.Slices.{Lies, AllLie, reads, all_read};
 ghost use Rattle.pl_segments.specs.Turns.{Holds, Turns};
 ghost use Rattle.pl_segments.specs.Slots.{total, AllSolid, drop_bytes, front_of};
 
-use crate::places::{put_first, take_first, take_whole};
+use crate::places::{put_first, take_first, take_only, take_whole};
 use circular_buffer::HeapCircularBuffer;
 use pl_segments::{NoMemory, Slice, Store};
 use std::alloc::Allocator;
@@ -198,8 +198,8 @@ pub(crate) fn pop_only<A: Allocator + Copy>(
     ensures capacity { slots.new.capacity ≡ slots.old.capacity }
     ensures spare { store.old.room ≤ most_spare → store.new.room ≤ most_spare }
 {
-    let first = take_first(slots);
-    store.read_out(first, into);
+    let only = take_only(slots);
+    store.read_out(only, into);
 }
 
 // Takes the first bytes, which may stand in several slots or be a part of one, into a list of so many.

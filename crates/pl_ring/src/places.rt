@@ -71,6 +71,16 @@ pub(crate) fn take_first<A: Allocator>(slots: &mut HeapCircularBuffer<Slice, A>)
     slots.pop_front().unwrap()
 }
 
+/// Takes the only slot out. It is taken as the last one, so that the place at which the ring begins isn't written anew.
+#[inline(always)]
+pub(crate) fn take_only<A: Allocator>(slots: &mut HeapCircularBuffer<Slice, A>) -> Slice
+    requires { length slots.old.items ≡ 1 }
+    ensures items { slots.old.items ≡ result ∷ slots.new.items }
+    ensures capacity { slots.new.capacity ≡ slots.old.capacity }
+{
+    slots.pop_back().unwrap()
+}
+
 /// Takes the first slot out where it has just so many bytes.
 #[inline(always)]
 pub(crate) fn take_whole<A: Allocator>(

@@ -96,3 +96,15 @@ may-forgotten lost looked pending old new touched node gone number apart f =
     stays true true c h = absurd (cc)
     stays true false c h = refl
     stays false b c h = refl
+
+-- Where no node has a place for its mark, no call is at a node.
+pub idle-empty : (lost : Bool) (looked : ℕ) (pending places : BTreeSet GroupedCall) (marked : List Bool) (touched : List ℕ) → AreMarked places marked touched → length marked ≡ 0 →
+    (node call : ℕ) → placed lost places node call ≡ true → may lost looked pending places touched call ≡ true
+unfolding placed may
+idle-empty true looked pending places marked touched are empty node call there = refl
+idle-empty false looked pending places marked touched are empty node call there = absurd (let low = are.room node call there in omega (arith, low, empty))
+
+-- Where all is lost, each call may get on.
+pub idle-lost : (lost : Bool) (looked : ℕ) (pending places : BTreeSet GroupedCall) (touched : List ℕ) → lost ≡ true → (call : ℕ) → may lost looked pending places touched call ≡ true
+unfolding may
+idle-lost lost looked pending places touched is call = λ i. is i || (nat_le looked call || (has_call pending (call_in 0 call) || waits_at_any places touched call))

@@ -6,20 +6,23 @@ use crate::waiters::{PENDING, Waiters};
 use pl_parked::Groups;
 use std::alloc::Allocator;
 
-// Moves all calls of a node to those that may get on; whether it could. Some may have moved where it couldn't.
+// Moves all calls of a node to those that may get on, if they are no more than are left to move; whether it could. Some may have moved where
+// it couldn't.
 fn move_all<A: Allocator + Copy>(
     places: &mut Groups<A>,
     pending: &mut Groups<A>,
     node: usize,
+    left: &mut usize,
 ) -> bool
     ensures others { (other number : ℕ) → node ≢ other → has_call places.new.set (call_in other number) ≡ has_call places.old.set (call_in other number) }
     ensures either { (number : ℕ) → (has_call pending.new.set (call_in 0 number) || has_call places.new.set (call_in node number)) ≡ (has_call pending.old.set (call_in 0 number) || has_call places.old.set (call_in node number)) }
     ensures none { result ≡ true → (number : ℕ) → has_call places.new.set (call_in node number) ≡ false }
 {
     while let Some(number) = places.first_from(node as u64, 0) {
-        if pending.add(PENDING, number).is_err() {
+        if *left == 0 || pending.add(PENDING, number).is_err() {
             return false;
         }
+        *left -= 1;
         places.remove(node as u64, number);
     }
     true
@@ -29,16 +32,18 @@ impl<A: Allocator + Copy> Waiters<A> {
     ghost use Rattle.std.specs.Prelude.{◌≡◌, ℕ, ◌+◌, ◌<◌, true, false, length};
     ghost use Rattle.pl_waiters.specs.Seen.{is_placed, may_get_on, AreSpread};
 
-    /// Makes the calls of touched nodes stand by themselves, so that `next` finds them; whether it could. Each that may get on still may,
-    /// and no other. It costs as many steps as calls wait at nodes that were touched since the last time.
-    pub fn spread(&mut self) -> bool
+    /// Makes the calls of touched nodes stand by themselves, so that `next` finds them, if they are at most so many; whether it could. Each that
+    /// may get on still may, and no other. It costs as many steps as it moves calls and as nodes were touched since the last time.
+    pub fn spread(&mut self, most: usize) -> bool
         ensures may { (call : ℕ) → may_get_on self.new call ≡ may_get_on self.old call }
         ensures places { (node call : ℕ) → may_get_on self.old call ≡ false → is_placed self.new node call ≡ is_placed self.old node call }
         ensures looked { self.new.looked ≡ self.old.looked }
         ensures spread { result ≡ true → AreSpread self.new }
+        ensures nothing { AreSpread self.old → result ≡ true }
     {
+        let mut left = most;
         while !self.touched.is_empty() {
-            if !self.spread_last() {
+            if !self.spread_last(&mut left) {
                 return false;
             }
         }
@@ -46,7 +51,7 @@ impl<A: Allocator + Copy> Waiters<A> {
     }
 
     // Moves the calls of the last touched node, and touches it no more; whether it could.
-    fn spread_last(&mut self) -> bool
+    fn spread_last(&mut self, left: &mut usize) -> bool
         requires { 0 < length self.old.touched.items }
         ensures may { (call : ℕ) → may_get_on self.new call ≡ may_get_on self.old call }
         ensures places { (node call : ℕ) → may_get_on self.old call ≡ false → is_placed self.new node call ≡ is_placed self.old node call }
@@ -55,7 +60,7 @@ impl<A: Allocator + Copy> Waiters<A> {
         ensures fewer { result ≡ true → length self.new.touched.items + 1 ≡ length self.old.touched.items }
     {
         let node = self.touched.pop().unwrap();
-        if !move_all(&mut self.places, &mut self.pending, node) {
+        if !move_all(&mut self.places, &mut self.pending, node, left) {
             self.touched.push_reserved(node);
             return false;
         }

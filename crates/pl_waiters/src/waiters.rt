@@ -68,8 +68,16 @@ impl<A: Allocator + Copy> Waiters<A> {
 }
 
 impl<A: Allocator> Waiters<A> {
-    ghost use Rattle.std.specs.Prelude.{◌≡◌, ◌≢◌, ℕ, ◌||◌, ◌&&◌, not, nat_eq, vec_capacity};
+    ghost use Rattle.std.specs.Prelude.{◌≡◌, ◌≢◌, ℕ, ◌||◌, ◌&&◌, ◌<◌, not, true, false, nat_eq, length, vec_capacity};
     ghost use Rattle.pl_waiters.specs.Seen.{is_placed, may_get_on};
+
+    /// Whether a touch tells nothing: each call that is at a node may get on already. So it is where no call was ever added.
+    #[inline(always)]
+    pub fn is_idle(&self) -> bool
+        ensures { result ≡ true → (node call : ℕ) → is_placed self.now node call ≡ true → may_get_on self.now call ≡ true }
+    {
+        self.marked.is_empty() || self.lost
+    }
 
     /// Whether nothing is known any more.
     pub fn is_lost(&self) -> bool
@@ -92,6 +100,7 @@ impl<A: Allocator> Waiters<A> {
         ensures may { (call : ℕ) → may_get_on self.new call ≡ (self.new.lost || (is_placed self.old node call || may_get_on self.old call)) }
         ensures looked { self.new.looked ≡ self.old.looked }
         ensures capacity { vec_capacity self.new.touched ≡ vec_capacity self.old.touched }
+        ensures known { self.old.lost ≡ false → length self.old.touched.items < vec_capacity self.old.touched → self.new.lost ≡ false }
     {
         if node >= self.marked.len() || self.marked[node] {
             return;

@@ -66,7 +66,7 @@ fn goes_on(
 
 /// A process whose call can get on, and the call.
 fn one_that_can<'a>(
-    kernel: &Kernel,
+    kernel: &mut Kernel,
     guests: &'a mut [Guest],
 ) -> Option<(&'a mut Guest, ParkedCall)> {
     let number = kernel.next_ready(0)?;

@@ -1,5 +1,8 @@
 //! What a call answers that may wait, and the handle of one that waits.
 
+use core::cmp::Ordering;
+use core::hash::{Hash, Hasher};
+
 /// What a call answers that may wait.
 ///
 /// A call that waits is no error, so `?` leaves it in a program's hands:
@@ -66,6 +69,8 @@ impl<T> Answer<T> {
 /// again. It keeps open what it found open: the ends of its pipes count as open, so that another process sees no end of file and no
 /// `EPIPE`. An open of a FIFO keeps the end that it makes. A write keeps its copy of the bytes too.
 ///
+/// Two handles are equal, and in order, by their numbers alone.
+///
 /// ```
 /// use bindingclay::memory::Global;
 /// use bindingclay::{Answer, Call, Errno, Kernel, Limits, NotDone, ParkedCall, Step};
@@ -82,9 +87,12 @@ impl<T> Answer<T> {
 /// assert_eq!(kernel.interrupt(call), Err(NotDone::Fault(Errno::EINTR)));
 /// # Ok::<(), Box<dyn std::error::Error>>(())
 /// ```
-#[derive(Debug, PartialEq, Eq, PartialOrd, Ord, Hash)]
+#[derive(Debug)]
 #[must_use = "dropping it doesn't interrupt the call, which stays parked"]
-pub struct ParkedCall(u64);
+pub struct ParkedCall {
+    number: u64,
+    moved: bool,
+}
 
 impl ParkedCall {
     /// The handle of the call of a number, for a program that keeps numbers itself, as [`Reply::Parked`](crate::Reply::Parked) tells them.
@@ -100,7 +108,19 @@ impl ParkedCall {
     /// # Ok::<(), Box<dyn std::error::Error>>(())
     /// ```
     pub const fn from_number(number: u64) -> ParkedCall {
-        ParkedCall(number)
+        ParkedCall {
+            number,
+            moved: false,
+        }
+    }
+
+    pub(crate) const fn with_moved(number: u64, moved: bool) -> ParkedCall {
+        ParkedCall { number, moved }
+    }
+
+    /// The handle as an error gives it back: nothing moved.
+    pub(crate) const fn given_back(self) -> ParkedCall {
+        ParkedCall::from_number(self.number)
     }
 
     /// Its number. A kernel gives each number once.
@@ -111,7 +131,29 @@ impl ParkedCall {
     /// assert_eq!(ParkedCall::from_number(7).number(), 7);
     /// ```
     pub const fn number(&self) -> u64 {
-        self.0
+        self.number
+    }
+
+    /// Whether the method that gave this handle in its answer put bytes of a write into the pipe: then another call may get on. It is `false`
+    /// of a handle that came back in an error, or was made of a number.
+    ///
+    /// ```
+    /// use bindingclay::memory::Global;
+    /// use bindingclay::{Answer, Call, Kernel, Limits, Step};
+    ///
+    /// let mut kernel = Kernel::new(Global, Limits::default())?;
+    /// kernel.step(Step::Start)?;
+    /// kernel.step(Step::Begin(1, Call::Pipe { nonblock: false, direct: false }))?;
+    /// let Answer::Parked(large) = kernel.write_from(1, 1, &[7; 70_000])? else { panic!("no wait") };
+    /// assert!(large.moved()); // 65,536 bytes went in
+    /// let Answer::Parked(small) = kernel.write_from(1, 1, b"a")? else { panic!("no wait") };
+    /// assert!(!small.moved());
+    /// let Answer::Parked(large) = kernel.resume(large)? else { panic!("no wait") };
+    /// assert!(!large.moved()); // the pipe is still full
+    /// # Ok::<(), Box<dyn std::error::Error>>(())
+    /// ```
+    pub const fn moved(&self) -> bool {
+        self.moved
     }
 
     /// Lets go of the handle, for a program that keeps the number itself. The call still waits.
@@ -122,6 +164,32 @@ impl ParkedCall {
     /// assert_eq!(ParkedCall::from_number(7).into_number(), 7);
     /// ```
     pub const fn into_number(self) -> u64 {
-        self.0
+        self.number
+    }
+}
+
+impl PartialEq for ParkedCall {
+    fn eq(&self, other: &ParkedCall) -> bool {
+        self.number == other.number
+    }
+}
+
+impl Eq for ParkedCall {}
+
+impl PartialOrd for ParkedCall {
+    fn partial_cmp(&self, other: &ParkedCall) -> Option<Ordering> {
+        Some(self.cmp(other))
+    }
+}
+
+impl Ord for ParkedCall {
+    fn cmp(&self, other: &ParkedCall) -> Ordering {
+        self.number.cmp(&other.number)
+    }
+}
+
+impl Hash for ParkedCall {
+    fn hash<H: Hasher>(&self, state: &mut H) {
+        self.number.hash(state);
     }
 }

@@ -319,6 +319,87 @@ fn each_call_that_can_wait_tells_of_its_call() {
     assert_eq!(&into[..6], b"abcabc");
 }
 
+/// Reads one byte, where there is one.
+#[track_caller]
+fn read_a_byte(kernel: &mut Kernel) {
+    assert_eq!(kernel.read_into(1, 0, &mut [0]), Ok(Answer::Done(1)));
+}
+
+#[test]
+fn a_handle_tells_whether_bytes_of_a_write_moved() {
+    let mut kernel = with_waits();
+    let reading = waits(kernel.read_into(1, 0, &mut [0; 9]));
+    let write = |bytes: &[u8]| {
+        let bytes = Vec::from_slice(Global, bytes).expect("memory");
+        let bytes = Bytes8::from_vec(bytes).expect("few bytes");
+        Call::Write { fd: 1, bytes }
+    };
+    let large = waits(kernel.begin(1, write(&[7; 65_540])));
+    let whole = waits(kernel.begin(1, write(&[7; 4_096])));
+    let small = waits(kernel.write_from(1, 1, b"a"));
+    let other = waits(kernel.write_from(1, 1, &[7; 4_097]));
+    let told = [&reading, &large, &whole, &small, &other].map(ParkedCall::moved);
+    assert_eq!(told, [false, true, false, false, false]);
+    // in vain, and then a byte at a time, by each way to resume it
+    let large = waits(kernel.resume(large));
+    assert!(!large.moved());
+    let large = waits(kernel.resume_poll(large, &mut []));
+    assert!(!large.moved());
+    read_a_byte(&mut kernel);
+    let large = waits(kernel.resume(large));
+    assert!(large.moved());
+    read_a_byte(&mut kernel);
+    let large = waits(kernel.resume_read(large, &mut []));
+    assert!(large.moved());
+    read_a_byte(&mut kernel);
+    let large = waits(kernel.resume_poll(large, &mut []));
+    assert!(large.moved());
+    // handles are compared by their numbers
+    assert_eq!(large, ParkedCall::from_number(large.number()));
+    let large = waits(kernel.resume_read(large, &mut []));
+    assert!(!large.moved());
+    read_a_byte(&mut kernel);
+    assert_eq!(
+        kernel.resume(large),
+        Ok(Answer::Done(Reply::Count {
+            n: 65_540,
+            sigpipe: false
+        }))
+    );
+}
+
+#[test]
+fn a_handle_that_an_error_gives_back_tells_of_no_bytes() {
+    let requests = Requests(u32::MAX.into());
+    let mut kernel = Kernel::new(&requests, Limits::default()).expect("the limits of before");
+    kernel.step(Step::Start).expect("memory");
+    let pipe = Call::Pipe {
+        nonblock: false,
+        direct: false,
+    };
+    kernel.step(Step::Begin(1, pipe)).expect("memory");
+    let Ok(Answer::Parked(call)) = kernel.write_from(1, 1, &[7; 200_000]) else {
+        panic!("no wait");
+    };
+    assert!(call.moved());
+    let larger = Call::SetPipeSz {
+        fd: 1,
+        size: 131_072,
+    };
+    kernel.step(Step::Begin(1, larger)).expect("memory");
+    requests.0.set(0);
+    let Err(NotDone::NoMemoryToResume(call)) = kernel.resume(call) else {
+        panic!("memory");
+    };
+    assert!(!call.moved());
+    requests.0.set(u32::MAX);
+    let Ok(Answer::Parked(call)) = kernel.resume(call) else {
+        panic!("no wait");
+    };
+    assert!(call.moved());
+    assert_eq!(kernel.taken(&call), Some(131_072));
+}
+
 #[test]
 fn a_call_that_is_resumed_as_another_kind_tells_its_number() {
     let mut kernel = with_waits();

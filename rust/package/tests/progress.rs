@@ -164,15 +164,17 @@ impl Run {
     }
 
     /// Just the parked calls that can get on are told, one after another.
-    fn tells_all_ready(&self) {
+    fn tells_all_ready(&mut self) {
+        let kernel = &mut self.kernel;
         let mut from = 0;
-        let told = std::iter::from_fn(|| {
-            let number = self.kernel.next_ready(from)?;
+        let told: Vec<u64> = std::iter::from_fn(|| {
+            let number = kernel.next_ready(from)?;
             from = number + 1;
             Some(number)
-        });
+        })
+        .collect();
         let ready = self.parked.keys().copied().filter(|number| self.can_progress(*number));
-        assert!(told.eq(ready));
+        assert!(told.into_iter().eq(ready));
     }
 
     /// Asks of each parked call whether it can get on, and tries it.

@@ -1,19 +1,23 @@
 //! Bytes from and into the caller's memory.
-ghost use Rattle.std.specs.Prelude.{◌≡◌, ◌≤◌, ◌<◌, ◌^◌, ⊤, List, length, take, min, MatchOption};
+ghost use Rattle.std.specs.Prelude.{◌≡◌, ◌≤◌, ◌<◌, ◌^◌, ◌&&◌, ⊤, List, false, length, nat_eq, nat_lt, take, min, MatchOption};
 ghost use Rattle.pl_model.specs.Numbers.{most_bytes};
 ghost use Rattle.pl_model.specs.declared.replies.Errno.TheVariants.{EINVAL};
 ghost use Rattle.bindingclay.specs.Heap.{InBudget};
 ghost use Rattle.pl_transfers.specs.Waits.{reply_of};
 ghost use Rattle.pl_kernel.specs.Buffers.{Parks};
-ghost use Rattle.pl_numbers.specs.Answers.{said, faulty};
+ghost use Rattle.pl_model.specs.Fates.{taken_by};
+ghost use Rattle.pl_model.specs.Numbered.{State};
+ghost use Rattle.pl_state.specs.Makes.{Stands};
+ghost use Rattle.pl_numbers.specs.Answers.{said, faulty, parked};
 ghost use Rattle.pl_numbers.specs.Flags.{splice_flags_of_bits};
 ghost use Rattle.pl_polls.specs.declared.entries.PollEntry.{PollEntry as Entry};
 ghost use Rattle.pl_polls.specs.Entries.{asked, entries_after};
 ghost use Rattle.pl_polls.specs.Into.{told as poll_told};
-ghost use Rattle.bindingclay.specs.Made.{Makes, Wants, Replied, bytes_after, read_answer, offset_of};
+ghost use Rattle.bindingclay.specs.Made.{Makes, Moves, Wants, Replied, unmoved, bytes_after, read_answer, offset_of};
 
-use super::{Layer, no_memory};
-use pl_kernel::{NoMemory, PollEntry, PollReply, ReadReply, WriteReply};
+use super::moved::tell_moved;
+use super::{Heap, Layer, no_memory};
+use pl_kernel::{Kernel, NoMemory, PollEntry, PollReply, ReadReply, WriteReply};
 use pl_model::{Call, Errno, Step};
 use pl_numbers::{Answer, kind, splice_flags_of_bits};
 
@@ -77,6 +81,19 @@ fn answer_of_write(reply: &WriteReply) -> Answer
     }
 }
 
+// The answer of a write, which tells too whether bytes of it went in where it waits. The kernel is as the write left it.
+#[inline(always)]
+fn answer_of_written(kernel: &Kernel<Heap>, reply: &WriteReply) -> Answer
+    ensures rest { result ≡ record (said {A = InBudget} (reply_of reply.now)) { moved = result.moved } }
+    ensures value { (s : State InBudget) → Stands kernel.now s → result.moved ≡ (nat_eq (said {A = InBudget} (reply_of reply.now)).kind parked && nat_lt 0 (taken_by s.core (said {A = InBudget} (reply_of reply.now)).value)) }
+    ensures others { ((said {A = InBudget} (reply_of reply.now)).kind ≡ parked → ⊥) → result.moved ≡ false }
+{
+    match reply {
+        WriteReply::Parked(_) => tell_moved(kernel, 0, answer_of_write(reply)),
+        _ => answer_of_write(reply),
+    }
+}
+
 // The answer of a poll of the caller's entries.
 fn answer_of_poll(reply: &PollReply) -> Answer
     ensures { (entries : List Entry) → result ≡ said {A = InBudget} (poll_told reply.now entries) }
@@ -119,18 +136,20 @@ impl Layer {
     // Writes the caller's bytes.
     fn write_all(&mut self, pid: u32, fd: i32, bytes: &[u8]) -> Answer
         requires { length bytes.now ≤ most_bytes }
-        ensures makes { Makes self.old.kernel (Step.Begin pid (Call.Write fd bytes.now)) result self.new.kernel }
+        ensures makes { Makes self.old.kernel (Step.Begin pid (Call.Write fd bytes.now)) (unmoved result) self.new.kernel }
+        ensures moved { Moves self.old.kernel (Step.Begin pid (Call.Write fd bytes.now)) result }
         ensures wants { Wants self.old.kernel (Step.Begin pid (Call.Write fd bytes.now)) result }
     {
         match self.kernel.write_from(pid, fd, bytes) {
-            Ok(reply) => answer_of_write(&reply),
+            Ok(reply) => answer_of_written(&self.kernel, &reply),
             Err(NoMemory) => no_memory(),
         }
     }
 
     /// Writes the first of the caller's bytes, at most 16,777,216.
     pub fn write(&mut self, pid: u32, fd: i32, bytes: &[u8]) -> Answer
-        ensures makes { Makes self.old.kernel (Step.Begin pid (Call.Write fd (take most_bytes bytes.now))) result self.new.kernel }
+        ensures makes { Makes self.old.kernel (Step.Begin pid (Call.Write fd (take most_bytes bytes.now))) (unmoved result) self.new.kernel }
+        ensures moved { Moves self.old.kernel (Step.Begin pid (Call.Write fd (take most_bytes bytes.now))) result }
         ensures wants { Wants self.old.kernel (Step.Begin pid (Call.Write fd (take most_bytes bytes.now))) result }
     {
         self.write_all(pid, fd, within(bytes))

@@ -2,8 +2,9 @@
 ghost use Rattle.std.specs.Prelude.{◌≡◌, length};
 ghost use Rattle.pl_kernel.specs.Progress.{TellsProgress, OrWaitsInVain};
 ghost use Rattle.bindingclay.specs.Heap.{InBudget};
-ghost use Rattle.bindingclay.specs.Made.{Gathers, Notes, Owns, Resumes, Takes, TellsNext, TriesAgain, Wants, number_answer, resumed_answer, resumed_entries};
+ghost use Rattle.bindingclay.specs.Made.{Gathers, Moves, Notes, Owns, Resumes, Takes, TellsNext, TriesAgain, Wants, number_answer, resumed_answer, resumed_entries};
 
+use super::moved::{taken_so_far, tell_moved};
 use super::transfers::answer_of_read;
 use super::{Heap, Layer, no_memory};
 use pl_kernel::{NoMemory, Resumed};
@@ -76,8 +77,9 @@ impl Layer {
     }
 
     /// Tells the least number, `from` or above, of a parked call that can get on: the value is that number.
-    pub fn next_ready(&self, from: u64) -> Answer
-        ensures { TellsNext self.now.kernel from result }
+    pub fn next_ready(&mut self, from: u64) -> Answer
+        ensures tells { TellsNext self.old.kernel from result }
+        ensures same { self.new.kernel ≡ self.old.kernel }
     {
         answer_of_call(self.kernel.next_ready(from))
     }
@@ -87,6 +89,7 @@ impl Layer {
     /// room for what it found.
     pub fn resume(&mut self, number: u64, into: &mut [u8]) -> Answer
         ensures tries { TriesAgain self.old.kernel number into.old result into.new self.new.kernel }
+        ensures moved { Moves self.old.kernel (Step.Resume number) result }
         ensures wants { Wants self.old.kernel (Step.Resume number) result }
     {
         let entries = self.kernel.ready_entries(number);
@@ -99,22 +102,26 @@ impl Layer {
     // Tries the parked call of a number again; a read gives its bytes into the caller's, if they fit.
     fn gather(&mut self, number: u64, into: &mut [u8]) -> Answer
         ensures made { Resumes self.old.kernel number (length into.old) result self.new.kernel }
+        ensures moved { Moves self.old.kernel (Step.Resume number) result }
         ensures wants { Wants self.old.kernel (Step.Resume number) result }
         ensures bytes { Gathers self.old.kernel number into.old result into.new }
     {
+        let before = taken_so_far(&self.kernel, number);
         let resumed = self.kernel.resume_into(number, into);
-        answer_of_resumed(&resumed)
+        tell_moved(&self.kernel, before, answer_of_resumed(&resumed))
     }
 
     /// Tries the parked call of a number again; a poll notes in each entry what was found. Where the call is a read
     /// that would give bytes, the answer says how many, and nothing changed.
     pub fn resume_poll(&mut self, number: u64, entries: &mut [PollEntry]) -> Answer
         ensures made { Resumes self.old.kernel number 0 result self.new.kernel }
+        ensures moved { Moves self.old.kernel (Step.Resume number) result }
         ensures wants { Wants self.old.kernel (Step.Resume number) result }
         ensures entries { Notes self.old.kernel number entries.old result entries.new }
     {
+        let before = taken_so_far(&self.kernel, number);
         let resumed = self.kernel.resume_into(number, &mut []);
         mark_resumed(&resumed, entries);
-        answer_of_resumed(&resumed)
+        tell_moved(&self.kernel, before, answer_of_resumed(&resumed))
     }
 }

@@ -11,13 +11,14 @@ ghost use Rattle.pl_polls.specs.Into.{told as poll_told};
 ghost use Rattle.pl_kernel.specs.Buffers.{Parks, resumed_count, IsRead, IsOfRead, IsOfOther, Resumes, ResumesByReply};
 
 use super::Kernel;
-use crate::steps::{
-    begin_poll_into, begin_read_into, begin_write_from, refusal_of_write, try_again,
+use crate::noted::{
+    begin_poll_into, begin_read_into, begin_write_from, resume_read_into, try_again,
 };
+use crate::steps::refusal_of_write;
 use pl_model::{Call, Reply, Step};
 use pl_polls::{PollEntry, PollReply};
 use pl_state::NoMemory;
-use pl_transfers::{ReadReply, WriteReply, bytes_to_resume, resume_read_into, waiting_read};
+use pl_transfers::{ReadReply, WriteReply, bytes_to_resume, waiting_read};
 use std::alloc::{Allocator, Global};
 
 /// What the resumption of a call answers, where a read gives its bytes into the caller's.
@@ -48,7 +49,7 @@ impl<A: Allocator + Copy> Kernel<A> {
         // A proof learns here that nothing was left to settle, so that a refused step leaves the very state.
         let state = &self.state;
         let _ = &state.descs;
-        begin_write_from(&mut self.state, pid, fd, bytes)
+        begin_write_from(&mut self.state, &mut self.waiters, pid, fd, bytes)
     }
 
     /// What the step at which the process of a pid begins a Write of so many bytes, not none, answers where it is refused: whatever
@@ -81,7 +82,7 @@ impl<A: Allocator + Copy> Kernel<A> {
         // A proof learns here that nothing was left to settle, so that a refused step leaves the very state.
         let state = &self.state;
         let _ = &state.descs;
-        begin_read_into(&mut self.state, pid, fd, into)
+        begin_read_into(&mut self.state, &mut self.waiters, pid, fd, into)
     }
 
     /// Makes the step at which the process of a pid begins a Poll of what the caller's entries ask. Where it is answered, what was found
@@ -107,7 +108,7 @@ impl<A: Allocator + Copy> Kernel<A> {
         // A proof learns here that nothing was left to settle, so that a refused step leaves the very state.
         let state = &self.state;
         let _ = &state.descs;
-        begin_poll_into(&mut self.state, pid, entries, wait)
+        begin_poll_into(&mut self.state, &mut self.waiters, pid, entries, wait)
     }
 
     /// Makes the step that tries the parked call of a number again, where a read gives its bytes into the first of the caller's; the
@@ -137,12 +138,19 @@ impl<A: Allocator + Copy> Kernel<A> {
         let state = &self.state;
         let _ = &state.descs;
         let Some(read) = waiting_read(state, number) else {
-            return Ok(Resumed::Other(try_again(&mut self.state, number)?));
+            return Ok(Resumed::Other(try_again(&mut self.state, &mut self.waiters, number)?));
         };
         let count = bytes_to_resume(state, number);
         if into.len() < count {
             return Ok(Resumed::Short(count as u32));
         }
-        Ok(Resumed::Read(resume_read_into(&mut self.state, number, read.key, read.n, into)))
+        Ok(Resumed::Read(resume_read_into(
+            &mut self.state,
+            &mut self.waiters,
+            number,
+            read.key,
+            read.n,
+            into,
+        )))
     }
 }

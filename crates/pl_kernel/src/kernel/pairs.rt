@@ -6,8 +6,8 @@ ghost use Rattle.pl_state.specs.Makes.{Makes, LeavesByReply, WantsMemory};
 ghost use Rattle.pl_kernel.specs.Sizes.{sizes_of};
 
 use super::Kernel;
+use crate::noted::act;
 use crate::sizes::reply_sizes;
-use crate::steps::act;
 use pl_model::{Bytes8, MaskList, PollMask, Reply, Step};
 use pl_state::NoMemory;
 use std::alloc::Allocator;
@@ -100,7 +100,7 @@ impl<A: Allocator + Copy> Kernel<A> {
         let sizes = reply_sizes(state, &step);
         let bytes = Vec::with_capacity(state.alloc, sizes.bytes)?;
         let masks = Vec::with_capacity(state.alloc, sizes.masks)?;
-        let reply = act(&mut self.state, step)?;
+        let reply = act(&mut self.state, &mut self.waiters, step)?;
         let again = copy_reply(&reply, bytes, masks);
         Ok((reply, again))
     }

@@ -3,7 +3,8 @@ ghost use Rattle.std.specs.Prelude.{◌≡◌};
 ghost use Rattle.pl_kernel.specs.Progress.{TellsProgress, OrWaitsInVain, TellsNextReady, ready_entries};
 
 use super::Kernel;
-use crate::steps::{can_progress, next_ready};
+use crate::ready::next_ready;
+use crate::steps::can_progress;
 use pl_polls::masks_to_resume;
 use std::alloc::Allocator;
 
@@ -23,11 +24,14 @@ impl<A: Allocator + Copy> Kernel<A> {
     /// The least number, `from` or above, of a parked call that can get on; `None` if no call from there on can. So a loop that makes a step,
     /// and then resumes what this answers for 0 until it is `None`, forgets no call that waits. Each try ends a call or takes bytes of a write.
     ///
-    /// It changes nothing and takes no memory. It asks the calls that wait, one after another, from `from` on.
-    pub fn next_ready(&self, from: u64) -> Option<u64>
-        ensures { TellsNextReady {A = A} self.now from result }
+    /// It changes nothing that a step or a question sees. It asks only the calls that may have got on since the last time: those at the pipes
+    /// and files that steps touched, and those that began to wait. For these it keeps an index, which takes memory of its own. Where memory
+    /// runs out, it asks all that wait, and answers the same.
+    pub fn next_ready(&mut self, from: u64) -> Option<u64>
+        ensures told { TellsNextReady {A = A} self.old from result }
+        ensures same { self.new ≡ self.old }
     {
-        next_ready(&self.state, from)
+        next_ready(&self.state, &mut self.waiters, from)
     }
 
     /// How many entries the parked call of a number has, if it is a poll that can get on: a Resume made now answers as many masks. Else 0. It

@@ -94,7 +94,7 @@ module _ {A : Type 0} (m : Caller A) (name : List ℕ) (mode : Mode) (flags : Op
     unfolding core_of
     end_settled =
         let place = free m calls sound are fd may.lowest (node.File f) d vacant mode (status_flags flags) in
-        create-settled (core_of k) sound.settled f d pid fd (unused m d vacant) (pid_in descs.tables pid process).0
+        create-settled (core_of k) sound.settled f d pid fd (unused m.kernel d vacant) (pid_in descs.tables pid process).0
         (let h = (pid_in descs.tables pid process).1 in omega (arith, h, are.tidy.few)) process place.1 place.0 mode (status_flags flags) name none
 
     still : (n : Node) → IsThere nodes n → IsThere nodes' n

@@ -113,7 +113,7 @@ module _ {A : Type 0} (m : Caller A) (mode : Mode) (flags : OpenFlags) (fd p : �
 
     settles_so : settle c (end d (meet c p mode)) ≡ end d (set_pipe (meet c p mode) p (unhung mode x))
     unfolding core_of
-    settles_so = open_meets-settled (core_of k) sound.settled p d pid fd (unused m d vacant) (pid_in descs.tables pid process).0
+    settles_so = open_meets-settled (core_of k) sound.settled p d pid fd (unused m.kernel d vacant) (pid_in descs.tables pid process).0
         (let h = (pid_in descs.tables pid process).1 in omega (arith, h, are.tidy.few)) process place.1 place.0 mode (status_flags flags) x was
 
     module _ (descs' : Descs) (nodes' : Nodes) (pids : is_pid descs'.tables ≡ is_pid descs.tables) (rows : row_at descs'.tables ≡ with_row (row_at descs.tables) pid fd (Some d))

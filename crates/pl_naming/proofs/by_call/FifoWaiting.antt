@@ -178,7 +178,7 @@ module _ {A : Type 0} (m : Caller A) (name : List ℕ) (mode : Mode) (flags : Op
 
       waits_core : core_of new ≡ settle c (parked (described_by d) (waiting_of w))
       unfolding core_of
-      waits_core = new_is ∙ sym (wait_fifo-settled (core_of k) sound.settled p d (unused m d awaits.vacant) mode (status_flags flags) x was (waiting_of w) refl)
+      waits_core = new_is ∙ sym (wait_fifo-settled (core_of k) sound.settled p d (unused m.kernel d awaits.vacant) mode (status_flags flags) x was (waiting_of w) refl)
 
       there : IsSome (at nodes'.pipes p)
       there = still mode p nodes nodes' pipes_are files_are (node.Pipe p) (subst (λ o. IsSome o) (sym was) refl)
@@ -219,8 +219,8 @@ module _ {A : Type 0} (m : Caller A) (name : List ℕ) (mode : Mode) (flags : Op
       waits_makes : MakesAtKeys k (Begin pid call) (Parked calls.next) new
       waits_makes =
           subst (λ a. Comes c a (Parked calls.next) (core_of new)) (sym (step-draws k pid call process begins not_refused)) (
-            keys m d (length nodes.pipes) (length nodes.files),
-            are_unused m d (length nodes.pipes) (length nodes.files) awaits.vacant (past_end nodes.pipes) (past_end nodes.files),
+            keys m.kernel d (length nodes.pipes) (length nodes.files),
+            are_unused m.kernel d (length nodes.pipes) (length nodes.files) awaits.vacant (past_end nodes.pipes) (past_end nodes.files),
             sym (ap (λ (h : Stepped A numbers). h.reply) (tries d)),
             waits_core ∙ sym (ap (λ (h : Stepped A numbers). settle c h.state) (tries d)),
           )

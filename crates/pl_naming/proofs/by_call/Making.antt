@@ -104,7 +104,7 @@ module _ {A : Type 0} (m : Caller A) (name : List ℕ) where
         d = length descs.opened
 
         abbrev drawn_keys : NewKeys numbers
-        drawn_keys = keys m d p (length nodes.files)
+        drawn_keys = keys m.kernel d p (length nodes.files)
 
         new_is : core_of new ≡ made drawn_keys
         unfolding core_of
@@ -115,7 +115,7 @@ module _ {A : Type 0} (m : Caller A) (name : List ℕ) where
         unnamed = get-keyed nodes.names name ∙ ap (option_map node_of) none
 
         unused : AreUnused c drawn_keys
-        unused = are_unused m d p (length nodes.files) (past_end descs.opened) vacant (past_end nodes.files)
+        unused = are_unused m.kernel d p (length nodes.files) (past_end descs.opened) vacant (past_end nodes.files)
 
         made_core : core_of new ≡ settle c (made drawn_keys)
         made_core = new_is ∙ sym (mkfifo-settled c sound.settled name p unnamed unused.pipe)

@@ -93,7 +93,7 @@ module _ {A : Type 0} (m : Caller A) (calls' : Calls A) (sound' : IsSound A (con
     }
 
     pub opened_makes : (call : Call A) (file : ℕ) → at nodes.files file ≡ None → (g : NewKeys numbers → Core A numbers) → begin c pid call ≡ Draws (λ new. Answered (g new) (Fd (pos fd)))
-        → g (keys m d (length nodes.pipes) file) ≡ u → MakesAtKeys k (Begin pid call) (Fd (pos fd)) new
+        → g (keys m.kernel d (length nodes.pipes) file) ≡ u → MakesAtKeys k (Begin pid call) (Fd (pos fd)) new
     opened_makes call file no_file g draws same =
         subst (λ a. Comes c a (Fd (pos fd)) (core_of new)) (sym (step-draws k pid call process (λ new. Answered (g new) (Fd (pos fd))) draws))
-        (keys m d (length nodes.pipes) file, are_unused m d (length nodes.pipes) file vacant (past_end nodes.pipes) no_file, refl, opened_core ∙ sym (ap (settle c) same))
+        (keys m.kernel d (length nodes.pipes) file, are_unused m.kernel d (length nodes.pipes) file vacant (past_end nodes.pipes) no_file, refl, opened_core ∙ sym (ap (settle c) same))

@@ -64,9 +64,9 @@ module _ {A : Type 0} (m : Caller A) (name : List ℕ) (mode : Mode) (flags : Op
 
     again : (b : Bool) → settle c (end (cond b (set_file c f []) c)) ≡ end (cond b (set_file c f []) c)
     unfolding core_of
-    again true = truncate-settled (core_of k) sound.settled f d pid fd (unused m d vacant) (pid_in descs.tables pid process).0
+    again true = truncate-settled (core_of k) sound.settled f d pid fd (unused m.kernel d vacant) (pid_in descs.tables pid process).0
         (let h = (pid_in descs.tables pid process).1 in omega (arith, h, are.tidy.few)) process place.1 place.0 mode (status_flags flags) held was
-    again false = reopen-settled (core_of k) sound.settled f d pid fd (unused m d vacant) (pid_in descs.tables pid process).0
+    again false = reopen-settled (core_of k) sound.settled f d pid fd (unused m.kernel d vacant) (pid_in descs.tables pid process).0
         (let h = (pid_in descs.tables pid process).1 in omega (arith, h, are.tidy.few)) process place.1 place.0 mode (status_flags flags)
 
     files_by : (b : Bool) → change_at f (λ bytes. cond b [] bytes) (at nodes.files) ≡ (cond b (set_file c f []) c).files

@@ -12,7 +12,7 @@ use Rattle.pl_model.specs.StandsFor.{AreUnused, IsUnusedDescription}
 use Rattle.pl_model.proofs.settling.Parking.{keeps as machine_keeps}
 use Rattle.pl_desc.specs.Rows.{at}
 use Rattle.pl_state.specs.Contents.{Contents, contents, description_of, core_of}
-use Rattle.pl_state.proofs.Known.{Caller}
+use Rattle.pl_state.proofs.Known.{Known}
 use Rattle.pl_state.proofs.by_call.Piping.{kept_live, no_value, unused_node}
 
 past : {X : Type 0} (xs : List (Option X)) (k : ℕ) → length xs ≤ k → at xs k ≡ None
@@ -20,8 +20,8 @@ past [] k l = refl
 past (x ∷ xs) zero l = absurd (omega (arith, l))
 past (x ∷ xs) (suc k) l = past xs k (omega (arith, l))
 
-module _ {A : Type 0} (m : Caller A) where
-  open m use {kernel, descs, nodes, calls, limits, sound, are}
+module _ {A : Type 0} (m : Known A) where
+  open m use {descs, nodes, calls, limits, sound, are}
 
   abbrev k : Contents A
   k = contents descs nodes calls limits
@@ -34,7 +34,7 @@ module _ {A : Type 0} (m : Caller A) where
       let e = slice_index_or c.parked i w in
       let member : is_member nat_eq e.1.kept q ≡ true = list_any_at (nat_eq q) e.1.kept j z n (eq-eqb q (slice_index_or e.1.kept j z) (sym same)) in
       let kept : machine_keeps c.parked q ≡ true = list_any_at (λ (e : ℕ × Waiting A numbers). is_member nat_eq e.1.kept q) c.parked i w l member in
-      no_value (at k.opened q) v (kept_live kernel q kept)
+      no_value (at k.opened q) v (kept_live m q kept)
 
   pub unused : (q : ℕ) → at k.opened q ≡ None → IsUnusedDescription c q
   unfolding core_of

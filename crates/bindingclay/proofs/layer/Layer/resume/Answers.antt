@@ -1,5 +1,7 @@
 use Rattle.std.proofs.Common.{ap, refl, ◌∙◌, arith}
+use Rattle.pl_model.specs.declared.calls.Step.TheVariants.{Resume}
 use Rattle.pl_numbers.specs.Answers.{plain}
+use Rattle.bindingclay.proofs.Moving.{too_short}
 use Rattle.bindingclay.proofs.layer.Layer.resume.Goals as goal
 
 pub returns-then-entries-gt0-clause-tries : goal.returns-then-entries-gt0-clause-tries
@@ -10,6 +12,9 @@ returns-then-entries-gt0-clause-tries c =
       polls = λ ready. (c.of_kind.ensures ∙ ap (λ n. plain n 7) told, refl, refl);
       others = λ none. absurd (omega (arith, some, told, none));
     }
+
+pub returns-then-entries-gt0-clause-moved : goal.returns-then-entries-gt0-clause-moved
+returns-then-entries-gt0-clause-moved c = too_short c.args.self.now.kernel (Resume c.args.number) c.of_kind.result _ c.of_kind.ensures
 
 pub returns-clause-tries : goal.returns-clause-tries
 returns-clause-tries c =

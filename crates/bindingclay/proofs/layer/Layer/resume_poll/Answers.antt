@@ -2,24 +2,40 @@ use Rattle.std.proofs.Common.{refl, subst, sym, []}
 use Rattle.pl_model.specs.declared.calls.Step.TheVariants.{Resume}
 use Rattle.bindingclay.specs.Made.{Resumes, Wants, Notes, resumed_entries}
 use Rattle.bindingclay.proofs.Resuming.{resumes_of, wants_of, notes_of}
+use Rattle.bindingclay.proofs.Moving.{IsTold, moves_again, resumes_told, notes_told}
 use Rattle.bindingclay.proofs.layer.Layer.resume_poll.Goals as goal
 
 pub returns-clause-made : goal.returns-clause-made
 returns-clause-made c =
     let z = c.resume_into-resumed in
-    subst (λ a. Resumes c.args.self.now.kernel c.args.number 0 a z.new.self) (sym c.answer_of_resumed.ensures)
-    (resumes_of c.args.self.now.kernel z.new.self c.args.number [] z.new.into z.result z.ensures.made z.ensures.within z.ensures.unmade)
+    let old = c.args.self.now.kernel in
+    subst (λ a. Resumes old c.args.number 0 a z.new.self) (sym c.tell_moved.ensures.rest)
+    (resumes_told old z.new.self c.args.number c.answer_of_resumed.result c.tell_moved.result.moved 0
+    (subst (λ a. Resumes old c.args.number 0 a z.new.self) (sym c.answer_of_resumed.ensures)
+    (resumes_of old z.new.self c.args.number [] z.new.into z.result z.ensures.made z.ensures.within z.ensures.unmade)))
+
+pub returns-clause-moved : goal.returns-clause-moved
+returns-clause-moved c =
+    let z = c.resume_into-resumed in
+    let t = c.tell_moved.ensures in
+    moves_again c.args.self.now.kernel z.new.self c.args.number c.taken_so_far-before.result [] z.new.into c.tell_moved.result z.result z.ensures.made z.ensures.within c.taken_so_far-before.ensures
+    (subst (λ b. IsTold c.taken_so_far-before.result z.new.self b c.tell_moved.result) c.answer_of_resumed.ensures (record { rest = t.rest; value = t.value; others = t.others }))
 
 pub returns-clause-wants : goal.returns-clause-wants
 returns-clause-wants c =
     let z = c.resume_into-resumed in
-    subst (λ a. Wants c.args.self.now.kernel (Resume c.args.number) a) (sym c.answer_of_resumed.ensures)
-    (wants_of c.args.self.now.kernel z.new.self c.args.number [] z.new.into z.result z.ensures.wanted)
+    subst (λ a. Wants c.args.self.now.kernel (Resume c.args.number) a) (sym c.tell_moved.ensures.rest)
+    (subst (λ a. Wants c.args.self.now.kernel (Resume c.args.number) a) (sym c.answer_of_resumed.ensures)
+    (wants_of c.args.self.now.kernel z.new.self c.args.number [] z.new.into z.result z.ensures.wanted))
 
 pub returns-clause-entries : goal.returns-clause-entries
 returns-clause-entries c =
     let z = c.resume_into-resumed in
     let old = c.args.self.now.kernel in
-    subst (λ es. Notes old c.args.number c.args.entries.now c.answer_of_resumed.result es) (sym c.mark_resumed.ensures)
-    (subst (λ a. Notes old c.args.number c.args.entries.now a (resumed_entries c.args.entries.now z.result)) (sym c.answer_of_resumed.ensures)
-    (notes_of old z.new.self c.args.number [] z.new.into z.result c.args.entries.now z.ensures.made z.ensures.short z.ensures.fits z.ensures.others refl))
+    let before = c.args.entries.now in
+    let after = resumed_entries before z.result in
+    subst (λ es. Notes old c.args.number before c.tell_moved.result es) (sym c.mark_resumed.ensures)
+    (subst (λ a. Notes old c.args.number before a after) (sym c.tell_moved.ensures.rest)
+    (notes_told old z.new.self c.args.number c.answer_of_resumed.result c.tell_moved.result.moved c.tell_moved.ensures.others before after
+    (subst (λ a. Notes old c.args.number before a after) (sym c.answer_of_resumed.ensures)
+    (notes_of old z.new.self c.args.number [] z.new.into z.result before z.ensures.made z.ensures.short z.ensures.fits z.ensures.others refl))))

@@ -4,7 +4,7 @@ use Rattle.std.proofs.lemmas.List.{length-take}
 use Rattle.pl_model.specs.Numbers.{most_bytes}
 use Rattle.pl_model.specs.declared.calls.Call.{Call}
 use Rattle.pl_model.specs.declared.calls.Step.TheVariants.{Begin}
-use Rattle.bindingclay.specs.Made.{Makes, Wants}
+use Rattle.bindingclay.specs.Made.{Makes, Moves, Wants, unmoved}
 use Rattle.bindingclay.proofs.layer.Layer.write.Goals as goal
 
 pub write_all-requires : goal.write_all-requires
@@ -15,7 +15,12 @@ write_all-requires c =
 pub returns-clause-makes : goal.returns-clause-makes
 returns-clause-makes c =
     let fits : SFits w32 c.args.fd = search rules in
-    subst (λ l. Makes c.args.self.now.kernel (Begin c.args.pid (Call.Write c.args.fd l)) c.write_all.result c.write_all.new.self.kernel) c.within.ensures (rw (to_z-of_z w32 c.args.fd fits) at c.write_all.ensures.makes)
+    subst (λ l. Makes c.args.self.now.kernel (Begin c.args.pid (Call.Write c.args.fd l)) (unmoved c.write_all.result) c.write_all.new.self.kernel) c.within.ensures (rw (to_z-of_z w32 c.args.fd fits) at c.write_all.ensures.makes)
+
+pub returns-clause-moved : goal.returns-clause-moved
+returns-clause-moved c =
+    let fits : SFits w32 c.args.fd = search rules in
+    subst (λ l. Moves c.args.self.now.kernel (Begin c.args.pid (Call.Write c.args.fd l)) c.write_all.result) c.within.ensures (rw (to_z-of_z w32 c.args.fd fits) at c.write_all.ensures.moved)
 
 pub returns-clause-wants : goal.returns-clause-wants
 returns-clause-wants c =

@@ -1,4 +1,4 @@
-use Rattle.std.proofs.Common.{◌≡◌, ◌-◌, ◌∙◌, ap, sym, subst, arith, length}
+use Rattle.std.proofs.Common.{◌≡◌, ◌-◌, ◌∙◌, ap, subst, arith, length}
 use Rattle.pl_segments.specs.Slots.{total}
 use Rattle.pl_ring.specs.Ring.{Ring}
 use Rattle.pl_ring.specs.RingView.{IsSound}

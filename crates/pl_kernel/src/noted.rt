@@ -1,0 +1,204 @@
+//! Steps of which the index is told. Each does what the function of its name does, and the index knows afterwards what waits.
+ghost use Rattle.std.specs.Prelude.{◌≡◌, ◌≤◌, ◌<◌, ◌^◌, true, length, drop, IfOk, OnErr, IsOk};
+ghost use Rattle.pl_model.specs.Numbers.{most_bytes};
+ghost use Rattle.pl_model.specs.Memory.{is_frugal};
+ghost use Rattle.pl_state.specs.Contents.{core_of};
+ghost use Rattle.pl_state.specs.Makes.{MakesAtKeys, MayWantAtKeys, ParksAtKeys};
+ghost use Rattle.pl_state.specs.Parking.{ReadWaits};
+ghost use Rattle.pl_splices.specs.Shares.{SharesByStep};
+ghost use Rattle.pl_transfers.specs.ReadInto.{told, read_count};
+ghost use Rattle.pl_transfers.specs.Readable.{gives_again};
+ghost use Rattle.pl_transfers.specs.Waits.{reply_of};
+ghost use Rattle.pl_polls.specs.Entries.{asked, entries_after};
+ghost use Rattle.pl_polls.specs.Into.{told as poll_told};
+ghost use Rattle.pl_kernel.specs.Index.{Knows};
+
+use crate::steps;
+use crate::watch::{
+    expect, expect_again, expect_fd, expect_nothing, note, number_of, number_of_read,
+    number_of_write,
+};
+use pl_model::{Call, Reply, Step};
+use pl_polls::{PollEntry, PollReply};
+use pl_state::{KernelState, NoMemory};
+use pl_transfers::{ReadReply, WriteReply};
+use pl_waiters::Waiters;
+use std::alloc::Allocator;
+
+/// Makes one step.
+#[inline(always)]
+pub(crate) fn act<A: Allocator + Copy>(
+    kernel: &mut KernelState<A>,
+    waiters: &mut Waiters<A>,
+    step: Step<A>,
+) -> Result<Reply<A>, NoMemory>
+    requires { Knows (core_of {A = A} kernel.old) waiters.old }
+    ensures done { IfOk result (λ reply. MakesAtKeys kernel.old step reply kernel.new) }
+    ensures shares { SharesByStep {A = A} kernel.old step kernel.new }
+    ensures undone { OnErr result (kernel.new ≡ kernel.old) }
+    ensures wanted { OnErr result (MayWantAtKeys {A = A} kernel.old step) }
+    ensures frugal { is_frugal step ≡ true → IsOk result }
+    ensures knows { Knows (core_of {A = A} kernel.new) waiters.new }
+{
+    let touched = expect(kernel, waiters, &step);
+    let reply = steps::act(kernel, step)?;
+    note(kernel, waiters, touched, number_of(&reply));
+    Ok(reply)
+}
+
+/// Begins a write of the caller's bytes.
+#[inline(always)]
+pub(crate) fn begin_write_from<A: Allocator + Copy>(
+    kernel: &mut KernelState<A>,
+    waiters: &mut Waiters<A>,
+    pid: u32,
+    fd: i32,
+    bytes: &[u8],
+) -> Result<WriteReply, NoMemory>
+    requires few { length bytes.now ≤ most_bytes }
+    requires knows { Knows (core_of {A = A} kernel.old) waiters.old }
+    ensures done { IfOk result (λ reply. MakesAtKeys {A = A} kernel.old (Step.Begin pid (Call.Write fd bytes.now)) (reply_of reply) kernel.new) }
+    ensures undone { OnErr result (kernel.new ≡ kernel.old) }
+    ensures wanted { OnErr result (MayWantAtKeys {A = A} kernel.old (Step.Begin pid (Call.Write fd bytes.now))) }
+    ensures knows { Knows (core_of {A = A} kernel.new) waiters.new }
+{
+    // A proof learns here what holds of the kernel.
+    let _ = &kernel.descs;
+    if waiters.is_idle() {
+        return steps::begin_write_from(kernel, pid, fd, bytes);
+    }
+    begin_write_from_watched(kernel, waiters, pid, fd, bytes)
+}
+
+// Begins a write, where calls wait that the index knows.
+#[inline(never)]
+fn begin_write_from_watched<A: Allocator + Copy>(
+    kernel: &mut KernelState<A>,
+    waiters: &mut Waiters<A>,
+    pid: u32,
+    fd: i32,
+    bytes: &[u8],
+) -> Result<WriteReply, NoMemory>
+    requires few { length bytes.now ≤ most_bytes }
+    requires knows { Knows (core_of {A = A} kernel.old) waiters.old }
+    ensures done { IfOk result (λ reply. MakesAtKeys {A = A} kernel.old (Step.Begin pid (Call.Write fd bytes.now)) (reply_of reply) kernel.new) }
+    ensures undone { OnErr result (kernel.new ≡ kernel.old) }
+    ensures wanted { OnErr result (MayWantAtKeys {A = A} kernel.old (Step.Begin pid (Call.Write fd bytes.now))) }
+    ensures knows { Knows (core_of {A = A} kernel.new) waiters.new }
+{
+    let touched = expect_fd(kernel, waiters, pid, fd);
+    let reply = steps::begin_write_from(kernel, pid, fd, bytes)?;
+    note(kernel, waiters, touched, number_of_write(reply));
+    Ok(reply)
+}
+
+/// Begins a read into the caller's bytes.
+#[inline(always)]
+pub(crate) fn begin_read_into<A: Allocator + Copy>(
+    kernel: &mut KernelState<A>,
+    waiters: &mut Waiters<A>,
+    pid: u32,
+    fd: i32,
+    into: &mut [u8],
+) -> Result<ReadReply, NoMemory>
+    requires few { length into.old < 2 ^ 32 }
+    requires knows { Knows (core_of {A = A} kernel.old) waiters.old }
+    ensures done { IfOk result (λ reply. MakesAtKeys {A = A} kernel.old (Step.Begin pid (Call.Read fd (length into.old))) (told reply into.new) kernel.new) }
+    ensures within { IfOk result (λ reply. read_count reply ≤ length into.new) }
+    ensures rest { IfOk result (λ reply. drop (read_count reply) into.new ≡ drop (read_count reply) into.old) }
+    ensures undone { OnErr result (kernel.new ≡ kernel.old) }
+    ensures unread { OnErr result (into.new ≡ into.old) }
+    ensures wanted { OnErr result (ParksAtKeys {A = A} kernel.old (Step.Begin pid (Call.Read fd (length into.old)))) }
+    ensures knows { Knows (core_of {A = A} kernel.new) waiters.new }
+{
+    // A proof learns here what holds of the kernel.
+    let _ = &kernel.descs;
+    if waiters.is_idle() {
+        return steps::begin_read_into(kernel, pid, fd, into);
+    }
+    begin_read_into_watched(kernel, waiters, pid, fd, into)
+}
+
+// Begins a read, where calls wait that the index knows.
+#[inline(never)]
+fn begin_read_into_watched<A: Allocator + Copy>(
+    kernel: &mut KernelState<A>,
+    waiters: &mut Waiters<A>,
+    pid: u32,
+    fd: i32,
+    into: &mut [u8],
+) -> Result<ReadReply, NoMemory>
+    requires few { length into.old < 2 ^ 32 }
+    requires knows { Knows (core_of {A = A} kernel.old) waiters.old }
+    ensures done { IfOk result (λ reply. MakesAtKeys {A = A} kernel.old (Step.Begin pid (Call.Read fd (length into.old))) (told reply into.new) kernel.new) }
+    ensures within { IfOk result (λ reply. read_count reply ≤ length into.new) }
+    ensures rest { IfOk result (λ reply. drop (read_count reply) into.new ≡ drop (read_count reply) into.old) }
+    ensures undone { OnErr result (kernel.new ≡ kernel.old) }
+    ensures unread { OnErr result (into.new ≡ into.old) }
+    ensures wanted { OnErr result (ParksAtKeys {A = A} kernel.old (Step.Begin pid (Call.Read fd (length into.old)))) }
+    ensures knows { Knows (core_of {A = A} kernel.new) waiters.new }
+{
+    let touched = expect_fd(kernel, waiters, pid, fd);
+    let reply = steps::begin_read_into(kernel, pid, fd, into)?;
+    note(kernel, waiters, touched, number_of_read(reply));
+    Ok(reply)
+}
+
+/// Begins a poll of the caller's entries.
+#[inline(always)]
+pub(crate) fn begin_poll_into<A: Allocator + Copy>(
+    kernel: &mut KernelState<A>,
+    waiters: &mut Waiters<A>,
+    pid: u32,
+    entries: &mut [PollEntry],
+    wait: bool,
+) -> Result<PollReply, NoMemory>
+    requires { Knows (core_of {A = A} kernel.old) waiters.old }
+    ensures done { IfOk result (λ reply. MakesAtKeys {A = A} kernel.old (Step.Begin pid (Call.Poll (asked entries.old) wait)) (poll_told reply entries.new) kernel.new) }
+    ensures noted { IfOk result (λ reply. entries.new ≡ entries_after {A = A} entries.old (poll_told reply entries.new)) }
+    ensures undone { OnErr result (kernel.new ≡ kernel.old) }
+    ensures unmarked { OnErr result (entries.new ≡ entries.old) }
+    ensures wanted { OnErr result (ParksAtKeys {A = A} kernel.old (Step.Begin pid (Call.Poll (asked entries.old) wait))) }
+    ensures knows { Knows (core_of {A = A} kernel.new) waiters.new }
+{
+    let _nothing = expect_nothing(kernel, waiters);
+    steps::begin_poll_into(kernel, pid, entries, wait)
+}
+
+/// Tries the parked call of a number again.
+pub(crate) fn try_again<A: Allocator + Copy>(
+    kernel: &mut KernelState<A>,
+    waiters: &mut Waiters<A>,
+    number: u64,
+) -> Result<Reply<A>, NoMemory>
+    requires { Knows (core_of {A = A} kernel.old) waiters.old }
+    ensures done { IfOk result (λ reply. MakesAtKeys kernel.old (Step.Resume number) reply kernel.new) }
+    ensures shares { SharesByStep {A = A} kernel.old (Step.Resume number) kernel.new }
+    ensures undone { OnErr result (kernel.new ≡ kernel.old) }
+    ensures wanted { OnErr result (MayWantAtKeys {A = A} kernel.old (Step.Resume number)) }
+    ensures knows { Knows (core_of {A = A} kernel.new) waiters.new }
+{
+    let _nothing = expect_again(kernel, waiters, number);
+    steps::try_again(kernel, number)
+}
+
+/// Tries a parked read again, into the caller's bytes, which are as many as it gives, or more.
+pub(crate) fn resume_read_into<A: Allocator + Copy>(
+    kernel: &mut KernelState<A>,
+    waiters: &mut Waiters<A>,
+    number: u64,
+    key: usize,
+    n: u32,
+    into: &mut [u8],
+) -> ReadReply
+    requires waits { ReadWaits kernel.old number key n }
+    requires room { gives_again {A = A} kernel.old number ≤ length into.old }
+    requires knows { Knows (core_of {A = A} kernel.old) waiters.old }
+    ensures done { MakesAtKeys {A = A} kernel.old (Step.Resume number) (told result into.new) kernel.new }
+    ensures within { read_count result ≤ length into.new }
+    ensures rest { drop (read_count result) into.new ≡ drop (read_count result) into.old }
+    ensures knows { Knows (core_of {A = A} kernel.new) waiters.new }
+{
+    let _nothing = expect_again(kernel, waiters, number);
+    pl_transfers::resume_read_into(kernel, number, key, n, into)
+}

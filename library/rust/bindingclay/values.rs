@@ -1,0 +1,98 @@
+//! What calls take: numbers, flags, limits, the ends of a pipe, and the entries of a poll.
+
+pub type Pid = u32;
+pub type Fd = i32;
+
+/// The number of a call that waits.
+pub type CallNumber = u64;
+
+/// The most bytes of a regular file.
+pub const MOST_FILE_BYTES: u32 = 16_777_216;
+
+/// The most bytes that a pipe can be made to hold.
+pub const MOST_CAPACITY: u32 = 1_048_576;
+
+/// The modes and flags of `open_name`, `set_fl` and `get_fl`, and `O_NONBLOCK` of `pipe2` (Linux, fcntl.h).
+pub const O_RDONLY: u32 = 0;
+pub const O_WRONLY: u32 = 0o1;
+pub const O_RDWR: u32 = 0o2;
+pub const O_CREAT: u32 = 0o100;
+pub const O_EXCL: u32 = 0o200;
+pub const O_TRUNC: u32 = 0o1000;
+pub const O_APPEND: u32 = 0o2000;
+pub const O_NONBLOCK: u32 = 0o4000;
+
+/// The flag of a packet pipe, for `pipe2` and in what `get_fl` tells (Linux on x86-64, fcntl.h).
+pub const O_DIRECT: u32 = 0o40000;
+
+/// The most bytes of a packet, and the bytes of the capacity that each packet takes, however few it has.
+pub const PACKET_BYTES: usize = 4_096;
+
+/// The flag of `splice` and `tee` by which they don't wait (Linux, fcntl.h).
+pub const SPLICE_F_NONBLOCK: u32 = 2;
+
+/// Where `lseek` counts from (Linux, stdio.h).
+pub const SEEK_SET: i32 = 0;
+pub const SEEK_CUR: i32 = 1;
+pub const SEEK_END: i32 = 2;
+
+/// What a poll asks and finds (Linux, poll.h).
+pub const POLLIN: i16 = 0o1;
+pub const POLLOUT: i16 = 0o4;
+pub const POLLERR: i16 = 0o10;
+pub const POLLHUP: i16 = 0o20;
+pub const POLLNVAL: i16 = 0o40;
+
+/// The two ends of a pipe.
+#[repr(C)]
+#[derive(Clone, Copy, Debug, Default, PartialEq, Eq)]
+pub struct Ends {
+    pub read_end: Fd,
+    pub write_end: Fd,
+}
+
+/// What a kernel may take. `Limits::default()` are the limits where nobody sets any:
+/// `Limits { memory: 1 << 20, ..Limits::default() }`.
+#[derive(Clone, Copy, Debug, PartialEq, Eq)]
+pub struct Limits {
+    /// The number of the first call that waits.
+    pub first_call: CallNumber,
+    /// The most bytes that the kernel may hold. A call that would want more is `NoMemory`.
+    pub memory: u64,
+    /// The most names of files and FIFOs at one time. One more is ENOSPC.
+    pub names: u64,
+    /// The most calls that wait at one time. A call that would wait above that is EAGAIN, and has taken and given nothing.
+    pub waiting_calls: u64,
+    /// The most bytes that `set_pipe_sz` lets a pipe hold, at most `MOST_CAPACITY`; more are EPERM.
+    pub capacity: u32,
+    /// The most bytes of a regular file, at most `MOST_FILE_BYTES`.
+    pub file_max: u32,
+}
+
+impl Default for Limits {
+    fn default() -> Limits {
+        Limits {
+            first_call: 1,
+            memory: u64::MAX,
+            names: u64::MAX,
+            waiting_calls: u64::MAX,
+            capacity: MOST_CAPACITY,
+            file_max: MOST_FILE_BYTES,
+        }
+    }
+}
+
+/// An entry of a poll: a descriptor, what is asked of it, and what was found.
+#[repr(C)]
+#[derive(Clone, Copy, Debug, PartialEq, Eq)]
+pub struct PollEntry {
+    pub fd: Fd,
+    pub events: i16,
+    pub revents: i16,
+}
+
+impl PollEntry {
+    pub fn new(fd: Fd, events: i16) -> PollEntry {
+        PollEntry { fd, events, revents: 0 }
+    }
+}
