@@ -54,9 +54,9 @@ impl Layer {
         }
     }
 
-    /// Makes one step, and answers what it replied.
+    // Makes one step, and answers what it replied.
     #[inline(always)]
-    pub fn step(&mut self, step: Step<Heap>) -> Answer
+    fn answer_step(&mut self, step: Step<Heap>) -> Answer
         ensures makes { Makes self.old.kernel step.entry result self.new.kernel }
         ensures wants { Wants self.old.kernel step.entry result }
     {
@@ -64,6 +64,27 @@ impl Layer {
             Ok(reply) => answer_of(&reply),
             Err(NoMemory) => no_memory(),
         }
+    }
+
+    // Makes one step while calls wait. Out of line, so that a step stays short while none does.
+    #[inline(never)]
+    fn step_watched(&mut self, step: Step<Heap>) -> Answer
+        ensures makes { Makes self.old.kernel step.entry result self.new.kernel }
+        ensures wants { Wants self.old.kernel step.entry result }
+    {
+        self.answer_step(step)
+    }
+
+    /// Makes one step, and answers what it replied.
+    #[inline(always)]
+    pub fn step(&mut self, step: Step<Heap>) -> Answer
+        ensures makes { Makes self.old.kernel step.entry result self.new.kernel }
+        ensures wants { Wants self.old.kernel step.entry result }
+    {
+        if self.kernel.is_idle() {
+            return self.answer_step(step);
+        }
+        self.step_watched(step)
     }
 
     /// Makes a pipe, with `direct` a packet pipe, and tells its ends.

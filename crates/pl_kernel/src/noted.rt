@@ -40,6 +40,29 @@ pub(crate) fn act<A: Allocator + Copy>(
     ensures frugal { is_frugal step ≡ true → IsOk result }
     ensures knows { Knows (core_of {A = A} kernel.new) waiters.new }
 {
+    // A proof learns here what holds of the kernel.
+    let _ = &kernel.descs;
+    if waiters.is_idle() {
+        return steps::act(kernel, step);
+    }
+    act_watched(kernel, waiters, step)
+}
+
+// Makes one step, where calls wait that the index knows. Out of line, so that `act` stays short enough to be made in place.
+#[inline(never)]
+fn act_watched<A: Allocator + Copy>(
+    kernel: &mut KernelState<A>,
+    waiters: &mut Waiters<A>,
+    step: Step<A>,
+) -> Result<Reply<A>, NoMemory>
+    requires { Knows (core_of {A = A} kernel.old) waiters.old }
+    ensures done { IfOk result (λ reply. MakesAtKeys kernel.old step reply kernel.new) }
+    ensures shares { SharesByStep {A = A} kernel.old step kernel.new }
+    ensures undone { OnErr result (kernel.new ≡ kernel.old) }
+    ensures wanted { OnErr result (MayWantAtKeys {A = A} kernel.old step) }
+    ensures frugal { is_frugal step ≡ true → IsOk result }
+    ensures knows { Knows (core_of {A = A} kernel.new) waiters.new }
+{
     let touched = expect(kernel, waiters, &step);
     let reply = steps::act(kernel, step)?;
     note(kernel, waiters, touched, number_of(&reply));
@@ -62,30 +85,6 @@ pub(crate) fn begin_write_from<A: Allocator + Copy>(
     ensures wanted { OnErr result (MayWantAtKeys {A = A} kernel.old (Step.Begin pid (Call.Write fd bytes.now))) }
     ensures knows { Knows (core_of {A = A} kernel.new) waiters.new }
 {
-    // A proof learns here what holds of the kernel.
-    let _ = &kernel.descs;
-    if waiters.is_idle() {
-        return steps::begin_write_from(kernel, pid, fd, bytes);
-    }
-    begin_write_from_watched(kernel, waiters, pid, fd, bytes)
-}
-
-// Begins a write, where calls wait that the index knows.
-#[inline(never)]
-fn begin_write_from_watched<A: Allocator + Copy>(
-    kernel: &mut KernelState<A>,
-    waiters: &mut Waiters<A>,
-    pid: u32,
-    fd: i32,
-    bytes: &[u8],
-) -> Result<WriteReply, NoMemory>
-    requires few { length bytes.now ≤ most_bytes }
-    requires knows { Knows (core_of {A = A} kernel.old) waiters.old }
-    ensures done { IfOk result (λ reply. MakesAtKeys {A = A} kernel.old (Step.Begin pid (Call.Write fd bytes.now)) (reply_of reply) kernel.new) }
-    ensures undone { OnErr result (kernel.new ≡ kernel.old) }
-    ensures wanted { OnErr result (MayWantAtKeys {A = A} kernel.old (Step.Begin pid (Call.Write fd bytes.now))) }
-    ensures knows { Knows (core_of {A = A} kernel.new) waiters.new }
-{
     let touched = expect_fd(kernel, waiters, pid, fd);
     let reply = steps::begin_write_from(kernel, pid, fd, bytes)?;
     note(kernel, waiters, touched, number_of_write(reply));
@@ -95,33 +94,6 @@ fn begin_write_from_watched<A: Allocator + Copy>(
 /// Begins a read into the caller's bytes.
 #[inline(always)]
 pub(crate) fn begin_read_into<A: Allocator + Copy>(
-    kernel: &mut KernelState<A>,
-    waiters: &mut Waiters<A>,
-    pid: u32,
-    fd: i32,
-    into: &mut [u8],
-) -> Result<ReadReply, NoMemory>
-    requires few { length into.old < 2 ^ 32 }
-    requires knows { Knows (core_of {A = A} kernel.old) waiters.old }
-    ensures done { IfOk result (λ reply. MakesAtKeys {A = A} kernel.old (Step.Begin pid (Call.Read fd (length into.old))) (told reply into.new) kernel.new) }
-    ensures within { IfOk result (λ reply. read_count reply ≤ length into.new) }
-    ensures rest { IfOk result (λ reply. drop (read_count reply) into.new ≡ drop (read_count reply) into.old) }
-    ensures undone { OnErr result (kernel.new ≡ kernel.old) }
-    ensures unread { OnErr result (into.new ≡ into.old) }
-    ensures wanted { OnErr result (ParksAtKeys {A = A} kernel.old (Step.Begin pid (Call.Read fd (length into.old)))) }
-    ensures knows { Knows (core_of {A = A} kernel.new) waiters.new }
-{
-    // A proof learns here what holds of the kernel.
-    let _ = &kernel.descs;
-    if waiters.is_idle() {
-        return steps::begin_read_into(kernel, pid, fd, into);
-    }
-    begin_read_into_watched(kernel, waiters, pid, fd, into)
-}
-
-// Begins a read, where calls wait that the index knows.
-#[inline(never)]
-fn begin_read_into_watched<A: Allocator + Copy>(
     kernel: &mut KernelState<A>,
     waiters: &mut Waiters<A>,
     pid: u32,

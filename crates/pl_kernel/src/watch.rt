@@ -158,7 +158,7 @@ pub(crate) fn expect_fd<A: Allocator + Copy>(
     Touched::Keys(key_of_fd(state, pid, fd), None)
 }
 
-// What is to be noted once a call on a descriptor began that never waits.
+// What is to be noted once a call on a descriptor began that never waits: nothing, since what it touches is noted now.
 #[inline(always)]
 fn expect_at_once<A: Allocator + Copy>(
     state: &KernelState<A>,

@@ -103,8 +103,3 @@ pub idle-empty : (lost : Bool) (looked : ℕ) (pending places : BTreeSet Grouped
 unfolding placed may
 idle-empty true looked pending places marked touched are empty node call there = refl
 idle-empty false looked pending places marked touched are empty node call there = absurd (let low = are.room node call there in omega (arith, low, empty))
-
--- Where all is lost, each call may get on.
-pub idle-lost : (lost : Bool) (looked : ℕ) (pending places : BTreeSet GroupedCall) (touched : List ℕ) → lost ≡ true → (call : ℕ) → may lost looked pending places touched call ≡ true
-unfolding may
-idle-lost lost looked pending places touched is call = λ i. is i || (nat_le looked call || (has_call pending (call_in 0 call) || waits_at_any places touched call))

@@ -71,12 +71,12 @@ impl<A: Allocator> Waiters<A> {
     ghost use Rattle.std.specs.Prelude.{◌≡◌, ◌≢◌, ℕ, ◌||◌, ◌&&◌, ◌<◌, not, true, false, nat_eq, length, vec_capacity};
     ghost use Rattle.pl_waiters.specs.Seen.{is_placed, may_get_on};
 
-    /// Whether a touch tells nothing: each call that is at a node may get on already. So it is where no call was ever added.
+    /// Whether a touch tells nothing: each call that is at a node may get on already. So it is where no call was ever added at a node.
     #[inline(always)]
     pub fn is_idle(&self) -> bool
         ensures { result ≡ true → (node call : ℕ) → is_placed self.now node call ≡ true → may_get_on self.now call ≡ true }
     {
-        self.marked.is_empty() || self.lost
+        self.marked.is_empty()
     }
 
     /// Whether nothing is known any more.

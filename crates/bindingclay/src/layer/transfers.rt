@@ -81,6 +81,19 @@ fn answer_of_write(reply: &WriteReply) -> Answer
     }
 }
 
+// The answer of a write that may wait. Out of line, so that one of which all went in stays short.
+#[inline(never)]
+fn answer_of_other_write(kernel: &Kernel<Heap>, reply: WriteReply) -> Answer
+    ensures rest { result ≡ record (said {A = InBudget} (reply_of reply)) { moved = result.moved } }
+    ensures value { (s : State InBudget) → Stands kernel.now s → result.moved ≡ (nat_eq (said {A = InBudget} (reply_of reply)).kind parked && nat_lt 0 (taken_by s.core (said {A = InBudget} (reply_of reply)).value)) }
+    ensures others { ((said {A = InBudget} (reply_of reply)).kind ≡ parked → ⊥) → result.moved ≡ false }
+{
+    match reply {
+        WriteReply::Parked(_) => tell_moved(kernel, 0, answer_of_write(&reply)),
+        _ => answer_of_write(&reply),
+    }
+}
+
 // The answer of a write, which tells too whether bytes of it went in where it waits. The kernel is as the write left it.
 #[inline(always)]
 fn answer_of_written(kernel: &Kernel<Heap>, reply: &WriteReply) -> Answer
@@ -89,8 +102,8 @@ fn answer_of_written(kernel: &Kernel<Heap>, reply: &WriteReply) -> Answer
     ensures others { ((said {A = InBudget} (reply_of reply.now)).kind ≡ parked → ⊥) → result.moved ≡ false }
 {
     match reply {
-        WriteReply::Parked(_) => tell_moved(kernel, 0, answer_of_write(reply)),
-        _ => answer_of_write(reply),
+        WriteReply::Wrote { n, sigpipe } if !*sigpipe => Answer::done(*n as u64),
+        _ => answer_of_other_write(kernel, *reply),
     }
 }
 
@@ -109,6 +122,7 @@ fn answer_of_poll(reply: &PollReply) -> Answer
 
 impl Layer {
     // Reads as many bytes as the caller's are.
+    #[inline(always)]
     fn read_all(&mut self, pid: u32, fd: i32, into: &mut [u8]) -> Answer
         requires { length into.old < 2 ^ 32 }
         ensures makes { Makes self.old.kernel (Step.Begin pid (Call.Read fd (length into.old))) result self.new.kernel }
@@ -122,6 +136,33 @@ impl Layer {
         }
     }
 
+    // Reads as many bytes as the caller's are, while calls wait. Out of line, so that a read stays short while none does.
+    #[inline(never)]
+    fn read_watched(&mut self, pid: u32, fd: i32, into: &mut [u8]) -> Answer
+        requires { length into.old < 2 ^ 32 }
+        ensures makes { Makes self.old.kernel (Step.Begin pid (Call.Read fd (length into.old))) result self.new.kernel }
+        ensures bytes { Replied self.old.kernel (Step.Begin pid (Call.Read fd (length into.old))) result (λ reply. into.new ≡ bytes_after into.old reply) }
+        ensures unread { result.kind ≡ 6 → into.new ≡ into.old }
+        ensures wants { result.kind ≡ 6 → Parks self.old.kernel (Step.Begin pid (Call.Read fd (length into.old))) }
+    {
+        self.read_all(pid, fd, into)
+    }
+
+    // Reads as many bytes as the caller's are, by the shorter way while no call waits.
+    #[inline(always)]
+    fn read_bytes(&mut self, pid: u32, fd: i32, into: &mut [u8]) -> Answer
+        requires { length into.old < 2 ^ 32 }
+        ensures makes { Makes self.old.kernel (Step.Begin pid (Call.Read fd (length into.old))) result self.new.kernel }
+        ensures bytes { Replied self.old.kernel (Step.Begin pid (Call.Read fd (length into.old))) result (λ reply. into.new ≡ bytes_after into.old reply) }
+        ensures unread { result.kind ≡ 6 → into.new ≡ into.old }
+        ensures wants { result.kind ≡ 6 → Parks self.old.kernel (Step.Begin pid (Call.Read fd (length into.old))) }
+    {
+        if self.kernel.is_idle() {
+            return self.read_all(pid, fd, into);
+        }
+        self.read_watched(pid, fd, into)
+    }
+
     /// Reads into the caller's bytes, at most 16,777,216.
     pub fn read(&mut self, pid: u32, fd: i32, into: &mut [u8]) -> Answer
         ensures makes { Makes self.old.kernel (Step.Begin pid (Call.Read fd (min most_bytes (length into.old)))) result self.new.kernel }
@@ -130,10 +171,11 @@ impl Layer {
         ensures wants { result.kind ≡ 6 → Parks self.old.kernel (Step.Begin pid (Call.Read fd (min most_bytes (length into.old)))) }
     {
         let count = MOST_BYTES.min(into.len());
-        self.read_all(pid, fd, &mut into[..count])
+        self.read_bytes(pid, fd, &mut into[..count])
     }
 
     // Writes the caller's bytes.
+    #[inline(always)]
     fn write_all(&mut self, pid: u32, fd: i32, bytes: &[u8]) -> Answer
         requires { length bytes.now ≤ most_bytes }
         ensures makes { Makes self.old.kernel (Step.Begin pid (Call.Write fd bytes.now)) (unmoved result) self.new.kernel }
@@ -146,13 +188,38 @@ impl Layer {
         }
     }
 
+    // Writes the caller's bytes, while calls wait. Out of line, so that a write stays short while none does.
+    #[inline(never)]
+    fn write_watched(&mut self, pid: u32, fd: i32, bytes: &[u8]) -> Answer
+        requires { length bytes.now ≤ most_bytes }
+        ensures makes { Makes self.old.kernel (Step.Begin pid (Call.Write fd bytes.now)) (unmoved result) self.new.kernel }
+        ensures moved { Moves self.old.kernel (Step.Begin pid (Call.Write fd bytes.now)) result }
+        ensures wants { Wants self.old.kernel (Step.Begin pid (Call.Write fd bytes.now)) result }
+    {
+        self.write_all(pid, fd, bytes)
+    }
+
+    // Writes the caller's bytes, by the shorter way while no call waits.
+    #[inline(always)]
+    fn write_bytes(&mut self, pid: u32, fd: i32, bytes: &[u8]) -> Answer
+        requires { length bytes.now ≤ most_bytes }
+        ensures makes { Makes self.old.kernel (Step.Begin pid (Call.Write fd bytes.now)) (unmoved result) self.new.kernel }
+        ensures moved { Moves self.old.kernel (Step.Begin pid (Call.Write fd bytes.now)) result }
+        ensures wants { Wants self.old.kernel (Step.Begin pid (Call.Write fd bytes.now)) result }
+    {
+        if self.kernel.is_idle() {
+            return self.write_all(pid, fd, bytes);
+        }
+        self.write_watched(pid, fd, bytes)
+    }
+
     /// Writes the first of the caller's bytes, at most 16,777,216.
     pub fn write(&mut self, pid: u32, fd: i32, bytes: &[u8]) -> Answer
         ensures makes { Makes self.old.kernel (Step.Begin pid (Call.Write fd (take most_bytes bytes.now))) (unmoved result) self.new.kernel }
         ensures moved { Moves self.old.kernel (Step.Begin pid (Call.Write fd (take most_bytes bytes.now))) result }
         ensures wants { Wants self.old.kernel (Step.Begin pid (Call.Write fd (take most_bytes bytes.now))) result }
     {
-        self.write_all(pid, fd, within(bytes))
+        self.write_bytes(pid, fd, within(bytes))
     }
 
     /// Moves bytes, or with another bit than those of the flags does nothing (splice(2), `EINVAL`).

@@ -39,6 +39,7 @@ impl<A: Allocator + Copy> Kernel<A> {
     /// # Errors
     ///
     /// `NoMemory`, as of `step`.
+    #[inline(always)]
     pub fn write_from(&mut self, pid: u32, fd: i32, bytes: &[u8]) -> Result<WriteReply, NoMemory>
         requires { length bytes.now ≤ most_bytes }
         ensures made { IfOk result (λ reply. Makes {A = A} self.old (Step.Begin pid (Call.Write fd bytes.now)) (reply_of reply) self.new) }
@@ -69,6 +70,7 @@ impl<A: Allocator + Copy> Kernel<A> {
     /// # Errors
     ///
     /// `NoMemory` only where the call would be parked. It leaves the kernel and the caller's bytes as they were.
+    #[inline(always)]
     pub fn read_into(&mut self, pid: u32, fd: i32, into: &mut [u8]) -> Result<ReadReply, NoMemory>
         requires { length into.old < 2 ^ 32 }
         ensures made { IfOk result (λ reply. Makes {A = A} self.old (Step.Begin pid (Call.Read fd (length into.old))) (told reply into.new) self.new) }

@@ -21,6 +21,13 @@ impl<A: Allocator + Copy> Kernel<A> {
         can_progress(&self.state, number)
     }
 
+    /// Whether no call waits of which a step would have to tell the index: then a step costs no more than without one. A caller may ask it to
+    /// choose between two ways to the same answer, and nothing hangs on it.
+    #[inline(always)]
+    pub fn is_idle(&self) -> bool {
+        self.waiters.is_idle()
+    }
+
     /// The least number, `from` or above, of a parked call that can get on; `None` if no call from there on can. So a loop that makes a step,
     /// and then resumes what this answers for 0 until it is `None`, forgets no call that waits. Each try ends a call or takes bytes of a write.
     ///

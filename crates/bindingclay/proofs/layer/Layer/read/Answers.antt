@@ -12,6 +12,6 @@ returns-clause-bytes c =
     let before = c.args.into.now in
     let count = c.min-count.result in
     let few : count ≤ length before = (let least = c.min-count.ensures in omega arith) in
-    let bytes = subst (λ n. Replied c.args.self.now.kernel (Begin c.args.pid (Call.Read c.args.fd n)) c.read_all.result (λ reply. c.read_all.new.into ≡ bytes_after (take count before) reply))
-    (length-take-le count before few ∙ c.min-count.ensures) (rw (to_z-of_z w32 c.args.fd fits) at c.read_all.ensures.bytes) in
-    λ kind s stands. cut_leaves _ before c.read_all.new.into count (bytes kind s stands) c.read_all.auto.into
+    let bytes = subst (λ n. Replied c.args.self.now.kernel (Begin c.args.pid (Call.Read c.args.fd n)) c.read_bytes.result (λ reply. c.read_bytes.new.into ≡ bytes_after (take count before) reply))
+    (length-take-le count before few ∙ c.min-count.ensures) (rw (to_z-of_z w32 c.args.fd fits) at c.read_bytes.ensures.bytes) in
+    λ kind s stands. cut_leaves _ before c.read_bytes.new.into count (bytes kind s stands) c.read_bytes.auto.into
