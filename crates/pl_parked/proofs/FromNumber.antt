@@ -1,13 +1,9 @@
 -- The entries from a number on, and the calls that they have.
-use Rattle.std.proofs.Common.{◌≡◌, ℕ, zero, suc, ◌+◌, ◌<◌, ◌≤◌, Bool, true, false, [], ◌∷◌, Option, Some, None, List, IsSome, refl, sym, ◌∙◌, ap, subst, inl, inr, ⊎_elim, nat_eq, length, slice_index_or, arith}
+use Rattle.std.proofs.Common.{◌≡◌, ℕ, zero, suc, ◌+◌, ◌-◌, ◌<◌, ◌≤◌, true, false, [], ◌∷◌, Option, Some, None, List, IsSome, refl, sym, ◌∙◌, ap, subst, inl, inr, ⊎_elim, nat_eq, length, slice_index_or, arith}
 use Rattle.std.specs.Prelude.{is_some}
-use Rattle.std.specs.Result.{result_ok}
 use Rattle.std.specs.Ordering.{nat_cmp, MatchOrdering}
 use Rattle.std.specs.Cmp.{ranks}
-use Rattle.std.specs.List.{HoldsAt}
 use Rattle.std.specs.List.Sorted.{IsBinarySearchResult}
-use Rattle.std.specs.declared.cmp.Ordering.TheVariants.{Equal}
-use Rattle.std.specs.declared.result.Result.{Result}
 use Rattle.std.specs.declared.result.Result.TheVariants.{Ok, Err}
 use Rattle.std.proofs.lemmas.Bool.Decides.{eqb_tells}
 use Rattle.pl_model.specs.Map.{Map, get}
@@ -62,6 +58,32 @@ module _ {X : Type 0} where
         (suc rest.0, omega (arith, l), rest.2)
   ]
 
+-- at a place of the list the other value doesn't matter
+any_default : {Y : Type 0} (ys : List Y) (p : ℕ) → p < length ys → (a b : Y) → slice_index_or ys p a ≡ slice_index_or ys p b
+any_default [] p l a b = absurd (omega arith)
+any_default (y ∷ ys) zero l a b = refl
+any_default (y ∷ ys) (suc p) l a b = any_default ys p (omega arith) a b
+
+-- where the last number is below n, all are
+pub all_below : {X : Type 0} (n next : ℕ) (es : Map ℕ X) (e : ℕ × X) → Rise 0 next es → (length es ≡ 0 → ⊥) → (slice_index_or es (length es - 1) e).0 < n → AllBelow n (length es) es
+all_below n next es e r some low = λ j d before.
+    let up = rising 0 next j (length es - 1) es d r (within j before) last in
+    let same : (slice_index_or es (length es - 1) d).0 ≡ (slice_index_or es (length es - 1) e).0 = ap (λ (z : ℕ × _). z.0) (any_default es (length es - 1) last d e) in
+    lower (slice_index_or es j d).0 (slice_index_or es (length es - 1) d).0 (slice_index_or es (length es - 1) e).0 up same low
+  where
+    positive : (m : ℕ) → (m ≡ 0 → ⊥) → m - 1 < m
+    positive zero f = absurd (f refl)
+    positive (suc m) f = omega arith
+
+    last : length es - 1 < length es
+    last = positive (length es) some
+
+    within : (j : ℕ) → j < length es → j ≤ length es - 1
+    within j l = omega (arith, l)
+
+    lower : (a b c : ℕ) → a ≤ b → b ≡ c → c < n → a < n
+    lower a b c le same l = omega (arith, le, same, l)
+
 -- one entry more is empty
 pub empty_too : {X : Type 0} (es : Map ℕ (Option X)) (start place : ℕ) (e : ℕ × Option X) → e ≡ slice_index_or es place e → is_some e.1 ≡ false →
     place < length es → ((k : ℕ) (d : ℕ × Option X) → start ≤ k → k < place → (slice_index_or es k d).1 ≡ None) → (k : ℕ) (d : ℕ × Option X) → start ≤ k → k < place + 1 → (slice_index_or es k d).1 ≡ None
@@ -75,11 +97,6 @@ empty_too es start place e is empty within passed k d on early = ⊎_elim
     none : {Y : Type 0} (o : Option Y) → is_some o ≡ false → o ≡ None
     none None h = refl
     none (Some y) h = absurd (cc)
-
-    any_default : {Y : Type 0} (ys : List Y) (p : ℕ) → p < length ys → (a b : Y) → slice_index_or ys p a ≡ slice_index_or ys p b
-    any_default [] p l a b = absurd (omega arith)
-    any_default (y ∷ ys) zero l a b = refl
-    any_default (y ∷ ys) (suc p) l a b = any_default ys p (omega arith) a b
 
 -- The entries from `start` on have no number below `from`, and those of them before `place` are empty.
 module _ {X : Type 0} (from next start place : ℕ) (es : Map ℕ (Option X)) (r : Rise 0 next es) (below : AllBelow from start es) (above : NoneBelow from start es)

@@ -1,6 +1,6 @@
 use Rattle.std.proofs.Common.{rules}
 use Rattle.std.proofs.lemmas.Fn.{always_returns_same}
-use Rattle.pl_parked.proofs.FromNumber.{found_below, found_above, missed_below, missed_above}
+use Rattle.pl_parked.proofs.FromNumber.{all_below, found_below, found_above, missed_below, missed_above}
 use Rattle.pl_parked.proofs.entries.count_below.Goals as goal
 
 -- the closure gives an entry's number
@@ -15,3 +15,7 @@ returns-in-Err-clause-below g c = λ next rise. missed_below c.args.number next 
 
 pub returns-in-Err-clause-above : goal.returns-in-Err-clause-above
 returns-in-Err-clause-above g c = λ next rise. missed_above c.args.number next c.args.entries.now rise c.in-Err.place c.in-Err.ensures.bound (c.in-Err.ensures.position (λ e. e.0) (always_returns_same _ _ _ (λ a r f' k. search rules)))
+
+-- all are below the last one, which is below the number
+pub returns-then-entries-len-clause-below : goal.returns-then-entries-len-clause-below
+returns-then-entries-len-clause-below g c = λ next rise. all_below c.args.number next c.args.entries.now c.index-entries-len.result rise c.if-len-eq0.false c.if-entries-len.true

@@ -1,4 +1,4 @@
-use Rattle.std.proofs.Common.{◌≡◌, ◌≤◌, ◌<◌, ℕ, true, false, None, Some, IsSome, Option, subst, inl, inr, ⊎_elim, nat_eq, slice_index_or, length, sym, ap, ◌∙◌, arith}
+use Rattle.std.proofs.Common.{◌≡◌, ◌<◌, ℕ, true, None, IsSome, Option, subst, nat_eq, length, sym, ◌∙◌, arith}
 use Rattle.std.specs.Prelude.{is_some}
 use Rattle.pl_model.specs.Map.{get}
 use Rattle.pl_parked.specs.declared.call.ParkedCall.{ParkedCall}
