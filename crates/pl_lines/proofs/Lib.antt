@@ -5,3 +5,4 @@ pub mod CallLemmas
 pub mod Masks
 pub mod Repeating
 pub mod Pieces
+pub mod Shapes

@@ -1,3 +1,4 @@
 pub mod Parsed
 pub mod Pushed
 pub mod Runs
+pub mod Blanks

@@ -39,7 +39,7 @@ pub(crate) fn push_number<A: Allocator + Copy, I: Integer>(
 }
 
 /// Adds the bytes behind their name, as digits, or by runs in version 2; `-` for none.
-fn push_bytes<A: Allocator + Copy>(
+pub(crate) fn push_bytes<A: Allocator + Copy>(
     alloc: A,
     version: Version,
     text: &mut String<A>,
@@ -82,7 +82,7 @@ fn errno_text(errno: Errno) -> &'static str
     }
 }
 
-fn mode_text(mode: Mode) -> &'static str
+pub(crate) fn mode_text(mode: Mode) -> &'static str
     ensures { result.now ≡ mode_text mode }
 {
     match mode {
@@ -127,7 +127,7 @@ fn push_name<A: Allocator + Copy>(
 }
 
 /// Adds the names of what the set has of these, joined by commas, or `-` for none.
-fn push_names<A: Allocator + Copy, F: Flags + Copy>(
+pub(crate) fn push_names<A: Allocator + Copy, F: Flags + Copy>(
     text: &mut String<A>,
     set: F,
     names: &[(F, &str)],
@@ -186,7 +186,10 @@ const MASK_NAMES: &[(PollMask, &str)] = &[
 ];
 
 #[tactic(auto, unfolding(pl_model::specs::Shown::mask_text))]
-fn push_mask<A: Allocator + Copy>(text: &mut String<A>, mask: PollMask) -> Result<(), AllocError>
+pub(crate) fn push_mask<A: Allocator + Copy>(
+    text: &mut String<A>,
+    mask: PollMask,
+) -> Result<(), AllocError>
     ensures { Pushes result (string_bytes text.old) (string_bytes text.new) (mask_text mask) }
 {
     push_names(text, mask, MASK_NAMES)
@@ -305,7 +308,7 @@ fn push_front_of_file_line<A: Allocator + Copy>(
 }
 
 /// Cuts the text to the length of before, if what was to stand behind it found no memory.
-fn keep_if_pushed<A: Allocator>(
+pub(crate) fn keep_if_pushed<A: Allocator>(
     text: &mut String<A>,
     len: usize,
     pushed: Result<(), AllocError>,

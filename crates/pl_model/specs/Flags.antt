@@ -1,4 +1,4 @@
--- The bits of flags, and the names of those of an open.
+-- The bits of flags, and their names in scripts.
 use Rattle.std.specs.Prelude.{ℕ, ◌+◌, List, [], ◌∷◌, ◌++◌, Bool, ◌==◌, codes, bit_and, bit_or, if◌then◌else◌}
 use Rattle.pl_model.specs.declared.flags.OpenFlags.{OpenFlags}
 use Rattle.pl_model.specs.declared.flags.PollMask.{PollMask}
@@ -73,6 +73,10 @@ splice_more = 4
 abbrev pub splice_gift : ℕ
 splice_gift = 8
 
+-- what a line may name, as bytes are spliced
+abbrev pub splice_names : List (ℕ × List ℕ)
+splice_names = (splice_move, codes "move") ∷ (splice_nonblock, codes "nonblock") ∷ (splice_more, codes "more") ∷ (splice_gift, codes "gift") ∷ []
+
 -- POSIX.1-2017, poll, POLLIN: data may be read.
 abbrev pub poll_in : ℕ
 poll_in = 1
@@ -92,6 +96,10 @@ poll_hup = 16
 -- POSIX.1-2017, poll, POLLNVAL: the descriptor isn't open.
 abbrev pub poll_nval : ℕ
 poll_nval = 32
+
+-- what a mask can have, in the order in which it is shown
+abbrev pub mask_names : List (ℕ × List ℕ)
+mask_names = (poll_in, codes "in") ∷ (poll_out, codes "out") ∷ (poll_err, codes "err") ∷ (poll_hup, codes "hup") ∷ (poll_nval, codes "nval") ∷ []
 
 -- POSIX.1-2017, fcntl, F_SETFL: the file status flags that a description keeps, among any flags.
 abbrev pub status_flags : OpenFlags → OpenFlags

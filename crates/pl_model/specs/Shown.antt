@@ -13,7 +13,7 @@ use Rattle.pl_model.specs.declared.replies.Outcome.{Outcome}
 use Rattle.pl_model.specs.declared.replies.Outcome.TheVariants.{Replied, NoMemory}
 use Rattle.pl_model.specs.declared.script.Version.{Version}
 use Rattle.pl_model.specs.declared.script.Version.TheVariants.{One, Two}
-use Rattle.pl_model.specs.Flags.{has, status_names, poll_in, poll_out, poll_err, poll_hup, poll_nval}
+use Rattle.pl_model.specs.Flags.{has, status_names, mask_names}
 
 abbrev pub lower_digits : List ℕ
 lower_digits = codes "0123456789abcdef"
@@ -115,10 +115,6 @@ names_within set table = names_text (map (λ n. n.1) (filter (λ n. has set n.0)
 -- the names of the status flags that are set, or `-` for none
 unfoldable pub flags_text : OpenFlags → List ℕ
 flags_text flags = names_within flags.0 status_names
-
--- what a mask can have, in the order in which it is shown
-abbrev pub mask_names : List (ℕ × List ℕ)
-mask_names = (poll_in, codes "in") ∷ (poll_out, codes "out") ∷ (poll_err, codes "err") ∷ (poll_hup, codes "hup") ∷ (poll_nval, codes "nval") ∷ []
 
 unfoldable pub mask_text : PollMask → List ℕ
 mask_text mask = names_within mask.0 mask_names

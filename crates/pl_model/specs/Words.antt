@@ -11,7 +11,7 @@ use Rattle.pl_model.specs.declared.flags.PollMask.{PollMask}
 use Rattle.pl_model.specs.declared.script.Version.{Version}
 use Rattle.pl_model.specs.declared.script.Version.TheVariants.{One, Two}
 use Rattle.pl_model.specs.Numbers.{most_bytes}
-use Rattle.pl_model.specs.Flags.{open_names, pipe_names, splice_move, splice_nonblock, splice_more, splice_gift, poll_in, poll_out, poll_err, poll_hup, poll_nval, no_flags, no_mask}
+use Rattle.pl_model.specs.Flags.{open_names, pipe_names, splice_names, mask_names, no_flags, no_mask}
 
 -- what the second says of what the first gives, if it gives anything
 infixl 10 ◌>>=◌
@@ -178,22 +178,11 @@ pipe_flag name = flag_named pipe_names name
 
 -- a flag by its name, as bytes are spliced: its bit
 unfoldable pub splice_flag : List ℕ → Option ℕ
-splice_flag name =
-    if bytes_eq name (codes "move") then Some splice_move
-    else if bytes_eq name (codes "nonblock") then Some splice_nonblock
-    else if bytes_eq name (codes "more") then Some splice_more
-    else if bytes_eq name (codes "gift") then Some splice_gift
-    else None
+splice_flag name = flag_named splice_names name
 
 -- what a poll asks, by its name: its bit
 unfoldable pub poll_flag : List ℕ → Option ℕ
-poll_flag name =
-    if bytes_eq name (codes "in") then Some poll_in
-    else if bytes_eq name (codes "out") then Some poll_out
-    else if bytes_eq name (codes "err") then Some poll_err
-    else if bytes_eq name (codes "hup") then Some poll_hup
-    else if bytes_eq name (codes "nval") then Some poll_nval
-    else None
+poll_flag name = flag_named mask_names name
 
 -- the bits of these names, beside some that are there
 unfoldable pub with_flags : (List ℕ → Option ℕ) → ℕ → List (List ℕ) → Option ℕ

@@ -25,6 +25,8 @@ mod replies;
 #[cfg(test)]
 mod runs;
 #[cfg(test)]
+mod said_lines;
+#[cfg(test)]
 mod sessions;
 #[cfg(test)]
 mod shared_lines;

@@ -1,12 +1,12 @@
 //! Single lines, outcomes and files, where each request for memory is refused in turn.
 use crate::equal::is;
-use pl_lines::{push_file_line, push_line};
+use pl_lines::{push_file_line, push_line, push_step};
 use pl_model::Outcome;
 use pl_refusing::{MOST_REQUESTS, Refusing};
 use pl_script::{
     Line, LineFault, Version, parse_line, parse_line_2, show, show_2, show_file, show_file_2,
 };
-use pl_testing::asked::Want;
+use pl_testing::asked::{Ask, Want};
 use std::alloc::{AllocError, Allocator, Global};
 use std::process::Abort;
 use std::test::Fail;
@@ -24,6 +24,8 @@ pub(crate) enum Asked<'a> {
     Adds(Want),
     /// Whether it is added to another as that of such a file.
     AddsFile(Option<&'a [u8]>),
+    /// Whether it is added to another as the line that says the step.
+    Says(Ask),
 }
 
 /// What that comes to.
@@ -139,6 +141,20 @@ fn adds_file<A: Allocator + Copy>(
     Ok(is_added(added, lines.as_str(), text))
 }
 
+fn says<A: Allocator + Copy>(
+    heap: &Refusing<Global>,
+    alloc: A,
+    text: &str,
+    ask: Ask,
+    n: u64,
+) -> Result<Told, Fail> {
+    let step = ask.step(alloc)?;
+    let mut lines = String::from_str(alloc, BEFORE)?;
+    heap.refuse(n);
+    let added = push_step(alloc, &mut lines, &step);
+    Ok(is_added(added, lines.as_str(), text))
+}
+
 /// What is told where the `n`th request for memory is refused.
 fn tell<A: Allocator + Copy>(
     heap: &Refusing<Global>,
@@ -165,6 +181,7 @@ fn tell<A: Allocator + Copy>(
         }
         Asked::Adds(want) => adds(heap, alloc, version, text, want, n),
         Asked::AddsFile(bytes) => adds_file(heap, alloc, version, text, bytes, n),
+        Asked::Says(ask) => says(heap, alloc, text, ask, n),
     }
 }
 

@@ -4,7 +4,7 @@
 //! `parse_name`, `parse_flags_or_none` and `parse_bytes` read one, and `only_u64`, `only_i32`, `fd_and_word`, `open_flags_if_any`,
 //! `pipe_flags_if_any`, `splice_flags_if_any` and `parse_entries` all the words that are left. `bytes_len` tells how many bytes a word
 //! says, and makes none. `place_of` finds a byte, as the line feed that ends a line, and `without_return` leaves out a carriage
-//! return there. What words say is defined in `pl_model`, in `specs/Words.antt`; what a reader of them answers, and where it may
+//! return there. `is_plain` tells whether a byte stands for itself in a name. What words say is defined in `pl_model`, in `specs/Words.antt`; what a reader of them answers, and where it may
 //! find no memory, in `specs/Parsed.antt`.
 #![tactic(auto)]
 
@@ -20,7 +20,7 @@ mod words;
 
 pub use fault::LineFault;
 pub use flags::{open_flags_if_any, parse_flags_or_none, pipe_flags_if_any, splice_flags_if_any};
-pub use names::parse_name;
+pub use names::{is_plain, parse_name};
 pub use numbers::{fd_and_word, only_i32, only_u64, parse_i32, parse_i64, parse_offset, parse_u32};
 pub use pieces::{bytes_len, may_repeat, parse_bytes};
 pub use polls::parse_entries;

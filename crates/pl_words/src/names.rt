@@ -8,8 +8,8 @@ use crate::fault::LineFault;
 use pl_model::Name;
 use std::alloc::Allocator;
 
-/// Whether the byte stands for itself in a name.
-fn is_plain(c: u8) -> bool
+/// Whether the byte stands for itself in a name: one of 33 to 126 that isn't `%`.
+pub fn is_plain(c: u8) -> bool
     ensures { result ≡ is_plain c }
 {
     c >= 33 && c <= 126 && c != b'%'

@@ -1,0 +1,11 @@
+use Rattle.pl_model.proofs.saying.Law.{steps_read_back}
+use Rattle.pl_lines.proofs.Pushing.{may_cut}
+use Rattle.pl_lines.proofs.saying.push_step.Goals as goal
+
+pub keep_if_pushed-requires : goal.keep_if_pushed-requires
+keep_if_pushed-requires g c =
+    let place = may_cut c.push_front_of_step-pushed.ensures (rw c.as_str-len.ensures.value at c.as_str-len.utf8) (rw c.as_str.ensures.value at c.as_str.utf8) in
+    rw c.as_str-len.ensures.value (place.0, λ _. place.1)
+
+pub returns-clause-reads_back : goal.returns-clause-reads_back
+returns-clause-reads_back g c = λ named. steps_read_back _ c.args.step.now named c.numbers_fit.ensures
