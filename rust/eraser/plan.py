@@ -25,7 +25,7 @@ LIBRARY = _modules(
     "budget model segments ring packets file parked waiters desc nodes decisions state descriptors naming transfers splices polls kernel numbers",
 )
 # Scripts, and the program that runs them.
-SCRIPT = _modules("parts/", "words lines script run") | {"piperun": Place("parts/piperun", "crate::parts::piperun")}
+SCRIPT = _modules("parts/", "words lines recording script run") | {"piperun": Place("parts/piperun", "crate::parts::piperun")}
 # The library for C.
 EXPORTS = {"bindingclay": Place("parts/c", "crate::parts::c")}
 # What tests share, and the tests.

@@ -4,7 +4,8 @@
 //! lines of a text, and `split_version` leaves out the one that names its version. `push_line` gives the line of an outcome, and
 //! `push_file_line` that of a file's bytes. `parse_line`, `show` and `show_file` are one line, one outcome and one file of version 1,
 //! and `parse_line_2`, `show_2` and `show_file_2` those of version 2. `push_step` gives the line that says a step, and `push_write`
-//! and `push_read` those of a write and a read of which there is no step. `is_sayable` tells whether a line says a step. What a line
+//! and `push_read` those of a write and a read of which there is no step. `is_sayable` tells whether a line says a step. `push_reply_2`,
+//! `push_number` and `keep_if_pushed` are parts of other lines. What a line
 //! asks and what it is answered is defined in `pl_model`, in `specs/Lines.antt` and `specs/Shown.antt`, and the line that says a step
 //! in `specs/Said.antt`. The words of a line are read by `pl_words`, whose `LineFault` is given on.
 //!
@@ -31,4 +32,7 @@ pub use parse::{RepeatedWrite, parse_line, parse_line_2, parse_line_of, repeated
 pub use pl_words::LineFault;
 pub use sayable::is_sayable;
 pub use saying::{push_read, push_step, push_write};
-pub use text::{push_file_line, push_line, show, show_2, show_file, show_file_2};
+pub use text::{
+    keep_if_pushed, push_file_line, push_line, push_number, push_reply_2, show, show_2, show_file,
+    show_file_2,
+};

@@ -27,8 +27,8 @@ pub(crate) fn push_two<A: Allocator + Copy>(
     text.push_str(second)
 }
 
-/// Adds a number behind its name.
-pub(crate) fn push_number<A: Allocator + Copy, I: Integer>(
+/// Adds a number behind its name, or a front of them where there is no memory for them, which is the only error.
+pub fn push_number<A: Allocator + Copy, I: Integer>(
     text: &mut String<A>,
     name: &str,
     number: I,
@@ -281,6 +281,19 @@ fn push_file<A: Allocator + Copy>(
     }
 }
 
+/// Adds the text of a reply in a script of version 2, and a line feed behind it, or a front of them where there is no memory for them,
+/// which is the only error.
+pub fn push_reply_2<A: Allocator + Copy>(
+    alloc: A,
+    text: &mut String<A>,
+    reply: &Reply<A>,
+) -> Result<(), AllocError>
+    ensures { Pushes result (string_bytes text.old) (string_bytes text.new) (reply_text Two reply.now ++ 10 ∷ []) }
+{
+    push_reply(alloc, Version::Two, text, reply)?;
+    text.push_str("\n")
+}
+
 /// Adds the line of an outcome, or a front of it where there is no memory for it.
 fn push_front_of_line<A: Allocator + Copy>(
     alloc: A,
@@ -307,8 +320,8 @@ fn push_front_of_file_line<A: Allocator + Copy>(
     text.push_str("\n")
 }
 
-/// Cuts the text to the length of before, if what was to stand behind it found no memory.
-pub(crate) fn keep_if_pushed<A: Allocator>(
+/// Cuts the text to the length of before, if what was to stand behind it found no memory. It answers what was pushed, and takes no memory.
+pub fn keep_if_pushed<A: Allocator>(
     text: &mut String<A>,
     len: usize,
     pushed: Result<(), AllocError>,

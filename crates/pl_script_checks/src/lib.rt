@@ -19,6 +19,8 @@ mod poll_lines;
 #[cfg(test)]
 mod programs;
 #[cfg(test)]
+mod records;
+#[cfg(test)]
 mod refused;
 #[cfg(test)]
 mod replies;

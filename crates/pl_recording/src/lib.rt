@@ -1,0 +1,119 @@
+//! Records: scripts of version 2 that ask for each step that was made, and tell the reply of each in a comment behind it.
+//!
+//! `push_header` gives the lines in front of a record, and `push_entry` those of a step with its reply; `push_reply_comment` gives the
+//! comment alone. What a record is, is defined in `specs/Record.antt`. `replaying` is the law that a record prints the replies that it
+//! has in its comments, as it is run: `specs/Replay.antt`.
+#![tactic(auto)]
+
+ghost use Rattle.std.specs.Prelude.{◌≡◌, ◌++◌, OnOk, OnErr, string_bytes};
+ghost use Rattle.pl_lines.specs.Pushed.{Pushes};
+ghost use Rattle.pl_recording.specs.Record.{ended, limits_text, header, comment_text, entry_text};
+ghost use Rattle.pl_recording.specs.Replay.{RecordsReplay};
+
+use pl_lines::{keep_if_pushed, push_number, push_reply_2, push_step};
+use pl_model::{Limits, Reply, Step};
+use std::alloc::{AllocError, Allocator};
+
+/// A record of a run, run again within the limits that it tells, prints the replies that it has in its comments, line by line.
+pub fn replaying<A: Allocator>()
+    ensures { RecordsReplay A }
+{}
+
+/// Adds the comment that tells the limits.
+fn push_limits<A: Allocator + Copy>(text: &mut String<A>, limits: Limits) -> Result<(), AllocError>
+    ensures { Pushes result (string_bytes text.old) (string_bytes text.new) (limits_text limits) }
+{
+    push_number(text, "# piperun --first-call ", limits.first_call)?;
+    push_number(text, " --file-max ", limits.file_max)?;
+    push_number(text, " --names-max ", limits.names_max)?;
+    push_number(text, " --waiting-max ", limits.waiting_max)?;
+    push_number(text, " --capacity-max ", limits.capacity_max)
+}
+
+/// Adds the lines in front of a record, or a front of them where there is no memory for them.
+fn push_front_of_header<A: Allocator + Copy>(
+    text: &mut String<A>,
+    limits: Limits,
+) -> Result<(), AllocError>
+    ensures { Pushes result (string_bytes text.old) (string_bytes text.new) (header limits) }
+{
+    text.push_str("piperun 2\n")?;
+    push_limits(text, limits)?;
+    text.push_str("\n")
+}
+
+/// Adds the comment behind a step, or a front of it where there is no memory for it.
+fn push_front_of_comment<A: Allocator + Copy>(
+    alloc: A,
+    text: &mut String<A>,
+    reply: &Reply<A>,
+) -> Result<(), AllocError>
+    ensures { Pushes result (string_bytes text.old) (string_bytes text.new) (ended (comment_text reply.now)) }
+{
+    text.push_str("# => ")?;
+    push_reply_2(alloc, text, reply)
+}
+
+/// Adds the lines in front of a record: the version of scripts, and the limits within which its steps are made, as options of `piperun`.
+/// Where there is no memory for them, which is the only error, the text is as it was.
+pub fn push_header<A: Allocator + Copy>(
+    text: &mut String<A>,
+    limits: Limits,
+) -> Result<(), AllocError>
+    ensures done { OnOk result (string_bytes text.new ≡ string_bytes text.old ++ header limits) }
+    ensures undone { OnErr result (string_bytes text.new ≡ string_bytes text.old) }
+{
+    let len = text.as_str().len();
+    let pushed = push_front_of_header(text, limits);
+    // It is text still, and was whole at the length of before: a character ends there.
+    let _ = text.as_str();
+    keep_if_pushed(text, len, pushed)
+}
+
+/// Adds the comment behind a step, which tells its reply: `# => ` and the text of the reply in version 2, and a line feed. Where there is no
+/// memory for it, which is the only error, the text is as it was.
+pub fn push_reply_comment<A: Allocator + Copy>(
+    alloc: A,
+    text: &mut String<A>,
+    reply: &Reply<A>,
+) -> Result<(), AllocError>
+    ensures done { OnOk result (string_bytes text.new ≡ string_bytes text.old ++ ended (comment_text reply.now)) }
+    ensures undone { OnErr result (string_bytes text.new ≡ string_bytes text.old) }
+{
+    let len = text.as_str().len();
+    let pushed = push_front_of_comment(alloc, text, reply);
+    // As in `push_header`.
+    let _ = text.as_str();
+    keep_if_pushed(text, len, pushed)
+}
+
+/// Adds the line of a step, or nothing, and then the comment of its reply, or a front of it.
+fn push_front_of_entry<A: Allocator + Copy>(
+    alloc: A,
+    text: &mut String<A>,
+    step: &Step<A>,
+    reply: &Reply<A>,
+) -> Result<(), AllocError>
+    ensures { Pushes result (string_bytes text.old) (string_bytes text.new) (entry_text (step.now, reply.now)) }
+{
+    push_step(alloc, text, step)?;
+    push_front_of_comment(alloc, text, reply)
+}
+
+/// Adds the lines of a step that was made, with the reply that it got: the line that says it, and the comment. Where there is no memory for
+/// both, which is the only error, the text is as it was.
+pub fn push_entry<A: Allocator + Copy>(
+    alloc: A,
+    text: &mut String<A>,
+    step: &Step<A>,
+    reply: &Reply<A>,
+) -> Result<(), AllocError>
+    ensures done { OnOk result (string_bytes text.new ≡ string_bytes text.old ++ entry_text (step.now, reply.now)) }
+    ensures undone { OnErr result (string_bytes text.new ≡ string_bytes text.old) }
+{
+    let len = text.as_str().len();
+    let pushed = push_front_of_entry(alloc, text, step, reply);
+    // As in `push_header`.
+    let _ = text.as_str();
+    keep_if_pushed(text, len, pushed)
+}
