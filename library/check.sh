@@ -77,7 +77,8 @@ run() {
 # without_races NAME: runs a program with threads, and looks for races between them.
 without_races() {
     if is_there "$valgrind"; then
-        check "$1 under helgrind" timeout 900 "$valgrind" -q --tool=helgrind --error-exitcode=99 "$work/$1"
+        check "$1 under helgrind" timeout 900 "$valgrind" -q --tool=helgrind --error-exitcode=99 \
+            "--suppressions=$here/tests/helgrind.supp" "$work/$1"
     else
         echo "passed over: $1 under helgrind"
     fi
@@ -179,6 +180,10 @@ fi
 for name in one_lock two_kernels; do
     build "$name" "$counted" -pthread && run "$name" && without_races "$name"
 done
+
+# shellcheck disable=SC1091
+. "$here/tests/shared.sh"
+try_front
 
 if is_there python3; then
     check "the documents" env "PREFIX=$work/prefix" "PIPERUN=$piperun" "CC=$cc" python3 -B "$here/../docs/check" \

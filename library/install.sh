@@ -1,15 +1,16 @@
 #!/bin/sh
 # Installs the library for C below a folder: install.sh PREFIX
 #
-#   PREFIX/include/bindingclay.h
+#   PREFIX/include/bindingclay.h, bindingclay_shared.h
 #   PREFIX/lib/libbindingclay.a            with the three functions by which it takes memory from malloc
+#   PREFIX/lib/libbindingclay_shared.a     the front for threads of blocking/, if there is a C compiler
 #   PREFIX/lib/pkgconfig/bindingclay.pc
 #   PREFIX/share/man                       the manual pages of man/, and links to them by the names of functions
 #
 # Environment, each with what is taken without it:
 #   ARCHIVE  the library as rt lib built it    crates/bindingclay/out/libbindingclay.a
 #   MEMORY   the toolchain's archive of rattle_alloc, rattle_realloc and rattle_dealloc    c/liblibc_c.a beside what rt doc names
-#   RT, AR   rt, ar
+#   RT, AR, CC    rt, ar, cc
 set -eu
 
 if [ $# -ne 1 ]; then
@@ -44,7 +45,20 @@ cp "$archive" "$work/libbindingclay.a"
 mkdir "$work/memory"
 (cd "$work/memory" && "$ar" x "$memory" && "$ar" qs ../libbindingclay.a ./*)
 install -m 644 "$work/libbindingclay.a" "$prefix/lib/libbindingclay.a"
-install -m 644 "$here/include/bindingclay.h" "$prefix/include/bindingclay.h"
+install -m 644 "$here/include/bindingclay.h" "$here/blocking/bindingclay_shared.h" "$prefix/include"
+
+# The front for threads. Its objects name no folder, so the same compiler gives the same bytes.
+if command -v "${CC:-cc}" > /dev/null 2>&1; then
+    mkdir "$work/blocking"
+    for source in "$here"/blocking/*.c; do
+        name=${source##*/}
+        (cd "$here/blocking" && "${CC:-cc}" -std=c11 -O2 -fPIC -Wall -Wextra -I../include -c -o "$work/blocking/${name%.c}.o" "$name")
+    done
+    (cd "$work/blocking" && "$ar" qcsD ../libbindingclay_shared.a ./*.o)
+    install -m 644 "$work/libbindingclay_shared.a" "$prefix/lib/libbindingclay_shared.a"
+else
+    echo "passed over: libbindingclay_shared.a, as there is no ${CC:-cc}"
+fi
 
 number() {
     sed -n "s/^#define BINDINGCLAY_VERSION_$1 \([0-9]*\)\$/\1/p" "$here/include/bindingclay.h"

@@ -11,7 +11,7 @@ SECTIONS = {
     "3": ["NAME", "SYNOPSIS", "DESCRIPTION", "RETURN VALUES", "EXAMPLES", "ERRORS", "SEE ALSO"],
     "7": ["NAME", "SYNOPSIS", "DESCRIPTION", "EXAMPLES", "SEE ALSO"],
 }
-DECLARED = re.compile(r"^(?:static inline )?(\w[\w ]*?(?: \*+| ))(bindingclay_\w+)\(([^()]*)\)\s*[;{]", re.MULTILINE)
+DECLARED = re.compile(r"^(?:static inline )?(\w[\w ]*?(?: \*+| ))((?:bindingclay|bc)_\w+)\(([^()]*)\)\s*[;{]", re.MULTILINE)
 # what the header has only for its macros
 INNER = "bindingclay_c_"
 # which call of docs/RULES.md a function makes
@@ -45,7 +45,7 @@ def one_line(result, name, arguments):
 
 
 def declared(header):
-    """Each function of the header, with its declaration in one line."""
+    """Each function of the headers, with its declaration in one line."""
     plain = re.sub(r"/\*.*?\*/|^[ \t]*#.*?(?<!\\)$", "", header, flags=re.DOTALL | re.MULTILINE)
     found = {name: one_line(result.strip(), name, arguments.split(",")) for result, name, arguments in DECLARED.findall(plain)}
     return {name: line for name, line in found.items() if not name.startswith(INNER)}
@@ -70,7 +70,7 @@ def check_functions(project):
     for name in sorted(set(functions) | {name for page in pages.values() for name in page}):
         lines = [page[name] for page in pages.values() if name in page]
         if name not in functions:
-            yield f"{name} of a page", "the header hasn't got it"
+            yield f"{name} of a page", "the headers haven't got it"
         elif lines != [functions[name]]:
             yield f"the page of {name}", f"declared is {functions[name]}, and pages have {lines}"
         else:

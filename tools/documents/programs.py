@@ -10,6 +10,8 @@ import pages
 
 FLAGS = ["-std=c11", "-Wall", "-Wextra", "-Werror"]
 HEADERS = ["bindingclay.h", "assert.h", "errno.h", "fcntl.h", "poll.h", "stdio.h", "string.h"]
+# the header of the front for threads
+FRONT = "bindingclay_shared.h"
 # what a fragment tells of its last answer
 TELLS = re.compile(r'/\* done: value (\d+), "(\w*)" \*/')
 
@@ -60,9 +62,10 @@ def fault_of(project, number, program):
     source.write_text(program.source, encoding="utf-8")
     words = [project.cc, *FLAGS, str(source)]
     if project.prefix:
-        words += [f"-I{project.prefix}/include", "-o", str(built), f"-L{project.prefix}/lib", "-lbindingclay"]
+        front = ["-lbindingclay_shared", "-pthread"] if FRONT in program.source else []
+        words += [f"-I{project.prefix}/include", "-o", str(built), f"-L{project.prefix}/lib", *front, "-lbindingclay"]
     else:
-        words += [f"-I{project.root}/library/include", "-fsyntax-only"]
+        words += [f"-I{project.root}/library/include", f"-I{project.root}/library/blocking", "-fsyntax-only"]
     compiled = subprocess.run(words, capture_output=True, text=True, check=False)
     if compiled.returncode != 0 or not project.prefix:
         return compiled.stderr.strip() or (None if compiled.returncode == 0 else "it doesn't compile")

@@ -1,0 +1,195 @@
+/* The front for threads: reads, writes, splices and tees. */
+#define _GNU_SOURCE
+#include "bindingclay_shared_inside.h"
+
+#include <errno.h>
+#include <fcntl.h>
+#include <limits.h>
+#include <string.h>
+
+/* Up to so many bytes go into a pipe whole (pipe(7), PIPE_BUF), and the least write that may go in by parts. */
+enum { WHOLE = 4096, BY_PARTS = WHOLE + 1, MOST_BUFFERS = 1024 };
+
+ssize_t bc_read(const bc_process *process, int fd, void *into, size_t size)
+{
+    const struct bc_room room = { .into = into, .size = size };
+    if (!bc_in(process))
+        return -1;
+    bindingclay_answer answer = bindingclay_read(process->shared->clay, process->pid, fd, into, size);
+    return (ssize_t)bc_concluded(process, bc_awaited(process, answer, &room, bc_deadline(process)));
+}
+
+/* A call that gives no bytes. */
+static const struct bc_room no_room;
+
+/* ---- Writes ---- */
+
+/* How many bytes of a write are begun at once. A call that waits keeps a copy of its bytes, so a large write that has to wait is made in pieces.
+ * Those that go in at once may be large. The others have at most 2 * WHOLE + 1 bytes. As the last piece goes in by parts too, if the write does,
+ * no write waits for more room than it would wait for whole. */
+static size_t piece(const bc_process *process, int fd, size_t size)
+{
+    bindingclay clay = process->shared->clay;
+    bindingclay_node_facts facts;
+    if (size <= WHOLE)
+        return size;
+    bindingclay_answer flags = bindingclay_get_fl(clay, process->pid, fd);
+    if (flags.kind != BINDINGCLAY_DONE || (flags.value & O_NONBLOCK) != 0)
+        return size;
+    if (bindingclay_fd_facts(clay, process->pid, fd, &facts).kind != BINDINGCLAY_DONE || facts.kind == BINDINGCLAY_FILE)
+        return size;
+    if (facts.kind == BINDINGCLAY_PACKET_PIPE)
+        return BINDINGCLAY_PACKET_BYTES;
+    size_t room = bindingclay_get_pipe_sz(clay, process->pid, fd).value - facts.size;
+    if (size <= room)
+        return size;
+    if (size - room <= WHOLE)
+        return size > BY_PARTS ? size - BY_PARTS : size;
+    if (room > 0)
+        return room;
+    return size > 2 * WHOLE + 1 ? BY_PARTS : size;
+}
+
+/* Under the lock: begins pieces of a write, until one doesn't go in at once, or all are in. Counts those that went in before the last one, and
+ * gives the size of that and its answer. If that waits, its answer tells of all pieces whether bytes moved. */
+static bindingclay_answer begun(const bc_process *process, int fd, const uint8_t *bytes, size_t size, size_t *written, size_t *last)
+{
+    for (bool moved = false;; moved = true) {
+        *last = piece(process, fd, size - *written);
+        bindingclay_answer answer = bindingclay_write(process->shared->clay, process->pid, fd, bytes + *written, *last);
+        if (answer.kind != BINDINGCLAY_DONE || answer.value < *last || *written + *last >= size) {
+            answer.moved = answer.moved || moved;
+            return answer;
+        }
+        *written += *last;
+    }
+}
+
+ssize_t bc_write(const bc_process *process, int fd, const void *bytes, size_t size)
+{
+    bindingclay_answer answer;
+    size_t written = 0, last;
+    if (size > BINDINGCLAY_MOST_BYTES)
+        size = BINDINGCLAY_MOST_BYTES;
+    do {
+        if (!bc_in(process))
+            return written > 0 ? (ssize_t)written : -1;
+        answer = begun(process, fd, bytes, size, &written, &last);
+        answer = bc_awaited(process, answer, &no_room, bc_deadline(process));
+        if (answer.kind == BINDINGCLAY_DONE)
+            written += answer.value;
+    } while (answer.kind == BINDINGCLAY_DONE && answer.value == last && !answer.sigpipe && written < size);
+    if (written > 0)
+        answer.kind = BINDINGCLAY_DONE;
+    if (answer.kind == BINDINGCLAY_DONE)
+        answer.value = written;
+    return (ssize_t)bc_concluded(process, answer);
+}
+
+/* ---- Several buffers ---- */
+
+/* The bytes of some buffers in all, at most BINDINGCLAY_MOST_BYTES. Fails with EINVAL if their sum overflows ssize_t, or their number is none. */
+static ssize_t sum_of(const struct iovec *buffers, int count)
+{
+    size_t sum = 0;
+    bool fits = count >= 0 && count <= MOST_BUFFERS;
+    for (int i = 0; i < count && fits; i++) {
+        fits = buffers[i].iov_len <= SSIZE_MAX - sum;
+        sum += fits ? buffers[i].iov_len : 0;
+    }
+    if (!fits) {
+        errno = EINVAL;
+        return -1;
+    }
+    return sum < BINDINGCLAY_MOST_BYTES ? (ssize_t)sum : BINDINGCLAY_MOST_BYTES;
+}
+
+/* Copies size bytes from the buffers to a row, or from the row to the buffers. */
+static void copy_all(uint8_t *row, const struct iovec *buffers, size_t size, bool to_row)
+{
+    for (size_t part; size > 0; buffers++, row += part, size -= part) {
+        part = buffers->iov_len < size ? buffers->iov_len : size;
+        if (part > 0)
+            memcpy(to_row ? row : buffers->iov_base, to_row ? buffers->iov_base : row, part);
+    }
+}
+
+/* A row for so many bytes: the one that is given if it has room for them. Fails with ENOMEM. */
+static uint8_t *row_for(uint8_t *given, size_t size)
+{
+    uint8_t *row = size <= WHOLE ? given : malloc(size);
+    if (row == NULL)
+        errno = ENOMEM;
+    return row;
+}
+
+static void give_back(uint8_t *row, const uint8_t *given)
+{
+    int error = errno;
+    if (row != given)
+        free(row);
+    errno = error;
+}
+
+ssize_t bc_readv(const bc_process *process, int fd, const struct iovec *buffers, int count)
+{
+    uint8_t few[WHOLE];
+    ssize_t size = sum_of(buffers, count);
+    if (size < 0)
+        return -1;
+    uint8_t *row = row_for(few, (size_t)size);
+    if (row == NULL)
+        return -1;
+    ssize_t got = bc_read(process, fd, row, (size_t)size);
+    if (got > 0)
+        copy_all(row, buffers, (size_t)got, false);
+    give_back(row, few);
+    return got;
+}
+
+ssize_t bc_writev(const bc_process *process, int fd, const struct iovec *buffers, int count)
+{
+    uint8_t few[WHOLE];
+    ssize_t size = sum_of(buffers, count);
+    if (size < 0)
+        return -1;
+    uint8_t *row = row_for(few, (size_t)size);
+    if (row == NULL)
+        return -1;
+    copy_all(row, buffers, (size_t)size, true);
+    ssize_t put = bc_write(process, fd, row, (size_t)size);
+    give_back(row, few);
+    return put;
+}
+
+/* ---- Splices and tees ---- */
+
+/* The most bytes of a splice or a tee. */
+static uint32_t at_most(size_t size)
+{
+    return size < UINT32_MAX ? (uint32_t)size : UINT32_MAX;
+}
+
+ssize_t bc_splice(const bc_process *process, int from, off_t *from_offset, int to, off_t *to_offset, size_t size, unsigned flags)
+{
+    uint64_t first = from_offset != NULL ? (uint64_t)*from_offset : 0;
+    uint64_t second = to_offset != NULL ? (uint64_t)*to_offset : 0;
+    if (!bc_in(process))
+        return -1;
+    bindingclay_answer answer = bindingclay_splice(process->shared->clay, process->pid, from, from_offset != NULL ? &first : NULL, to,
+        to_offset != NULL ? &second : NULL, at_most(size), flags);
+    ssize_t moved = (ssize_t)bc_concluded(process, bc_awaited(process, answer, &no_room, bc_deadline(process)));
+    if (moved > 0 && from_offset != NULL)
+        *from_offset += moved;
+    if (moved > 0 && to_offset != NULL)
+        *to_offset += moved;
+    return moved;
+}
+
+ssize_t bc_tee(const bc_process *process, int from, int to, size_t size, unsigned flags)
+{
+    if (!bc_in(process))
+        return -1;
+    bindingclay_answer answer = bindingclay_tee(process->shared->clay, process->pid, from, to, at_most(size), flags);
+    return (ssize_t)bc_concluded(process, bc_awaited(process, answer, &no_room, bc_deadline(process)));
+}

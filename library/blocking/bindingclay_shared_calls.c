@@ -1,0 +1,232 @@
+/* The front for threads: processes, pipes, names, descriptors, and what is told of them. */
+#define _GNU_SOURCE
+#include "bindingclay_shared_inside.h"
+
+#include <errno.h>
+#include <fcntl.h>
+#include <limits.h>
+#include <stdarg.h>
+#include <string.h>
+#include <sys/ioctl.h>
+
+_Static_assert(O_DIRECT == BINDINGCLAY_O_DIRECT, "the library has the numbers of x86-64");
+
+/* ---- Processes ---- */
+
+/* Under the lock: the answer of a start or a fork, with the handle of the process that it made. */
+static bindingclay_answer made(bc_shared *shared, bindingclay_answer answer, bc_process *process)
+{
+    if (answer.kind == BINDINGCLAY_DONE) {
+        *process = (bc_process){ .shared = shared, .pid = (uint32_t)answer.value, .birth = ++shared->born };
+        shared->births[process->pid] = process->birth;
+    }
+    return answer;
+}
+
+int bc_start(bc_shared *shared, bc_process *process)
+{
+    const bc_process nobody = { .shared = shared };
+    pthread_mutex_lock(&shared->lock);
+    return bc_done(&nobody, made(shared, bindingclay_start(shared->clay), process)) < 0 ? -1 : 0;
+}
+
+pid_t bc_fork(const bc_process *parent, bc_process *child)
+{
+    bc_shared *shared = parent->shared;
+    /* a child may take its parent's place in a variable */
+    const bc_process before = *parent;
+    if (!bc_in(&before))
+        return -1;
+    return (pid_t)bc_done(&before, made(shared, bindingclay_fork(shared->clay, before.pid), child));
+}
+
+int bc_exit(const bc_process *process)
+{
+    bc_shared *shared = process->shared;
+    if (!bc_in(process))
+        return -1;
+    bindingclay_answer answer = bindingclay_exit(shared->clay, process->pid);
+    if (answer.kind == BINDINGCLAY_DONE) {
+        shared->births[process->pid] = 0;
+        bc_abandon(shared, process->pid);
+    }
+    return (int)bc_done(process, answer);
+}
+
+bc_process bc_until(const bc_process *process, const struct timespec *deadline)
+{
+    bc_process same = *process;
+    same.has_deadline = deadline != NULL;
+    same.deadline = (struct timespec){ 0, 0 };
+    if (deadline != NULL && deadline->tv_nsec >= 0 && deadline->tv_nsec < 1000000000)
+        same.deadline = *deadline;
+    return same;
+}
+
+/* ---- Pipes and names ---- */
+
+int bc_pipe2(const bc_process *process, int ends[2], int flags)
+{
+    if (!bc_in(process))
+        return -1;
+    bindingclay_ends made_ends = { -1, -1 };
+    bindingclay_answer answer =
+        bindingclay_pipe2(process->shared->clay, process->pid, (uint32_t)(flags & ~O_CLOEXEC), &made_ends);
+    if (answer.kind == BINDINGCLAY_DONE) {
+        ends[0] = made_ends.read_end;
+        ends[1] = made_ends.write_end;
+    }
+    return (int)bc_done(process, answer);
+}
+
+static const uint8_t *bytes_of(const char *name)
+{
+    return (const uint8_t *)name;
+}
+
+int bc_open(const bc_process *process, const char *name, int flags, ...)
+{
+    static const struct bc_room room = { .is_open = true };
+    if (!bc_in(process))
+        return -1;
+    bindingclay_answer answer =
+        bindingclay_open_name(process->shared->clay, process->pid, bytes_of(name), strlen(name), (uint32_t)flags);
+    return (int)bc_concluded(process, bc_awaited(process, answer, &room, bc_deadline(process)));
+}
+
+int bc_mkfifo(const bc_process *process, const char *name, mode_t mode)
+{
+    (void)mode;
+    if (!bc_in(process))
+        return -1;
+    return (int)bc_done(process, bindingclay_mkfifo(process->shared->clay, process->pid, bytes_of(name), strlen(name)));
+}
+
+int bc_unlink(const bc_process *process, const char *name)
+{
+    if (!bc_in(process))
+        return -1;
+    return (int)bc_done(process, bindingclay_unlink(process->shared->clay, process->pid, bytes_of(name), strlen(name)));
+}
+
+/* ---- Descriptors ---- */
+
+int bc_close(const bc_process *process, int fd)
+{
+    if (!bc_in(process))
+        return -1;
+    return (int)bc_done(process, bindingclay_close(process->shared->clay, process->pid, fd));
+}
+
+int bc_dup(const bc_process *process, int fd)
+{
+    if (!bc_in(process))
+        return -1;
+    return (int)bc_done(process, bindingclay_dup(process->shared->clay, process->pid, fd));
+}
+
+int bc_dup2(const bc_process *process, int fd, int target)
+{
+    if (!bc_in(process))
+        return -1;
+    return (int)bc_done(process, bindingclay_dup2(process->shared->clay, process->pid, fd, target));
+}
+
+int bc_dup3(const bc_process *process, int fd, int target, int flags)
+{
+    if ((flags & ~O_CLOEXEC) != 0 || fd == target) {
+        errno = EINVAL;
+        return -1;
+    }
+    return bc_dup2(process, fd, target);
+}
+
+/* The answer of a command of fcntl. */
+static bindingclay_answer commanded(bindingclay clay, uint32_t pid, int fd, int command, int argument)
+{
+    switch (command) {
+    case F_DUPFD:
+    case F_DUPFD_CLOEXEC:
+        return bindingclay_dup_fd(clay, pid, fd, argument);
+    case F_GETFL:
+        return bindingclay_get_fl(clay, pid, fd);
+    case F_SETFL:
+        return bindingclay_set_fl(clay, pid, fd, (uint32_t)argument);
+    case F_GETPIPE_SZ:
+        return bindingclay_get_pipe_sz(clay, pid, fd);
+    case F_SETPIPE_SZ:
+        return bindingclay_set_pipe_sz(clay, pid, fd, (uint32_t)argument);
+    default:
+        return (bindingclay_answer){ .kind = BINDINGCLAY_FAULT, .error = EINVAL };
+    }
+}
+
+int bc_fcntl(const bc_process *process, int fd, int command, ...)
+{
+    int argument = 0;
+    if (command == F_DUPFD || command == F_DUPFD_CLOEXEC || command == F_SETFL || command == F_SETPIPE_SZ) {
+        va_list arguments;
+        va_start(arguments, command);
+        argument = va_arg(arguments, int);
+        va_end(arguments);
+    }
+    if (!bc_in(process))
+        return -1;
+    return (int)bc_done(process, commanded(process->shared->clay, process->pid, fd, command, argument));
+}
+
+/* ---- What is there ---- */
+
+off_t bc_lseek(const bc_process *process, int fd, off_t offset, int whence)
+{
+    if (!bc_in(process))
+        return -1;
+    return (off_t)bc_done(process, bindingclay_lseek(process->shared->clay, process->pid, fd, offset, whence));
+}
+
+/* How many bytes a read of a descriptor could give. */
+static bindingclay_answer readable(bindingclay clay, uint32_t pid, int fd)
+{
+    bindingclay_node_facts facts;
+    bindingclay_answer answer = bindingclay_fd_facts(clay, pid, fd, &facts);
+    if (answer.kind != BINDINGCLAY_DONE || facts.kind != BINDINGCLAY_FILE)
+        return answer.kind == BINDINGCLAY_DONE ? bindingclay_held(clay, pid, fd) : answer;
+    answer = bindingclay_lseek(clay, pid, fd, 0, SEEK_CUR);
+    if (answer.kind == BINDINGCLAY_DONE)
+        answer.value = answer.value < facts.size ? facts.size - answer.value : 0;
+    return answer;
+}
+
+int bc_ioctl(const bc_process *process, int fd, unsigned long request, ...)
+{
+    va_list arguments;
+    if (!bc_in(process))
+        return -1;
+    bindingclay_answer answer = readable(process->shared->clay, process->pid, fd);
+    if (answer.kind == BINDINGCLAY_DONE && request != FIONREAD)
+        answer = (bindingclay_answer){ .kind = BINDINGCLAY_FAULT, .error = ENOTTY };
+    int64_t bytes = bc_done(process, answer);
+    if (bytes < 0)
+        return -1;
+    va_start(arguments, request);
+    *va_arg(arguments, int *) = (int)bytes;
+    va_end(arguments);
+    return 0;
+}
+
+int bc_fstat(const bc_process *process, int fd, struct stat *facts)
+{
+    if (!bc_in(process))
+        return -1;
+    bindingclay_node_facts told = { 0, 0, 0 };
+    if (bc_done(process, bindingclay_fd_facts(process->shared->clay, process->pid, fd, &told)) < 0)
+        return -1;
+    bool is_file = told.kind == BINDINGCLAY_FILE;
+    memset(facts, 0, sizeof *facts);
+    facts->st_mode = is_file ? S_IFREG : S_IFIFO;
+    facts->st_size = (off_t)told.size;
+    facts->st_ino = 2 * told.key + is_file;
+    facts->st_nlink = 1;
+    facts->st_blksize = 4096;
+    return 0;
+}

@@ -1,0 +1,213 @@
+/* The calls of the front for threads that don't wait: what each answers and how each is refused, as POSIX and the pages of Linux say. */
+#define _GNU_SOURCE
+#include "shared.h"
+
+#include <limits.h>
+
+static bc_shared *shared;
+static int sigpipes;
+
+static void count_sigpipe(void *context, const bc_process *process)
+{
+    HOLDS(context == &sigpipes);
+    /* the hook has no lock, so it may make calls */
+    HOLDS(bc_waiting(process) == 0);
+    sigpipes++;
+}
+
+static void pipes(void)
+{
+    bc_process process = new_process(shared);
+    int ends[2];
+    char into[8] = "";
+    HOLDS(bc_pipe2(&process, ends, O_CLOEXEC) == 0 && ends[0] == 0 && ends[1] == 1);
+    FAILS(bc_pipe2(&process, ends, O_APPEND), EINVAL);
+    HOLDS(bc_write(&process, 1, "hello", 5) == 5);
+    int held = 0;
+    HOLDS(bc_ioctl(&process, 0, FIONREAD, &held) == 0 && held == 5);
+    FAILS(bc_ioctl(&process, 0, TIOCSTI, &held), ENOTTY);
+    FAILS(bc_ioctl(&process, 9, FIONREAD, &held), EBADF);
+    HOLDS(bc_read(&process, 0, into, sizeof into) == 5 && memcmp(into, "hello", 5) == 0);
+    FAILS(bc_read(&process, 1, into, 1), EBADF);
+    FAILS(bc_write(&process, 0, into, 1), EBADF);
+    FAILS(bc_lseek(&process, 0, 0, SEEK_SET), ESPIPE);
+    HOLDS(bc_close(&process, 1) == 0);
+    FAILS(bc_close(&process, 1), EBADF);
+    HOLDS(bc_read(&process, 0, into, 1) == 0);
+    HOLDS(bc_exit(&process) == 0);
+    FAILS(bc_exit(&process), ESRCH);
+}
+
+/* write: "EPIPE: An attempt is made to write to a pipe or FIFO that is not open for reading by any process". */
+static void broken_pipes(void)
+{
+    bc_process process = new_process(shared);
+    int ends[2];
+    HOLDS(bc_pipe2(&process, ends, 0) == 0 && bc_close(&process, ends[0]) == 0);
+    FAILS(bc_write(&process, ends[1], "a", 1), EPIPE);
+    bc_on_sigpipe(shared, count_sigpipe, &sigpipes);
+    FAILS(bc_write(&process, ends[1], "a", 1), EPIPE);
+    HOLDS(sigpipes == 1);
+    bc_on_sigpipe(shared, NULL, NULL);
+    HOLDS(bc_exit(&process) == 0);
+}
+
+static void descriptors(void)
+{
+    bc_process process = new_process(shared);
+    int ends[2];
+    HOLDS(bc_pipe2(&process, ends, O_NONBLOCK) == 0);
+    HOLDS(bc_dup(&process, 0) == 2);
+    HOLDS(bc_dup2(&process, 0, 5) == 5);
+    HOLDS(bc_dup2(&process, 0, 0) == 0);
+    HOLDS(bc_dup3(&process, 1, 6, O_CLOEXEC) == 6);
+    FAILS(bc_dup3(&process, 1, 1, 0), EINVAL);
+    FAILS(bc_dup3(&process, 1, 6, O_NONBLOCK), EINVAL);
+    FAILS(bc_dup(&process, 77), EBADF);
+    HOLDS(bc_fcntl(&process, 0, F_DUPFD, 10) == 10);
+    FAILS(bc_fcntl(&process, 0, F_DUPFD, -1), EINVAL);
+    HOLDS(bc_fcntl(&process, 1, F_GETFL) == (O_WRONLY | O_NONBLOCK));
+    HOLDS(bc_fcntl(&process, 1, F_SETFL, 0) == 0);
+    HOLDS(bc_fcntl(&process, 1, F_GETFL) == O_WRONLY);
+    HOLDS(bc_fcntl(&process, 0, F_GETFL) == (O_RDONLY | O_NONBLOCK));
+    HOLDS(bc_fcntl(&process, 0, F_GETPIPE_SZ) == 65536);
+    HOLDS(bc_fcntl(&process, 0, F_SETPIPE_SZ, 5000) == 8192);
+    FAILS(bc_fcntl(&process, 0, F_SETPIPE_SZ, 1048577), EPERM);
+    FAILS(bc_fcntl(&process, 0, F_GETLK), EINVAL);
+    char byte;
+    FAILS(bc_read(&process, 0, &byte, 1), EAGAIN);
+    HOLDS(bc_exit(&process) == 0);
+}
+
+static void files(void)
+{
+    bc_process process = new_process(shared);
+    struct stat told;
+    char into[8];
+    FAILS(bc_open(&process, "file", O_RDONLY), ENOENT);
+    HOLDS(bc_open(&process, "file", O_RDWR | O_CREAT | O_CLOEXEC, 0600) == 0);
+    HOLDS(bc_write(&process, 0, "abcdef", 6) == 6);
+    HOLDS(bc_lseek(&process, 0, 2, SEEK_SET) == 2);
+    int behind = 0;
+    HOLDS(bc_ioctl(&process, 0, FIONREAD, &behind) == 0 && behind == 4);
+    HOLDS(bc_fstat(&process, 0, &told) == 0 && S_ISREG(told.st_mode) && told.st_size == 6);
+    ino_t inode = told.st_ino;
+    HOLDS(bc_mkfifo(&process, "fifo", 0600) == 0);
+    FAILS(bc_mkfifo(&process, "fifo", 0600), EEXIST);
+    HOLDS(bc_open(&process, "fifo", O_RDWR) == 1);
+    HOLDS(bc_fstat(&process, 1, &told) == 0 && S_ISFIFO(told.st_mode) && told.st_ino != inode);
+    FAILS(bc_fstat(&process, 2, &told), EBADF);
+    HOLDS(bc_write(&process, 1, "12345", 5) == 5);
+    /* an offset that is given is advanced, and the file's own stays (splice(2)) */
+    off_t offset = 1;
+    HOLDS(bc_splice(&process, 1, NULL, 0, &offset, 3, 0) == 3 && offset == 4);
+    HOLDS(bc_read(&process, 0, into, sizeof into) == 4 && memcmp(into, "23ef", 4) == 0);
+    FAILS(bc_splice(&process, 1, &offset, 0, NULL, 1, 0), ESPIPE);
+    HOLDS(bc_unlink(&process, "fifo") == 0);
+    FAILS(bc_unlink(&process, "fifo"), ENOENT);
+    FAILS(bc_open(&process, "fifo", O_WRONLY | O_NONBLOCK), ENOENT);
+    HOLDS(bc_exit(&process) == 0);
+}
+
+/* readv and writev: the buffers are filled and taken one after another, each whole before the next. */
+static void several_buffers(void)
+{
+    bc_process process = new_process(shared);
+    int ends[2];
+    char first[3] = "", second[9] = "";
+    struct iovec out[] = { { .iov_base = "abc", .iov_len = 3 }, { .iov_len = 0 }, { .iov_base = "defg", .iov_len = 4 } };
+    struct iovec in[] = { { .iov_base = first, .iov_len = 2 }, { .iov_base = second, .iov_len = 8 } };
+    HOLDS(bc_pipe2(&process, ends, 0) == 0);
+    HOLDS(bc_writev(&process, 1, out, 3) == 7);
+    HOLDS(bc_readv(&process, 0, in, 2) == 7);
+    HOLDS(strcmp(first, "ab") == 0 && strcmp(second, "cdefg") == 0);
+    HOLDS(bc_writev(&process, 1, out, 0) == 0);
+    FAILS(bc_writev(&process, 1, out, -1), EINVAL);
+    FAILS(bc_readv(&process, 0, in, 1025), EINVAL);
+    struct iovec huge[] = { { .iov_base = first, .iov_len = SSIZE_MAX }, { .iov_base = second, .iov_len = 1 } };
+    FAILS(bc_readv(&process, 0, huge, 2), EINVAL);
+    FAILS(bc_readv(&process, 9, in, 2), EBADF);
+    static char large[10000];
+    struct iovec many[] = { { .iov_base = large, .iov_len = 6000 }, { .iov_base = large + 6000, .iov_len = 4000 } };
+    memset(large, 'x', sizeof large);
+    HOLDS(bc_writev(&process, 1, many, 2) == 10000);
+    memset(large, 0, sizeof large);
+    HOLDS(bc_readv(&process, 0, many, 2) == 10000 && large[0] == 'x' && large[9999] == 'x');
+    HOLDS(bc_exit(&process) == 0);
+}
+
+/* poll: "If none of the defined events have occurred .. poll() shall wait at least timeout milliseconds". */
+static void polls(void)
+{
+    bc_process process = new_process(shared);
+    int ends[2];
+    HOLDS(bc_pipe2(&process, ends, 0) == 0);
+    struct pollfd entries[] = { { .fd = 0, .events = POLLIN, .revents = 77 }, { .fd = -1, .events = POLLIN, .revents = 77 } };
+    HOLDS(bc_poll(&process, entries, 2, 0) == 0 && entries[0].revents == 0);
+    entries[0].revents = 77;
+    double begun = seconds();
+    HOLDS(bc_poll(&process, entries, 2, 30) == 0 && entries[0].revents == 0 && entries[1].revents == 0);
+    HOLDS(seconds() - begun >= 0.030);
+    HOLDS(bc_poll(&process, NULL, 0, 1) == 0);
+    HOLDS(bc_write(&process, 1, "a", 1) == 1);
+    HOLDS(bc_poll(&process, entries, 2, -1) == 1 && entries[0].revents == POLLIN);
+    entries[0].fd = 9;
+    HOLDS(bc_poll(&process, entries, 1, -1) == 1 && entries[0].revents == POLLNVAL);
+    struct pollfd many[257];
+    FAILS(bc_poll(&process, many, 257, 0), EINVAL);
+    HOLDS(bc_exit(&process) == 0);
+}
+
+/* A handle is of one process, and of none that gets its pid later. */
+static void processes(void)
+{
+    bc_process parent = new_process(shared), child, later, copy = parent;
+    int ends[2];
+    HOLDS(bc_pipe2(&parent, ends, 0) == 0);
+    HOLDS(bc_fork(&parent, &child) == 2 && child.pid == 2);
+    HOLDS(bc_write(&child, 1, "a", 1) == 1);
+    HOLDS(bc_exit(&parent) == 0);
+    HOLDS(bc_start(shared, &later) == 0 && later.pid == parent.pid);
+    FAILS(bc_close(&copy, 0), ESRCH);
+    FAILS(bc_fork(&copy, &copy), ESRCH);
+    FAILS(bc_interrupt(&parent), ESRCH);
+    char byte;
+    HOLDS(bc_read(&child, 0, &byte, 1) == 1);
+    /* a child may take its parent's place */
+    HOLDS(bc_fork(&child, &child) == 3);
+    HOLDS(bc_exit(&child) == 0 && bc_exit(&later) == 0);
+    bc_process left = { .shared = shared, .pid = 70000, .birth = 1 };
+    FAILS(bc_dup(&left, 0), ESRCH);
+}
+
+static void limits(void)
+{
+    bindingclay_limits few = BINDINGCLAY_LIMITS;
+    bc_shared *bounded = NULL;
+    few.waiting_calls = 0;
+    need(bc_shared_open(&few, &bounded) == 0, "bc_shared_open");
+    bc_process process = new_process(bounded);
+    int ends[2];
+    char byte;
+    HOLDS(bc_pipe2(&process, ends, 0) == 0);
+    FAILS(bc_read(&process, 0, &byte, 1), EAGAIN);
+    HOLDS(bc_memory(bounded).held > 0);
+    HOLDS(bc_shared_close(bounded) == 0);
+    few.file_max = BINDINGCLAY_MOST_FILE_BYTES + 1;
+    FAILS(bc_shared_open(&few, &bounded), ENOMEM);
+}
+
+int main(void)
+{
+    shared = new_shared();
+    pipes();
+    broken_pipes();
+    descriptors();
+    files();
+    several_buffers();
+    polls();
+    processes();
+    limits();
+    HOLDS(bc_shared_close(shared) == 0);
+    return end();
+}

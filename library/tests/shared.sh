@@ -1,0 +1,85 @@
+# The checks of the front for threads, which check.sh takes in: its tests as they are, under valgrind, and as the sanitizers of the compiler build
+# them; and the programs of programs/, over the host and over the front.
+# shellcheck shell=sh
+# What is here is given to check, and its words are those of check.sh.
+# shellcheck disable=SC2317,SC2154
+
+strict='-std=c11 -Wall -Wextra -Werror -g'
+
+# build_front NAME FLAG..: builds tests/NAME.c over what is installed.
+build_front() {
+    built=$1
+    shift
+    # shellcheck disable=SC2086 # $strict is several words
+    check "building $built" "$cc" $strict -O1 "-I$work/prefix/include" -o "$work/$built" "$here/tests/$built.c" \
+        "-L$work/prefix/lib" -lbindingclay_shared -lbindingclay -pthread "$@"
+}
+
+# can_sanitize WORD: whether what the compiler builds with -fsanitize=WORD runs here.
+can_sanitize() {
+    printf 'int main(void) { return 0; }\n' > "$work/nothing.c"
+    "$cc" "-fsanitize=$1" -o "$work/nothing" "$work/nothing.c" > "$work/log" 2>&1 && "$work/nothing" > "$work/log" 2>&1
+}
+
+# sanitized NAME WORD ARGUMENT..: builds a test and the front with -fsanitize=WORD, and runs it.
+sanitized() {
+    name=$1
+    word=$2
+    shift 2
+    if ! can_sanitize "$word"; then
+        echo "passed over: $name with -fsanitize=$word"
+        return
+    fi
+    # shellcheck disable=SC2086
+    check "building $name with -fsanitize=$word" "$cc" $strict -O1 "-fsanitize=$word" "-I$work/prefix/include" -o "$work/sanitized" \
+        "$here/tests/$name.c" "$here"/blocking/*.c "-L$work/prefix/lib" -lbindingclay -pthread &&
+        check "$name with -fsanitize=$word" timeout 300 "$work/sanitized" "$@"
+}
+
+# over_both NAME ARGUMENT..: whether a program over the host prints what it prints over the front.
+over_both() {
+    name=$1
+    shift
+    # shellcheck disable=SC2086
+    "$cc" $strict -O2 -DOVER_HOST -o "$work/over_host" "$here/programs/$name.c" -pthread || return 1
+    # shellcheck disable=SC2086
+    "$cc" $strict -O2 "-I$work/prefix/include" -o "$work/over_front" "$here/programs/$name.c" "-L$work/prefix/lib" \
+        -lbindingclay_shared -lbindingclay -pthread || return 1
+    timeout 120 "$work/over_host" "$@" > "$work/of_host" || return 1
+    timeout 120 "$work/over_front" "$@" > "$work/of_front" || return 1
+    [ -s "$work/of_host" ] && diff "$work/of_host" "$work/of_front"
+}
+
+try_front() {
+    if [ ! -f "$work/prefix/lib/libbindingclay_shared.a" ]; then
+        echo "passed over: the front for threads"
+        return
+    fi
+    for name in shared shared_waits; do
+        build_front "$name" && run "$name" && without_races "$name"
+        for word in thread address,undefined; do
+            sanitized "$name" "$word"
+        done
+    done
+    build_front shared_memory "$counted,--wrap=calloc" && run shared_memory
+    if build_front shared_storm; then
+        plainly shared_storm 5 && sed 's/^/storm: /' "$work/log"
+        under_valgrind shared_storm 1
+        without_races shared_storm
+        sanitized shared_storm thread 5
+        sanitized shared_storm address,undefined 1
+    fi
+    if is_there "$cxx"; then
+        printf '#include <bindingclay_shared.h>\nint main() { bc_shared *shared; return bc_shared_open(nullptr, &shared); }\n' > "$work/front.cpp"
+        check "the header of the front in C++" "$cxx" -Wall -Wextra -Werror -std=c++11 "-I$work/prefix/include" -o "$work/front" \
+            "$work/front.cpp" "-L$work/prefix/lib" -lbindingclay_shared -lbindingclay -pthread
+    else
+        echo "passed over: the header of the front in C++"
+    fi
+    for name in pipeline logger two_consumers job_pool self_pipe; do
+        check "$name over both" over_both "$name"
+    done
+    # shellcheck disable=SC2086
+    check "building bench_shared" "$cc" $strict -O2 "-I$work/prefix/include" -o "$work/bench_shared" "$here/bench_shared.c" \
+        "-L$work/prefix/lib" -lbindingclay_shared -lbindingclay -pthread
+}
