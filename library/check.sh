@@ -92,6 +92,12 @@ build() {
         "$here/tests/$built.c" "-L$work/prefix/lib" -lbindingclay "$@"
 }
 
+# build_in_rust NAME: builds the tests rust/tests/NAME.rs over the wrapper.
+build_in_rust() {
+    check "building $1.rs" "$rustc" --edition 2021 -D warnings -O --test -o "$work/$1" "$here/rust/tests/$1.rs" \
+        --extern "bindingclay=$work/libbindingclay.rlib" -L "$work/prefix/lib" -l static=bindingclay
+}
+
 # The functions below are given to check.
 # shellcheck disable=SC2317
 build_archive() {
@@ -229,8 +235,15 @@ if is_there "$rustc"; then
     leaks=definite,indirect,possible
     check "building client.rs" "$rustc" --edition 2021 -D warnings -O -o "$work/client" "$here/tests/client.rs" \
         -L "$work/prefix/lib" -l static=bindingclay && run client
+    check "building the wrapper for Rust" "$rustc" --edition 2021 -D warnings -O --crate-type rlib --crate-name bindingclay \
+        -o "$work/libbindingclay.rlib" "$here/rust/bindingclay.rs"
+    # what runs Rust's tests has blocks of which valgrind finds the inside alone; helgrind knows no lock of Rust's own
+    leaks=definite,indirect
+    build_in_rust shared && run shared
+    build_in_rust shared_tasks && run shared_tasks
+    build_in_rust shared_storm && plainly shared_storm
 else
-    echo "passed over: client.rs"
+    echo "passed over: client.rs, and the tests of the shared kernel in Rust"
 fi
 
 check "building example" "$cc" -Wall -Wextra -Werror -std=c11 "-I$work/prefix/include" -o "$work/example" "$here/example.c" \

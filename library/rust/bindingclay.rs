@@ -6,7 +6,8 @@
 //!
 //! A call that would wait is no error. It answers `Answer::Parked` with a `ParkedCall`, by which it is tried again or interrupted.
 //!
-//! A `Clay` may move between threads, and is used by one at a time: put it into a `Mutex` to share it. Two of them need no lock.
+//! A `Clay` may move between threads, and is used by one at a time: put it into a `Mutex` to share it. Two of them need no lock. The module
+//! `shared` has a kernel that threads and tasks share, whose pipes and files are those of `std::io`: there a call that waits blocks its thread.
 
 // Each by its path, so that this file can be the root of a crate, and a module of a program.
 #[path = "bindingclay/answers.rs"]
@@ -17,6 +18,13 @@ mod calls;
 mod facts;
 #[path = "bindingclay/raw.rs"]
 mod raw;
+// A program that has this file as a module may use none of it.
+#[allow(dead_code, unused_imports)]
+#[path = "bindingclay/shared/mod.rs"]
+pub mod shared;
+#[allow(dead_code)]
+#[path = "bindingclay/sharing.rs"]
+mod sharing;
 #[path = "bindingclay/values.rs"]
 mod values;
 #[path = "bindingclay/waiting.rs"]

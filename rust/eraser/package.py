@@ -167,6 +167,11 @@ def make(repository: pathlib.Path) -> tuple[Files, collections.Counter[str]]:
     """The files of the package, and how often each construct was erased."""
     counts: collections.Counter[str] = collections.Counter()
     files = copied(HERE / "package", "") | copied(HERE / "shim", "src/std_shim")
+    # the front for threads is one source for this edition and for the wrapper over the library for C, with its tests
+    wrapper = repository / "library" / "rust"
+    files |= copied(wrapper / "bindingclay" / "shared", "src/shared") | copied(wrapper / "tests", "tests")
+    for name in ("tasks.rs", "measure_shared.rs"):
+        files[pathlib.PurePath("examples", name)] = (wrapper / "examples" / name).read_bytes()
     there = set(libraries_of(repository))
     files |= copied(repository / "crates" / "pl_examples" / "data", "scripts") | roots(there)
     kept, examples = traits_in(repository), Examples(HERE / "examples.md")

@@ -159,3 +159,16 @@ impl fmt::Display for NotDone {
 }
 
 impl std::error::Error for NotDone {}
+
+/// A fault with its number. Any other error is kept whole, so that `io::Error::into_inner` gives back a call that still waits.
+impl From<NotDone> for io::Error {
+    fn from(fault: NotDone) -> io::Error {
+        let kind = match fault {
+            NotDone::Fault(errno) => return io::Error::from_raw_os_error(errno),
+            NotDone::NoMemory | NotDone::NoMemoryToResume(_) => io::ErrorKind::OutOfMemory,
+            NotDone::Short { .. } => io::ErrorKind::InvalidInput,
+            NotDone::NoProcess | NotDone::NoCall | NotDone::CallsSpent => io::ErrorKind::Other,
+        };
+        io::Error::new(kind, fault)
+    }
+}

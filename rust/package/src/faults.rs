@@ -123,7 +123,7 @@ impl Error for NotDone {}
 
 impl Error for Errno {}
 
-#[cfg(feature = "script")]
+#[cfg(any(feature = "script", feature = "shared"))]
 mod of_std {
     use super::{Errno, NoMemory, NotDone, error_number};
     use std::io::{Error, ErrorKind};

@@ -25,21 +25,28 @@
 //! ```
 //!
 //! The sources in `parts` were made from those of Bindingclay, which are proved: contracts were erased, and a module stands for the
-//! libraries of that toolchain. This package is tested, and no proof speaks of it. Without the feature `script` it needs `alloc` and no
-//! `std`.
-#![cfg_attr(not(any(feature = "script", test)), no_std)]
+//! libraries of that toolchain. This package is tested, and no proof speaks of it. Without the features `script` and `shared` it needs `alloc`
+//! and no `std`.
+//!
+//! In `shared`, which the feature of that name brings, a call that waits blocks its thread, and the ends of a pipe are `std::io`'s readers and
+//! writers.
+#![cfg_attr(not(any(feature = "script", feature = "shared", test)), no_std)]
 #![deny(unsafe_code)]
 #![warn(missing_debug_implementations)]
 
 extern crate alloc;
 
 mod answers;
+#[cfg(feature = "shared")]
+mod clay;
 mod faults;
 mod kernel;
 pub mod memory;
 pub mod numbers;
 #[cfg(feature = "script")]
 pub mod script;
+#[cfg(feature = "shared")]
+pub mod shared;
 
 // Some parameters, fields and names are read by contracts alone, which aren't here. The style is that of the sources, which are made
 // for proofs: no closure where a loop is said more simply, and errors by their names in the standard.
@@ -69,6 +76,8 @@ mod c_memory;
 mod checks;
 
 pub use answers::{Answer, ParkedCall};
+#[cfg(feature = "shared")]
+use clay::Clay;
 pub use faults::{FileMaxFault, NotDone};
 pub use kernel::Kernel;
 pub use parts::kernel::{CallFacts, CallKind, NodeFacts, NodeKind, PollEntry, Stats};
