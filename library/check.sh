@@ -126,7 +126,7 @@ defines_what_is_declared() {
 # Whether the list of scripts names exactly those that are there, and whether no other files are there.
 # shellcheck disable=SC2317
 lists_what_is_there() {
-    (cd "$examples" && find . -type f ! -path ./scripts) | sed 's|^\./||' | sort > "$work/there"
+    (cd "$examples" && find . -type f ! -path ./scripts ! -path './pictures/*.svg') | sed 's|^\./||' | sort > "$work/there"
     sed -n 's/\.script$//p' "$work/there" > "$work/scripts_there"
     sort "$examples/scripts" | diff - "$work/scripts_there" || return 1
     while IFS= read -r name; do
