@@ -273,6 +273,25 @@ fn the_last_writer_that_another_thread_drops_ends_a_read() -> Result<()> {
 }
 
 #[test]
+fn readers_that_come_too_late_are_woken_again() -> Result<()> {
+    let kernel = Shared::new()?;
+    let (reader, mut writer) = kernel.start()?.pipe()?;
+    thread::scope(|scope| {
+        let readers: Vec<_> = (0..12).map(|_| scope.spawn(|| (&reader).read(&mut [0]))).collect();
+        // each byte is for one of them, and wakes all that wait
+        for left in (0..12).rev() {
+            until_waiting(&kernel, left + 1);
+            writer.write_all(b"a")?;
+            until_waiting(&kernel, left);
+        }
+        for reader in readers {
+            assert_eq!(reader.join().expect("no panic")?, 1);
+        }
+        Ok(())
+    })
+}
+
+#[test]
 fn a_child_has_the_descriptors_of_its_parent() -> Result<()> {
     let parent = process();
     let (mut reader, writer) = parent.pipe()?;
