@@ -100,12 +100,14 @@ impl Clay {
     }
 
     /// The value is how many bytes were read, into the first of these; 0 at the end. It waits if there are no bytes, and there is a writer.
+    #[inline]
     pub fn read(&mut self, pid: Pid, fd: Fd, into: &mut [u8]) -> Result<Answer<usize>> {
         unsafe { bindingclay_read(self.0, pid, fd, into.as_mut_ptr(), into.len()) }.count()
     }
 
     /// The value is how many bytes went in. It waits until all did, and keeps a copy of them; `taken` tells how many went in so far, and
     /// `ParkedCall::moved` whether some went in at once.
+    #[inline]
     pub fn write(&mut self, pid: Pid, fd: Fd, bytes: &[u8]) -> Result<Answer<usize>> {
         unsafe { bindingclay_write(self.0, pid, fd, bytes.as_ptr(), bytes.len()) }.count()
     }

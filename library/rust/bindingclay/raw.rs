@@ -79,6 +79,7 @@ unsafe extern "C" {
 
 impl RawAnswer {
     /// Of a call that may wait.
+    #[inline]
     pub(super) fn answer(self) -> Result<Answer<Done>> {
         let RawAnswer { value, error, kind, sigpipe, moved } = self;
         match kind {
@@ -94,6 +95,7 @@ impl RawAnswer {
     }
 
     /// Of a call that may wait, and tells a count.
+    #[inline]
     pub(super) fn count(self) -> Result<Answer<usize>> {
         Ok(self.answer()?.map(Done::count))
     }
