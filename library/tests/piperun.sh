@@ -325,6 +325,61 @@ piperun_ends_many_calls() {
     piperun_answers 0 "$work/calls.out" '' --first-call "$1" "$work/calls.script"
 }
 
+# Whether piperun finds all replies of a script in the record that is made of it and its output, and each that isn't as it was recorded, with the
+# number of its line.
+piperun_checks_a_record() {
+    awk 'FNR == NR { replies[++count] = $0; next } { print } !/^[ \t\r]*(#|$)/ { print "# => " replies[++asked] }' \
+        "$examples/session.out" "$examples/session.script" > "$work/session.record"
+    wc -l < "$examples/session.out" | tr -d ' ' | sed 's/$/ replies as recorded/' > "$work/as_recorded"
+    piperun_answers 0 "$work/as_recorded" '' --check "$work/session.record" || return 1
+    sed 's/^\(# => count .*\)/\17/' "$work/session.record" > "$work/changed.record"
+    grep -n '^# => count ' "$work/changed.record" | sed 's/^\([0-9]*\):# => count \(.*\)7$/line \1\nexpected count \27\nanswered count \2/' > "$work/changed.out"
+    differ=$(($(wc -l < "$work/changed.out") / 3))
+    [ "$differ" -gt 1 ] || return 1
+    complaint="piperun: $differ of $(wc -l < "$examples/session.out" | tr -d ' ') replies differ"
+    piperun_answers 5 "$work/changed.out" "$complaint" --check --all "$work/changed.record" || return 1
+    head -n 3 "$work/changed.out" > "$work/first.out"
+    piperun_answers 5 "$work/first.out" "$complaint" --check "$work/changed.record"
+}
+
+# Whether a record's header sets the limits of its check, and is a comment to a run, and whether one that says what it can't is a bad line.
+piperun_checks_within_a_header() {
+    printf 'piperun 2\n# piperun --first-call 7 --waiting-max 1\nstart\n1 pipe\n1 fork\n1 read 0 1\n# => parked 7\n2 read 0 1\n# => EAGAIN\n' \
+        > "$work/header.record"
+    echo '2 replies as recorded' > "$work/as_recorded"
+    piperun_answers 0 "$work/as_recorded" '' --check "$work/header.record" || return 1
+    printf 'pid 1\nfds 0 1\npid 2\nparked 1\nparked 2\n' > "$work/header.out"
+    piperun_answers 0 "$work/header.out" '' "$work/header.record" || return 1
+    sed 's/--waiting-max 1/--waiting-max/' "$work/header.record" > "$work/bad_header.record"
+    piperun_answers 3 /dev/null 'piperun: line 2: not a command' --check "$work/bad_header.record" || return 1
+    piperun_answers 0 "$work/header.out" '' "$work/bad_header.record"
+}
+
+# Whether a live run answers the lines beside a bad one, or ends there if it is a strict one, in version 2 and without a last line feed.
+piperun_runs_live() {
+    printf 'piperun 2\nstart\nstrat\n1 pipe\n1 write 1 5*00\n1 read 0 9' > "$work/live.script"
+    printf 'pid 1\nfds 0 1\ncount 5\ndata 5*00\n' > "$work/live.out"
+    piperun_answers 3 "$work/live.out" 'piperun: line 3: not a command
+piperun: 1 bad lines' --live "$work/live.script" || return 1
+    head -n 1 "$work/live.out" > "$work/strict.out"
+    piperun_answers 3 "$work/strict.out" 'piperun: line 3: not a command' --live --strict "$work/live.script" || return 1
+    sed 3d "$work/live.script" > "$work/good.script"
+    piperun_answers 0 "$work/live.out" '' --live --strict "$work/good.script"
+}
+
+# Whether a live run answers each line before the next is said.
+piperun_answers_at_once() {
+    mkfifo "$work/asked" "$work/answered" || return 1
+    "$piperun" --live < "$work/asked" > "$work/answered" &
+    exec 3> "$work/asked" 4< "$work/answered"
+    echo start >&3
+    read -r first <&4
+    echo '1 pipe' >&3
+    read -r second <&4
+    exec 3>&- 4<&-
+    wait "$!" && [ "$first" = 'pid 1' ] && [ "$second" = 'fds 0 1' ]
+}
+
 # The words of piperun, as docs/RULES.md has them in "The program".
 try_piperun() {
     sed -n '/^pub const HELP/,/^";$/{//!p;}' "$here/../crates/pl_run/src/help.rt" > "$work/help"
@@ -353,6 +408,14 @@ try_piperun() {
     check "piperun with two files" piperun_answers 2 /dev/null 'piperun: bad command line' "$examples/session.script" \
         "$examples/session.script"
     check "piperun with a word that is no text" piperun_answers 2 /dev/null 'piperun: bad command line' "$(printf '\377')"
+    check "piperun on a record" piperun_checks_a_record
+    check "piperun on records with a header" piperun_checks_within_a_header
+    check "piperun that is to tell all of no record" piperun_answers 2 /dev/null 'piperun: bad command line' --all "$examples/session.script"
+    check "piperun on a live run" piperun_runs_live
+    check "piperun that answers at once" piperun_answers_at_once
+    check "piperun on a live run of the examples" piperun_answers 0 "$examples/session.out" '' --live "$examples/session.script"
+    check "piperun that is to be strict in no live run" piperun_answers 2 /dev/null 'piperun: bad command line' --strict "$examples/session.script"
+    check "piperun on a live check" piperun_answers 2 /dev/null 'piperun: bad command line' --live --check "$examples/session.script"
     check "the help text of piperun" piperun_answers 0 "$work/help" '' --help
     printf 'start\n1 pipe\n1 read 0 1\nresume 0\n' > "$work/first.script"
     printf 'pid 1\nfds 0 1\nparked 0\nparked 0\n' > "$work/first.out"

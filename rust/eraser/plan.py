@@ -126,6 +126,12 @@ GUARDED: dict[tuple[str, str], dict[str, str]] = {
         "{limits.file_max≤most_file_bytes}": AT_THE_DOOR,
         "{most_reads≤S.reads_leftreader.old}": "script.rs of the package alone makes the reader",
     },
+    ("pl_script", "check_script"): {
+        "{limits.file_max≤most_file_bytes}": "check_from of pl_run alone calls it, within LIMITS",
+        "{most_reads≤S.reads_leftreader.old}": "check_from of pl_run has the same precondition, and run_words alone makes the reader",
+    },
+    ("pl_script", "header_limits"): {"{limits.file_max≤most_file_bytes}": "check_script alone calls it"},
+    ("pl_script", "run_live"): {"{limits.file_max≤most_file_bytes}": "live_from of pl_run alone calls it, within LIMITS"},
     ("pl_run", "run"): {"{most_reads≤S.reads_leftinput.old}": "run_words alone calls it"},
     ("bindingclay", "new"): {"{limits.file_max≤most_file_bytes}": "asked_by refuses more"},
 }

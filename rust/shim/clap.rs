@@ -1,4 +1,4 @@
-//! A command line of options with a value each and of positional words, read as `clap` reads it.
+//! A command line of options, with a value each or with none, and of positional words, read as `clap` reads it.
 
 use super::alloc::{AllocError, Global};
 use super::string::String;
@@ -41,16 +41,35 @@ impl From<AllocError> for Error {
     }
 }
 
+/// What an option does.
+#[derive(Clone, Copy, Debug, PartialEq, Eq)]
+pub enum ArgAction {
+    /// It has no value, and is given or not.
+    SetTrue,
+}
+
 /// An option, or a positional word where it has no long name.
 #[derive(Clone, Copy)]
 pub struct Arg {
     name: &'static str,
     long: Option<&'static str>,
+    has_value: bool,
 }
 
 impl Arg {
     pub fn new(_alloc: Global, name: &'static str) -> Arg {
-        Arg { name, long: None }
+        Arg {
+            name,
+            long: None,
+            has_value: true,
+        }
+    }
+
+    pub fn action(self, action: ArgAction) -> Arg {
+        Arg {
+            has_value: action != ArgAction::SetTrue,
+            ..self
+        }
     }
 
     pub fn long(self, name: &'static str) -> Arg {
@@ -101,6 +120,13 @@ impl<'a> Command<'a> {
                 all_are_positional = true;
             } else if let Some(option) = word.strip_prefix("--") {
                 let (arg, value) = self.option(option)?;
+                if !arg.has_value {
+                    if value.is_some() {
+                        return Err(Error(ErrorKind::InvalidValue));
+                    }
+                    matches.add(arg, "true")?;
+                    continue;
+                }
                 // a value that begins with a minus is read as an option, and then this one has none
                 let value = value.or_else(|| {
                     words
@@ -162,6 +188,10 @@ impl ArgMatches {
     pub fn get_str(&self, name: &str) -> Option<&str> {
         let found = self.values.iter().find(|(given, _)| *given == name)?;
         Some(found.1.as_str())
+    }
+
+    pub fn get_flag(&self, name: &str) -> bool {
+        self.get_str(name) == Some("true")
     }
 
     pub fn try_get_one<T: FromStr>(&self, name: &str) -> Result<Option<T>, Error> {

@@ -27,7 +27,7 @@ mod sayable;
 mod saying;
 mod text;
 
-pub use lines::{next_line, split_version};
+pub use lines::{names_version_2, next_line, split_version};
 pub use parse::{RepeatedWrite, parse_line, parse_line_2, parse_line_of, repeated_write};
 pub use pl_words::LineFault;
 pub use sayable::is_sayable;

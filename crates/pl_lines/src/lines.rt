@@ -19,7 +19,7 @@ pub fn next_line(rest: &[u8]) -> (&[u8], &[u8])
 }
 
 /// Whether this is the first line of a script of version 2, given without its line feed.
-fn names_version_2(line: &[u8]) -> bool
+pub fn names_version_2(line: &[u8]) -> bool
     ensures { result ≡ names_version_2 line.now }
 {
     without_return(line) == b"piperun 2".as_slice()

@@ -1,9 +1,9 @@
 -- Texts of one line: numbers, bytes, names of flags, and each reply.
-use Rattle.std.proofs.Common.{◌≡◌, ℕ, zero, suc, ◌+◌, ◌/◌, ◌%◌, ◌<◌, ◌≤◌, Bool, true, false, cond, not, List, [], ◌∷◌, ◌++◌, map, length, get_or, refl, sym, ap, ◌∙◌, arith, inl, inr}
-use Rattle.std.specs.Prelude.{ℤ, pos, negsuc, ◌==◌, nat_lt, nat_le, ◌&&◌, codes, slice_index, ⊤, filter}
+use Rattle.std.proofs.Common.{◌≡◌, ℕ, zero, suc, ◌+◌, ◌/◌, ◌%◌, ◌≤◌, Bool, true, false, cond, not, List, [], ◌∷◌, ◌++◌, map, length, get_or, refl, arith, inl, inr}
+use Rattle.std.specs.Prelude.{ℤ, pos, negsuc, ◌==◌, nat_lt, codes, slice_index, ⊤, filter}
 use Rattle.std.specs.List.{All, list_all, flat_map}
 use Rattle.std.specs.Fmt.{decimal, signed_decimal, digits, digits_onto, digit_glyph}
-use Rattle.std.proofs.lemmas.Bool.{eq-eqb, cases_lt, leb-true}
+use Rattle.std.proofs.lemmas.Bool.{eq-eqb, cases_lt}
 use Rattle.std.proofs.lemmas.List.Elements.{All-nil, All-cons, All-append, All-weaker}
 use Rattle.std.proofs.lemmas.List.Sums.{AllPass-from_list_all}
 use Rattle.pl_model.specs.declared.calls.Limits.{Limits}
@@ -16,7 +16,6 @@ use Rattle.pl_model.specs.declared.replies.Reply.TheVariants.{Pid, Fd, Fds, Coun
 use Rattle.pl_model.specs.declared.script.Version.TheVariants.{Two}
 use Rattle.pl_model.specs.Flags.{has, status_names, mask_names}
 use Rattle.pl_model.specs.Shown.{lower_digits, hex_text, Piece, Digits, Times, runs, run_pieces, piece_text, pieces_text, bytes_text, errno_text, mode_text, names_text, names_within, flags_text, mask_text, reply_text}
-use Rattle.pl_model.specs.SaidLaw.{IsOneLine}
 use Rattle.pl_recording.specs.Record.{limits_text}
 
 -- no line feed

@@ -1,10 +1,9 @@
 -- A record as it is run.
-use Rattle.std.proofs.Common.{◌≡◌, ℕ, suc, ◌+◌, ◌-◌, ◌<◌, Bool, true, false, cond, List, [], ◌∷◌, ◌++◌, map, length, take, drop, replicate, get_or, append_assoc, refl, sym, ap, ◌∙◌, arith}
-use Rattle.std.specs.Prelude.{Option, Some, None, ◌==◌, nat_lt, ◌&&◌, codes, filter}
+use Rattle.std.proofs.Common.{◌≡◌, ℕ, suc, ◌+◌, ◌-◌, Bool, true, false, cond, List, [], ◌∷◌, ◌++◌, map, length, take, drop, get_or, append_assoc, refl, ap, ◌∙◌, arith}
+use Rattle.std.specs.Prelude.{Some, None, ◌==◌, nat_lt, ◌&&◌, codes, filter}
 use Rattle.std.specs.List.{All, flat_map, slice_split, onto_first}
 use Rattle.std.proofs.lemmas.Bool.{ne_eqb}
 use Rattle.std.proofs.lemmas.List.Elements.{All-head, All-tail, All-append}
-use Rattle.std.proofs.lemmas.List.Splits.{slice_split-cons_no}
 use Rattle.pl_model.specs.declared.calls.Limits.{Limits}
 use Rattle.pl_model.specs.declared.calls.Step.{Step}
 use Rattle.pl_model.specs.declared.replies.Reply.{Reply}
@@ -16,11 +15,11 @@ use Rattle.pl_model.specs.Run.{replies}
 use Rattle.pl_model.specs.Words.{is_blank, is_nonempty, words, without_return}
 use Rattle.pl_model.specs.Lines.{line_of_words, line}
 use Rattle.pl_model.specs.Shown.{reply_text, outcome_text}
-use Rattle.pl_model.specs.Script.{lines, asked, asked_of, answers, are_marks, first_bad, bad_line, output}
+use Rattle.pl_model.specs.Script.{lines, asked, asked_of, answers, are_marks, first_bad}
 use Rattle.pl_model.specs.Said.{said_step, is_sayable, StepFits}
 use Rattle.pl_model.proofs.Versions.{first_line_names_version_2}
 use Rattle.pl_model.proofs.saying.Law.{steps_read_back, steps_are_lines}
-use Rattle.pl_recording.specs.Record.{ended, limits_text, header, comment_text, entry_text, recorded}
+use Rattle.pl_recording.specs.Record.{ended, limits_text, comment_text, entry_text, recorded}
 use Rattle.pl_recording.specs.Replay.{IsRun, no_marks, told, Replays, RecordsReplay}
 use Rattle.pl_recording.proofs.OneLine.{NoFeed, literal, reply_line, limits_line}
 

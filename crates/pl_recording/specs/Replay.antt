@@ -1,5 +1,5 @@
 -- What a record prints as it is run.
-use Rattle.std.specs.Prelude.{◌≡◌, ℕ, List, [], ◌∷◌, map, length, replicate, Bool, true, false, Option, None, All}
+use Rattle.std.specs.Prelude.{◌≡◌, ℕ, List, map, length, replicate, Bool, true, false, None, All}
 use Rattle.std.specs.List.{flat_map}
 use Rattle.pl_model.specs.declared.calls.Limits.{Limits}
 use Rattle.pl_model.specs.declared.calls.Step.{Step}

@@ -1,3 +1,4 @@
 pub mod Fronts
 pub mod Rows
 pub mod Unread
+pub mod Checks

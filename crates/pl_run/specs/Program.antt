@@ -1,5 +1,6 @@
 -- What the program answers (our own).
-use Rattle.std.specs.Prelude.{◌≡◌, ℕ, List, Result, Ok, Err}
+use Rattle.std.specs.Prelude.{◌≡◌, ◌⊎◌, ⊤, ℕ, ◌<◌, ◌==◌, List, [], ◌∷◌, ◌++◌, Bool, if◌then◌else◌, Option, Some, None, Result, Ok, Err, codes, option_map, string_bytes}
+use Rattle.std.specs.Fmt.{decimal}
 use Rattle.std.specs.Borrow.{Bor}
 use Rattle.std.specs.Global.{Global}
 use Rattle.pl_budget.specs.declared.Budget.{Budget}
@@ -8,8 +9,16 @@ use Rattle.pl_model.specs.declared.script.Totals.{Totals}
 use Rattle.pl_model.specs.Numbers.{most_file_bytes, most_capacity, no_limit}
 use Rattle.pl_script.specs.declared.fault.ScriptFault.{ScriptFault}
 use Rattle.pl_script.specs.Running.{IsRun}
+use Rattle.pl_script.specs.Header.{limits_of_header, IsCheckWithin}
+use Rattle.pl_script.specs.declared.comparing.Checked.{Checked}
+use Rattle.pl_script.specs.Talk.{Talk}
+use Rattle.pl_script.specs.Live.{IsLiveRun}
+use Rattle.pl_script.specs.declared.peer.LiveTotals.{LiveTotals}
+use Rattle.pl_script.specs.declared.peer.LiveFault.{LiveFault}
+use Rattle.pl_run.specs.declared.choice.LiveChoice.{LiveChoice}
 use Rattle.pl_run.specs.declared.fault.Fault.{Fault}
-use Rattle.pl_run.specs.Fault.{fault_of, status_of}
+use Rattle.pl_run.specs.declared.fault.Fault.TheVariants.{CannotWrite, BadLines, NoMemory, Differs}
+use Rattle.pl_run.specs.Fault.{fault_of, fault_of_live, status_of}
 
 -- the limits of a run: the number of the first call is given, and a file may be as long as any limit lets it
 abbrev pub limits_from : ℕ → Limits
@@ -28,6 +37,52 @@ InBudget = Bor (Budget Global)
 abbrev pub IsRunWithin : ℕ → List ℕ → Result (Unit {0}) Fault → List ℕ → Type 0
 IsRunWithin first_call script result written =
     (ran : Result Totals ScriptFault) × (result ≡ as_fault ran) × IsRun InBudget script (limits_from first_call) ran written
+
+-- the line that is written where no reply differs
+abbrev pub line_of_same : ℕ → List ℕ
+line_of_same compared = decimal compared ++ (codes " replies as recorded" ++ 10 ∷ [])
+
+-- What a check that came to its end answers, and what is written behind what it told: the line that no reply differs, if none does, as far
+-- as it goes.
+abbrev pub EndsSame : ℕ → Result (Unit {0}) Fault → List ℕ → Type 0
+EndsSame compared (Ok done) line = line ≡ line_of_same compared
+EndsSame compared (Err CannotWrite) line = (more : List ℕ) × (line_of_same compared ≡ line ++ more)
+EndsSame compared (Err fault) line = ⊥
+
+abbrev pub EndsCheck : Result Checked ScriptFault → Result (Unit {0}) Fault → List ℕ → Type 0
+EndsCheck (Ok checked) result line =
+    ((checked.different ≡ 0) × EndsSame checked.compared result line)
+    ⊎ ((0 < checked.different) × (result ≡ Err (Differs checked.different checked.compared)) × (line ≡ []))
+EndsCheck (Err fault) result line = (result ≡ Err (fault_of fault)) × (line ≡ [])
+
+-- what a check of the record within the limits answers, and what it writes: what it tells of the differences, and the line behind that
+abbrev pub IsCheckedWithin : Bool → ℕ → List ℕ → Result (Unit {0}) Fault → List ℕ → Type 0
+IsCheckedWithin all first_call script result written =
+    (checked : Result Checked ScriptFault) × (told : List ℕ) × (line : List ℕ) × (written ≡ told ++ line)
+    × IsCheckWithin InBudget all (limits_of_header (limits_from first_call) script) script checked told × EndsCheck checked result line
+
+-- what a live run ends with: a fault also where it came to its end and some lines were bad
+abbrev pub as_live : Result LiveTotals LiveFault → Result (Unit {0}) Fault
+as_live (Ok counted) = if counted.bad == 0 then Ok tt else Err (BadLines counted.bad)
+as_live (Err fault) = Err (fault_of_live fault)
+
+-- what a live run within the limits answers, and what was said
+abbrev pub IsLiveWithin : Bool → ℕ → Result (Unit {0}) Fault → Talk → Type 0
+IsLiveWithin strict first_call result talk =
+    (ran : Result LiveTotals LiveFault) × (result ≡ as_live ran) × IsLiveRun InBudget (limits_from first_call) strict ran talk
+
+-- what came of the words, whether a live run is left to do or not
+abbrev pub as_done : Result (Option LiveChoice) Fault → Result (Unit {0}) Fault
+as_done (Ok left) = Ok tt
+as_done (Err fault) = Err fault
+
+-- such a live run of the input is left to do, or there was no memory to read the words
+abbrev pub IsLeft : Bool → ℕ → Option ℕ → Result (Option LiveChoice) Fault → Type 0
+IsLeft strict n bytes (Ok None) = ⊥
+IsLeft strict n bytes (Ok (Some asked)) =
+    (asked.strict ≡ strict) × (asked.first_call ≡ n) × (asked.memory ≡ bytes) × (option_map string_bytes asked.file ≡ None)
+IsLeft strict n bytes (Err NoMemory) = ⊤
+IsLeft strict n bytes (Err fault) = ⊥
 
 -- the status that a run ends with
 abbrev pub ends_with : Result (Unit {0}) Fault → ℕ

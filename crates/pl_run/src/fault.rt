@@ -1,11 +1,11 @@
 //! What can go wrong with a run, the line that says so, and the status that the program ends with.
 ghost use Rattle.std.specs.Prelude.{◌≡◌, true, false, not, OnOk, OnErr};
 ghost use Rattle.pl_script.specs.Streams.{WritesFront};
-ghost use Rattle.pl_run.specs.Fault.{status_of, line_of, fault_of, WritesLine};
-ghost use Rattle.pl_run.specs.declared.fault.Fault.TheVariants.{NoMemory};
+ghost use Rattle.pl_run.specs.Fault.{status_of, line_of, fault_of, fault_of_live, WritesLine};
+ghost use Rattle.pl_run.specs.declared.fault.Fault.TheVariants.{NoMemory, Differs, BadLine, BadLines};
 
 use itoa::Buffer;
-use pl_script::{ScriptFault, Sink, write_whole};
+use pl_script::{LiveFault, ScriptFault, Sink, write_whole};
 use std::alloc::AllocError;
 
 /// What can go wrong with a run.
@@ -18,11 +18,17 @@ pub enum Fault {
     /// The command line has words that the program doesn't know.
     CommandLine,
     /// The line of this number, from 1 on, isn't a command.
-    BadLine(u32),
+    BadLine(u64),
+    /// So many lines of a live run that came to its end aren't commands. Each was told before.
+    BadLines(u64),
     /// The script has more than 16,777,216 bytes.
     TooLong,
+    /// The input of a live run gave bytes at each of 2^47 reads.
+    Endless,
     /// There was no memory for the run.
     NoMemory,
+    /// So many texts of a record differ from what was answered, of so many that were compared.
+    Differs(u32, u32),
 }
 
 impl From<AllocError> for Fault {
@@ -41,22 +47,72 @@ impl From<ScriptFault> for Fault {
             ScriptFault::Read => Fault::CannotRead,
             ScriptFault::Write => Fault::CannotWrite,
             ScriptFault::TooLong => Fault::TooLong,
-            ScriptFault::BadLine(number) => Fault::BadLine(number),
+            ScriptFault::BadLine(number) => Fault::BadLine(u64::from(number)),
             ScriptFault::NoMemory => Fault::NoMemory,
         }
     }
 }
 
-/// The status that the program ends with: from 1 to 4, by the kind of fault.
+impl From<LiveFault> for Fault {
+    ghost from_gives = { λ fault made. made ≡ fault_of_live fault };
+
+    fn from(fault: LiveFault) -> Fault {
+        match fault {
+            LiveFault::Read => Fault::CannotRead,
+            LiveFault::Write => Fault::CannotWrite,
+            LiveFault::BadLine(number) => Fault::BadLine(number),
+            LiveFault::TooLong => Fault::Endless,
+            LiveFault::NoMemory => Fault::NoMemory,
+        }
+    }
+}
+
+/// The status that the program ends with: from 1 to 5, by the kind of fault.
 pub fn status(fault: &Fault) -> u8
     ensures { result ≡ status_of fault.now }
 {
     match fault {
         Fault::CannotRead | Fault::CannotWrite => 1,
         Fault::CommandLine => 2,
-        Fault::BadLine(_) | Fault::TooLong => 3,
+        Fault::BadLine(_) | Fault::BadLines(_) | Fault::TooLong | Fault::Endless => 3,
         Fault::NoMemory => 4,
+        Fault::Differs(..) => 5,
     }
+}
+
+/// Writes the line that tells how many texts of a record differ, as far as the writer takes it.
+fn write_differs<T: Sink>(writer: &mut T, different: u32, compared: u32) -> Result<(), ScriptFault>
+    ensures front { WritesFront (T.contents writer.old) (T.contents writer.new) result (line_of (Differs different compared)) }
+    ensures kept { OnOk result (T.has_stopped writer.new ≡ T.has_stopped writer.old) }
+    ensures stopped { OnErr result (T.has_stopped writer.new ≡ true) }
+{
+    write_whole(writer, b"piperun: ")?;
+    write_whole(writer, Buffer::new().format(different).as_bytes())?;
+    write_whole(writer, b" of ")?;
+    write_whole(writer, Buffer::new().format(compared).as_bytes())?;
+    write_whole(writer, b" replies differ\n")
+}
+
+/// Writes the line that names a bad line, as far as the writer takes it.
+fn write_bad_line<T: Sink>(writer: &mut T, number: u64) -> Result<(), ScriptFault>
+    ensures front { WritesFront (T.contents writer.old) (T.contents writer.new) result (line_of (BadLine number)) }
+    ensures kept { OnOk result (T.has_stopped writer.new ≡ T.has_stopped writer.old) }
+    ensures stopped { OnErr result (T.has_stopped writer.new ≡ true) }
+{
+    write_whole(writer, b"piperun: line ")?;
+    write_whole(writer, Buffer::new().format(number).as_bytes())?;
+    write_whole(writer, b": not a command\n")
+}
+
+/// Writes the line that tells how many lines were bad, as far as the writer takes it.
+fn write_bad_lines<T: Sink>(writer: &mut T, count: u64) -> Result<(), ScriptFault>
+    ensures front { WritesFront (T.contents writer.old) (T.contents writer.new) result (line_of (BadLines count)) }
+    ensures kept { OnOk result (T.has_stopped writer.new ≡ T.has_stopped writer.old) }
+    ensures stopped { OnErr result (T.has_stopped writer.new ≡ true) }
+{
+    write_whole(writer, b"piperun: ")?;
+    write_whole(writer, Buffer::new().format(count).as_bytes())?;
+    write_whole(writer, b" bad lines\n")
 }
 
 /// Writes the line of the fault, as far as the writer takes it.
@@ -69,13 +125,12 @@ fn write_line<T: Sink>(writer: &mut T, fault: &Fault) -> Result<(), ScriptFault>
         Fault::CannotRead => write_whole(writer, b"piperun: cannot read\n"),
         Fault::CannotWrite => write_whole(writer, b"piperun: cannot write\n"),
         Fault::CommandLine => write_whole(writer, b"piperun: bad command line\n"),
-        Fault::BadLine(number) => {
-            write_whole(writer, b"piperun: line ")?;
-            write_whole(writer, Buffer::new().format(*number).as_bytes())?;
-            write_whole(writer, b": not a command\n")
-        }
+        Fault::BadLine(number) => write_bad_line(writer, *number),
+        Fault::BadLines(count) => write_bad_lines(writer, *count),
         Fault::TooLong => write_whole(writer, b"piperun: script longer than 16777216 bytes\n"),
+        Fault::Endless => write_whole(writer, b"piperun: input without end\n"),
         Fault::NoMemory => write_whole(writer, b"piperun: no memory\n"),
+        Fault::Differs(different, compared) => write_differs(writer, *different, *compared),
     }
 }
 

@@ -1,8 +1,10 @@
 //! The help text.
 
-/// The text of `--help`: the command, each line of a script, an example with what it prints, and the statuses.
+/// The text of `--help`: the commands, each line of a script, an example with what it prints, and the statuses.
 pub const HELP: &str = "\
 Usage: piperun [--first-call N] [--memory BYTES] [FILE]
+       piperun --check [--all] [--first-call N] [--memory BYTES] [FILE]
+       piperun --live [--strict] [--first-call N] [--memory BYTES] [FILE]
 
 Runs a script of pipe calls and prints a line for each reply. The script is
 FILE, or standard input where there is none.
@@ -11,6 +13,14 @@ FILE, or standard input where there is none.
       --memory BYTES  the most bytes that the script, what it makes and its
                       output may take at once; a call that finds none prints
                       `nomem`, and changes nothing
+      --check         runs a record, and prints where the last reply isn't the
+                      text of a comment `# => TEXT`: three lines, with the
+                      number of the comment, that text and the reply
+      --all           prints each such place, and not the first alone
+      --live          answers each line as it comes, and holds no answer back
+                      while it waits for more; a bad line is told and passed
+                      over, and the end tells how many there were
+      --strict        ends a live run at its first bad line
   -h, --help          this text
 
 Each line of a script is one call, a question or a comment:
@@ -44,6 +54,11 @@ Each line of a script is one call, a question or a comment:
   interrupt C                        ends the parked call C
   file NAME                          the bytes of the file NAME
   # WORDS                            a comment
+  # => TEXT                            of a record: the last reply is TEXT
+  # piperun --first-call N             of a record, as its first line: names
+                                       its limits, also --file-max N,
+                                       --names-max N, --waiting-max N and
+                                       --capacity-max N
 
 BYTES is an even number of hexadecimal digits, N*hh for N times the byte hh, or
 - for none. NAME is printable, with %hh for any other byte and for %, or - for
@@ -69,5 +84,5 @@ example, this script prints what stands beside it:
 
 Status: 0; 1 where the script can't be read or the output can't be written; 2
 for a bad command line; 3 for a bad line, or a script of more than 16777216
-bytes; 4 where there is no memory.
+bytes; 4 where there is no memory; 5 where replies differ from a record.
 ";

@@ -6,12 +6,14 @@ mod choice;
 mod fault;
 mod help;
 mod program;
+mod terminal;
 
-pub use choice::{Choice, words};
+pub use choice::{Choice, LiveChoice, words};
 pub use fault::{Fault, status, write_fault};
 pub use help::HELP;
 use pl_model::Limits;
-pub use program::{end, run, run_program};
+pub use program::{end, live_from, run, run_program};
+pub use terminal::Terminal;
 
 /// The limits of a run: calls are numbered from 1, unless the command line says otherwise, a file has at most 16,777,216 bytes, and
 /// nothing else has a limit of its own.

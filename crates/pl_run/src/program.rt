@@ -1,19 +1,27 @@
 //! The program: what the words of its command line ask for, from one stream to another, and its fault to a third.
-ghost use Rattle.std.specs.Prelude.{◌≡◌, ◌<◌, ◌≤◌, ◌↔◌, ◌⊎◌, ℕ, List, Option, map, string_bytes, true, false, not, OnOk, IfSome, IfErr, IsErrOf};
+ghost use Rattle.std.specs.Prelude.{◌≡◌, ◌<◌, ◌≤◌, ◌↔◌, ◌⊎◌, ℕ, List, Bool, Option, map, string_bytes, true, false, not, Ok, Some, OnOk, IfOk, IfSome, IfErr, IsErrOf};
 ghost use Rattle.std.specs.Io.KnownBytes.{Appends};
 ghost use Rattle.pl_model.specs.Numbers.{most_reads};
+ghost use Rattle.pl_script.specs.Streams.{WritesFront};
+ghost use Rattle.pl_script.specs.Talk.{Talk, silence};
+ghost use Rattle.pl_script.specs.LiveSteps.{Knows};
 ghost use Rattle.pl_run.specs.Fault.{status_of, line_of, WritesLine};
-ghost use Rattle.pl_run.specs.Program.{IsRunWithin, ends_with};
-ghost use Rattle.pl_run.specs.Words.{AskForInput};
+ghost use Rattle.pl_run.specs.Program.{IsRunWithin, IsCheckedWithin, IsLiveWithin, IsLeft, as_done, line_of_same, ends_with};
+ghost use Rattle.pl_run.specs.Words.{AskOfInput, AskForInput, AskForCheck, AskForLive, Chooses};
+ghost use Rattle.pl_run.specs.declared.choice.Choice.TheVariants.{Live};
 ghost use Rattle.pl_run.specs.declared.fault.Fault.TheVariants.{CannotRead, CannotWrite, CommandLine, NoMemory};
 
 use crate::LIMITS;
-use crate::choice::{Choice, words};
+use crate::choice::{Choice, LiveChoice, words};
 use crate::fault::{Fault, status, write_fault};
 use crate::help::HELP;
+use crate::terminal::Terminal;
+use itoa::Buffer;
 use pl_budget::Budget;
 use pl_model::Limits;
-use pl_script::{Reads, Sink, Source, Writes, run_script, write_whole};
+use pl_script::{
+    Peer, Reads, ScriptFault, Sink, Source, Writes, check_script, run_live, run_script, write_whole,
+};
 use std::alloc::Global;
 use std::env::{self, Env};
 use std::fs::{File, Files};
@@ -47,6 +55,88 @@ fn run_from<S: Source, T: Sink>(
     Ok(())
 }
 
+/// Writes the line that of so many replies none differs, as far as the writer takes it.
+fn write_same<T: Sink>(writer: &mut T, compared: u32) -> Result<(), ScriptFault>
+    ensures front { WritesFront (T.contents writer.old) (T.contents writer.new) result (line_of_same compared) }
+    ensures kept { OnOk result (T.has_stopped writer.new ≡ T.has_stopped writer.old) }
+    ensures stopped { IfErr result (λ e. (e ≡ ScriptFault.Write) × (T.has_stopped writer.new ≡ true)) }
+{
+    write_whole(writer, Buffer::new().format(compared).as_bytes())?;
+    write_whole(writer, b" replies as recorded\n")
+}
+
+/// Checks the record that the reader gives, within so many bytes of memory, and writes the differences that are to be told, or the line
+/// that there is none. The record's header may name other limits than those of a run.
+fn check_from<S: Source, T: Sink>(
+    alloc: Global,
+    all: bool,
+    first_call: u64,
+    memory: Option<u64>,
+    reader: &mut S,
+    writer: &mut T,
+) -> Result<(), Fault>
+    requires reads { most_reads ≤ S.reads_left reader.old }
+    ensures check { IfSome (S.remaining reader.old) (λ script.
+        (written : List ℕ) × Appends (T.contents writer.old) (T.contents writer.new) written
+        × IsCheckedWithin all first_call script result written) }
+    ensures known { IsErrOf result CommandLine → ⊥ }
+    ensures read { S.has_failed reader.old ≡ false →
+        (IsErrOf result CannotRead ↔ (S.has_failed reader.new ≡ true)) }
+    ensures write { T.has_stopped writer.old ≡ false →
+        (IsErrOf result CannotWrite ↔ (T.has_stopped writer.new ≡ true)) }
+{
+    let limits = Limits {
+        first_call,
+        ..LIMITS
+    };
+    let budget = Budget::new(alloc, memory.unwrap_or(u64::MAX));
+    let checked = check_script(&budget, reader, writer, limits, all)?;
+    if checked.different > 0 {
+        return Err(Fault::Differs(checked.different, checked.compared));
+    }
+    write_same(writer, checked.compared)?;
+    Ok(())
+}
+
+/// Runs the lines that the far end says as they come, with their calls numbered from `first_call`, within so many bytes of memory: the
+/// kernel, the line that is read, and the answers that aren't written yet. A bad line is refused and passed over; a strict run ends there.
+///
+/// # Errors
+///
+/// Before each of them the answers to the lines before were written and flushed, if the fault isn't `CannotWrite`.
+///
+/// - `CannotRead` where a read failed.
+/// - `CannotWrite` exactly where a write failed or took no byte, or a flush failed.
+/// - `BadLine(n)` where the run is strict, and line `n`, counted from 1, is the first bad one.
+/// - `BadLines(n)` where the run isn't strict, came to the end of the lines, and refused `n` of them, which isn't 0.
+/// - `Endless` where 2^47 reads all gave bytes.
+/// - `NoMemory` where there was none for a line or its answer.
+pub fn live_from<P: Peer>(
+    alloc: Global,
+    first_call: u64,
+    memory: Option<u64>,
+    strict: bool,
+    peer: &mut P,
+) -> Result<(), Fault>
+    ensures run { Knows (P.talk peer.old) silence →
+        (t : Talk) × Knows (P.talk peer.new) t × IsLiveWithin strict first_call result t }
+    ensures known { IsErrOf result CommandLine → ⊥ }
+    ensures read { P.cannot_read peer.old ≡ false → IsErrOf result CannotRead → P.cannot_read peer.new ≡ true }
+    ensures write { P.cannot_write peer.old ≡ false →
+        (IsErrOf result CannotWrite ↔ (P.cannot_write peer.new ≡ true)) }
+{
+    let limits = Limits {
+        first_call,
+        ..LIMITS
+    };
+    let budget = Budget::new(alloc, memory.unwrap_or(u64::MAX));
+    let counted = run_live(&budget, peer, limits, strict)?;
+    if counted.bad > 0 {
+        return Err(Fault::BadLines(counted.bad));
+    }
+    Ok(())
+}
+
 /// Opens the file of a script to be read.
 fn open<R: Files>(rt: &R, path: &str) -> Result<R::File, Fault>
     ensures { IfErr result (λ fault. (fault ≡ CannotRead) ⊎ (fault ≡ NoMemory)) }
@@ -57,25 +147,41 @@ fn open<R: Files>(rt: &R, path: &str) -> Result<R::File, Fault>
     })
 }
 
-/// Does what the words ask for: runs the script of FILE, or of the input where there is no FILE, or writes the help text.
+/// Does what the words ask for: runs the script of FILE, or of the input where there is no FILE, or checks it as a record, or writes the
+/// help text. If they ask for a live run, it does nothing, and answers the run that is left to do.
 ///
 /// # Errors
 ///
 /// Those of `words`, and then nothing was read or written; `CannotRead` where FILE can't be opened; `CannotWrite` where the
-/// help text can't be written; else those of `run_script`.
+/// help text, or the line that nothing differs, can't be written; `Differs` where a check found that replies differ; else those of
+/// `run_script` and of `check_script`.
 pub fn run<R: Files + AllocGlobal, S: Source, T: Sink>(
     rt: &R,
     given: &[String],
     input: &mut S,
     output: &mut T,
-) -> Result<(), Fault>
+) -> Result<Option<LiveChoice>, Fault>
     requires reads { most_reads ≤ S.reads_left input.old }
 
     // Where the words ask for a run of the script of the input, with calls numbered from n.
     ensures run { (n : ℕ) → (bytes : Option ℕ) → AskForInput (map string_bytes given.now) n bytes → IfSome (S.remaining input.old) (λ script.
         (written : List ℕ) × Appends (T.contents output.old) (T.contents output.new) written
-        × IsRunWithin n script result written) }
-    ensures read { (n : ℕ) → (bytes : Option ℕ) → AskForInput (map string_bytes given.now) n bytes → S.has_failed input.old ≡ false →
+        × IsRunWithin n script (as_done result) written) }
+
+    // Where they ask for a check of the record of the input.
+    ensures check { (all : Bool) → (n : ℕ) → (bytes : Option ℕ) → AskForCheck (map string_bytes given.now) all n bytes → IfSome (S.remaining input.old) (λ script.
+        (written : List ℕ) × Appends (T.contents output.old) (T.contents output.new) written
+        × IsCheckedWithin all n script (as_done result) written) }
+
+    // Where they ask for a live run of the input.
+    ensures live { (strict : Bool) → (n : ℕ) → (bytes : Option ℕ) → AskForLive (map string_bytes given.now) strict n bytes → IsLeft strict n bytes result }
+
+    // Where a live run is left to do.
+    ensures left { IfOk result (λ left. IfSome left (λ asked.
+        Chooses (map string_bytes given.now) (Ok (Live asked)) × (input.new ≡ input.old) × (output.new ≡ output.old))) }
+
+    // Where they give no FILE.
+    ensures read { (n : ℕ) → (bytes : Option ℕ) → AskOfInput (map string_bytes given.now) n bytes → S.has_failed input.old ≡ false →
         (IsErrOf result CannotRead ↔ (S.has_failed input.new ≡ true)) }
 
     // Whatever they ask for.
@@ -84,25 +190,46 @@ pub fn run<R: Files + AllocGlobal, S: Source, T: Sink>(
         (IsErrOf result CannotWrite ↔ (T.has_stopped output.new ≡ true)) }
 {
     match words(rt.alloc(), given)? {
-        Choice::Help => Ok(write_whole(output, HELP.as_bytes())?),
+        Choice::Live(live) => Ok(Some(live)),
+        Choice::Help => {
+            write_whole(output, HELP.as_bytes())?;
+            Ok(None)
+        }
         Choice::Run {
             first_call,
             memory,
             file: None,
-        } => run_from(rt.alloc(), first_call, memory, input, output),
+        } => {
+            run_from(rt.alloc(), first_call, memory, input, output)?;
+            Ok(None)
+        }
         Choice::Run {
             first_call,
             memory,
             file: Some(path),
         } => {
-            let file = open(rt, path.as_str())?;
-            run_from(
-                rt.alloc(),
-                first_call,
-                memory,
-                &mut Reads::of_script(file),
-                output,
-            )
+            let mut reader = Reads::of_script(open(rt, path.as_str())?);
+            run_from(rt.alloc(), first_call, memory, &mut reader, output)?;
+            Ok(None)
+        }
+        Choice::Check {
+            all,
+            first_call,
+            memory,
+            file: None,
+        } => {
+            check_from(rt.alloc(), all, first_call, memory, input, output)?;
+            Ok(None)
+        }
+        Choice::Check {
+            all,
+            first_call,
+            memory,
+            file: Some(path),
+        } => {
+            let mut reader = Reads::of_script(open(rt, path.as_str())?);
+            check_from(rt.alloc(), all, first_call, memory, &mut reader, output)?;
+            Ok(None)
         }
     }
 }
@@ -135,16 +262,42 @@ fn given_words<R: Env + AllocGlobal>(rt: &R) -> Result<Vec<String>, Fault> {
     Ok(args.skip(1).collect(rt.alloc())?)
 }
 
-/// Does what the words of the command line ask for.
-fn run_words<R: Env + Files + AllocGlobal, I: Read + Drop, O: Write + Drop>(
+/// Does the live run that is left to do, over FILE or the input, the output and the errors.
+fn run_left<R: Files + AllocGlobal, I: Read + Drop, O: Write + Drop, E: Write + Drop>(
     rt: &R,
+    asked: LiveChoice,
     input: I,
     output: O,
+    errors: E,
+) -> Result<(), Fault> {
+    let LiveChoice {
+        strict,
+        first_call,
+        memory,
+        file,
+    } = asked;
+    let Some(path) = file else {
+        let mut peer = Terminal::new(input, output, errors);
+        return live_from(rt.alloc(), first_call, memory, strict, &mut peer);
+    };
+    let mut peer = Terminal::new(open(rt, path.as_str())?, output, errors);
+    live_from(rt.alloc(), first_call, memory, strict, &mut peer)
+}
+
+/// Does what the words of the command line ask for.
+fn run_words<R: Env + Files + AllocGlobal, I: Read + Drop, O: Write + Drop, E: Write + Drop>(
+    rt: &R,
+    mut input: I,
+    mut output: O,
+    errors: E,
 ) -> Result<(), Fault> {
     let given = given_words(rt)?;
-    let mut reader = Reads::of_script(input);
-    let mut writer = Writes::new(output);
-    run(rt, given.as_slice(), &mut reader, &mut writer)
+    let mut reader = Reads::of_script(&mut input);
+    let mut writer = Writes::new(&mut output);
+    match run(rt, given.as_slice(), &mut reader, &mut writer)? {
+        Some(live) => run_left(rt, live, input, output, errors),
+        None => Ok(()),
+    }
 }
 
 /// The whole program: does what the words of the command line ask for, and prints the output, or the line of its fault to
@@ -153,8 +306,8 @@ pub fn run_program<R: Env + Files + AllocGlobal, I: Read + Drop, O: Write + Drop
     rt: &R,
     input: I,
     output: O,
-    errors: E,
+    mut errors: E,
 ) -> u8 {
-    let ended = run_words(rt, input, output);
+    let ended = run_words(rt, input, output, &mut errors);
     end(&mut Writes::new(errors), ended)
 }

@@ -1,3 +1,11 @@
 pub mod WriteLemmas
 pub mod RunSteps
 pub mod Unread
+pub mod ToldTexts
+pub mod CheckSteps
+pub mod HeaderSteps
+pub mod HeaderLemmas
+pub mod LiveText
+pub mod LiveBehind
+pub mod LiveSteps
+pub mod LiveRuns

@@ -32,15 +32,15 @@ use Rattle.pl_lines.proofs.LineLemmas.{length-lines}
 
 -- ---- the definitions, one line at a time
 
-first_bad-cons : (A : Type 0) (version : Version) (n : ℕ) (l : List ℕ) (ls : List (List ℕ)) (o : Option (Option (Line A))) → line version l ≡ o → first_bad A version n (l ∷ ls) ≡ number_if_bad o n (first_bad A version (n + 1) ls)
+pub first_bad-cons : (A : Type 0) (version : Version) (n : ℕ) (l : List ℕ) (ls : List (List ℕ)) (o : Option (Option (Line A))) → line version l ≡ o → first_bad A version n (l ∷ ls) ≡ number_if_bad o n (first_bad A version (n + 1) ls)
 unfolding first_bad
 first_bad-cons A version n l ls o e = ap (λ p. number_if_bad p n (first_bad A version (n + 1) ls)) e
 
-first_bad-nil : (A : Type 0) (version : Version) (n : ℕ) → first_bad A version n [] ≡ None
+pub first_bad-nil : (A : Type 0) (version : Version) (n : ℕ) → first_bad A version n [] ≡ None
 unfolding first_bad
 first_bad-nil A version n = refl
 
-asked-nil : (A : Type 0) (version : Version) → asked {A = A} version [] ≡ []
+pub asked-nil : (A : Type 0) (version : Version) → asked {A = A} version [] ≡ []
 unfolding asked
 asked-nil A version = refl
 
@@ -55,7 +55,7 @@ same_counts : (a b c x y z : ℕ) → a ≡ x → b ≡ y → c ≡ z → counts
 same_counts a b c x y z p q r = rw (p, q, r) refl
 
 -- the line joins those before it
-joins : (before : List (List ℕ)) (l : List ℕ) (others : List (List ℕ)) → (before ++ l ∷ []) ++ others ≡ before ++ (l ∷ others)
+pub joins : (before : List (List ℕ)) (l : List ℕ) (others : List (List ℕ)) → (before ++ l ∷ []) ++ others ≡ before ++ (l ∷ others)
 joins before l others = append_assoc before (l ∷ []) others
 
 one_more : (before : List (List ℕ)) (l : List ℕ) (n h : ℕ) → n ≡ h + length before → n + 1 ≡ h + length (before ++ l ∷ [])
@@ -71,23 +71,23 @@ header_within (first ∷ rest) = by (names_version_2 first)
     by false = omega arith
 
 module _ {A : Type 0} where
-  asked-cons : (version : Version) (l : List ℕ) (ls : List (List ℕ)) (o : Option (Option (Line A))) → line version l ≡ o → asked version (l ∷ ls) ≡ if_good o (asked version ls)
+  pub asked-cons : (version : Version) (l : List ℕ) (ls : List (List ℕ)) (o : Option (Option (Line A))) → line version l ≡ o → asked version (l ∷ ls) ≡ if_good o (asked version ls)
   unfolding asked
   asked-cons version l ls o e = ap (λ p. if_good p (asked version ls)) e
 
-  answers-cons : (version : Version) (s : State A) (x : Line A) (xs : List (Line A)) (m : Bool) (ms : List Bool) → answers version s (x ∷ xs) (m ∷ ms) ≡ (answer version s x m ++ 10 ∷ []) ++ answers version (next_state s x m) xs ms
+  pub answers-cons : (version : Version) (s : State A) (x : Line A) (xs : List (Line A)) (m : Bool) (ms : List Bool) → answers version s (x ∷ xs) (m ∷ ms) ≡ (answer version s x m ++ 10 ∷ []) ++ answers version (next_state s x m) xs ms
   unfolding answers
   answers-cons version s x xs m ms = refl
 
-  answers-nil : (version : Version) (s : State A) (ms : List Bool) → answers version s [] ms ≡ []
+  pub answers-nil : (version : Version) (s : State A) (ms : List Bool) → answers version s [] ms ≡ []
   unfolding answers
   answers-nil version s ms = refl
 
-  are_marks-cons : (s : State A) (x : Line A) (xs : List (Line A)) (m : Bool) (ms : List Bool) → (m && never_marked s x) ≡ false → are_marks s (x ∷ xs) (m ∷ ms) ≡ are_marks (next_state s x m) xs ms
+  pub are_marks-cons : (s : State A) (x : Line A) (xs : List (Line A)) (m : Bool) (ms : List Bool) → (m && never_marked s x) ≡ false → are_marks s (x ∷ xs) (m ∷ ms) ≡ are_marks (next_state s x m) xs ms
   unfolding are_marks
   are_marks-cons s x xs m ms e = rw e refl
 
-  are_marks-nil : (s : State A) → are_marks s [] [] ≡ true
+  pub are_marks-nil : (s : State A) → are_marks s [] [] ≡ true
   unfolding are_marks
   are_marks-nil s = refl
 
@@ -107,10 +107,10 @@ module _ {A : Type 0} where
   is_refused version Stands bytes pid fd n (Some reply) writes makes = record { asked = Begin pid (Write fd writes.0); asks = writes.1; made = makes writes.0 writes.2 }
 
   -- as many marks as there are lines, none of them set
-  abbrev no_marks : List (Line A) → List Bool
+  abbrev pub no_marks : List (Line A) → List Bool
   no_marks xs = replicate (length xs) false
 
-  are_marks-no_marks : (s : State A) (xs : List (Line A)) → are_marks s xs (no_marks xs) ≡ true
+  pub are_marks-no_marks : (s : State A) (xs : List (Line A)) → are_marks s xs (no_marks xs) ≡ true
   unfolding are_marks
   are_marks-no_marks s [] = refl
   are_marks-no_marks s (x ∷ xs) = are_marks-no_marks (next_state s x false) xs

@@ -1,3 +1,10 @@
 pub mod Streams
 pub mod Running
 pub mod LineByLine
+pub mod Checked
+pub mod Comparing
+pub mod Header
+pub mod Talk
+pub mod Live
+pub mod LiveText
+pub mod LiveSteps

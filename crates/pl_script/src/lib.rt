@@ -5,13 +5,26 @@
 //! in `specs/Script.antt`.
 #![tactic(auto)]
 
+mod checking;
+mod comparing;
 mod fault;
+mod header;
+mod live;
+mod live_lines;
+mod peer;
 mod reading;
 mod running;
 mod streams;
+mod telling;
 mod writing;
 
+pub use checking::check_script;
+pub use comparing::Checked;
 pub use fault::ScriptFault;
+pub use header::header_limits;
+pub use live::{MAX_LIVE_READS, run_live};
+pub use live_lines::MAX_LINE_BYTES;
+pub use peer::{LiveFault, LiveTotals, Peer};
 pub use pl_lines::{LineFault, parse_line, parse_line_2, show, show_2, show_file, show_file_2};
 pub use pl_model::numbers::{MAX_READS, MAX_SCRIPT_BYTES};
 pub use pl_model::{Line, Totals, Version};

@@ -10,10 +10,10 @@ use pl_model::numbers::{MAX_READS, MAX_SCRIPT_BYTES};
 use std::alloc::{AllocError, Allocator};
 
 /// How many bytes one read is asked for.
-const CHUNK: usize = 65_536;
+pub(crate) const CHUNK: usize = 65_536;
 
 /// So many zeros. Here the number is a variable, so no proof writes them out.
-fn zeros<A: Allocator + Copy>(alloc: A, len: usize) -> Result<Vec<u8, A>, AllocError>
+pub(crate) fn zeros<A: Allocator + Copy>(alloc: A, len: usize) -> Result<Vec<u8, A>, AllocError>
     ensures { IfOk result (λ v. vec_len v ≡ len) }
 {
     vec![in alloc; 0u8; len]

@@ -21,7 +21,7 @@ use pl_model::{Limits, Line, Name, Outcome, Reply, Step, Totals, Version};
 use std::alloc::{AllocError, Allocator};
 
 /// Output is written once so many bytes of it wait.
-const WAITING: usize = 65_536;
+pub(crate) const WAITING: usize = 65_536;
 
 /// Makes a step and adds the line of its reply; tells whether it found no memory.
 fn answer_step<A: Allocator + Copy>(
@@ -83,7 +83,7 @@ fn asks_a_step<A: Allocator>(asked: &Line<A>) -> bool
 
 /// Does what a line asks and adds its line to the output; tells whether it found no memory. Where there is no memory for the
 /// line, the step may have been made, and the output is as it was.
-fn answer_line<A: Allocator + Copy>(
+pub(crate) fn answer_line<A: Allocator + Copy>(
     alloc: A,
     version: Version,
     kernel: &mut Kernel<A>,
@@ -102,7 +102,7 @@ fn answer_line<A: Allocator + Copy>(
 
 /// What a line is answered that writes a byte many times, where the kernel refuses the write and nothing changes. The bytes aren't
 /// made: such a line costs what it is long, and not what it would write.
-fn refusal_of_line<A: Allocator + Copy>(
+pub(crate) fn refusal_of_line<A: Allocator + Copy>(
     kernel: &Kernel<A>,
     version: Version,
     line: &[u8],
@@ -152,7 +152,7 @@ fn run_line<A: Allocator + Copy>(
 }
 
 /// How many lines of a script name its version: they ask nothing, and count.
-fn header_lines(version: Version) -> u32
+pub(crate) fn header_lines(version: Version) -> u32
     ensures exact { result ≡ header_lines version }
     ensures few { result ≤ 1 }
 {

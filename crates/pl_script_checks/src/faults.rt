@@ -24,7 +24,15 @@ const FAULTS: &[(Fault, &str, u8)] = &[
         "piperun: script longer than 16777216 bytes\n",
         3,
     ),
+    (Fault::BadLines(1), "piperun: 1 bad lines\n", 3),
+    (
+        Fault::BadLines(18_446_744_073_709_551_615),
+        "piperun: 18446744073709551615 bad lines\n",
+        3,
+    ),
+    (Fault::Endless, "piperun: input without end\n", 3),
     (Fault::NoMemory, "piperun: no memory\n", 4),
+    (Fault::Differs(2, 5), "piperun: 2 of 5 replies differ\n", 5),
 ];
 
 /// Whether the writer took the line of the fault.

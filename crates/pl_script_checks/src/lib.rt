@@ -19,6 +19,8 @@ mod poll_lines;
 #[cfg(test)]
 mod programs;
 #[cfg(test)]
+mod recorded;
+#[cfg(test)]
 mod records;
 #[cfg(test)]
 mod refused;

@@ -3,7 +3,7 @@ use super::equal::is;
 use super::trickling::{Coming, Drip, Script, prints};
 use super::words::strings;
 use pl_model::Totals;
-use pl_run::{Fault, HELP, end, run};
+use pl_run::{Fault, HELP, Terminal, end, live_from, run};
 use pl_script::{MAX_READS, Reads, Writes};
 use std::alloc::Global;
 use std::fs::Files;
@@ -79,6 +79,100 @@ const PROGRAMS: &[Program] = &[
         line: "piperun: bad command line\n",
         status: 2,
     },
+    Program {
+        words: &["--check"],
+        input: "start\n# => pid 1\n1 pipe\n# => fds 0 1\n",
+        output: "2 replies as recorded\n",
+        line: "",
+        status: 0,
+    },
+    Program {
+        words: &["--check"],
+        input: "start\n",
+        output: "0 replies as recorded\n",
+        line: "",
+        status: 0,
+    },
+    Program {
+        words: &["--check"],
+        input: "start\n# => pid 2\n1 pipe\n# => fds 0 2\n",
+        output: "line 2\nexpected pid 2\nanswered pid 1\n",
+        line: "piperun: 2 of 2 replies differ\n",
+        status: 5,
+    },
+    Program {
+        words: &["--check", "--all"],
+        input: "start\n# => pid 2\n1 pipe\n# => fds 0 2\n",
+        output: "line 2\nexpected pid 2\nanswered pid 1\nline 4\nexpected fds 0 2\nanswered fds 0 1\n",
+        line: "piperun: 2 of 2 replies differ\n",
+        status: 5,
+    },
+    // The number of the first call is that of the record, and else that of the command line.
+    Program {
+        words: &["--check", "--first-call", "7"],
+        input: "start\n1 pipe\n1 read 0 1\n# => parked 7\n1 read 0 1\n# => parked 8\n",
+        output: "2 replies as recorded\n",
+        line: "",
+        status: 0,
+    },
+    Program {
+        words: &["--check", "--first-call", "7"],
+        input: "# piperun --first-call 5\nstart\n1 pipe\n1 read 0 1\n# => parked 5\n1 read 0 1\n# => parked 6\n",
+        output: "2 replies as recorded\n",
+        line: "",
+        status: 0,
+    },
+    Program {
+        words: &["--check"],
+        input: "start\n# => pid 2\nstart now\n",
+        output: "line 2\nexpected pid 2\nanswered pid 1\n",
+        line: "piperun: line 3: not a command\n",
+        status: 3,
+    },
+    // To a run these are comments.
+    Program {
+        words: &[],
+        input: "# piperun --none\nstart\n# => pid 2\n",
+        output: "pid 1\n",
+        line: "",
+        status: 0,
+    },
+    Program {
+        words: &["--all"],
+        input: "start\n",
+        output: "",
+        line: "piperun: bad command line\n",
+        status: 2,
+    },
+    // A live run, which passes over a bad line unless it is strict.
+    Program {
+        words: &["--live"],
+        input: "start\nstrat\n1 pipe\n",
+        output: "pid 1\nfds 0 1\n",
+        line: "piperun: line 2: not a command\npiperun: 1 bad lines\n",
+        status: 3,
+    },
+    Program {
+        words: &["--live", "--strict"],
+        input: "start\nstrat\n1 pipe\n",
+        output: "pid 1\n",
+        line: "piperun: line 2: not a command\n",
+        status: 3,
+    },
+    Program {
+        words: &["--live", "--strict", "--first-call", "7"],
+        input: "piperun 2\nstart\n1 pipe\n1 write 1 5*00\n1 read 0 9\n1 read 0 9",
+        output: "pid 1\nfds 0 1\ncount 5\ndata 5*00\nparked 7\n",
+        line: "",
+        status: 0,
+    },
+    Program {
+        words: &["--strict"],
+        input: "start\n",
+        output: "",
+        line: "piperun: bad command line\n",
+        status: 2,
+    },
     // No file has the empty path (POSIX.1-2017, Pathname Resolution).
     Program {
         words: &[""],
@@ -89,16 +183,27 @@ const PROGRAMS: &[Program] = &[
     },
 ];
 
-/// Runs the program from the reader to the writer, of which a proof then need not see what they are.
-fn run_between<R: Files + AllocGlobal, I: Read + Drop, O: Write + Drop>(
+/// Runs the program from the reader to the writer, of which a proof then need not see what they are. A live run tells bad lines to `told`.
+fn run_between<R: Files + AllocGlobal, I: Read + Drop, O: Write + Drop, E: Write + Drop>(
     rt: &R,
     words: &[String],
-    input: I,
-    output: O,
+    mut input: I,
+    mut output: O,
+    told: E,
 ) -> Result<(), Fault> {
-    let mut source = Reads::new(input, MAX_READS);
-    let mut sink = Writes::new(output);
-    run(rt, words, &mut source, &mut sink)
+    let mut source = Reads::new(&mut input, MAX_READS);
+    let mut sink = Writes::new(&mut output);
+    let Some(live) = run(rt, words, &mut source, &mut sink)? else {
+        return Ok(());
+    };
+    let mut peer = Terminal::new(input, output, told);
+    live_from(
+        rt.alloc(),
+        live.first_call,
+        live.memory,
+        live.strict,
+        &mut peer,
+    )
 }
 
 /// Writes the line of a fault, and answers the status.
@@ -116,7 +221,7 @@ fn took(writer: &Drip, text: &str) -> bool {
 fn is_as_expected<R: Files + AllocGlobal>(rt: &R, words: &[String], program: &Program) -> bool {
     let mut printed = Drip::new(rt.alloc(), usize::MAX);
     let mut told = Drip::new(rt.alloc(), usize::MAX);
-    let ended = run_between(rt, words, program.input.as_bytes(), &mut printed);
+    let ended = run_between(rt, words, program.input.as_bytes(), &mut printed, &mut told);
     let status = status_of_end(ended, &mut told);
     let is_printed = took(&printed, program.output);
     let is_told = took(&told, program.line);

@@ -1,7 +1,9 @@
 //! What the words of the command line ask for.
-use self::Asked::{Fails, Helps, Runs, RunsFile, RunsWithin};
+use self::Asked::{
+    Checks, ChecksFile, Fails, Helps, LivesOn, LivesOnFile, Runs, RunsFile, RunsWithin,
+};
 use super::equal::is;
-use pl_run::{Choice, Fault, words};
+use pl_run::{Choice, Fault, LiveChoice, words};
 use std::alloc::Global;
 use std::test::Fail;
 
@@ -14,6 +16,14 @@ enum Asked {
     RunsFile(u64, &'static str),
     /// A run of the input, with calls numbered from here, within so many bytes.
     RunsWithin(u64, u64),
+    /// A check of the input that tells all or the first difference, with calls numbered from here.
+    Checks(bool, u64),
+    /// The same of a file.
+    ChecksFile(bool, u64, &'static str),
+    /// A live run of the input that is strict or not, with calls numbered from here, and within so many bytes, if there is a limit.
+    LivesOn(bool, u64, Option<u64>),
+    /// The same of a file.
+    LivesOnFile(bool, u64, &'static str),
     Helps,
     Fails(Fault),
 }
@@ -64,6 +74,36 @@ const WORDS: &[(&[&str], Asked)] = &[
     (&["--memory", "5", "--first-call", "x"], BAD),
     (&["--memory", "x", "--first-call", "7"], BAD),
     (&["--memory", "5", "--help"], Helps),
+    // checks
+    (&["--check"], Checks(false, 1)),
+    (&["--check", "s"], ChecksFile(false, 1, "s")),
+    (&["s", "--check"], ChecksFile(false, 1, "s")),
+    (&["--check", "--all"], Checks(true, 1)),
+    (&["--all", "--first-call", "7", "--check"], Checks(true, 7)),
+    (&["--all", "s", "--check"], ChecksFile(true, 1, "s")),
+    (&["--all"], BAD),
+    (&["--all", "s"], BAD),
+    (&["--check", "--check"], BAD),
+    (&["--check=true"], BAD),
+    (&["--check", "--help"], Helps),
+    // live runs
+    (&["--live"], LivesOn(false, 1, None)),
+    (&["--live", "s"], LivesOnFile(false, 1, "s")),
+    (&["--live", "--strict"], LivesOn(true, 1, None)),
+    (
+        &["--strict", "--memory", "5", "--first-call", "7", "--live"],
+        LivesOn(true, 7, Some(5)),
+    ),
+    (&["--strict", "s", "--live"], LivesOnFile(true, 1, "s")),
+    (&["--strict"], BAD),
+    (&["--strict", "s"], BAD),
+    (&["--live", "--check"], BAD),
+    (&["--live", "--all"], BAD),
+    (&["--live", "--check", "--all"], BAD),
+    (&["--strict", "--check"], BAD),
+    (&["--live", "--live"], BAD),
+    (&["--live", "--first-call", "x"], BAD),
+    (&["--live", "--help"], Helps),
     // what isn't the option
     (&["--first-cal", "7"], BAD),
     (&["--First-call", "7"], BAD),
@@ -91,6 +131,25 @@ pub(crate) fn strings(alloc: Global, given: &[&str]) -> Result<Vec<String>, Fail
     Ok(strings)
 }
 
+/// Whether this live run is asked for.
+fn is_live(live: &LiveChoice, asked: Asked) -> bool {
+    match asked {
+        LivesOn(strict, n, memory) => {
+            live.strict == strict
+                && live.first_call == n
+                && live.memory == memory
+                && live.file.is_none()
+        }
+        LivesOnFile(strict, n, name) => {
+            live.strict == strict
+                && live.first_call == n
+                && live.memory.is_none()
+                && live.file.as_deref() == Some(name)
+        }
+        _ => false,
+    }
+}
+
 fn is_so(choice: &Result<Choice, Fault>, asked: Asked) -> bool {
     match (choice, asked) {
         (
@@ -110,6 +169,24 @@ fn is_so(choice: &Result<Choice, Fault>, asked: Asked) -> bool {
             RunsWithin(n, most) => *first_call == n && *memory == Some(most) && file.is_none(),
             _ => false,
         },
+        (
+            Ok(
+                Choice::Check {
+                    all,
+                    first_call,
+                    memory: None,
+                    file,
+                },
+            ),
+            wanted,
+        ) => match wanted {
+            Checks(every, n) => *all == every && *first_call == n && file.is_none(),
+            ChecksFile(every, n, name) => {
+                *all == every && *first_call == n && file.as_deref() == Some(name)
+            }
+            _ => false,
+        },
+        (Ok(Choice::Live(live)), wanted) => is_live(live, wanted),
         (Ok(Choice::Help), Helps) => true,
         (Err(fault), Fails(wanted)) => *fault == wanted,
         _ => false,

@@ -1,6 +1,6 @@
 //! The words of a line of a script, and what one word says: a number, a name, flags, bytes.
 //!
-//! `next_word`, `word`, `only_word` and `end` part the words of a line. `parse_u32`, `parse_i32`, `parse_i64`, `parse_offset`,
+//! `next_word`, `word`, `only_word` and `end` part the words of a line. `parse_u32`, `parse_u64`, `parse_i32`, `parse_i64`, `parse_offset`,
 //! `parse_name`, `parse_flags_or_none` and `parse_bytes` read one, and `only_u64`, `only_i32`, `fd_and_word`, `open_flags_if_any`,
 //! `pipe_flags_if_any`, `splice_flags_if_any` and `parse_entries` all the words that are left. `bytes_len` tells how many bytes a word
 //! says, and makes none. `place_of` finds a byte, as the line feed that ends a line, and `without_return` leaves out a carriage
@@ -21,7 +21,9 @@ mod words;
 pub use fault::LineFault;
 pub use flags::{open_flags_if_any, parse_flags_or_none, pipe_flags_if_any, splice_flags_if_any};
 pub use names::{is_plain, parse_name};
-pub use numbers::{fd_and_word, only_i32, only_u64, parse_i32, parse_i64, parse_offset, parse_u32};
+pub use numbers::{
+    fd_and_word, only_i32, only_u64, parse_i32, parse_i64, parse_offset, parse_u32, parse_u64,
+};
 pub use pieces::{bytes_len, may_repeat, parse_bytes};
 pub use polls::parse_entries;
 pub use search::place_of;

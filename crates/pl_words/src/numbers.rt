@@ -54,7 +54,12 @@ pub fn parse_u32(word: &[u8]) -> Result<u32, LineFault>
     Ok(number(1 << 32, word)? as u32)
 }
 
-fn parse_u64(word: &[u8]) -> Result<u64, LineFault>
+/// A number of 64 bits, of 1 to 20 decimal digits.
+///
+/// # Errors
+///
+/// `Bad` exactly where the word is no such number.
+pub fn parse_u64(word: &[u8]) -> Result<u64, LineFault>
     ensures { Gives result (number (2 ^ 64) word.now) }
 {
     Ok(number(1 << 64, word)? as u64)

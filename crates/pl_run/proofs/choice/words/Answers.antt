@@ -6,7 +6,11 @@ use Rattle.pl_run.proofs.choice.words.Goals as goal
 pub returns-in-Ok : goal.returns-in-Ok
 returns-in-Ok c =
     let clap = c.in-Ok in
-    taken _ _ _ _ _
+    taken _ _ _ _ _ _ _ _ _
+    (one_text-rows_of _ _ clap.matches (codes "check") c.in_ok-command.ensures clap.ensures.matches)
+    (one_text-rows_of _ _ clap.matches (codes "all") c.in_ok-command.ensures clap.ensures.matches)
+    (one_text-rows_of _ _ clap.matches (codes "live") c.in_ok-command.ensures clap.ensures.matches)
+    (one_text-rows_of _ _ clap.matches (codes "strict") c.in_ok-command.ensures clap.ensures.matches)
     (one_text-rows_of _ _ clap.matches (codes "first-call") c.in_ok-command.ensures clap.ensures.matches)
     (one_text-rows_of _ _ clap.matches (codes "memory") c.in_ok-command.ensures clap.ensures.matches)
     (first_value-rows_of _ _ clap.matches (codes "file") c.in_ok-command.ensures clap.ensures.matches)

@@ -1,0 +1,75 @@
+//! The far end of a live run that a program has: its input, its output and its errors.
+ghost use Rattle.std.specs.Prelude.{◌≡◌, false, None};
+
+use crate::fault::{Fault, write_fault};
+use pl_script::{Peer, Writes};
+use std::io::{self, Read, Write};
+
+/// A far end that says what the input gives, is told on the output, and of its bad lines on the errors.
+#[derive(Drop)]
+pub struct Terminal<I, O, E> {
+    input: I,
+    output: O,
+    errors: Writes<E>,
+    cannot_read: bool,
+    cannot_write: bool,
+}
+
+impl<I: Read, O: Write, E: Write> Terminal<I, O, E> {
+    /// These three, of which nothing has failed yet.
+    pub fn new(input: I, output: O, errors: E) -> Self
+        ensures read { ⟦<Terminal<I, O, E> as Peer>⟧.cannot_read result ≡ false }
+        ensures write { ⟦<Terminal<I, O, E> as Peer>⟧.cannot_write result ≡ false }
+    {
+        Terminal {
+            input,
+            output,
+            errors: Writes::new(errors),
+            cannot_read: false,
+            cannot_write: false,
+        }
+    }
+}
+
+impl<I: Read, O: Write, E: Write> Peer for Terminal<I, O, E> {
+    // What these three keep isn't known here.
+    ghost talk = { λ _. None };
+
+    ghost cannot_read = { λ s. s.cannot_read };
+
+    ghost cannot_write = { λ s. s.cannot_write };
+
+    fn read(&mut self, buf: &mut [u8]) -> io::Result<usize> {
+        let result = self.input.read(buf);
+        if result.is_err() {
+            self.cannot_read = true;
+        }
+        result
+    }
+
+    fn write(&mut self, bytes: &[u8]) -> io::Result<usize> {
+        let result = self.output.write(bytes);
+        match &result {
+            Ok(n) => {
+                if *n == 0 {
+                    self.cannot_write = true;
+                }
+            }
+            Err(_) => self.cannot_write = true,
+        }
+        result
+    }
+
+    fn flush(&mut self) -> io::Result<()> {
+        let result = self.output.flush();
+        if result.is_err() {
+            self.cannot_write = true;
+        }
+        result
+    }
+
+    fn refuse(&mut self, number: u64) {
+        // Where the line can't be written, the count of bad lines at the end tells.
+        let _told = write_fault(&mut self.errors, &Fault::BadLine(number));
+    }
+}
