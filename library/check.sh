@@ -1,7 +1,7 @@
 #!/bin/sh
 # Builds the library for C, and runs the programs of tests/ over it: as they are, and under valgrind where there is one; and piperun, where
 # it is built; and docs/check. The last line is 'N passed, M failed', and the status is 1 where one failed. With the word release it tries a
-# release alone.
+# release alone, and with the word live live runs and records of piperun, which want no archive.
 #
 # Environment, each with what is taken without it:
 #   ARCHIVE   an archive that is built already    it is built over what rt ci left, or else by rt lib in crates/bindingclay
@@ -154,6 +154,15 @@ example_prints_what_it_should() {
     "$work/example" > "$work/printed" && printf 'the child read hello\nand then 0 bytes\n' | diff - "$work/printed"
 }
 
+# shellcheck disable=SC1091
+. "$here/tests/piperun.sh"
+# shellcheck disable=SC1091
+. "$here/tests/live.sh"
+if [ "${1:-}" = live ]; then
+    try_live
+    end
+fi
+
 if [ -z "${ARCHIVE:-}" ]; then
     echo "building the archive: behind rt ci in a few minutes; else that proves all that it stands on, in under half an hour"
     check "building the archive" build_archive || end
@@ -213,9 +222,8 @@ fi
 
 try_release
 if [ -x "$piperun" ]; then
-    # shellcheck disable=SC1091
-    . "$here/tests/piperun.sh"
     try_piperun
+    try_live
 else
     echo "passed over: piperun"
 fi
