@@ -105,7 +105,7 @@ record_that_is_cut() {
     done
     [ "$compared" -gt 10 ] || return 1
     last=$(grep -n '^# => ' "$work/whole.record" | tail -n 1 | cut -d : -f 1)
-    head -n "$last" "$work/whole.record" | head -c -2 > "$work/changed.record"
+    printf %s "$(head -n "$last" "$work/whole.record" | sed '$s/.$//')" > "$work/changed.record"
     difference "$last" > "$work/told.out"
     piperun_answers 5 "$work/told.out" "piperun: 1 of $compared replies differ" --check "$work/changed.record"
 }
