@@ -236,6 +236,19 @@ piperun_finds_no_memory() {
         "$work/output" || { cat "$work/output"; return 1; }
 }
 
+# within KIBIBYTES COMMAND..: runs the command in so much memory. A shell that limits itself has to hold the words within the limit too, and
+# may want more memory than the command.
+within() {
+    if command -v prlimit > /dev/null; then
+        bytes=$(($1 * 1024))
+        shift
+        prlimit --as="$bytes" "$@"
+    else
+        # shellcheck disable=SC3045
+        (ulimit -v "$1" && shift && exec "$@")
+    fi
+}
+
 # Whether piperun, given 1,000,000 bytes of words, says that it has no memory for them where its process may have little, and takes them where
 # it may have more. They ask for its help text, so that nothing else takes memory. In how much a process begins depends on the machine, so
 # the limit grows until it is enough. Where it is too little for that, no program runs.
@@ -246,8 +259,7 @@ piperun_has_no_memory_for_words() {
     found_none=0
     while [ "$kibibytes" -le 40000 ]; do
         ended=0
-        # shellcheck disable=SC3045
-        (ulimit -v "$kibibytes" && exec "$piperun" "$@") < /dev/null > "$work/output" 2> "$work/complaint" || ended=$?
+        within "$kibibytes" "$piperun" "$@" < /dev/null > "$work/output" 2> "$work/complaint" || ended=$?
         case $ended in
         4)
             diff /dev/null "$work/output" && ended_with 4 'piperun: no memory' || return 1
