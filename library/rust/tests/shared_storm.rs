@@ -111,7 +111,7 @@ fn storm(kernel: &Shared, places: &[Mutex<Arc<Place>>], seed: u64, over: &Atomic
     answered
 }
 
-/// Sends numbers there and back until it is over, each within a second.
+/// Sends numbers there and back until it is over, each within ten seconds: a machine may stop a thread for one.
 fn ping_pong(process: &Process, rounds: u64, over: &AtomicBool) -> Result<u64> {
     let ((mut one, mut to_one), (mut other, mut to_other)) = (process.pipe()?, process.pipe()?);
     thread::scope(|scope| {
@@ -125,7 +125,7 @@ fn ping_pong(process: &Process, rounds: u64, over: &AtomicBool) -> Result<u64> {
         let mut made = 0;
         while made < rounds && !over.load(Ordering::Relaxed) {
             let mut bytes = [0; 8];
-            one.set_deadline(Instant::now().checked_add(Duration::from_secs(1)));
+            one.set_deadline(Instant::now().checked_add(Duration::from_secs(10)));
             to_other.write_all(&made.to_le_bytes())?;
             one.read_exact(&mut bytes)?;
             assert_eq!(u64::from_le_bytes(bytes), made);
