@@ -123,10 +123,11 @@ defines_what_is_declared() {
     [ -z "$(comm -13 "$work/may_be_wanted" "$work/wanted" | tee /dev/stderr)" ]
 }
 
-# Whether the list of scripts names exactly those that are there, and whether no other files are there.
+# Whether the list of scripts names exactly those that are there, and whether no other files are there. Those of programs and of harnesses
+# have no output beside them.
 # shellcheck disable=SC2317
 lists_what_is_there() {
-    (cd "$examples" && find . -type f ! -path ./scripts ! -path './pictures/*.svg') | sed 's|^\./||' | sort > "$work/there"
+    (cd "$examples" && find . -type f ! -path ./scripts ! -path './pictures/*.svg' ! -path './real/*' ! -path './harness/*') | sed 's|^\./||' | sort > "$work/there"
     sed -n 's/\.script$//p' "$work/there" > "$work/scripts_there"
     sort "$examples/scripts" | diff - "$work/scripts_there" || return 1
     while IFS= read -r name; do
