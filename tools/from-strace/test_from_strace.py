@@ -416,6 +416,17 @@ class Program(unittest.TestCase):
                 count = compared(script.read_text(encoding="latin-1"))[0]
                 self.assertEqual((done.stdout, done.returncode), (f"{count} replies as recorded\n", 0))
 
+    def test_picture(self) -> None:
+        """The picture of an example is the one that tools/picture makes of what the model prints."""
+        for picture in sorted(REAL.glob("*.svg")):
+            script = picture.with_suffix(".script")
+            with self.subTest(picture.name), tempfile.NamedTemporaryFile(suffix=".out") as output:
+                output.write(run(script.read_bytes()).output)
+                output.flush()
+                words = [sys.executable, "-B", str(HERE.parent / "picture"), str(script), output.name]
+                drawn = subprocess.run(words, stdout=subprocess.PIPE, check=True, timeout=60).stdout
+                self.assertEqual(drawn, picture.read_bytes(), "tools/picture makes it anew")
+
     def test_statuses(self) -> None:
         cut = f'{PIPE}\n10 write(4{A}, "a"..., 9) = 9\n'.encode()
         for words, text, status in (

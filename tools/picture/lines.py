@@ -6,6 +6,8 @@ from dataclasses import dataclass, field
 from typing import Iterator, List, Optional
 
 HEADER = "piperun 2"
+# a comment of a record: the reply that it expects stands beside the line as it is
+EXPECTED = "# => "
 # times, if there are any, and digits
 PIECE = re.compile(r"(?:([0-9]{1,20})\*)?((?:[0-9a-fA-F]{2})+)")
 
@@ -59,6 +61,8 @@ def lines_of(script: str, output: str) -> Iterator[Line]:
     for number, text in enumerate(script.split("\n"), 1):
         words = text.split()
         if not words or (number == 1 and text.rstrip("\r") == HEADER):
+            continue
+        if text.startswith(EXPECTED):
             continue
         if words[0].startswith("#"):
             comments.append(text.strip().lstrip("#").strip())

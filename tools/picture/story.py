@@ -100,8 +100,9 @@ class Story:
         step.missing[id(node)] = ",".join(missing)
 
     def add(self, step: Step, lane: Lane) -> None:
-        """A lane begins."""
-        self.lanes.append(lane)
+        """A lane begins, or begins again: a pid that is free goes to the next process."""
+        if lane not in self.lanes:
+            self.lanes.append(lane)
         step.born.append(lane)
         if isinstance(lane, Node):
             self.state.nodes.append(lane)

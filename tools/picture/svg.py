@@ -14,6 +14,8 @@ from words import awaited, counted, lane_name, shortened
 ROW, COMMENT_ROW, TOP = 34, 15, 66
 # below a call that begins to wait there are words on that
 ROOM_FOR_WORDS = 26
+# how far below their row dashes come to its end
+BELOW_ROW = 12
 LEFT, SCRIPT_WIDTH, LANE_GAP = 16, 400, 150
 CHARACTER = 6.7
 MOST_LINE, MOST_REPLY, MOST_COMMENT = 34, 22, 62
@@ -99,15 +101,20 @@ class Picture:
     # Lanes
 
     def lane(self, lane: Lane) -> None:
-        """A lane with its name, from where it came to where it went."""
+        """A lane with its name. One of a pid is drawn for each process that has it in turn."""
         x, color = self.columns[id_of(lane)], COLORS[kind_of(lane)]
         name = lane_name(lane)
         width = 14 + 6.8 * len(name)
         self.above.append(f'<rect x="{x - width / 2:.1f}" y="28" width="{width:.1f}" height="22" rx="5" fill="{color}"/>')
         self.above.append(f'<text x="{x:.1f}" y="43" text-anchor="middle" style="fill:#fff">{escape(name)}</text>')
-        places = [place for place, step in enumerate(self.story.steps) if lane in step.born]
-        first = places[0]
-        last = next((place for place, step in enumerate(self.story.steps) if lane in step.gone), None)
+        for first, step in enumerate(self.story.steps):
+            if lane in step.born:
+                self.life(lane, first)
+
+    def life(self, lane: Lane, first: int) -> None:
+        """A lane from where it came to where it went."""
+        x, color = self.columns[id_of(lane)], COLORS[kind_of(lane)]
+        last = next((place for place, step in enumerate(self.story.steps) if place >= first and lane in step.gone), None)
         end = self.bottom - 8 if last is None else self.rows[last]
         if isinstance(lane, Node):
             self.node(lane, first, len(self.story.steps) if last is None else last + 1, end)
@@ -186,7 +193,9 @@ class Picture:
         step = self.story.steps[helper]
         from_x = self.columns[step.pid] if step.pid in self.columns else x
         from_y = self.rows[helper]
-        bend = f"M{from_x:.1f} {from_y:.1f}C{from_x:.1f} {row:.1f} {(x + from_x) / 2:.1f} {row:.1f} {x + 6:.1f} {row:.1f}"
+        # they come from below, as the arrow of the bytes may lie in the row
+        way, low = (1 if x > from_x else -1), row + BELOW_ROW
+        bend = f"M{from_x:.1f} {from_y:.1f}C{from_x:.1f} {low:.1f} {(x + from_x) / 2:.1f} {low:.1f} {x - 3 * way:.1f} {row + 4:.1f}"
         if abs(from_x - x) < LANE_GAP / 2:
             # the same process helped: the dashes go round the bar
             left = min(x, from_x) - 34

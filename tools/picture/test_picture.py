@@ -3,6 +3,7 @@ from __future__ import annotations
 
 import os
 import pathlib
+import re
 import subprocess
 import sys
 import unittest
@@ -10,7 +11,8 @@ import xml.etree.ElementTree
 from typing import List
 
 HERE = pathlib.Path(__file__).resolve().parent
-EXAMPLES = HERE.parent.parent / "crates" / "pl_examples" / "data"
+ROOT = HERE.parent.parent
+EXAMPLES = ROOT / "crates" / "pl_examples" / "data"
 # more steps or lanes than a picture may have
 TOO_LARGE = ("limits", "full_table")
 sys.path.insert(0, str(HERE))
@@ -155,6 +157,28 @@ class Pictures(unittest.TestCase):
         for last in (("1 write 1 61 => count -1",), ("1 write 1 70000*61 => parked 1", "resume 1 => count 7"), ("1 read 0 1 => data zz",)):
             with self.subTest(last), self.assertRaises(Unreadable):
                 story_of(*before, *last)
+
+    def test_pid_that_is_given_again(self) -> None:
+        """A pid that is free goes to the next process (fork), and its lane is drawn for both."""
+        pairs = ("start => pid 1", "1 fork => pid 2", "2 exit => ok", "1 fork => pid 2", "2 exit => ok", "1 fork => pid 2")
+        story = story_of(*pairs)
+        self.assertEqual(story.lanes, [1, 2])
+        picture = as_svg(story, "pids")
+        self.assertEqual(picture.count('class="line"'), 4, "a process that stays, and three in turn")
+        self.assertEqual(picture.count("l10 10m0-10l-10 10"), 2, "two have ended")
+
+    def test_records(self) -> None:
+        """What a record expects is no comment of its picture: the reply stands there."""
+        story = Story("start\n# => pid 1\n# a pipe\n1 pipe\n# => fds 0 1\n", "pid 1\nfds 0 1\n")
+        self.assertEqual([step.line.comments for step in story.steps], [[], ["a pipe"]])
+
+    def test_documents_show_one(self) -> None:
+        """README and the guide show a picture that is there."""
+        for page in ("README.md", "docs/guide/scripts-and-replay.md"):
+            shown = re.findall(r"!\[[^]]*\]\(([^)]*pictures/\w+\.svg)\)", (ROOT / page).read_text(encoding="utf-8"))
+            self.assertTrue(shown, page)
+            for path in shown:
+                self.assertTrue(((ROOT / page).parent / path).is_file(), path)
 
     def test_names_are_escaped(self) -> None:
         story = story_of("start => pid 1", "1 open <&\"f> w creat => fd 0")

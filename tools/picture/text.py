@@ -26,12 +26,12 @@ def cell(lane: Lane, step: Step) -> str:
 
 def rows(story: Story) -> List[List[str]]:
     """The cells of each step."""
-    alive: Set[int] = set()
+    alive: Set[Lane] = set()
     table = []
     for step in story.steps:
-        alive |= {id(lane) for lane in step.born}
-        cells = [cell(lane, step) if id(lane) in alive else "" for lane in story.lanes]
-        alive -= {id(lane) for lane in step.gone}
+        alive.update(step.born)
+        cells = [cell(lane, step) if lane in alive else "" for lane in story.lanes]
+        alive.difference_update(step.gone)
         line, reply = " ".join(step.line.words), " ".join(step.line.reply)
         start = [str(step.line.number), shortened(line, MOST_LINE), shortened(reply, MOST_REPLY)]
         table.append([*start, *cells, "; ".join(notes(step))])
