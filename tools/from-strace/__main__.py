@@ -5,9 +5,9 @@ TRACE, or standard input, is what strace wrote by
   LC_ALL=C strace -f -y -s 1048576 -o TRACE -e trace=CALLS PROGRAM ..
 
 CALLS, on one line:
-  read,write,readv,writev,pwrite64,close,close_range,dup,dup2,dup3,pipe,pipe2,fcntl,open,openat,creat,unlink,unlinkat,mknod,mknodat,
-  rename,renameat,renameat2,ftruncate,lseek,poll,ppoll,select,pselect6,splice,tee,vmsplice,sendfile,copy_file_range,fork,vfork,clone,
-  clone3,execve,execveat,exit,exit_group,chdir
+  read,write,readv,writev,pwrite64,pwritev,close,close_range,dup,dup2,dup3,pipe,pipe2,fcntl,ioctl,open,openat,openat2,creat,unlink,unlinkat,
+  mknod,mknodat,rename,renameat,renameat2,link,linkat,truncate,ftruncate,fallocate,lseek,poll,ppoll,select,pselect6,splice,tee,vmsplice,
+  sendfile,copy_file_range,fork,vfork,clone,clone3,execve,execveat,exit,exit_group,chdir
 
 The script makes the program's calls on pipes, on FIFOs and files that the trace makes or empties, and on what duplicates them. A comment
 behind each has what the host answered. So `piperun --check SCRIPT` tells whether the layer answers the same. Calls on anything else aren't

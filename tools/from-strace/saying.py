@@ -186,6 +186,15 @@ class Says:
             process.followed[number].closes_on_exec = "FD_CLOEXEC" in words_of(given[2])
         raise Unsayable(f"{asked} has no line")
 
+    def ioctl(self, process: Process, call: Call, given: List[Any], result: Result) -> List[Line]:
+        """FIONBIO is a flag of the description (ioctl(2)). Any other has no line."""
+        number = self.followed(process, given[0])
+        if given[1] != "FIONBIO" or result.error:
+            raise Unsayable(f"{given[1]} has no line")
+        if process.followed[number].node.kind != "pipe":
+            self.tell(call.first, "FIONBIO leaves O_APPEND as it is on the host, and clears it in the script")
+        return [Line(f"setfl {number} {'-' if given[2] == ['0'] else 'nonblock'}", "ok")]
+
     def _status(self, call: Call, result: Result) -> str:
         words = re.findall(r"[A-Z_]+", result.behind)
         flags = [word for word in words if word not in MODES and word not in SILENT]
@@ -277,6 +286,20 @@ class Says:
     renameat = rename
     renameat2 = rename
 
+    def link(self, process: Process, call: Call, given: List[Any], result: Result) -> List[Line]:
+        path, _ = self.named(process, given)
+        if path in self.names.nodes and not result.error:
+            self.tell(call.first, f"a link has no line: {self.names.nodes[path].name} has its first name alone in the script")
+        raise Left
+
+    linkat = link
+
+    def truncate(self, process: Process, call: Call, given: List[Any], result: Result) -> List[Line]:
+        path, _ = self.named(process, given)
+        if path in self.names.nodes and not result.error:
+            raise Unsayable(f"it changes {self.names.nodes[path].name}")
+        raise Left
+
     def open(self, process: Process, call: Call, given: List[Any], result: Result, node: Optional[Node] = None) -> List[Line]:
         """An open. `node` is what the name stood for as the call began."""
         path, rest = self.named(process, given)
@@ -306,6 +329,9 @@ class Says:
             raise Unreadable(f"line {call.first} of the trace opens a pipe that has no name, and no line of a script does that")
         self.tell(call.first, f"an open of {path.decode('latin-1')} is a dup in the script: the two share their flags there")
         return self._duplicate(process, number, f"dup {number}", result, 0, closes)
+
+    def openat2(self, process: Process, call: Call, given: List[Any], result: Result, node: Optional[Node] = None) -> List[Line]:
+        return self.open(process, call, [given[0], given[1], given[2]["flags"]], result, node)
 
     def creat(self, process: Process, call: Call, given: List[Any], result: Result, node: Optional[Node] = None) -> List[Line]:
         return self.open(process, call, [given[0], "O_WRONLY|O_CREAT|O_TRUNC"], result, node)

@@ -14,7 +14,7 @@ from tables import Line, Names, Node, Process, Unsayable
 
 FORKS = ("fork", "vfork", "clone", "clone3")
 EXECS = ("execve", "execveat")
-OPENS = ("open", "openat", "creat")
+OPENS = ("open", "openat", "openat2", "creat")
 # calls on what the script follows that change it, and that no line says
 CHANGES = ("ftruncate", "pwrite64", "pwritev", "pwritev2", "sendfile", "copy_file_range", "fallocate")
 # calls that change no descriptor
@@ -130,7 +130,7 @@ class Turner:
         """A process that the trace begins with."""
         process = self.processes[pid] = Process(pid, threads=[pid])
         if len(self.processes) > 1:
-            self.tell(self.trace.first_of[pid], f"nothing tells what made process {pid}: it begins without descriptors")
+            self.tell(self.trace.first_of[pid], f"nothing tells what made process {pid}: it begins with nothing of the others")
         lines = [Line("start", None, lambda text: text.startswith("pid "))]
         lines += [line for number in FIRST_NUMBERS for line in process.keep(number)]
         at = self.trace.first_of[pid]
