@@ -8,12 +8,14 @@ from __future__ import annotations
 
 import copy
 import itertools
-from dataclasses import dataclass, field
+from dataclasses import dataclass, field, replace
 from typing import Dict, FrozenSet, Iterator, List, Optional, Tuple
 
 from machine import Machine
 from script import Version, parse_line, reply_text
-from tables import Line, Process
+from state import Pipe
+from streams import filled, moved, read_through
+from tables import Line, Node, Process
 from turning import Operation
 
 # how many calls may be tried before one that returns; how many places are gone back for a difference, and how many are tried
@@ -41,10 +43,14 @@ class State:
     parked: Dict[Operation, int] = field(default_factory=dict)
     done: FrozenSet[Operation] = frozenset()
     said: Optional[Said] = None
+    # what was read of each pipe on the host, and how much of it was taken by now
+    streams: Dict[Node, bytes] = field(default_factory=dict)
+    taken: Dict[Node, int] = field(default_factory=dict)
 
     def copied(self) -> "State":
         """A state that changes on its own."""
-        return State(copy.deepcopy(self.machine), dict(self.pids), dict(self.parked), self.done, self.said)
+        machine = copy.deepcopy(self.machine)
+        return State(machine, dict(self.pids), dict(self.parked), self.done, self.said, self.streams, dict(self.taken))
 
     def make(self, words: str) -> str:
         """Makes the step of a line, and tells its reply."""
@@ -65,8 +71,23 @@ class State:
 
     def go_on(self, operation: Operation) -> str:
         """Takes an operation a step further: `done` as on the host, `parked`, `same` if it waits as before, or how it differs."""
-        if operation in self.parked:
-            return self._again(operation)
+        pipe = filled(self.machine, self.pids.get(operation.process, 0), self.parked.get(operation), operation)
+        held = len(pipe.content) if pipe is not None else 0
+        outcome = self._again(operation) if operation in self.parked else self._begin(operation)
+        if pipe is not None and operation.puts is not None and not self._is_as_read(operation.puts, pipe, held):
+            return "other bytes than those that were read"
+        if outcome == "done" and operation.takes is not None:
+            self.taken[operation.takes] = self.taken.get(operation.takes, 0) + moved(operation)
+        return outcome
+
+    def _is_as_read(self, node: Node, pipe: Pipe, held: int) -> bool:
+        """Whether the bytes behind those that a pipe held are the ones that were read later."""
+        start = self.taken.get(node, 0) + held
+        wanted = self.streams.get(node, b"")[start : start + len(pipe.content) - held]
+        return pipe.content[held : held + len(wanted)] == wanted
+
+    def _begin(self, operation: Operation) -> str:
+        """Makes the lines of an operation."""
         if operation.comments:
             self.say(operation, "#", None)
         for line in operation.lines:
@@ -125,13 +146,14 @@ class Placer:
                 self.events.append((operation.first, 0, operation))
             if operation.last is not None:
                 self.events.append((operation.last, 1, operation))
+        self.streams = read_through(operations)
         # a process is there before its first call
         self.events.sort(key=lambda event: (event[0], -1 if event[2].child is not None else event[1]))
         self.flying = list(self._in_flight())
 
     def place(self) -> State:
         """The last state, which has the script."""
-        state, at, tries = State(), 0, 0
+        state, at, tries = State(streams=self.streams), 0, 0
         choices = [(0, self._next(state, 0))] if self.events else []
         furthest = (0, state)
         while at < len(self.events):
@@ -210,7 +232,7 @@ class Placer:
 
     def _differ(self, state: State, operation: Operation) -> State:
         """No order makes the reply that the host gave: the call is placed where it returned, and what the layer answers is told."""
-        tried = state.copied()
+        tried = replace(state.copied(), streams={})
         was_parked = operation in state.parked
         text = tried.go_on(operation)
         number = tried.parked.pop(operation, None)
@@ -222,5 +244,6 @@ class Placer:
             tried.say(operation, words, operation.lines[-1].reply)
             tried.say(operation, f"interrupt {number}", tried.make(f"interrupt {number}"))
         tried.done |= {operation}
+        tried.streams = self.streams
         self.differences.append((operation, text))
         return tried

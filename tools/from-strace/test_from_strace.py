@@ -97,6 +97,15 @@ class Waits(unittest.TestCase):
         self.assertEqual(turned(*trace)[-3:], ["1 write 4 61 => count 1", "2 write 4 62 => count 1", "1 read 3 9 => data 6162"])
         self.assertEqual([text.split(",")[0] for text in told(*trace)], ["5: write overlaps that of line 3"])
 
+    def test_order_that_is_told_late(self) -> None:
+        """One read tells of many pairs of writes which came first. No search through all orders would find it."""
+        pair = [f'10 write(4{A}, "a", 1 <unfinished ...>', f'11 write(4{A}, "b", 1 <unfinished ...>', "11 <... write resumed>) = 1",
+                "10 <... write resumed>) = 1"]
+        told_by_read = "abbaabababbaababbaabbabaabababab"
+        found = turned(PIPE, FORK, *pair * 16, f'10 read(3{A}, "{told_by_read}", 99) = 32')
+        self.assertEqual([line.split()[3] for line in found if " write " in line], [letter.encode().hex() for letter in told_by_read])
+        self.assertEqual(found[-1], f"1 read 3 99 => data {told_by_read.encode().hex()}")
+
     def test_large_write_by_turns(self) -> None:
         """A write of more than the pipe holds goes on as a reader takes bytes (pipe(7))."""
         trace = [
