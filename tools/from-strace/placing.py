@@ -22,6 +22,8 @@ from turning import Operation
 MOST_BEFORE = 3
 MOST_CHOICES = 200
 MOST_TRIES = 3000
+# a reply is told as far as this
+MOST_TOLD = 80
 
 
 @dataclass(frozen=True)
@@ -244,6 +246,11 @@ class Placer:
             tried.say(operation, words, operation.lines[-1].reply)
             tried.say(operation, f"interrupt {number}", tried.make(f"interrupt {number}"))
         tried.done |= {operation}
+        what = f"in no order of these calls does the layer answer so: it answers {text[:MOST_TOLD]}"
+        if text == "done":
+            what = "in no order of these calls does the layer put in the bytes that are read later"
+        # from here on the pipe may have other bytes than on the host
+        self.streams = {node: stream for node, stream in self.streams.items() if node not in (operation.takes, operation.puts)}
         tried.streams = self.streams
-        self.differences.append((operation, text))
+        self.differences.append((operation, what))
         return tried

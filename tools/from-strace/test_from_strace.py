@@ -164,6 +164,14 @@ class Waits(unittest.TestCase):
         self.assertEqual(turned(*trace)[-2:], ["1 write 4 62 => EAGAIN", "1 close 4 => ok"])
         self.assertEqual(told(*trace), ["5: in no order of these calls does the layer answer so: it answers count 1"])
 
+    def test_bytes_that_no_order_explains(self) -> None:
+        """The read has a byte that nobody wrote: each difference is told once, and the script goes on."""
+        trace = [PIPE, f'10 write(4{A}, "a", 1) = 1', f'10 read(3{A}, "b", 1) = 1', f'10 write(4{A}, "c", 1) = 1', f'10 read(3{A}, "c", 1) = 1']
+        wanted = ["1 write 4 61 => count 1", "1 read 3 1 => data 62", "1 write 4 63 => count 1", "1 read 3 1 => data 63"]
+        self.assertEqual(turned(*trace)[-4:], wanted)
+        front = "in no order of these calls does the layer"
+        self.assertEqual(told(*trace), [f"2: {front} put in the bytes that are read later", f"3: {front} answer so: it answers data 61"])
+
     def test_call_that_would_wait_here(self) -> None:
         """No order explains that a read returned: the script asks it, and interrupts it."""
         found = turned(PIPE, f'10 read(3{A}, "a", 1) = 1', f"10 close(4{A}) = 0")

@@ -21,8 +21,7 @@ def script_and_notes(trace: str) -> Tuple[str, List[Tuple[int, str]]]:
     placer = Placer(turner.turn())
     last = placer.place()
     told = list(turner.told)
-    for operation, text in placer.differences:
-        told.append((operation.last or operation.first, f"in no order of these calls does the layer answer so: it answers {text[:80]}"))
+    told += [(operation.last or operation.first, what) for operation, what in placer.differences]
     for operation, other in placer.unordered():
         what = f"{operation.name} overlaps that of line {other.first}, and nothing but bytes tells which came first"
         told.append((operation.last or operation.first, what))
