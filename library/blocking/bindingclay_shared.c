@@ -78,6 +78,12 @@ void bc_on_sigpipe(bc_shared *shared, bc_sigpipe_hook hook, void *context)
     shared->context = context;
 }
 
+void bc_on_sleep(bc_shared *shared, bc_sleep_hook hook, void *context)
+{
+    shared->sleep_hook = hook;
+    shared->sleep_context = context;
+}
+
 bindingclay_memory_use bc_memory(bc_shared *shared)
 {
     pthread_mutex_lock(&shared->lock);
@@ -242,11 +248,19 @@ static void sleep_until(bc_shared *shared, struct bc_waiter *waiter, const struc
             give_up(shared, waiter, ETIMEDOUT);
 }
 
-/* Under the lock: sleeps until the call is answered. Signals of the host end no call. */
+/* Under the lock: sleeps until the call is answered. Signals of the host end no call, unless the hook of sleeps tells of one. */
 static void sleep_on(bc_shared *shared, struct bc_waiter *waiter)
 {
+    sem_t *answered = &waiter->seat->answered;
     pthread_mutex_unlock(&shared->lock);
-    while (sem_wait(&waiter->seat->answered) != 0)
+    while (shared->sleep_hook != NULL && shared->sleep_hook(shared->sleep_context, answered) != 0) {
+        pthread_mutex_lock(&shared->lock);
+        if (waiter->is_listed)
+            give_up(shared, waiter, EINTR);
+        /* this posts its own semaphore too, so the next round doesn't sleep */
+        bc_out(shared);
+    }
+    while (shared->sleep_hook == NULL && sem_wait(answered) != 0)
         ;
     pthread_mutex_lock(&shared->lock);
 }

@@ -27,6 +27,7 @@
 
 #include <poll.h>
 #include <pthread.h>
+#include <semaphore.h>
 #include <sys/stat.h>
 #include <sys/types.h>
 #include <sys/uio.h>
@@ -55,6 +56,10 @@ typedef struct {
 /* What is called where SIGPIPE is due, in the thread whose call it is, without the lock. So it may make calls. */
 typedef void (*bc_sigpipe_hook)(void *context, const bc_process *process);
 
+/* What a thread does that waits for a call without a deadline: it has to wait for the semaphore, as sem_wait does. It is called without the lock,
+ * so it may make calls. If it answers other than 0, the call ends with EINTR, unless it is answered already; then the hook is called again. */
+typedef int (*bc_sleep_hook)(void *context, sem_t *answered);
+
 /* ---- Kernels ---- */
 
 /* Makes a kernel within limits, and writes it to *shared. Null limits are BINDINGCLAY_LIMITS. Returns 0, or -1 with ENOMEM if memory runs out or
@@ -67,6 +72,10 @@ int bc_shared_close(bc_shared *shared);
 /* Sets what is called where SIGPIPE is due. Without a hook, or with a null one, such a call only fails with EPIPE. Set it before other threads make
  * calls. */
 void bc_on_sigpipe(bc_shared *shared, bc_sigpipe_hook hook, void *context);
+
+/* Sets how threads sleep whose calls wait, so that a signal of the host can end a call. Without a hook, or with a null one, they sleep by sem_wait,
+ * and signals end no call. Calls with a deadline, and polls with a timeout, don't call it. Set it before other threads make calls. */
+void bc_on_sleep(bc_shared *shared, bc_sleep_hook hook, void *context);
 
 /* Tells how much memory the kernel takes, as bindingclay_memory does. */
 bindingclay_memory_use bc_memory(bc_shared *shared);

@@ -4,8 +4,6 @@
 
 #include "bindingclay_shared.h"
 
-#include <semaphore.h>
-
 /* The lists in which calls that wait are found by their numbers, and the pids of a kernel (README, "Does it fit?"). */
 enum { BC_LISTS = 256, BC_MOST_PID = 1024 };
 
@@ -56,6 +54,8 @@ struct bc_shared {
     uint64_t births[BC_MOST_PID + 1];
     bc_sigpipe_hook hook;
     void *context;
+    bc_sleep_hook sleep_hook;
+    void *sleep_context;
 };
 
 /* What the functions below do if there is more to do than usual. */

@@ -198,6 +198,67 @@ static void deadlines(void)
     HOLDS(bc_exit(&process) == 0);
 }
 
+/* What a hook of sleeps counts, and what it makes of its first sleep. */
+struct sleeps {
+    pthread_mutex_t lock;
+    int count;
+    bool is_answered_first;
+    const bc_process *process;
+    int fd;
+};
+
+/* Tells of a signal in its first sleep, and sleeps in the others. */
+static int sleep_and_count(void *context, sem_t *answered)
+{
+    struct sleeps *sleeps = context;
+    pthread_mutex_lock(&sleeps->lock);
+    bool is_first = sleeps->count++ == 0;
+    pthread_mutex_unlock(&sleeps->lock);
+    if (is_first && sleeps->is_answered_first)
+        HOLDS(bc_write(sleeps->process, sleeps->fd, "ab", 2) == 2);
+    return is_first ? -1 : sem_wait(answered);
+}
+
+/* A hook of sleeps ends a call, unless that is answered by then. Calls with a deadline sleep without it. */
+static void slept_by_hook(void)
+{
+    bc_shared *own = new_shared();
+    bc_process process = new_process(own), late;
+    static char bytes[LARGE];
+    char byte;
+    int ends[2];
+    struct sleeps sleeps = { .lock = PTHREAD_MUTEX_INITIALIZER, .process = &process };
+    bc_on_sleep(own, sleep_and_count, &sleeps);
+    HOLDS(bc_pipe2(&process, ends, 0) == 0);
+    sleeps.fd = ends[1];
+    FAILS(bc_read(&process, ends[0], &byte, 1), EINTR);
+    HOLDS(sleeps.count == 2 && bc_waiting(&process) == 0);
+    sleeps.count = 0;
+    HOLDS(bc_write(&process, ends[1], bytes, LARGE) == 65536 && sleeps.count == 2);
+    HOLDS(bc_read(&process, ends[0], bytes, LARGE) == 65536);
+    sleeps.is_answered_first = true;
+    for (int i = 0; i < 2; i++) {
+        /* the second read is answered by what the first one left */
+        sleeps.count = 0;
+        HOLDS(bc_read(&process, ends[0], &byte, 1) == 1 && byte == "ab"[i]);
+        HOLDS(sleeps.count == (i == 0 ? 2 : 0));
+    }
+    struct timespec soon = in_milliseconds(10);
+    struct pollfd entry = { .fd = ends[0], .events = POLLIN };
+    late = bc_until(&process, &soon);
+    sleeps.count = 0;
+    FAILS(bc_read(&late, ends[0], &byte, 1), ETIMEDOUT);
+    HOLDS(bc_poll(&process, &entry, 1, 1) == 0 && sleeps.count == 0);
+    /* another thread answers a call that sleeps by the hook, and so does an interrupt of another thread */
+    struct job job = { .size = 0 };
+    sleeps.count = 1;
+    begin(&job, &process, a_read, ends[0]);
+    HOLDS(bc_write(&process, ends[1], "x", 1) == 1 && ends_so(&job, 1, 0));
+    begin(&job, &process, a_read, ends[0]);
+    HOLDS(bc_interrupt(&process) == 1 && ends_so(&job, -1, EINTR) && sleeps.count == 3);
+    HOLDS(bc_exit(&process) == 0 && bc_shared_close(own) == 0);
+}
+
 static void *send_back(void *argument)
 {
     const bc_process *process = argument;
@@ -235,6 +296,7 @@ int main(void)
     large_writes(O_DIRECT);
     ended();
     deadlines();
+    slept_by_hook();
     ping_pongs();
     HOLDS(bc_shared_close(shared) == 0);
     return end();
