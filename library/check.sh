@@ -1,7 +1,7 @@
 #!/bin/sh
 # Builds the library for C, and runs the programs of tests/ over it: as they are, and under valgrind where there is one; and piperun, where
 # it is built; and docs/check. The last line is 'N passed, M failed', and the status is 1 where one failed. With the word release it tries a
-# release alone, and with the word live live runs and records of piperun, which want no archive.
+# release alone, with the word preload what library/preload has, and with the word live live runs and records of piperun, which want no archive.
 #
 # Environment, each with what is taken without it:
 #   ARCHIVE   an archive that is built already    it is built over what rt ci left, or else by rt lib in crates/bindingclay
@@ -177,6 +177,14 @@ if [ "${1:-}" = release ]; then
     end
 fi
 check "installing" "$here/install.sh" "$work/prefix" || end
+# shellcheck disable=SC1091
+. "$here/tests/shared.sh"
+# shellcheck disable=SC1091
+. "$here/tests/preload.sh"
+if [ "${1:-}" = preload ]; then
+    try_preload
+    end
+fi
 check "the names of the archive" defines_what_is_declared
 
 counted=-Wl,--wrap=malloc,--wrap=realloc,--wrap=free
@@ -197,9 +205,8 @@ for name in one_lock two_kernels; do
     build "$name" "$counted" -pthread && run "$name" && without_races "$name"
 done
 
-# shellcheck disable=SC1091
-. "$here/tests/shared.sh"
 try_front
+try_preload
 
 if is_there python3; then
     check "the documents" env "PREFIX=$work/prefix" "PIPERUN=$piperun" "CC=$cc" python3 -B "$here/../docs/check" \
