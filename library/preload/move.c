@@ -202,6 +202,36 @@ MOVES_ALL_FIRST(int, posix_spawnp,
         char *const environment[]),
     (pid, file, actions, attributes, words, environment))
 
+/* execl and its kin, whose words are arguments: the last one is null, and behind it there may be the environment. */
+enum { MOST_WORDS = 1024 };
+
+static bool are_words(char *words[MOST_WORDS], const char *first, va_list *arguments)
+{
+    int count = 0;
+    for (const char *word = first; word != NULL && count < MOST_WORDS - 1; word = va_arg(*arguments, const char *))
+        words[count++] = (char *)(uintptr_t)word;
+    words[count] = NULL;
+    if (count < MOST_WORDS - 1)
+        return true;
+    errno = E2BIG;
+    return false;
+}
+
+#define MOVES_ALL_WITH_WORDS(name, does) \
+    int name(const char *file, const char *first, ...) \
+    { \
+        char *words[MOST_WORDS]; \
+        va_list arguments; \
+        va_start(arguments, first); \
+        int status = are_words(words, first, &arguments) ? does : -1; \
+        va_end(arguments); \
+        return status; \
+    }
+
+MOVES_ALL_WITH_WORDS(execl, execv(file, words))
+MOVES_ALL_WITH_WORDS(execlp, execvp(file, words))
+MOVES_ALL_WITH_WORDS(execle, execve(file, words, va_arg(arguments, char *const *)))
+
 /* A message may carry descriptors. */
 ssize_t sendmsg(int socket, const struct msghdr *message, int flags)
 {

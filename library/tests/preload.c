@@ -188,6 +188,19 @@ static void programs(void)
     }
     HOLDS(close(ends[1]) == 0 && reads(ends[0], "done\n") && reads(ends[0], "") && waitpid(child, &status, 0) == child && status == 0);
     HOLDS(close(ends[0]) == 0);
+    /* a pipe that is made behind the fork is moved by the exec */
+    new_pipe(ends, 0);
+    child = fork();
+    if (child == 0) {
+        char *environment[] = { "TEXT=behind", NULL };
+        int inner[2];
+        if (pipe(inner) < 0 || !writes(inner[1], "held\n") || dup2(inner[0], 0) != 0 || dup2(ends[1], 1) != 1)
+            _exit(1);
+        execle("/bin/sh", "sh", "-c", "read line; echo $line $TEXT", (char *)NULL, environment);
+        _exit(1);
+    }
+    HOLDS(waitpid(child, &status, 0) == child && status == 0 && reads(ends[0], "held behind\n"));
+    close_pipe(ends);
 }
 
 /* The layer has 256 descriptors, and further pipes are the host's. */
