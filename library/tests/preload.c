@@ -30,6 +30,10 @@ static void numbers(void)
     FAILS(dup3(copy, copy, 0), EINVAL);
     int null = open("/dev/null", O_RDONLY);
     HOLDS(dup2(null, more[0]) == more[0] && reads(more[0], "") && lseek(more[0], 0, SEEK_CUR) == 0);
+    /* the last read end is gone, by a descriptor of the host over it */
+    new_pipe(more, 0);
+    HOLDS(dup2(null, more[0]) == more[0]);
+    FAILS(write(more[1], "a", 1), EPIPE);
     HOLDS(close_range(3, 101, 0) == 0);
     FAILS(close(copy), EBADF);
     FAILS(write(more[1], "a", 1), EBADF);
@@ -140,6 +144,7 @@ static void moved(void)
     MOVED(copy);
     HOLDS(reads(ends[0], "abc") && fcntl(ends[0], F_GETFL) == O_NONBLOCK && fcntl(ends[0], F_GETPIPE_SZ) == 16384);
     HOLDS(fcntl(copy, F_GETFD) == FD_CLOEXEC && fcntl(ends[1], F_GETFD) == 0 && writes(copy, "d") && reads(ends[0], "d"));
+    HOLDS(fcntl(copy, F_SETFL, 0) == 0 && fcntl(ends[1], F_GETFL) == O_WRONLY && fcntl(ends[0], F_GETFL) == O_NONBLOCK);
     HOLDS(close(copy) == 0 && close(epoll) == 0);
     close_pipe(ends);
     /* streams of the C library */
@@ -178,6 +183,14 @@ static void programs(void)
     char command[40];
     snprintf(command, sizeof command, "echo told >&%d", ends[1]);
     HOLDS(system(command) == 0 && reads(ends[0], "told\n"));
+    close_pipe(ends);
+    new_pipe(ends, 0);
+    child = vfork();
+    if (child == 0) {
+        execlp("sh", "sh", "-c", command, (char *)NULL);
+        _exit(1);
+    }
+    HOLDS(waitpid(child, &status, 0) == child && status == 0 && reads(ends[0], "told\n"));
     close_pipe(ends);
     new_pipe(ends, 0);
     child = fork();

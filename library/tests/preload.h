@@ -51,13 +51,16 @@ static inline void need(bool condition, const char *what)
     }
 }
 
-/* Whether the host has a pipe at a number. At a number of the layer it has a placeholder. */
+/* Whether the host has a pipe at a number. At a number of the layer it has a placeholder, which is opened with O_PATH. */
 static inline bool is_of_host(int fd)
 {
-    char link[40], path[80] = "";
-    snprintf(link, sizeof link, "/proc/self/fd/%d", fd);
-    need(readlink(link, path, sizeof path - 1) > 0, link);
-    return strncmp(path, "pipe:", 5) == 0;
+    char path[40];
+    int flags = 0;
+    snprintf(path, sizeof path, "/proc/self/fdinfo/%d", fd);
+    FILE *file = fopen(path, "r");
+    need(file != NULL && fscanf(file, "pos: %*d flags: %o", (unsigned *)&flags) == 1, path);
+    fclose(file);
+    return (flags & O_PATH) == 0;
 }
 
 /* A descriptor of the layer, if the test is over it. */

@@ -122,16 +122,18 @@ static void answered(void)
 
 /* ---- Signals ---- */
 
-static _Atomic int handled;
-static int handler_writes_to = -1;
+static _Atomic int handled, written;
+static _Atomic int handler_writes_to = -1;
 
 static void count_signal(int signal)
 {
     int error = errno;
     (void)signal;
     handled++;
-    if (handler_writes_to >= 0 && write(handler_writes_to, "!", 1) != 1)
+    int to = handler_writes_to;
+    if (to >= 0 && write(to, "!", 1) != 1)
         abort();
+    written += to >= 0;
     errno = error;
 }
 
@@ -194,13 +196,14 @@ static void written_by_a_handler(void)
     new_pipe(ends, 0);
     new_pipe(lost, O_NONBLOCK);
     on_signal(SIGALRM, count_signal, SA_RESTART);
-    handled = 0;
     handler_writes_to = ends[1];
     setitimer(ITIMER_REAL, &often, NULL);
-    while (got < TICKS) {
-        for (int i = 0; i < 50; i++)
-            free(malloc((size_t)(100 + 400 * i)));
-        HOLDS(write(lost[1], "x", 1) == 1 && read(lost[0], &byte, 1) == 1);
+    for (int round = 0; got < TICKS; round++) {
+        /* longer than a tick, and then shorter: the handler interrupts calls, and then a wait */
+        for (int i = 0; i < (round % 2 == 0 ? 1000 : 20); i++) {
+            free(malloc((size_t)(100 + 20 * i)));
+            HOLDS(write(lost[1], "x", 1) == 1 && read(lost[0], &byte, 1) == 1);
+        }
         got += read(ends[0], &byte, 1) == 1;
     }
     setitimer(ITIMER_REAL, &never, NULL);
@@ -208,7 +211,7 @@ static void written_by_a_handler(void)
     HOLDS(fcntl(ends[0], F_SETFL, O_NONBLOCK) == 0);
     while (read(ends[0], &byte, 1) == 1)
         got++;
-    HOLDS(got == handled);
+    HOLDS(got == written);
     OURS(ends[0]);
     close_pipe(ends);
     close_pipe(lost);
@@ -309,6 +312,12 @@ static void names(void)
     HOLDS(unlink("renamed") == 0 && writes(both, "gone") && reads(reader, "gone"));
     FAILS(open("renamed", O_RDONLY), ENOENT);
     HOLDS(close(both) == 0 && reads(reader, "") && close(reader) == 0 && close(late) == 0);
+    /* more than the layer takes at once */
+    for (int i = 0; i < 300; i++) {
+        HOLDS(mkfifo("often", 0600) == 0 && (both = open("often", O_RDWR)) >= 0);
+        OURS(both);
+        HOLDS(close(both) == 0 && unlink("often") == 0);
+    }
 }
 
 /* A FIFO that is open, and one whose open waits, are the host's behind a fork. */
@@ -316,7 +325,7 @@ static void names_behind_a_fork(void)
 {
     struct job job = { .name = "second" };
     HOLDS(mkfifo("first", 0600) == 0 && mkfifo("second", 0600) == 0);
-    int both = open("first", O_RDWR | O_NONBLOCK), writer = open("first", O_WRONLY);
+    int both = open("first", O_RDWR | O_NONBLOCK), writer = open("first", O_WRONLY), copy = dup(both);
     HOLDS(writes(writer, "held"));
     begin(&job, an_open);
     pid_t child = fork();
@@ -328,6 +337,7 @@ static void names_behind_a_fork(void)
     end_child(child);
     HOLDS(job.answer >= 0 && reads((int)job.answer, "child") && reads(both, "held and more"));
     FAILS(read(both, &child, 1), EAGAIN);
+    HOLDS(fcntl(copy, F_SETFL, 0) == 0 && (fcntl(both, F_GETFL) & O_NONBLOCK) == 0 && close(copy) == 0);
     HOLDS((fcntl(writer, F_GETFL) & O_ACCMODE) == O_WRONLY && close(both) == 0 && close(writer) == 0 && close((int)job.answer) == 0);
     HOLDS(unlink("first") == 0 && unlink("second") == 0);
 }
