@@ -8,6 +8,7 @@ that differs is run once more on both, since some depend on how busy a machine i
 import os
 import pathlib
 import re
+import shutil
 import subprocess
 import sys
 import xml.etree.ElementTree
@@ -52,6 +53,12 @@ def told_by_tap(text):
     return told
 
 
+def told_by_tcl(text):
+    """What a file of Tcl's tests tells of each: passed, skipped or failed."""
+    told = {name: word.lower() for name, word in re.findall(r"^\+\+\+\+ (\S+) (PASSED|SKIPPED)", text, re.MULTILINE)}
+    return {**told, **{name: "failed" for name in re.findall(r"^==== (\S+) .*FAILED$", text, re.MULTILINE)}}
+
+
 def counts_of(text):
     """The sums of the counts that processes wrote."""
     sums = {}
@@ -66,12 +73,16 @@ def command_of(kind, words):
     """What runs a program, and where; or None if it isn't there."""
     python = os.environ.get("PYTHON", sys.executable)
     perl_tests = pathlib.Path(os.environ.get("PERL_TESTS", "/nonexistent"))
+    tcl_tests = pathlib.Path(os.environ.get("TCL_TESTS", "/nonexistent"))
     glib_tests = pathlib.Path(os.environ.get("GLIB_TESTS", "/usr/libexec/installed-tests/glib"))
     if kind == "python":
         module = subprocess.run([python, "-c", f"import test.{words[0]}"], capture_output=True, check=False)
         return ([python, "-m", "test", "--junit-xml", "told.xml", *words], None) if module.returncode == 0 else None
     if kind == "perl":
         return (["perl", *words], perl_tests) if (perl_tests / words[0]).exists() else None
+    if kind == "tcl":
+        command = ["tclsh", str(tcl_tests / words[0]), "-verbose", "pass skip", "-tmpdir", "."]
+        return (command, None) if (tcl_tests / words[0]).exists() and shutil.which("tclsh") else None
     return ([str(glib_tests / words[0]), "--tap"], None) if (glib_tests / words[0]).exists() else None
 
 
@@ -90,7 +101,8 @@ def run(kind, words, folder, extra):
     with open(folder / "printed", "wb") as printed:
         done = subprocess.run(command, cwd=where or folder, env=environment, stdin=subprocess.DEVNULL, stdout=printed,
                               stderr=subprocess.STDOUT, check=False)
-    told = told_by_python(folder / "told.xml") if kind == "python" else told_by_tap((folder / "printed").read_text("utf-8", "replace"))
+    text = (folder / "printed").read_text("utf-8", "replace")
+    told = told_by_python(folder / "told.xml") if kind == "python" else told_by_tcl(text) if kind == "tcl" else told_by_tap(text)
     return {**told, "status": str(done.returncode)}
 
 

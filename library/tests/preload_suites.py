@@ -49,6 +49,10 @@ class Reading(unittest.TestCase):
         text = "1..4\nok 1 - a\nnot ok 2 - b\nok 3 # SKIP none\n# ok 9\nnot ok 4 # skip\n"
         self.assertEqual(suites.told_by_tap(text), {"1": "ok", "2": "not-ok", "3": "skipped", "4": "skipped"})
 
+    def test_tcl(self):
+        text = "++++ io-1.1 PASSED\n++++ io-1.2 SKIPPED: win\n\n==== io-1.3 a name FAILED\n==== Contents of test case:\n==== io-1.3 FAILED\n"
+        self.assertEqual(suites.told_by_tcl(text), {"io-1.1": "passed", "io-1.2": "skipped", "io-1.3": "failed"})
+
     def test_differences(self):
         text = "| Program | Test |\n|---|---|\n| `perl io/a.t` | `3` | ok | not-ok | A reason. |\n| `perl io/a.t` | `4` | ok | not-ok |  |\n"
         self.assertEqual(suites.differences_of(text), {("perl io/a.t", "3"): ("ok", "not-ok")})
@@ -59,7 +63,7 @@ class Reading(unittest.TestCase):
         self.assertGreater(len(programs), 30)
         self.assertEqual(len({(kind, *words) for _, kind, _, words in programs}), len(programs))
         for when, kind, need, words in programs:
-            self.assertIn((when in ("short", "long"), kind in ("python", "perl", "glib"), need in suites.COUNTED, bool(words)), [(True,) * 4])
+            self.assertIn((when in ("short", "long"), kind in ("python", "perl", "tcl", "glib"), need in suites.COUNTED, bool(words)), [(True,) * 4])
 
 
 if __name__ == "__main__":
