@@ -10,6 +10,7 @@
 #include <unistd.h>
 
 enum { PIECE = 65536, PAIRS = 20000, TURNS = 5000, PIECES = 2000, SLEEPERS = 1000, PIPES_OF_ONE = 100, STACK = 65536 };
+enum { GROUPS = 4, MEMBERS = 20, MESSAGES = 50, MESSAGE = 100 };
 
 /* Two pipes, of the host or of ours. */
 struct pipes {
@@ -123,6 +124,82 @@ static double stream(const struct pipes *pipes)
     return each;
 }
 
+/* A group: each of its senders writes messages to each of its receivers, which has a pipe of its own. */
+struct group {
+    struct pipes pipes;
+    int ends[MEMBERS][2];
+};
+
+/* One of the threads of a group: a sender, or the receiver of a pipe. */
+struct member {
+    pthread_t thread;
+    const struct group *group;
+    int pipe;
+};
+
+static void *send_to_all(void *argument)
+{
+    const struct member *member = argument;
+    const struct group *group = member->group;
+    static const char message[MESSAGE];
+    for (int i = 0; i < MESSAGES * MEMBERS; i++)
+        need(put(&group->pipes, group->ends[i % MEMBERS][1], message, MESSAGE) == MESSAGE, "write");
+    return NULL;
+}
+
+static void *receive_all(void *argument)
+{
+    const struct member *member = argument;
+    const struct group *group = member->group;
+    char message[MESSAGE];
+    for (ssize_t left = (ssize_t)MEMBERS * MESSAGES * MESSAGE; left > 0;) {
+        ssize_t count = get(&group->pipes, group->ends[member->pipe][0], message, MESSAGE);
+        need(count > 0, "read");
+        left -= count;
+    }
+    return NULL;
+}
+
+static void new_group(struct group *group, const struct pipes *like)
+{
+    group->pipes.host = like->host;
+    if (!like->host)
+        need(bc_start(shared, &group->pipes.process) == 0, "bc_start");
+    for (int i = 0; i < MEMBERS; i++) {
+        int *ends = group->ends[i];
+        need((like->host ? pipe2(ends, 0) : bc_pipe2(&group->pipes.process, ends, 0)) == 0, "a pipe");
+    }
+}
+
+static void end_group(struct group *group)
+{
+    for (int i = 0; i < MEMBERS && group->pipes.host; i++)
+        need(close(group->ends[i][0]) == 0 && close(group->ends[i][1]) == 0, "close");
+    if (!group->pipes.host)
+        need(bc_exit(&group->pipes.process) == 0, "bc_exit");
+}
+
+/* A message of 100 bytes, among 160 threads in four groups. */
+static double messages(const struct pipes *pipes)
+{
+    static struct group groups[GROUPS];
+    static struct member members[GROUPS * MEMBERS * 2];
+    for (int i = 0; i < GROUPS; i++)
+        new_group(&groups[i], pipes);
+    double begun = now();
+    for (int i = 0; i < GROUPS * MEMBERS * 2; i++) {
+        struct member *member = &members[i];
+        *member = (struct member){ .group = &groups[i / (MEMBERS * 2)], .pipe = i / 2 % MEMBERS };
+        need(pthread_create(&member->thread, NULL, i % 2 == 0 ? receive_all : send_to_all, member) == 0, "a thread");
+    }
+    for (int i = 0; i < GROUPS * MEMBERS * 2; i++)
+        pthread_join(members[i].thread, NULL);
+    double each = (now() - begun) / (GROUPS * MEMBERS * MEMBERS * MESSAGES);
+    for (int i = 0; i < GROUPS; i++)
+        end_group(&groups[i]);
+    return each;
+}
+
 /* The least of all rounds, of the one and of the other in turn. */
 static void beside(const char *what, double (*each)(const struct pipes *), const struct pipes *one, const struct pipes *other)
 {
@@ -206,6 +283,7 @@ int main(int count, char **words)
     beside("write and read of 64 bytes, one thread", pair, &host, &here);
     beside("a byte there and back, two threads", ping_pong, &host, &here);
     beside("64 KiB of a stream, two threads", stream, &host, &here);
+    beside("a message of 100 bytes, 160 threads", messages, &host, &here);
     beside_sleepers(&here);
     bc_exit(&here.process);
     return bc_shared_close(shared);

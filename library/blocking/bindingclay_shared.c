@@ -3,9 +3,17 @@
 #include "bindingclay_shared_inside.h"
 
 #include <errno.h>
+#include <sched.h>
 
 /* How many threads are woken behind the lock. The others, if there are more, are woken under it. */
 enum { MOST_WOKEN = 16 };
+
+/* How long who looks for the lock pauses at first and at most: some 3 and 45 microseconds. Behind that it sleeps. */
+enum { FIRST_TURNS = 64, MOST_TURNS = 1024 };
+
+/* How often a thread yields before it sleeps; from how many nanoseconds on that is slow, for itself and for each step that was made meanwhile; and for
+ * how long no thread yields then. */
+enum { YIELDS = 8, SLOW_YIELD = 50000, SLOW_STEP = 5000, PAUSE_OF_YIELDS = 100000000 };
 
 static bindingclay_answer failed(int error)
 {
@@ -17,28 +25,45 @@ static bindingclay_answer failed(int error)
 /* The locks of a kernel that nobody shares yet. Returns whether there are all. */
 static bool made_locks(bc_shared *shared)
 {
-    if (pthread_mutex_init(&shared->lock, NULL) != 0)
+    if (pthread_condattr_init(&shared->monotonic) != 0)
         return false;
-    if (pthread_condattr_init(&shared->monotonic) == 0) {
-        if (pthread_condattr_setclock(&shared->monotonic, CLOCK_MONOTONIC) == 0)
+    if (pthread_condattr_setclock(&shared->monotonic, CLOCK_MONOTONIC) == 0 && pthread_mutex_init(&shared->lock.mutex, NULL) == 0) {
+        if (pthread_mutex_init(&shared->lock.queue, NULL) == 0)
             return true;
-        pthread_condattr_destroy(&shared->monotonic);
+        pthread_mutex_destroy(&shared->lock.mutex);
     }
-    pthread_mutex_destroy(&shared->lock);
+    pthread_condattr_destroy(&shared->monotonic);
     return false;
 }
 
 static void forget_locks(bc_shared *shared)
 {
-    struct bc_seat *seat;
-    while ((seat = shared->seats) != NULL) {
-        shared->seats = seat->next;
-        pthread_cond_destroy(&seat->wakes);
-        sem_destroy(&seat->answered);
-        free(seat);
-    }
+    pthread_mutex_destroy(&shared->lock.queue);
+    pthread_mutex_destroy(&shared->lock.mutex);
     pthread_condattr_destroy(&shared->monotonic);
-    pthread_mutex_destroy(&shared->lock);
+}
+
+static void pause_for(int turns)
+{
+    for (int i = 0; i < turns; i++)
+#if defined(__x86_64__) || defined(__i386__)
+        __builtin_ia32_pause();
+#else
+        atomic_signal_fence(memory_order_seq_cst);
+#endif
+}
+
+void bc_lock_by_queue(struct bc_lock *lock)
+{
+    bool is_mine = false;
+    pthread_mutex_lock(&lock->queue);
+    for (int turns = FIRST_TURNS; !is_mine && turns <= MOST_TURNS; turns *= 2) {
+        pause_for(turns);
+        is_mine = pthread_mutex_trylock(&lock->mutex) == 0;
+    }
+    if (!is_mine)
+        pthread_mutex_lock(&lock->mutex);
+    lock->is_from_queue = true;
 }
 
 int bc_shared_open(const bindingclay_limits *limits, bc_shared **shared)
@@ -59,9 +84,9 @@ int bc_shared_open(const bindingclay_limits *limits, bc_shared **shared)
 
 int bc_shared_close(bc_shared *shared)
 {
-    pthread_mutex_lock(&shared->lock);
+    bc_lock(shared);
     bool waits = shared->waiting > 0;
-    pthread_mutex_unlock(&shared->lock);
+    bc_unlock(shared);
     if (waits) {
         errno = EBUSY;
         return -1;
@@ -86,9 +111,9 @@ void bc_on_sleep(bc_shared *shared, bc_sleep_hook hook, void *context)
 
 bindingclay_memory_use bc_memory(bc_shared *shared)
 {
-    pthread_mutex_lock(&shared->lock);
+    bc_lock(shared);
     bindingclay_memory_use memory = bindingclay_memory(shared->clay);
-    pthread_mutex_unlock(&shared->lock);
+    bc_unlock(shared);
     return memory;
 }
 
@@ -99,14 +124,21 @@ static struct bc_waiter **list_of(bc_shared *shared, uint64_t number)
     return &shared->lists[number % BC_LISTS];
 }
 
+static void count_waiter(bc_shared *shared, const struct bc_waiter *waiter, int more)
+{
+    shared->waiting += (uint32_t)more;
+    shared->waiting_of[waiter->pid] += (uint32_t)more;
+    if (waiter->room.kind == BC_READS || waiter->room.kind == BC_WRITES)
+        shared->waiting_alike[waiter->room.kind] += (uint32_t)more;
+}
+
 static void enlist(bc_shared *shared, struct bc_waiter *waiter)
 {
     struct bc_waiter **list = list_of(shared, waiter->number);
     waiter->next = *list;
     *list = waiter;
     waiter->is_listed = true;
-    shared->waiting++;
-    shared->waiting_of[waiter->pid]++;
+    count_waiter(shared, waiter, 1);
 }
 
 static struct bc_waiter *waiter_of(bc_shared *shared, uint64_t number)
@@ -125,8 +157,7 @@ static void answer_waiter(bc_shared *shared, struct bc_waiter *waiter, bindingcl
         place = &(*place)->next;
     *place = waiter->next;
     waiter->is_listed = false;
-    shared->waiting--;
-    shared->waiting_of[waiter->pid]--;
+    count_waiter(shared, waiter, -1);
     waiter->answer = answer;
     waiter->next = shared->answered;
     shared->answered = waiter;
@@ -168,7 +199,7 @@ static void try_again(bc_shared *shared, uint64_t number)
 
 bool bc_out_of_none(bc_shared *shared)
 {
-    pthread_mutex_unlock(&shared->lock);
+    bc_unlock(shared);
     errno = ESRCH;
     return false;
 }
@@ -180,17 +211,20 @@ void bc_out_and_wake(bc_shared *shared)
     int count = 0;
     while (shared->waiting > 0 && (next = bindingclay_next_ready(shared->clay, 0)).kind == BINDINGCLAY_DONE)
         try_again(shared, next.value);
-    for (struct bc_waiter *waiter = shared->answered; waiter != NULL; waiter = waiter->next) {
+    for (struct bc_waiter *waiter = shared->answered, *next_one; waiter != NULL; waiter = next_one) {
+        /* a thread that is woken may leave at once, and its waiter with it */
+        next_one = waiter->next;
         if (waiter->has_deadline)
-            pthread_cond_signal(&waiter->seat->wakes);
-        else if (count == MOST_WOKEN)
-            sem_post(&waiter->seat->answered);
+            pthread_cond_signal(&waiter->wakes);
+        else if (count == MOST_WOKEN || !BC_KNOWS_ATOMICS)
+            sem_post(&waiter->answered);
         else
-            woken[count++] = &waiter->seat->answered;
+            woken[count++] = &waiter->answered;
     }
     shared->answered = NULL;
-    pthread_mutex_unlock(&shared->lock);
-    /* a thread that is woken under the lock would at once wait for the lock */
+    bc_unlock(shared);
+    /* A thread that is woken under the lock would at once wait for the lock. As it wakes, it may leave, and its semaphore with it: then what is
+     * left of sem_post looks at nothing there any more. */
     while (count > 0)
         sem_post(woken[--count]);
 }
@@ -222,47 +256,91 @@ int64_t bc_concluded_otherwise(const bc_process *process, bindingclay_answer ans
 
 /* ---- A thread that waits ---- */
 
-/* A seat that no thread has, or null if there is no memory. */
-static struct bc_seat *take_seat(bc_shared *shared)
-{
-    struct bc_seat *seat = shared->seats;
-    if (seat != NULL) {
-        shared->seats = seat->next;
-        return seat;
-    }
-    seat = malloc(sizeof *seat);
-    if (seat != NULL && pthread_cond_init(&seat->wakes, &shared->monotonic) == 0) {
-        /* it fails for no value below SEM_VALUE_MAX */
-        sem_init(&seat->answered, 0, 0);
-        return seat;
-    }
-    free(seat);
-    return NULL;
-}
-
-/* Under the lock: sleeps until the call is answered. At the deadline it ends, if nobody answered it before. */
+/* Under the lock: sleeps until the call is answered, and gives the lock back. At the deadline it ends, if nobody answered it before. */
 static void sleep_until(bc_shared *shared, struct bc_waiter *waiter, const struct timespec *deadline)
 {
-    while (waiter->is_listed)
-        if (pthread_cond_timedwait(&waiter->seat->wakes, &shared->lock, deadline) != 0 && waiter->is_listed)
+    while (waiter->is_listed) {
+        /* who sleeps keeps neither the queue nor the mark */
+        bc_unlock(shared);
+        pthread_mutex_lock(&shared->lock.mutex);
+        if (waiter->is_listed && pthread_cond_timedwait(&waiter->wakes, &shared->lock.mutex, deadline) != 0 && waiter->is_listed)
             give_up(shared, waiter, ETIMEDOUT);
+        bc_mark(&shared->lock, true);
+    }
+    /* what it left may help others, if it ended by itself */
+    if (shared->answered != NULL)
+        bc_out_and_wake(shared);
+    else
+        bc_unlock(shared);
 }
 
-/* Under the lock: sleeps until the call is answered. Signals of the host end no call, unless the hook of sleeps tells of one. */
-static void sleep_on(bc_shared *shared, struct bc_waiter *waiter)
+static int64_t now(void)
 {
-    sem_t *answered = &waiter->seat->answered;
-    pthread_mutex_unlock(&shared->lock);
-    while (shared->sleep_hook != NULL && shared->sleep_hook(shared->sleep_context, answered) != 0) {
-        pthread_mutex_lock(&shared->lock);
+    struct timespec time;
+    clock_gettime(CLOCK_MONOTONIC, &time);
+    return (int64_t)time.tv_sec * 1000000000 + time.tv_nsec;
+}
+
+bool bc_may_yield(bc_shared *shared, struct bc_yield *yield)
+{
+    yield->begun = now();
+    yield->steps = BC_KNOWS_ATOMICS ? atomic_load_explicit(&shared->steps, memory_order_relaxed) : 0;
+    /* if there is a hook of sleeps, nobody else gets on and no signal comes until the thread is in it */
+    bool is_useful = BC_KNOWS_ATOMICS && shared->sleep_hook == NULL;
+    return is_useful && yield->begun >= atomic_load_explicit(&shared->yields_from, memory_order_relaxed);
+}
+
+bool bc_yield(bc_shared *shared, const struct bc_yield *yield)
+{
+    sched_yield();
+    int64_t ended = now();
+    int64_t made = (int64_t)(atomic_load_explicit(&shared->steps, memory_order_relaxed) - yield->steps);
+    if (ended - yield->begun <= SLOW_YIELD + made * SLOW_STEP)
+        return true;
+    atomic_store_explicit(&shared->yields_from, ended + PAUSE_OF_YIELDS, memory_order_relaxed);
+    return false;
+}
+
+/* Yields some times, and tells whether the call is answered then. */
+static bool is_answered_by_yields(bc_shared *shared, struct bc_waiter *waiter)
+{
+    struct bc_yield yield;
+    bool is_quick = bc_may_yield(shared, &yield);
+    for (int i = 0; i < YIELDS && is_quick; i++) {
+        is_quick = bc_yield(shared, &yield);
+        if (sem_trywait(&waiter->answered) == 0)
+            return true;
+    }
+    return false;
+}
+
+/* Without the lock: sleeps by the hook, until the call is answered. */
+static void sleep_by_hook(bc_shared *shared, struct bc_waiter *waiter)
+{
+    while (shared->sleep_hook(shared->sleep_context, &waiter->answered) != 0) {
+        bc_lock(shared);
         if (waiter->is_listed)
             give_up(shared, waiter, EINTR);
         /* this posts its own semaphore too, so the next round doesn't sleep */
         bc_out(shared);
     }
-    while (shared->sleep_hook == NULL && sem_wait(answered) != 0)
-        ;
-    pthread_mutex_lock(&shared->lock);
+}
+
+/* Under the lock: gives it back, and sleeps until the call is answered. Signals of the host end no call, unless the hook of sleeps tells of one. */
+static void sleep_on(bc_shared *shared, struct bc_waiter *waiter)
+{
+    bc_unlock(shared);
+    if (is_answered_by_yields(shared, waiter))
+        return;
+    if (shared->sleep_hook != NULL)
+        sleep_by_hook(shared, waiter);
+    else
+        while (sem_wait(&waiter->answered) != 0)
+            ;
+    if (!BC_KNOWS_ATOMICS) {
+        bc_lock(shared);
+        bc_unlock(shared);
+    }
 }
 
 bindingclay_answer bc_wait(
@@ -271,29 +349,24 @@ bindingclay_answer bc_wait(
     bc_shared *shared = process->shared;
     struct bc_waiter waiter = { .number = parked.value, .pid = process->pid, .thread = pthread_self(), .room = *room };
     waiter.has_deadline = deadline != NULL;
-    waiter.seat = take_seat(shared);
-    if (waiter.seat == NULL) {
-        bindingclay_answer answer = interrupted(shared, parked.value, ENOMEM);
-        bc_out(shared);
-        return answer;
-    }
+    /* neither fails: they take no memory, and nobody has them */
+    if (waiter.has_deadline)
+        pthread_cond_init(&waiter.wakes, &shared->monotonic);
+    else
+        sem_init(&waiter.answered, 0, 0);
     enlist(shared, &waiter);
     /* a call that moved nothing as it began to wait helped no other, but an open is seen by another open */
-    if (parked.moved || room->is_open) {
+    if (parked.moved || room->kind == BC_OPENS) {
         bc_out_and_wake(shared);
-        pthread_mutex_lock(&shared->lock);
+        bc_lock(shared);
     }
-    if (deadline != NULL)
+    if (waiter.has_deadline) {
         sleep_until(shared, &waiter, deadline);
-    else
+        pthread_cond_destroy(&waiter.wakes);
+    } else {
         sleep_on(shared, &waiter);
-    waiter.seat->next = shared->seats;
-    shared->seats = waiter.seat;
-    /* what it left may help others, if it ended by itself */
-    if (shared->answered != NULL)
-        bc_out_and_wake(shared);
-    else
-        pthread_mutex_unlock(&shared->lock);
+        sem_destroy(&waiter.answered);
+    }
     return waiter.answer;
 }
 
@@ -333,7 +406,7 @@ int bc_interrupt(const bc_process *process)
 
 int bc_interrupt_thread(bc_shared *shared, pthread_t thread)
 {
-    pthread_mutex_lock(&shared->lock);
+    bc_lock(shared);
     struct bc_waiter *found = NULL;
     for (int i = 0; i < BC_LISTS && found == NULL; i++) {
         found = shared->lists[i];

@@ -10,17 +10,38 @@
 /* Up to so many bytes go into a pipe whole (pipe(7), PIPE_BUF), and the least write that may go in by parts. */
 enum { WHOLE = 4096, BY_PARTS = WHOLE + 1, MOST_BUFFERS = 1024 };
 
+/* Whether the last read of this thread waited, or had nothing to read at first. */
+static _Thread_local bool had_nothing;
+
+/* Under the lock, in a thread whose last read had nothing to read: yields once if this read has nothing either. So two threads that answer each
+ * other park no call in the kernel, whose cost grows with the calls that wait. Returns whether the thread has the lock again, and else the process
+ * is gone. */
+static bool yielded_for(const bc_process *process, int fd)
+{
+    bc_shared *shared = process->shared;
+    struct bc_yield yield;
+    bindingclay_pollfd entry = { .fd = fd, .events = POLLIN };
+    bindingclay_answer answer = bindingclay_poll(shared->clay, process->pid, &entry, 1, false);
+    had_nothing = answer.kind == BINDINGCLAY_DONE && answer.value == 0;
+    if (!had_nothing || process->has_deadline || !bc_may_yield(shared, &yield))
+        return true;
+    bc_unlock(shared);
+    bc_yield(shared, &yield);
+    return bc_in(process);
+}
+
 ssize_t bc_read(const bc_process *process, int fd, void *into, size_t size)
 {
-    const struct bc_room room = { .into = into, .size = size };
-    if (!bc_in(process))
+    const struct bc_room room = { .kind = BC_READS, .into = into, .size = size };
+    if (!bc_in(process) || (had_nothing && !yielded_for(process, fd)))
         return -1;
     bindingclay_answer answer = bindingclay_read(process->shared->clay, process->pid, fd, into, size);
+    had_nothing = had_nothing || answer.kind == BINDINGCLAY_PARKED;
     return (ssize_t)bc_concluded(process, bc_awaited(process, answer, &room, bc_deadline(process)));
 }
 
-/* A call that gives no bytes. */
-static const struct bc_room no_room;
+/* Calls that give no bytes. */
+static const struct bc_room of_write = { .kind = BC_WRITES }, of_move;
 
 /* ---- Writes ---- */
 
@@ -75,7 +96,7 @@ ssize_t bc_write(const bc_process *process, int fd, const void *bytes, size_t si
         if (!bc_in(process))
             return written > 0 ? (ssize_t)written : -1;
         answer = begun(process, fd, bytes, size, &written, &last);
-        answer = bc_awaited(process, answer, &no_room, bc_deadline(process));
+        answer = bc_awaited(process, answer, &of_write, bc_deadline(process));
         if (answer.kind == BINDINGCLAY_DONE)
             written += answer.value;
     } while (answer.kind == BINDINGCLAY_DONE && answer.value == last && !answer.sigpipe && written < size);
@@ -178,7 +199,7 @@ ssize_t bc_splice(const bc_process *process, int from, off_t *from_offset, int t
         return -1;
     bindingclay_answer answer = bindingclay_splice(process->shared->clay, process->pid, from, from_offset != NULL ? &first : NULL, to,
         to_offset != NULL ? &second : NULL, at_most(size), flags);
-    ssize_t moved = (ssize_t)bc_concluded(process, bc_awaited(process, answer, &no_room, bc_deadline(process)));
+    ssize_t moved = (ssize_t)bc_concluded(process, bc_awaited(process, answer, &of_move, bc_deadline(process)));
     if (moved > 0 && from_offset != NULL)
         *from_offset += moved;
     if (moved > 0 && to_offset != NULL)
@@ -191,5 +212,5 @@ ssize_t bc_tee(const bc_process *process, int from, int to, size_t size, unsigne
     if (!bc_in(process))
         return -1;
     bindingclay_answer answer = bindingclay_tee(process->shared->clay, process->pid, from, to, at_most(size), flags);
-    return (ssize_t)bc_concluded(process, bc_awaited(process, answer, &no_room, bc_deadline(process)));
+    return (ssize_t)bc_concluded(process, bc_awaited(process, answer, &of_move, bc_deadline(process)));
 }

@@ -26,7 +26,7 @@ static bindingclay_answer made(bc_shared *shared, bindingclay_answer answer, bc_
 int bc_start(bc_shared *shared, bc_process *process)
 {
     const bc_process nobody = { .shared = shared };
-    pthread_mutex_lock(&shared->lock);
+    bc_lock(shared);
     return bc_done(&nobody, made(shared, bindingclay_start(shared->clay), process)) < 0 ? -1 : 0;
 }
 
@@ -86,7 +86,7 @@ static const uint8_t *bytes_of(const char *name)
 
 int bc_open(const bc_process *process, const char *name, int flags, ...)
 {
-    static const struct bc_room room = { .is_open = true };
+    static const struct bc_room room = { .kind = BC_OPENS };
     if (!bc_in(process))
         return -1;
     bindingclay_answer answer =

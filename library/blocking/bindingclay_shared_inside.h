@@ -4,27 +4,31 @@
 
 #include "bindingclay_shared.h"
 
+#include <stdatomic.h>
+
 /* The lists in which calls that wait are found by their numbers, and the pids of a kernel (README, "Does it fit?"). */
 enum { BC_LISTS = 256, BC_MOST_PID = 1024 };
 
+/* A build for helgrind goes without what it doesn't know: atomics, sem_trywait, and that sem_post looks at nothing behind its increment. */
+#ifdef BC_FOR_HELGRIND
+enum { BC_KNOWS_ATOMICS = false };
+#else
+enum { BC_KNOWS_ATOMICS = true };
+#endif
+
+/* What a call waits for: a read for bytes, a write for room, and others for either. */
+enum bc_kind { BC_OTHER, BC_READS, BC_WRITES, BC_OPENS, BC_KINDS };
+
 /* Where a call that waits puts what it gives: the bytes of a read, or the revents of a poll, or neither. */
 struct bc_room {
+    enum bc_kind kind;
     void *into;
     bindingclay_pollfd *entries;
     size_t size;
-    /* Whether it is an open, which may help others as it begins to wait. */
-    bool is_open;
 };
 
-/* Where a thread sleeps: at the semaphore if it has no deadline, as that is quicker, and else at the condition variable, whose time is that of
- * CLOCK_MONOTONIC. A seat lives as long as its kernel, so that a thread may be woken after the lock was given back, when it may have left. */
-struct bc_seat {
-    sem_t answered;
-    pthread_cond_t wakes;
-    struct bc_seat *next;
-};
-
-/* A call that waits, on the stack of its thread. It is in its list until it is answered. */
+/* A call that waits, on the stack of its thread. It is in its list until it is answered. Its thread sleeps at the semaphore if it has no
+ * deadline, as that is quicker, and else at the condition variable, whose time is that of CLOCK_MONOTONIC. */
 struct bc_waiter {
     uint64_t number;
     uint32_t pid;
@@ -33,20 +37,38 @@ struct bc_waiter {
     pthread_t thread;
     struct bc_waiter *next;
     struct bc_room room;
-    struct bc_seat *seat;
     bindingclay_answer answer;
+    sem_t answered;
+    pthread_cond_t wakes;
+};
+
+/* A lock that is held for less time than a thread takes to fall asleep and wake. Of the threads that find it taken, one looks again and again,
+ * and the others sleep in the queue behind it. So a thread that makes many calls wakes nobody between them. */
+struct bc_lock {
+    pthread_mutex_t mutex;
+    /* Whether the mutex is locked, for those who look. It may be late. */
+    atomic_bool is_taken;
+    /* Whether who has the mutex has the queue too. */
+    bool is_from_queue;
+    /* The queue shares no cache line with the others, since those who wait at it would slow down who has the mutex. */
+    char before[64];
+    pthread_mutex_t queue;
+    char behind[64];
 };
 
 struct bc_shared {
     bindingclay clay;
-    pthread_mutex_t lock;
+    struct bc_lock lock;
     pthread_condattr_t monotonic;
-    /* The seats that no thread has. */
-    struct bc_seat *seats;
-    /* The calls that wait, by number, and how many there are, in all and of each process. */
+    /* How many times the lock was given back. */
+    _Atomic uint64_t steps;
+    /* From when on threads yield before they sleep, in nanoseconds of CLOCK_MONOTONIC. */
+    _Atomic int64_t yields_from;
+    /* The calls that wait, by number, and how many there are: in all, of each process, and of reads and writes. */
     struct bc_waiter *lists[BC_LISTS];
     uint32_t waiting;
     uint32_t waiting_of[BC_MOST_PID + 1];
+    uint32_t waiting_alike[BC_KINDS];
     /* The calls that are answered, and whose threads aren't woken yet. */
     struct bc_waiter *answered;
     /* How many processes were made, and which of them has each pid; 0 is none. */
@@ -57,6 +79,60 @@ struct bc_shared {
     bc_sleep_hook sleep_hook;
     void *sleep_context;
 };
+
+/* ---- The lock ---- */
+
+/* Takes the lock if somebody has it. */
+void bc_lock_by_queue(struct bc_lock *lock);
+
+static inline bool bc_is_taken(struct bc_lock *lock)
+{
+    /* if none knows, each call goes by the queue */
+    return !BC_KNOWS_ATOMICS || atomic_load_explicit(&lock->is_taken, memory_order_relaxed);
+}
+
+static inline void bc_mark(struct bc_lock *lock, bool is_taken)
+{
+    atomic_store_explicit(&lock->is_taken, is_taken, memory_order_relaxed);
+}
+
+static inline void bc_lock(bc_shared *shared)
+{
+    if (bc_is_taken(&shared->lock))
+        bc_lock_by_queue(&shared->lock);
+    else
+        pthread_mutex_lock(&shared->lock.mutex);
+    bc_mark(&shared->lock, true);
+}
+
+static inline void bc_unlock(bc_shared *shared)
+{
+    bool is_from_queue = shared->lock.is_from_queue;
+    shared->lock.is_from_queue = false;
+    atomic_store_explicit(&shared->steps, atomic_load_explicit(&shared->steps, memory_order_relaxed) + 1, memory_order_relaxed);
+    bc_mark(&shared->lock, false);
+    pthread_mutex_unlock(&shared->lock.mutex);
+    if (is_from_queue)
+        pthread_mutex_unlock(&shared->lock.queue);
+}
+
+/* ---- Yields ---- */
+
+/* When a thread began to yield, and how many steps were made before. */
+struct bc_yield {
+    int64_t begun;
+    uint64_t steps;
+};
+
+/* Whether a thread may yield in place of sleeping. Whoever runs next on this processor often makes the step that it waits for, and then neither
+ * thread has to call the host to sleep or to wake. But a yield may also give the processor to another program, for milliseconds. That is so if
+ * it takes long, and the threads of this kernel made few steps meanwhile. Then no thread yields for a while. With a hook of sleeps none yields. */
+bool bc_may_yield(bc_shared *shared, struct bc_yield *yield);
+
+/* Yields once, without the lock. Returns whether the thread may yield again. */
+bool bc_yield(bc_shared *shared, const struct bc_yield *yield);
+
+/* ---- Calls ---- */
 
 /* What the functions below do if there is more to do than usual. */
 int64_t bc_concluded_otherwise(const bc_process *process, bindingclay_answer answer);
@@ -69,19 +145,25 @@ bindingclay_answer bc_wait(
 static inline bool bc_in(const bc_process *process)
 {
     bc_shared *shared = process->shared;
-    pthread_mutex_lock(&shared->lock);
+    bc_lock(shared);
     if (process->birth != 0 && process->pid <= BC_MOST_PID && shared->births[process->pid] == process->birth)
         return true;
     return bc_out_of_none(shared);
 }
 
-/* Tries again all calls that can get on, gives the lock back, and wakes the threads whose calls are answered. */
-static inline void bc_out(bc_shared *shared)
+/* Tries again the calls that can get on, gives the lock back, and wakes the threads whose calls are answered. The step that was made may have
+ * helped so many of the calls that wait. */
+static inline void bc_out_behind(bc_shared *shared, uint32_t helped)
 {
-    if (shared->waiting == 0 && shared->answered == NULL)
-        pthread_mutex_unlock(&shared->lock);
+    if (helped == 0 && shared->answered == NULL)
+        bc_unlock(shared);
     else
         bc_out_and_wake(shared);
+}
+
+static inline void bc_out(bc_shared *shared)
+{
+    bc_out_behind(shared, shared->waiting);
 }
 
 /* What a call returns that was answered so: its value, or -1 with errno. Calls the hook of SIGPIPE first where it is due. */
@@ -106,7 +188,8 @@ static inline bindingclay_answer bc_awaited(
 {
     if (answer.kind == BINDINGCLAY_PARKED)
         return bc_wait(process, answer, room, deadline);
-    bc_out(process->shared);
+    /* a read makes room, which helps no other read, and a write helps no other write */
+    bc_out_behind(process->shared, process->shared->waiting - process->shared->waiting_alike[room->kind]);
     return answer;
 }
 

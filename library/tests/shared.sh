@@ -36,6 +36,13 @@ sanitized() {
         check "$name with -fsanitize=$word" timeout 300 "$work/sanitized" "$@"
 }
 
+# without_races_of_front NAME: builds a test and the front for helgrind, and looks for races. There the lock goes without what helgrind doesn't know.
+without_races_of_front() {
+    # shellcheck disable=SC2086
+    check "building $1 for helgrind" "$cc" $strict -O1 -DBC_FOR_HELGRIND "-I$work/prefix/include" -o "$work/races_in_$1" \
+        "$here/tests/$1.c" "$here"/blocking/*.c "-L$work/prefix/lib" -lbindingclay -pthread && without_races "races_in_$1"
+}
+
 # over_both NAME ARGUMENT..: whether a program over the host prints what it prints over the front.
 over_both() {
     name=$1
@@ -56,7 +63,8 @@ try_front() {
         return
     fi
     for name in shared shared_waits; do
-        build_front "$name" && run "$name" && without_races "$name"
+        build_front "$name" && run "$name"
+        without_races_of_front "$name"
         for word in thread address,undefined; do
             sanitized "$name" "$word"
         done
@@ -65,7 +73,7 @@ try_front() {
     if build_front shared_storm; then
         plainly shared_storm 5 && sed 's/^/storm: /' "$work/log"
         under_valgrind shared_storm 1
-        without_races shared_storm
+        without_races_of_front shared_storm
         sanitized shared_storm thread 5
         sanitized shared_storm address,undefined 1
     fi
