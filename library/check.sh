@@ -7,6 +7,7 @@
 #   ARCHIVE   an archive that is built already    it is built over what rt ci left, or else by rt lib in crates/bindingclay
 #   RT, CC, CXX, RUSTC, VALGRIND                  rt, cc, c++, rustc, valgrind; what isn't there, but for RT and CC, is passed over
 #   MEMORY, AR                                    as of install.sh
+#   PIPELINE_LINES   how many lines go through the pipeline of programs/    681000, which are 10 MiB
 #   PIPERUN   the program piperun                 crates/piperun/out/piperun; it is passed over where it isn't there
 set -u
 

@@ -43,7 +43,7 @@ static inline void end_calls(void)
 }
 
 #define p_pipe2(ends, flags) must(pipe2(ends, flags), "pipe2")
-#define p_open(name, flags) (int)must(open(name, flags), name)
+#define p_open(name, flags) (int)must(open(name, flags, 0600), name)
 #define p_mkfifo(name) must(mkfifo(name, 0600), name)
 #define p_unlink(name) must(unlink(name), name)
 #define p_close(fd) must(close(fd), "close")

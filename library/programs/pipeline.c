@@ -1,10 +1,10 @@
 /* A pipeline of filters, each a thread: cat | tr a-z A-Z | sort | uniq -c | wc, over lines that are drawn. A number as its argument is how many
- * lines. It prints the counts of the lines, and what wc counts. */
+ * lines: 6,810,000 are 100 MiB, and take 440 MB of memory to sort. It prints the counts of the lines, what wc counts, and the bytes that tr read. */
 #include "calls.h"
 
 enum { LINE = 64, BUFFER = 5000 };
 
-static long lines = 20000;
+static long lines = 20000, through;
 
 /* What a filter reads from and writes to, and what it has read and not yet given. */
 struct filter {
@@ -62,6 +62,7 @@ static void *run_tr(void *argument)
             if (filter->bytes[i] >= 'a' && filter->bytes[i] <= 'z')
                 filter->bytes[i] += 'A' - 'a';
         p_write(filter->to, filter->bytes, (size_t)count);
+        through += count;
     }
     p_close(filter->to);
     return NULL;
@@ -135,7 +136,7 @@ int main(int count, char **words)
         pthread_join(threads[i], NULL);
     for (int i = 0; i < FILTERS; i++)
         p_close(filters[i + 1].from);
-    printf("%ld lines, %ld bytes\n", all, bytes);
+    printf("%ld lines, %ld bytes, of %ld bytes\n", all, bytes, through);
     end_calls();
     return 0;
 }

@@ -52,8 +52,8 @@ over_both() {
     # shellcheck disable=SC2086
     "$cc" $strict -O2 "-I$work/prefix/include" -o "$work/over_front" "$here/programs/$name.c" "-L$work/prefix/lib" \
         -lbindingclay_shared -lbindingclay -pthread || return 1
-    timeout 120 "$work/over_host" "$@" > "$work/of_host" || return 1
-    timeout 120 "$work/over_front" "$@" > "$work/of_front" || return 1
+    timeout 300 "$work/over_host" "$@" > "$work/of_host" || return 1
+    timeout 300 "$work/over_front" "$@" > "$work/of_front" || return 1
     [ -s "$work/of_host" ] && diff "$work/of_host" "$work/of_front"
 }
 
@@ -84,9 +84,11 @@ try_front() {
     else
         echo "passed over: the header of the front in C++"
     fi
-    for name in pipeline logger two_consumers job_pool self_pipe; do
+    for name in logger two_consumers job_pool self_pipe shell; do
         check "$name over both" over_both "$name"
     done
+    # 681,000 lines are 10 MiB, and 6,810,000 are 100 MiB
+    check "pipeline over both" over_both pipeline "${PIPELINE_LINES:-681000}"
     # shellcheck disable=SC2086
     check "building bench_shared" "$cc" $strict -O2 "-I$work/prefix/include" -o "$work/bench_shared" "$here/bench_shared.c" \
         "-L$work/prefix/lib" -lbindingclay_shared -lbindingclay -pthread
