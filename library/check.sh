@@ -202,6 +202,12 @@ if build budget "$counted"; then
     plainly budget 100000 && sed 's/^/budget: /' "$work/log"
     under_valgrind budget 2000
 fi
+if [ -f "$work/prefix/lib/libbindingclay_allocator.a" ]; then
+    check "building allocator" "$cc" -Wall -Wextra -Werror -std=c11 -O1 -g "-I$work/prefix/include" -o "$work/allocator" \
+        "$here/tests/allocator.c" "-L$work/prefix/lib" -lbindingclay_allocator -pthread "$counted" && run allocator
+else
+    echo "passed over: allocator"
+fi
 for name in one_lock two_kernels; do
     build "$name" "$counted" -pthread && run "$name" && without_races "$name"
 done

@@ -4,13 +4,15 @@
 #   PREFIX/include/bindingclay.h, bindingclay_shared.h
 #   PREFIX/lib/libbindingclay.a            with the three functions by which it takes memory from malloc
 #   PREFIX/lib/libbindingclay_shared.a     the front for threads of blocking/, if there is a C compiler
+#   PREFIX/include/bindingclay_allocator.h, and PREFIX/lib/libbindingclay_allocator.a, which is both archives with memory from an allocator of
+#       the program, if there are a C compiler and objcopy
 #   PREFIX/lib/pkgconfig/bindingclay.pc
 #   PREFIX/share/man                       the manual pages of man/, and links to them by the names of functions
 #
 # Environment, each with what is taken without it:
 #   ARCHIVE  the library as rt lib built it    crates/bindingclay/out/libbindingclay.a
 #   MEMORY   the toolchain's archive of rattle_alloc, rattle_realloc and rattle_dealloc    c/liblibc_c.a beside what rt doc names
-#   RT, AR, CC    rt, ar, cc
+#   RT, AR, CC, OBJCOPY    rt, ar, cc, objcopy
 set -eu
 
 if [ $# -ne 1 ]; then
@@ -58,6 +60,20 @@ if command -v "${CC:-cc}" > /dev/null 2>&1; then
     install -m 644 "$work/libbindingclay_shared.a" "$prefix/lib/libbindingclay_shared.a"
 else
     echo "passed over: libbindingclay_shared.a, as there is no ${CC:-cc}"
+fi
+
+# Both archives, with other names for the functions that give memory.
+if command -v "${CC:-cc}" > /dev/null 2>&1 && command -v "${OBJCOPY:-objcopy}" > /dev/null 2>&1; then
+    cp "$work/libbindingclay.a" "$work/libbindingclay_allocator.a"
+    (cd "$work/blocking" && "$ar" qD ../libbindingclay_allocator.a ./*.o)
+    "${OBJCOPY:-objcopy}" --redefine-sym malloc=bindingclay_malloc --redefine-sym calloc=bindingclay_calloc \
+        --redefine-sym realloc=bindingclay_realloc --redefine-sym free=bindingclay_release "$work/libbindingclay_allocator.a"
+    (cd "$here/allocator" && "${CC:-cc}" -std=c11 -O2 -fPIC -Wall -Wextra -I../include -c -o "$work/allocator.o" bindingclay_allocator.c)
+    (cd "$work" && "$ar" qsD libbindingclay_allocator.a allocator.o)
+    install -m 644 "$work/libbindingclay_allocator.a" "$prefix/lib/libbindingclay_allocator.a"
+    install -m 644 "$here/allocator/bindingclay_allocator.h" "$prefix/include"
+else
+    echo "passed over: libbindingclay_allocator.a, as there is no ${CC:-cc} or no ${OBJCOPY:-objcopy}"
 fi
 
 number() {

@@ -59,6 +59,11 @@ extern "C" {
 #define BINDINGCLAY_VERSION \
     (BINDINGCLAY_VERSION_MAJOR * 1000000 + BINDINGCLAY_VERSION_MINOR * 1000 + BINDINGCLAY_VERSION_PATCH)
 
+/* What gives back the block of a budget. bindingclay_allocator.h defines it, for memory that isn't from malloc. */
+#ifndef BINDINGCLAY_FREE
+#define BINDINGCLAY_FREE free
+#endif
+
 /* The most bytes of a regular file. bindingclay_open and bindingclay_open_within may limit it further. */
 #define BINDINGCLAY_MOST_FILE_BYTES 16777216
 
@@ -186,7 +191,7 @@ static inline bool bindingclay_open_within(const bindingclay_limits *limits, voi
     /* its fields are words, of which the last two share one */
     if (bindingclay_open_words((const uint64_t *)(const void *)limits, limits->size / sizeof(uint64_t), kernel, &budget))
         return true;
-    free(budget);
+    BINDINGCLAY_FREE(budget);
     return false;
 }
 
@@ -207,7 +212,7 @@ static inline void bindingclay_free(bindingclay clay)
 {
     void *budget = NULL;
     bindingclay_end(clay, &budget);
-    free(budget);
+    BINDINGCLAY_FREE(budget);
 }
 
 /* Tells how much memory a kernel takes. Asks for no memory. */
