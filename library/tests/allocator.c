@@ -233,6 +233,7 @@ static bool take_turns(struct arena *arena, uint8_t number)
 /* Forks the processes, and waits for their ends. */
 static void fork_all(struct arena *arena)
 {
+    fflush(stdout);
     for (int i = 1; i <= CHILDREN; i++) {
         pid_t child = fork();
         HOLDS(child >= 0);

@@ -12,6 +12,8 @@ FLAGS = ["-std=c11", "-Wall", "-Wextra", "-Werror"]
 HEADERS = ["bindingclay.h", "assert.h", "errno.h", "fcntl.h", "poll.h", "stdio.h", "string.h"]
 # the header of the front for threads
 FRONT = "bindingclay_shared.h"
+# the header of an allocator, whose archive has the others
+ALLOCATOR = "bindingclay_allocator.h"
 # what a fragment tells of its last answer
 TELLS = re.compile(r'/\* done: value (\d+), "(\w*)" \*/')
 
@@ -62,10 +64,13 @@ def fault_of(project, number, program):
     source.write_text(program.source, encoding="utf-8")
     words = [project.cc, *FLAGS, str(source)]
     if project.prefix:
-        front = ["-lbindingclay_shared", "-pthread"] if FRONT in program.source else []
-        words += [f"-I{project.prefix}/include", "-o", str(built), f"-L{project.prefix}/lib", *front, "-lbindingclay"]
+        archives = ["-lbindingclay_shared", "-lbindingclay", "-pthread"] if FRONT in program.source else ["-lbindingclay"]
+        if ALLOCATOR in program.source:
+            archives = ["-lbindingclay_allocator", "-pthread"]
+        words += [f"-I{project.prefix}/include", "-o", str(built), f"-L{project.prefix}/lib", *archives]
     else:
-        words += [f"-I{project.root}/library/include", f"-I{project.root}/library/blocking", "-fsyntax-only"]
+        words += [f"-I{project.root}/library/include", f"-I{project.root}/library/blocking"]
+        words += [f"-I{project.root}/library/allocator", "-fsyntax-only"]
     compiled = subprocess.run(words, capture_output=True, text=True, check=False)
     if compiled.returncode != 0 or not project.prefix:
         return compiled.stderr.strip() or (None if compiled.returncode == 0 else "it doesn't compile")
