@@ -13,7 +13,7 @@ enum { FIRST_TURNS = 64, MOST_TURNS = 1024 };
 
 /* How often a thread yields before it sleeps; from how many nanoseconds on that is slow, for itself and for each step that was made meanwhile; and for
  * how long no thread yields then. */
-enum { YIELDS = 8, SLOW_YIELD = 50000, SLOW_STEP = 5000, PAUSE_OF_YIELDS = 100000000 };
+enum { YIELDS = 8, SLOW_YIELD = 50000, SLOW_STEP = 5000, PAUSE_OF_YIELDS = 20000000 };
 
 static bindingclay_answer failed(int error)
 {

@@ -1,6 +1,7 @@
 //! What pipes of a shared kernel cost beside `std::io::pipe`, in one run: the least of many rounds, in nanoseconds.
 //!
-//! The rows are a write and a read of 64 bytes in one thread, a ping-pong of two threads, and a stream of 64 KiB pieces from thread to thread.
+//! The rows are a write and a read of 64 bytes in one thread, a ping-pong of two threads, a stream of 64 KiB pieces from thread to thread, and
+//! messages of 100 bytes among 160 threads in four groups.
 
 use bindingclay::shared::Shared;
 use std::hint::black_box;
@@ -70,6 +71,35 @@ fn stream<R: Read + Send, W: Write + Send>(mut reader: R, mut writer: W, rounds:
     })
 }
 
+/// Four groups of 20 senders and 20 receivers, each with a pipe. Each sender writes messages to each receiver of its group: what a message takes.
+fn messages<R: Read + Send, W: Send + Sync>(pipe: impl Fn() -> Result<(R, W)>, rounds: usize) -> Result<f64>
+where
+    for<'a> &'a W: Write,
+{
+    const GROUPS: usize = 4;
+    const MEMBERS: usize = 20;
+    const EACH: usize = 50;
+    let mut told = f64::MAX;
+    for _ in 0..rounds {
+        let pipes = (0..GROUPS * MEMBERS).map(|_| pipe()).collect::<Result<Vec<_>>>()?;
+        let (readers, writers): (Vec<R>, Vec<W>) = pipes.into_iter().unzip();
+        let begun = Instant::now();
+        thread::scope(|scope| {
+            for mut reader in readers {
+                scope.spawn(move || (0..MEMBERS * EACH).try_for_each(|_| reader.read_exact(&mut [0; 100])).expect("a read"));
+            }
+            for of_group in writers.chunks(MEMBERS) {
+                for _ in of_group {
+                    let send = move |mut to: &W| to.write_all(&[7; 100]);
+                    scope.spawn(move || (0..EACH).try_for_each(|_| of_group.iter().try_for_each(send)).expect("a write"));
+                }
+            }
+        });
+        told = told.min(begun.elapsed().as_nanos() as f64 / (GROUPS * MEMBERS * MEMBERS * EACH) as f64);
+    }
+    Ok(told)
+}
+
 fn tell(what: &str, host: f64, here: f64) {
     println!("{what:<34} host's pipe {host:>9.1}   here {here:>9.1}   ratio {:.3}", here / host);
 }
@@ -84,5 +114,7 @@ fn main() -> Result<()> {
     let host = std::io::pipe()?;
     let here = process.pipe()?;
     tell("64 KiB from thread to thread", stream(host.0, host.1, 30)?, stream(here.0, here.1, 30)?);
+    let host = messages(std::io::pipe, 20)?;
+    tell("100 bytes among 160 threads", host, messages(|| process.pipe(), 20)?);
     Ok(())
 }
