@@ -66,7 +66,7 @@ fi
 if command -v "${CC:-cc}" > /dev/null 2>&1 && command -v "${OBJCOPY:-objcopy}" > /dev/null 2>&1; then
     cp "$work/libbindingclay.a" "$work/libbindingclay_allocator.a"
     (cd "$work/blocking" && "$ar" qD ../libbindingclay_allocator.a ./*.o)
-    "${OBJCOPY:-objcopy}" --redefine-sym malloc=bindingclay_malloc --redefine-sym calloc=bindingclay_calloc \
+    "${OBJCOPY:-objcopy}" -D --redefine-sym malloc=bindingclay_malloc --redefine-sym calloc=bindingclay_calloc \
         --redefine-sym realloc=bindingclay_realloc --redefine-sym free=bindingclay_release "$work/libbindingclay_allocator.a"
     (cd "$here/allocator" && "${CC:-cc}" -std=c11 -O2 -fPIC -Wall -Wextra -I../include -c -o "$work/allocator.o" bindingclay_allocator.c)
     (cd "$work" && "$ar" qsD libbindingclay_allocator.a allocator.o)
