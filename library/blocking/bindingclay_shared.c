@@ -128,8 +128,10 @@ static void count_waiter(bc_shared *shared, const struct bc_waiter *waiter, int 
 {
     shared->waiting += (uint32_t)more;
     shared->waiting_of[waiter->pid] += (uint32_t)more;
-    if (waiter->room.kind == BC_READS || waiter->room.kind == BC_WRITES)
+    if (waiter->room.kind == BC_READS || waiter->room.kind == BC_WRITES) {
         shared->waiting_alike[waiter->room.kind] += (uint32_t)more;
+        shared->waiting_at[waiter->room.kind][waiter->group] += (uint32_t)more;
+    }
 }
 
 static void enlist(bc_shared *shared, struct bc_waiter *waiter)
@@ -349,6 +351,8 @@ bindingclay_answer bc_wait(
     bc_shared *shared = process->shared;
     struct bc_waiter waiter = { .number = parked.value, .pid = process->pid, .thread = pthread_self(), .room = *room };
     waiter.has_deadline = deadline != NULL;
+    if (room->kind == BC_READS || room->kind == BC_WRITES)
+        waiter.group = bc_group_of(process, room->fd);
     /* neither fails: they take no memory, and nobody has them */
     if (waiter.has_deadline)
         pthread_cond_init(&waiter.wakes, &shared->monotonic);

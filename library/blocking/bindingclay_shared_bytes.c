@@ -32,7 +32,7 @@ static bool yielded_for(const bc_process *process, int fd)
 
 ssize_t bc_read(const bc_process *process, int fd, void *into, size_t size)
 {
-    const struct bc_room room = { .kind = BC_READS, .into = into, .size = size };
+    const struct bc_room room = { .kind = BC_READS, .fd = fd, .into = into, .size = size };
     if (!bc_in(process) || (had_nothing && !yielded_for(process, fd)))
         return -1;
     bindingclay_answer answer = bindingclay_read(process->shared->clay, process->pid, fd, into, size);
@@ -40,8 +40,8 @@ ssize_t bc_read(const bc_process *process, int fd, void *into, size_t size)
     return (ssize_t)bc_concluded(process, bc_awaited(process, answer, &room, bc_deadline(process)));
 }
 
-/* Calls that give no bytes. */
-static const struct bc_room of_write = { .kind = BC_WRITES }, of_move;
+/* A call that gives no bytes. */
+static const struct bc_room of_move;
 
 /* ---- Writes ---- */
 
@@ -88,6 +88,7 @@ static bindingclay_answer begun(const bc_process *process, int fd, const uint8_t
 
 ssize_t bc_write(const bc_process *process, int fd, const void *bytes, size_t size)
 {
+    const struct bc_room room = { .kind = BC_WRITES, .fd = fd };
     bindingclay_answer answer;
     size_t written = 0, last;
     if (size > BINDINGCLAY_MOST_BYTES)
@@ -96,7 +97,7 @@ ssize_t bc_write(const bc_process *process, int fd, const void *bytes, size_t si
         if (!bc_in(process))
             return written > 0 ? (ssize_t)written : -1;
         answer = begun(process, fd, bytes, size, &written, &last);
-        answer = bc_awaited(process, answer, &of_write, bc_deadline(process));
+        answer = bc_awaited(process, answer, &room, bc_deadline(process));
         if (answer.kind == BINDINGCLAY_DONE)
             written += answer.value;
     } while (answer.kind == BINDINGCLAY_DONE && answer.value == last && !answer.sigpipe && written < size);

@@ -22,6 +22,8 @@ enum bc_kind { BC_OTHER, BC_READS, BC_WRITES, BC_OPENS, BC_KINDS };
 /* Where a call that waits puts what it gives: the bytes of a read, or the revents of a poll, or neither. */
 struct bc_room {
     enum bc_kind kind;
+    /* The descriptor of a read or a write. */
+    int fd;
     void *into;
     bindingclay_pollfd *entries;
     size_t size;
@@ -37,6 +39,8 @@ struct bc_waiter {
     pthread_t thread;
     struct bc_waiter *next;
     struct bc_room room;
+    /* Of a read or a write the group of its pipe, as bc_group_of tells it. */
+    unsigned group;
     bindingclay_answer answer;
     sem_t answered;
     pthread_cond_t wakes;
@@ -69,6 +73,8 @@ struct bc_shared {
     uint32_t waiting;
     uint32_t waiting_of[BC_MOST_PID + 1];
     uint32_t waiting_alike[BC_KINDS];
+    /* The reads and writes that wait, by the groups of their pipes. */
+    uint32_t waiting_at[BC_KINDS][BC_LISTS];
     /* The calls that are answered, and whose threads aren't woken yet. */
     struct bc_waiter *answered;
     /* How many processes were made, and which of them has each pid; 0 is none. */
@@ -161,6 +167,28 @@ static inline void bc_out_behind(bc_shared *shared, uint32_t helped)
         bc_out_and_wake(shared);
 }
 
+/* The group of what a descriptor names: each pipe is in one. */
+static inline unsigned bc_group_of(const bc_process *process, int fd)
+{
+    bindingclay_node_facts facts = { 0, 0, 0 };
+    bindingclay_fd_facts(process->shared->clay, process->pid, fd, &facts);
+    return (unsigned)(facts.key % BC_LISTS);
+}
+
+/* How many calls that wait may have been helped by a step that is answered. A read makes room, so it helps the writes of its pipe, and a write helps
+ * the reads of its pipe. Of other calls that wait nobody knows, and other steps may help all. */
+static inline uint32_t bc_helped(const bc_process *process, const struct bc_room *room)
+{
+    const bc_shared *shared = process->shared;
+    uint32_t others = shared->waiting - shared->waiting_alike[room->kind];
+    if (others == 0 || (room->kind != BC_READS && room->kind != BC_WRITES))
+        return others;
+    enum bc_kind opposite = room->kind == BC_READS ? BC_WRITES : BC_READS;
+    if (others > shared->waiting_alike[opposite])
+        return others;
+    return shared->waiting_at[opposite][bc_group_of(process, room->fd)];
+}
+
 static inline void bc_out(bc_shared *shared)
 {
     bc_out_behind(shared, shared->waiting);
@@ -188,8 +216,7 @@ static inline bindingclay_answer bc_awaited(
 {
     if (answer.kind == BINDINGCLAY_PARKED)
         return bc_wait(process, answer, room, deadline);
-    /* a read makes room, which helps no other read, and a write helps no other write */
-    bc_out_behind(process->shared, process->shared->waiting - process->shared->waiting_alike[room->kind]);
+    bc_out_behind(process->shared, bc_helped(process, room));
     return answer;
 }
 
