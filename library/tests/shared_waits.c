@@ -2,7 +2,7 @@
 #define _GNU_SOURCE
 #include "shared.h"
 
-enum { LARGE = 300000, PINGS = 2000 };
+enum { LARGE = 300000, PINGS = 2000, SLEEPS = 100 };
 
 static bc_shared *shared;
 
@@ -249,13 +249,15 @@ static void slept_by_hook(void)
     sleeps.count = 0;
     FAILS(bc_read(&late, ends[0], &byte, 1), ETIMEDOUT);
     HOLDS(bc_poll(&process, &entry, 1, 1) == 0 && sleeps.count == 0);
-    /* another thread answers a call that sleeps by the hook, and so does an interrupt of another thread */
+    /* another thread answers a call that sleeps by the hook, and so does an interrupt of another thread; no thread waits before the hook */
     struct job job = { .size = 0 };
     sleeps.count = 1;
+    for (int i = 0; i < SLEEPS; i++) {
+        begin(&job, &process, a_read, ends[0]);
+        HOLDS(bc_write(&process, ends[1], "x", 1) == 1 && ends_so(&job, 1, 0));
+    }
     begin(&job, &process, a_read, ends[0]);
-    HOLDS(bc_write(&process, ends[1], "x", 1) == 1 && ends_so(&job, 1, 0));
-    begin(&job, &process, a_read, ends[0]);
-    HOLDS(bc_interrupt(&process) == 1 && ends_so(&job, -1, EINTR) && sleeps.count == 3);
+    HOLDS(bc_interrupt(&process) == 1 && ends_so(&job, -1, EINTR) && sleeps.count == SLEEPS + 2);
     HOLDS(bc_exit(&process) == 0 && bc_shared_close(own) == 0);
 }
 
