@@ -80,6 +80,45 @@ static void pairs(const char *what, const char *beside, const int *host, binding
     print(what, size, beside, theirs, ours);
 }
 
+/* Hands out what is recorded, and forgets it. */
+static void hand_out(bindingclay recorded)
+{
+    static uint8_t record[MIB];
+    uint64_t count;
+    while ((count = done(bindingclay_recorded(recorded, record, sizeof record))) > 0)
+        sum += count;
+}
+
+/* The same of a kernel whose steps are recorded. Each round begins with a record that was handed out. */
+static void recorded_pairs(const int *host, size_t size, int times)
+{
+    double theirs = 0, ours = 0;
+    bindingclay recorded;
+    bindingclay_ends ends;
+    if (!bindingclay_open(1, BINDINGCLAY_MOST_FILE_BYTES, &recorded.kernel))
+        exit(1);
+    done(bindingclay_record(recorded, true));
+    done(bindingclay_start(recorded));
+    done(bindingclay_pipe(recorded, 1, false, &ends));
+    for (int round = 0; round < ROUNDS; round++) {
+        hand_out(recorded);
+        double begun = now();
+        for (int i = 0; i < times; i++) {
+            sum += as_host(write(host[1], data, size));
+            sum += as_host(read(host[0], into, size));
+        }
+        keep_least(&theirs, begun, times);
+        begun = now();
+        for (int i = 0; i < times; i++) {
+            sum += done(bindingclay_write(recorded, 1, ends.write_end, data, size));
+            sum += done(bindingclay_read(recorded, 1, ends.read_end, into, size));
+        }
+        keep_least(&ours, begun, times);
+    }
+    print("write and read, recorded", size, "host's pipe", theirs, ours);
+    bindingclay_free(recorded);
+}
+
 /* A pipe that is made, and its two ends closed. */
 static void pipes(int times)
 {
@@ -182,6 +221,7 @@ int main(void)
         pairs("write and read", "host's pipe", host, ends, SIZES[i].size, SIZES[i].times);
     for (size_t i = 0; i < sizeof PACKETS / sizeof *PACKETS; i++)
         pairs("write and read, packet", "host's pipe", host_packets, packets, PACKETS[i].size, PACKETS[i].times);
+    recorded_pairs(host, 64, 200);
     pipes(200);
     polls(host, ends, 2, 1000);
     polls(host, ends, MOST_ENTRIES, 60);

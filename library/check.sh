@@ -152,6 +152,12 @@ loop_prints_what_it_should() {
 }
 
 # shellcheck disable=SC2317
+example_record_passes() {
+    "$work/example_record" > "$work/record" && "$piperun" --check "$work/record" | tee "$work/printed" &&
+        echo '6 replies as recorded' | diff - "$work/printed"
+}
+
+# shellcheck disable=SC2317
 example_prints_what_it_should() {
     "$work/example" > "$work/printed" && printf 'the child read hello\nand then 0 bytes\n' | diff - "$work/printed"
 }
@@ -234,6 +240,9 @@ if build scripts "$counted"; then
     plainly scripts 400 200 "$@" && sed 's/^/scripts: /' "$work/log"
     under_valgrind scripts 12 0 "$@"
 fi
+# shellcheck disable=SC1091
+. "$here/tests/records.sh"
+try_records "$@"
 
 try_release
 if [ -x "$piperun" ]; then
@@ -265,6 +274,15 @@ if is_there "$rustc"; then
     build_in_rust shared && run shared
     build_in_rust shared_tasks && run shared_tasks
     build_in_rust shared_storm && plainly shared_storm
+    if build_in_rust shared_record; then
+        BINDINGCLAY_RECORD=$work/rust.record && export BINDINGCLAY_RECORD
+        run shared_record
+        if [ -x "$piperun" ]; then
+            check "the record of a storm in Rust" "$piperun" --check "$work/rust.record" && sed 's/^/record of a storm in Rust: /' "$work/log"
+        else
+            echo "passed over: the record of a storm in Rust"
+        fi
+    fi
 else
     echo "passed over: client.rs, and the tests of the shared kernel in Rust"
 fi
@@ -274,6 +292,13 @@ check "building example" "$cc" -Wall -Wextra -Werror -std=c11 "-I$work/prefix/in
 check "building example_loop" "$cc" -Wall -Wextra -Werror -std=c11 "-I$work/prefix/include" -o "$work/example_loop" \
     "$here/example_loop.c" "-L$work/prefix/lib" -lbindingclay && check "example_loop" loop_prints_what_it_should "$work/example_loop" &&
     under_valgrind example_loop
+check "building example_record" "$cc" -Wall -Wextra -Werror -std=c11 "-I$work/prefix/include" -o "$work/example_record" \
+    "$here/example_record.c" "-L$work/prefix/lib" -lbindingclay && under_valgrind example_record
+if [ -x "$piperun" ]; then
+    check "the record of example_record" example_record_passes
+else
+    echo "passed over: the record of example_record"
+fi
 if is_there pkg-config; then
     check "building example with pkg-config" build_by_pkg_config && check "example by pkg-config" example_prints_what_it_should
 else

@@ -117,6 +117,22 @@ bindingclay_memory_use bc_memory(bc_shared *shared)
     return memory;
 }
 
+/* ---- Records ---- */
+
+int bc_record(bc_shared *shared, bool on)
+{
+    const bc_process nobody = { .shared = shared };
+    bc_lock(shared);
+    return (int)bc_done(&nobody, bindingclay_record(shared->clay, on));
+}
+
+ssize_t bc_recorded(bc_shared *shared, void *into, size_t size)
+{
+    const bc_process nobody = { .shared = shared };
+    bc_lock(shared);
+    return (ssize_t)bc_done(&nobody, bindingclay_recorded(shared->clay, into, size));
+}
+
 /* ---- The lists of calls that wait ---- */
 
 static struct bc_waiter **list_of(bc_shared *shared, uint64_t number)
@@ -169,6 +185,8 @@ static void answer_waiter(bc_shared *shared, struct bc_waiter *waiter, bindingcl
 static bindingclay_answer interrupted(bc_shared *shared, uint64_t number, int error)
 {
     bindingclay_answer answer = bindingclay_interrupt(shared->clay, number);
+    if (bc_unrecorded(shared, answer))
+        answer = bindingclay_interrupt(shared->clay, number);
     return answer.kind == BINDINGCLAY_DONE ? answer : failed(error);
 }
 
@@ -184,7 +202,7 @@ static void try_again(bc_shared *shared, uint64_t number)
     bindingclay_answer answer;
     if (waiter == NULL) {
         /* no thread waits for it, so nobody could be told */
-        bindingclay_interrupt(shared->clay, number);
+        interrupted(shared, number, 0);
         return;
     }
     if (waiter->room.entries != NULL)

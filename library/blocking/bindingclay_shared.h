@@ -79,6 +79,16 @@ void bc_on_sleep(bc_shared *shared, bc_sleep_hook hook, void *context);
 /* Tells how much memory the kernel takes, as bindingclay_memory does. */
 bindingclay_memory_use bc_memory(bc_shared *shared);
 
+/* Begins to record the steps of the kernel, or ends that if on is false, as bindingclay_record does. Returns 0, or -1 with EINVAL to begin once a
+ * process was started or a recording begun. The steps of all threads are in the record, in the order in which they were made, with each try
+ * of a call that waits. While they are recorded, any call may fail with ENOMEM. But an exit doesn't, and each call that waits comes to its end: if
+ * there is no memory to record that, the recording ends, and what wasn't handed out is dropped. */
+int bc_record(bc_shared *shared, bool on);
+
+/* Hands out the first bytes of the record that weren't handed out, at most size, as bindingclay_recorded does. Any thread may do so at any time.
+ * Returns how many, 0 if none is left or size is 0, or -1. Fails with EINVAL if no recording goes on. */
+ssize_t bc_recorded(bc_shared *shared, void *into, size_t size);
+
 /* ---- Processes ---- */
 
 /* Starts a process without descriptors, and writes it to *process. Returns 0, or -1 with EAGAIN if there are 1,024 processes. */

@@ -20,9 +20,10 @@ static bool yielded_for(const bc_process *process, int fd)
 {
     bc_shared *shared = process->shared;
     struct bc_yield yield;
-    bindingclay_pollfd entry = { .fd = fd, .events = POLLIN };
-    bindingclay_answer answer = bindingclay_poll(shared->clay, process->pid, &entry, 1, false);
-    had_nothing = answer.kind == BINDINGCLAY_DONE && answer.value == 0;
+    bindingclay_node_facts facts;
+    /* a poll would be a step, which stands in a record */
+    bindingclay_answer answer = bindingclay_fd_facts(shared->clay, process->pid, fd, &facts);
+    had_nothing = answer.kind == BINDINGCLAY_DONE && facts.kind != BINDINGCLAY_FILE && facts.size == 0;
     if (!had_nothing || process->has_deadline || !bc_may_yield(shared, &yield))
         return true;
     bc_unlock(shared);
@@ -61,8 +62,9 @@ static size_t piece(const bc_process *process, int fd, size_t size)
         return size;
     if (facts.kind == BINDINGCLAY_PACKET_PIPE)
         return BINDINGCLAY_PACKET_BYTES;
-    size_t room = bindingclay_get_pipe_sz(clay, process->pid, fd).value - facts.size;
-    if (size <= room)
+    bindingclay_answer capacity = bindingclay_get_pipe_sz(clay, process->pid, fd);
+    size_t room = capacity.value - facts.size;
+    if (capacity.kind != BINDINGCLAY_DONE || size <= room)
         return size;
     if (size - room <= WHOLE)
         return size > BY_PARTS ? size - BY_PARTS : size;

@@ -46,6 +46,8 @@ int bc_exit(const bc_process *process)
     if (!bc_in(process))
         return -1;
     bindingclay_answer answer = bindingclay_exit(shared->clay, process->pid);
+    if (bc_unrecorded(shared, answer))
+        answer = bindingclay_exit(shared->clay, process->pid);
     if (answer.kind == BINDINGCLAY_DONE) {
         shared->births[process->pid] = 0;
         bc_abandon(shared, process->pid);

@@ -229,4 +229,13 @@ static inline const struct timespec *bc_deadline(const bc_process *process)
 /* Under the lock: ends all calls of a process that wait, of which the kernel knows no more. */
 void bc_abandon(bc_shared *shared, uint32_t pid);
 
+/* Under the lock: whether a call that asks for no memory found none to be recorded. Then the recording has ended, and the call is to be made again. */
+static inline bool bc_unrecorded(bc_shared *shared, bindingclay_answer answer)
+{
+    if (answer.kind != BINDINGCLAY_NO_MEMORY)
+        return false;
+    bindingclay_record(shared->clay, false);
+    return true;
+}
+
 #endif

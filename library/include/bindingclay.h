@@ -21,7 +21,8 @@
  * Memory. It comes from malloc and realloc, and is given back by free. All three belong to one allocator, which aligns as C demands. A call
  * that finds no memory answers BINDINGCLAY_NO_MEMORY. It has changed nothing, neither the kernel nor what its pointers point to: make it
  * again once there is some. Some calls, marked below, ask for none. A call that is refused for another reason has asked for none either,
- * except the calls with a name, which copy it first. bindingclay_free gives back all memory.
+ * except the calls with a name, which copy it first. While steps are recorded, any call may find none for its lines (bindingclay_record).
+ * bindingclay_free gives back all memory.
  *
  * bindingclay_open_within sets how many bytes a kernel may hold. If a call would want more, there is no memory for it. bindingclay_memory
  * tells how many bytes the kernel holds. It may tell more after a call that found no memory, as a table may have grown. The next call that
@@ -540,6 +541,28 @@ bindingclay_answer bindingclay_call_facts(bindingclay clay, uint64_t number, bin
 /* Tells in how many segments a kernel keeps bytes, and writes it to *segments. */
 void bindingclay_stats(bindingclay clay, bindingclay_segment_use *segments);
 
+/* ---- Records ----
+ *
+ * A record tells the steps of a kernel and what each answered, in the order in which they were made. It is a script of version 2, which
+ * piperun --check FILE runs again: each answer then has to be the recorded one. Its first lines name the version and the kernel's limits.
+ * Behind them each step has two lines, and the second is a comment with its answer. What a call writes, and what a read gives, is in it.
+ * docs/RULES.md of the project has its form.
+ *
+ * A call that makes no step leaves nothing in the record. Such are the calls under "What is there", a call that is refused before all else,
+ * and one that answers BINDINGCLAY_NO_MEMORY or BINDINGCLAY_SHORT. The record is held in the kernel's memory, within its limit, until it
+ * is handed out. So while steps are recorded, any call that makes one may answer BINDINGCLAY_NO_MEMORY, also one that asks for no memory
+ * otherwise. It has changed nothing then. A read asks for as much memory as there is room for its bytes. */
+
+/* Begins to record the steps of a kernel, or ends that if on is false, which drops what wasn't handed out. Fails with EINVAL to begin if a
+ * process was started or a recording begun before, as a record has all steps of its kernel. To end it never fails, and asks for no
+ * memory. */
+bindingclay_answer bindingclay_record(bindingclay clay, bool on);
+
+/* Hands out the record: writes the first bytes that weren't handed out yet to the first of the size bytes at into. Value: how many. It is 0
+ * only if none is left, or size is 0; so call it until it is 0. A line may be handed out in parts. Bytes that were handed out are kept no
+ * longer. Fails with EINVAL if no recording goes on. */
+bindingclay_answer bindingclay_recorded(bindingclay clay, uint8_t *into, size_t size);
+
 /* ---- Buffers of no bytes ---- */
 
 /* The functions of the library take no null pointer. So in C and C++ the calls with a buffer go through the functions below. They put
@@ -619,6 +642,11 @@ static inline bindingclay_answer bindingclay_c_poll(
     return bindingclay_poll(clay, pid, bindingclay_c_entries(entries, count), count, wait);
 }
 
+static inline bindingclay_answer bindingclay_c_recorded(bindingclay clay, uint8_t *into, size_t size)
+{
+    return bindingclay_recorded(clay, bindingclay_c_room(into, size), size);
+}
+
 #define bindingclay_resume bindingclay_c_resume
 #define bindingclay_resume_poll bindingclay_c_resume_poll
 #define bindingclay_mkfifo bindingclay_c_mkfifo
@@ -629,6 +657,7 @@ static inline bindingclay_answer bindingclay_c_poll(
 #define bindingclay_read bindingclay_c_read
 #define bindingclay_write bindingclay_c_write
 #define bindingclay_poll bindingclay_c_poll
+#define bindingclay_recorded bindingclay_c_recorded
 
 /* ---- Calls that wait, of one process alone ----
  *

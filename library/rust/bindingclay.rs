@@ -18,6 +18,9 @@ mod calls;
 mod facts;
 #[path = "bindingclay/raw.rs"]
 mod raw;
+#[allow(dead_code)]
+#[path = "bindingclay/recording.rs"]
+mod recording;
 // A program that has this file as a module may use none of it.
 #[allow(dead_code, unused_imports)]
 #[path = "bindingclay/shared/mod.rs"]

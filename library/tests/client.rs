@@ -409,6 +409,36 @@ fn threads(checks: &mut Checks) {
     checks.is(read, [&b"moved"[..], &b"ab".repeat(1000)].concat());
 }
 
+/// The record is handed out by pieces or to a writer, and begins before the first process.
+fn records(checks: &mut Checks) {
+    let mut clay = Clay::open(1, MOST_FILE_BYTES).expect("memory for a kernel");
+    checks.is(clay.recorded(&mut [0; 8]), Err(NotDone::Fault(EINVAL)));
+    checks.is(clay.record(), Ok(()));
+    checks.is(clay.record(), Err(NotDone::Fault(EINVAL)));
+    let mut piece = [0; 10];
+    checks.is(clay.recorded(&mut piece), Ok(10));
+    checks.is(&piece, b"piperun 2\n");
+    checks.is(clay.start(), Ok(1));
+    checks.is(clay.exit(1), Ok(()));
+    let mut record = Vec::new();
+    checks.is(clay.write_record(&mut record).ok(), Some(record.len() as u64));
+    checks.is(record.ends_with(b"1048576\nstart\n# => pid 1\n1 exit\n# => ok\n"), true);
+    checks.is(clay.recorded(&mut piece), Ok(0));
+    clay.end_record();
+    checks.is(clay.recorded(&mut []), Err(NotDone::Fault(EINVAL)));
+    checks.is(with_process().record(), Err(NotDone::Fault(EINVAL)));
+    // the memory is full of the record: a call that waits can't be ended, and comes back
+    let mut clay = Clay::open_within(&Limits { memory: 40_000, ..Limits::default() }).expect("memory for a kernel");
+    checks.is(clay.record(), Ok(()));
+    checks.is(clay.start(), Ok(1));
+    let ends = clay.pipe(1, false).expect("a pipe");
+    let Ok(Answer::Parked(call)) = clay.read(1, ends.read_end, &mut piece) else { panic!("no wait") };
+    while clay.close(1, 99) != Err(NotDone::NoMemory) {}
+    let Err(NotDone::NoMemoryToResume(call)) = clay.interrupt(call) else { panic!("memory") };
+    clay.end_record();
+    checks.is(clay.interrupt(call), Err(NotDone::Fault(EINTR)));
+}
+
 fn main() {
     let mut checks = Checks { failed: 0 };
     kernels(&mut checks);
@@ -421,6 +451,7 @@ fn main() {
     names(&mut checks);
     limits(&mut checks);
     facts(&mut checks);
+    records(&mut checks);
     threads(&mut checks);
     std::process::exit(if checks.failed == 0 { 0 } else { 1 });
 }

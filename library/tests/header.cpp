@@ -36,6 +36,15 @@ int main()
         && bindingclay_held(clay, 1, ends.read_end).value == 0 && bindingclay_name_facts(clay, nullptr, 0, &node).error == 2
         && bindingclay_splice(clay, 1, ends.write_end, nullptr, ends.read_end, nullptr, 1, 0).error == 9;
     bindingclay_free(clay);
+    // a record begins before the first process, and ends
+    uint8_t first = 0;
+    as_wanted = as_wanted && bindingclay_open(1, 0, &clay.kernel);
+    if (as_wanted) {
+        as_wanted = bindingclay_record(clay, true).kind == BINDINGCLAY_DONE && bindingclay_recorded(clay, nullptr, 0).value == 0
+            && bindingclay_recorded(clay, &first, 1).value == 1 && first == 'p'
+            && bindingclay_record(clay, false).kind == BINDINGCLAY_DONE && bindingclay_recorded(clay, &first, 1).error == 22;
+        bindingclay_free(clay);
+    }
     bindingclay_limits limits = BINDINGCLAY_LIMITS;
     limits.memory = 0;
     as_wanted = as_wanted && bindingclay_open_within(&limits, &clay.kernel);

@@ -69,9 +69,8 @@ difference() {
         "$(sed -n "$1"'s/^# => //p' "$work/whole.record")"
 }
 
-# Whether each answer of a record in which one digit is changed is found at its line, and two of them, the last one beside it, with --all.
-record_with_changed_digits() {
-    make_record session
+# Whether each answer of whole.record in which one digit is changed is found at its line, and two of them, the last one beside it, with --all.
+changed_digits_are_found() {
     all=$(grep -c '^# => ' "$work/whole.record")
     numbers=$(grep -n '^# => .*[0-9]' "$work/whole.record" | cut -d : -f 1)
     last=${numbers##*
@@ -89,6 +88,10 @@ record_with_changed_digits() {
         tried=$((tried + 1))
     done
     [ "$tried" -gt 10 ]
+}
+
+record_with_changed_digits() {
+    make_record session && changed_digits_are_found
 }
 
 # Whether a record that is cut behind any of its lines passes up to there, and one that is cut in an answer differs there, in its last line.

@@ -232,7 +232,7 @@ static void take_first_call(struct script *script, const char *path)
 /* ---- All of them ---- */
 
 /* The script of a path, NAME.script. */
-static struct script read_script(const char *path)
+static inline struct script read_script(const char *path)
 {
     size_t length = strlen(path);
     if (length < 7 || strcmp(path + length - 7, ".script") != 0)
@@ -251,7 +251,7 @@ static struct script read_script(const char *path)
     return script;
 }
 
-static void free_script(struct script *script)
+static inline void free_script(struct script *script)
 {
     free(script->path);
     free(script->text);

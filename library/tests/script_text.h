@@ -134,7 +134,7 @@ static void say_done(enum told told)
 
 static const struct named ERRORS[] = { { "EPERM", EPERM }, { "ENOENT", ENOENT }, { "EINTR", EINTR }, { "ENXIO", ENXIO },
     { "EBADF", EBADF }, { "EAGAIN", EAGAIN }, { "EBUSY", EBUSY }, { "EEXIST", EEXIST }, { "EINVAL", EINVAL },
-    { "ENFILE", ENFILE }, { "EMFILE", EMFILE }, { "EFBIG", EFBIG }, { "ESPIPE", ESPIPE }, { "EPIPE", EPIPE },
+    { "ENFILE", ENFILE }, { "EMFILE", EMFILE }, { "EFBIG", EFBIG }, { "ENOSPC", ENOSPC }, { "ESPIPE", ESPIPE }, { "EPIPE", EPIPE },
     { "ENAMETOOLONG", ENAMETOOLONG }, { "EOVERFLOW", EOVERFLOW }, { NULL, 0 } };
 
 static void say_fault(enum told told)

@@ -2,13 +2,16 @@
  * of answers, in "Scripts".
  *
  *     scripts MOST_REQUESTS FIRST_REQUESTS NAME.script ..
+ *     scripts --record FOLDER NAME.script ..
  *
  * Each script is run as it is, and then nothing is left of it. What is to take no memory asks for none. A script that makes at most
  * MOST_REQUESTS requests for memory is run again with each of them refused in turn: the call that finds no memory has changed nothing, and
  * is made once more. Of one that makes up to ten times as many, only the first FIRST_REQUESTS are refused in turn. Before a call is tried
- * again, the kernel is asked whether it can get on, and that is held to what the trial does. */
+ * again, the kernel is asked whether it can get on, and that is held to what the trial does. With --record each script is run once while its
+ * steps are recorded, and the records are written to FOLDER, for piperun --check. */
 #define _GNU_SOURCE
 #include "counted.h"
+#include "records.h"
 #include "script_text.h"
 
 #include <limits.h>
@@ -38,6 +41,10 @@ static size_t name_count;
 
 /* How often a call of this run found no memory. */
 static long told_no_memory;
+
+/* Whether the steps of this run are recorded, which takes memory, and how many steps there were. */
+static bool is_recorded;
+static long steps;
 
 /* ---- Calls ---- */
 
@@ -219,7 +226,7 @@ static bool make_at_last(const struct script *script, const struct line *line, e
     mark();
     long granted = granted_before;
     bool is_known = make(script, line, told);
-    if (is_known && asks_for_none(line))
+    if (is_known && asks_for_none(line) && !is_recorded)
         HOLDS(granted_before == granted && answer.kind != BINDINGCLAY_NO_MEMORY);
     if (!is_known || answer.kind != BINDINGCLAY_NO_MEMORY)
         return is_known;
@@ -250,6 +257,7 @@ static void run(const struct script *script)
     shows_runs = script->shows_runs;
     size_t said = 0;
     bool is_known = true;
+    steps = 0;
     for (size_t i = 0; i < script->line_count && is_known; i++) {
         const struct line *line = &script->lines[i];
         enum told told = NOTHING;
@@ -258,6 +266,7 @@ static void run(const struct script *script)
             say_answer(told, answer.value - first_number + script->first_call);
         else
             sprintf(text, "piperun: line %d: not a command", line->number);
+        steps += is_known && strcmp(line->words[0], "file") != 0;
         if (!is_wanted(script, line->number, said++))
             return;
     }
@@ -352,12 +361,44 @@ static long try_script(const struct script *script)
     return requests;
 }
 
+/* More bytes than piperun reads of one script. */
+enum { TOO_LONG = 16777216 };
+
+/* Runs scripts while their steps are recorded, and writes the records, each of which has a reply for each step. */
+static int record_scripts(const char *folder, char **paths, int count)
+{
+    struct record record = { NULL, 0, 0 };
+    int too_long = 0;
+    is_recorded = true;
+    for (int i = 0; i < count; i++) {
+        struct script script = read_script(paths[i]);
+        char name[32];
+        snprintf(name, sizeof name, "script%d", i);
+        clay = new_kernel(first_number = script.first_call, MOST_FILE);
+        record.length = 0;
+        DONE(bindingclay_record(clay, true), 0);
+        run(&script);
+        HOLDS(drain(clay, &record, 4096));
+        bindingclay_free(clay);
+        if (record.length <= TOO_LONG)
+            save(&record, folder, name, steps);
+        else
+            too_long++;
+        free_script(&script);
+    }
+    free(record.text);
+    printf("%d recorded, %d of them too long for piperun\n", count, too_long);
+    return end();
+}
+
 int main(int argc, char **argv)
 {
     if (argc < 4) {
-        printf("usage: scripts MOST_REQUESTS FIRST_REQUESTS NAME.script ..\n");
+        printf("usage: scripts MOST_REQUESTS FIRST_REQUESTS NAME.script ..\n       scripts --record FOLDER NAME.script ..\n");
         return 2;
     }
+    if (strcmp(argv[1], "--record") == 0)
+        return record_scripts(argv[2], argv + 3, argc - 3);
     most_requests = strtol(argv[1], NULL, 10);
     first_requests = strtol(argv[2], NULL, 10);
     int whole = 0, in_part = 0;

@@ -57,12 +57,21 @@ over_both() {
     [ -s "$work/of_host" ] && diff "$work/of_host" "$work/of_front"
 }
 
+# storm_is_recorded: whether piperun answers the record of a storm as it tells.
+storm_is_recorded() {
+    timeout 120 "$work/shared_storm" 1 "$work/storm.record" || return 1
+    replies=$(grep -c '^# => ' "$work/storm.record")
+    told=$("$piperun" --check "$work/storm.record")
+    echo "$told, of $replies"
+    [ "$told" = "$replies replies as recorded" ] && [ "$replies" -gt 1000 ]
+}
+
 try_front() {
     if [ ! -f "$work/prefix/lib/libbindingclay_shared.a" ]; then
         echo "passed over: the front for threads"
         return
     fi
-    for name in shared shared_waits; do
+    for name in shared shared_waits shared_record; do
         build_front "$name" && run "$name"
         without_races_of_front "$name"
         for word in thread address,undefined; do
@@ -74,6 +83,11 @@ try_front() {
         plainly shared_storm 5 && sed 's/^/storm: /' "$work/log"
         under_valgrind shared_storm 1
         without_races_of_front shared_storm
+        if [ -x "$piperun" ]; then
+            check "the record of a storm" storm_is_recorded && sed 's/^/record of a storm: /' "$work/log"
+        else
+            echo "passed over: the record of a storm"
+        fi
         sanitized shared_storm thread 5
         sanitized shared_storm address,undefined 1
     fi

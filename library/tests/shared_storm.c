@@ -1,7 +1,7 @@
 /* The front for threads: a storm. Eight threads share a kernel, and make calls at random as processes that fork and exit: reads and writes of all
  * sizes, polls, splices, tees and opens, with deadlines and without, while others interrupt them. Each thread has to come to its end.
  *
- * A number as its argument is the seconds that it takes. */
+ *   shared_storm [SECONDS [FILE]]    takes so long, and records all steps into FILE, for piperun --check */
 #define _GNU_SOURCE
 #include "shared.h"
 
@@ -145,11 +145,51 @@ static void *interrupt_all(void *argument)
     return NULL;
 }
 
+/* The record, and whether all threads are at their ends. */
+static FILE *record;
+static bool all_ended;
+
+/* Writes what is recorded to the file until all threads are at their ends, and then what is left. */
+static void *keep_record(void *unused)
+{
+    static char bytes[5000];
+    bool was_all;
+    ssize_t count;
+    (void)unused;
+    do {
+        pthread_mutex_lock(&counting);
+        was_all = all_ended;
+        pthread_mutex_unlock(&counting);
+        while ((count = bc_recorded(shared, bytes, sizeof bytes)) > 0)
+            HOLDS(fwrite(bytes, 1, (size_t)count, record) == (size_t)count);
+        HOLDS(count == 0);
+        usleep(1000);
+    } while (!was_all);
+    return NULL;
+}
+
+static pthread_t begin_record(const char *path)
+{
+    need((record = fopen(path, "wb")) != NULL, "a file");
+    HOLDS(bc_record(shared, true) == 0);
+    return thread_of(keep_record, NULL);
+}
+
+static void end_record(pthread_t keeper)
+{
+    pthread_mutex_lock(&counting);
+    all_ended = true;
+    pthread_mutex_unlock(&counting);
+    pthread_join(keeper, NULL);
+    HOLDS(fclose(record) == 0);
+}
+
 int main(int count, char **words)
 {
     int ends[2], ended = 0;
     unsigned calls = 0, waits_ended = 0;
     shared = new_shared();
+    pthread_t keeper = count > 2 ? begin_record(words[2]) : pthread_self();
     first = new_process(shared);
     for (int i = 0; i < PIPES; i++)
         HOLDS(bc_pipe2(&first, ends, 0) == 0);
@@ -178,6 +218,8 @@ int main(int count, char **words)
     printf("%u calls, of which %u ended before they were answered\n", calls, waits_ended);
     HOLDS(calls >= THREADS * FEWEST && waits_ended > 0);
     HOLDS(bc_exit(&first) == 0);
+    if (count > 2)
+        end_record(keeper);
     HOLDS(bc_shared_close(shared) == 0);
     return end();
 }

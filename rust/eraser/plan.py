@@ -22,10 +22,11 @@ def _modules(prefix: str, names: str) -> dict[str, Place]:
 # The crates of the library, in the order of its modules.
 LIBRARY = _modules(
     "parts/",
-    "budget model segments ring packets file parked waiters desc nodes decisions state descriptors naming transfers splices polls kernel numbers",
+    "budget model segments ring packets file parked waiters desc nodes decisions state descriptors naming transfers splices polls kernel numbers "
+    "words lines recording recorder",
 )
 # Scripts, and the program that runs them.
-SCRIPT = _modules("parts/", "words lines recording script run") | {"piperun": Place("parts/piperun", "crate::parts::piperun")}
+SCRIPT = _modules("parts/", "script run") | {"piperun": Place("parts/piperun", "crate::parts::piperun")}
 # The library for C.
 EXPORTS = {"bindingclay": Place("parts/c", "crate::parts::c")}
 # What tests share, and the tests.

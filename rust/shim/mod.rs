@@ -7,6 +7,9 @@ pub mod bitflags;
 pub mod boxed;
 pub mod circular_buffer;
 pub mod collections;
+pub mod hex;
+pub mod itoa;
+pub mod memchr;
 pub mod slab;
 pub mod string;
 pub mod vec;
@@ -18,13 +21,7 @@ pub mod env;
 #[cfg(feature = "script")]
 pub mod fs;
 #[cfg(feature = "script")]
-pub mod hex;
-#[cfg(feature = "script")]
 pub mod io;
-#[cfg(feature = "script")]
-pub mod itoa;
-#[cfg(feature = "script")]
-pub mod memchr;
 #[cfg(feature = "script")]
 pub mod process;
 #[cfg(feature = "script")]

@@ -52,8 +52,8 @@ def programs(project):
             yield Program(path.name, shown[0], shown[1] if len(shown) > 1 else None)
     library = project.root / "library"
     printed = [block.text for block in markdown.blocks((library / "README.md").read_text(encoding="utf-8")) if block.language == "console"]
-    printed += ["nothing says what"] * 2
-    for name, prints in zip(("example", "example_loop"), printed):
+    printed += ["nothing says what"] * 3
+    for name, prints in zip(("example", "example_loop", "example_record"), printed):
         yield Program(f"library/{name}.c", (library / f"{name}.c").read_text(encoding="utf-8"), prints)
 
 

@@ -3,3 +3,6 @@ pub mod Moving
 pub mod AsTold
 pub mod Resuming
 pub mod Telling
+pub mod OnRecord
+pub mod Named
+pub mod Cut

@@ -19,7 +19,7 @@ use Rattle.pl_kernel.specs.Buffers.{resumed_count}
 use Rattle.pl_numbers.specs.declared.answer.Answer.{Answer}
 use Rattle.pl_numbers.specs.Answers.{said, plain, parked, no_memory, short}
 use Rattle.pl_polls.specs.declared.entries.PollEntry.{PollEntry}
-use Rattle.bindingclay.specs.Made.{Moves, Resumes, Gathers, Notes, read_answer, resumed_answer}
+use Rattle.bindingclay.specs.Made.{Moves, Resumes, Gathers, IsFrugal, Notes, read_answer, resumed_answer}
 use Rattle.bindingclay.specs.Moved.{taken_before, has_taken_more, takes_more, FlowsAsTold}
 use Rattle.bindingclay.proofs.AsTold.{MovesAsTold, again_as_told}
 use Rattle.bindingclay.proofs.Telling.{read_says}
@@ -143,6 +143,9 @@ module _ (old new : Contents InBudget) (number : ℕ) (b : Answer) (m : Bool) wh
   pub resumes_told : (room : ℕ) → Resumes old number room b new → Resumes old number room (record b { moved = m }) new
   resumes_told room r = record { says = r.says; made = r.made; wider = r.wider; unmade = r.unmade }
 
+  pub frugal_told : IsFrugal old number b → IsFrugal old number (record b { moved = m })
+  frugal_told frugal = frugal
+
   module _ (others : (b.kind ≡ parked → ⊥) → m ≡ false) where
     still_short : (n : ℕ) → b ≡ plain n short → record b { moved = m } ≡ plain n short
     still_short n is =
@@ -153,10 +156,9 @@ module _ (old new : Contents InBudget) (number : ℕ) (b : Answer) (m : Bool) wh
     gathers_told before after g =
         record {
           bytes = g.bytes;
-          narrow = λ key n waits less. still_short _ (g.narrow key n waits less);
+          narrow = λ key n waits less found. still_short _ (g.narrow key n waits less found);
           fits = g.fits;
           enough = g.enough;
-          frugal = g.frugal;
           others = g.others;
           unread = g.unread;
           kept = g.kept;
@@ -166,7 +168,7 @@ module _ (old new : Contents InBudget) (number : ℕ) (b : Answer) (m : Bool) wh
     notes_told before after g =
         record {
           entries = g.entries;
-          reads = λ key n waits some. still_short _ (g.reads key n waits some);
+          reads = λ key n waits some found. still_short _ (g.reads key n waits some found);
           fits = g.fits;
           others = g.others;
           unmarked = g.unmarked;

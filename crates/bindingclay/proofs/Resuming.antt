@@ -18,7 +18,7 @@ use Rattle.pl_kernel.specs.Buffers.{resumed_count, IsRead, IsOfRead, IsOfOther}
 use Rattle.pl_polls.specs.declared.entries.PollEntry.{PollEntry}
 use Rattle.pl_numbers.specs.Answers.{said, plain, no_memory, short}
 use Rattle.pl_polls.specs.Entries.{entries_after}
-use Rattle.bindingclay.specs.Made.{Resumes, Wants, Gathers, Notes, read_answer, bytes_after, resumed_answer, resumed_entries}
+use Rattle.bindingclay.specs.Made.{Resumes, Wants, Gathers, IsFrugal, Notes, read_answer, bytes_after, resumed_answer, resumed_entries}
 use Rattle.bindingclay.proofs.Telling.{has_memory, has_room, again_of, resumed, too_short, found_none, read_says, read_leaves}
 
 read_at_most : (r : ReadReply) → (read_answer r).kind ≤ 5
@@ -28,10 +28,10 @@ read_at_most (Reading.Parked n) = omega arith
 read_at_most Reading.NoProcess = omega arith
 read_at_most Reading.CallsSpent = omega arith
 
-read_has_memory : (r : ReadReply) → (read_answer r).kind ≡ no_memory → ⊥
+pub read_has_memory : (r : ReadReply) → (read_answer r).kind ≡ no_memory → ⊥
 read_has_memory r e = (let few = read_at_most r in omega arith)
 
-read_has_room : (r : ReadReply) → (read_answer r).kind ≡ short → ⊥
+pub read_has_room : (r : ReadReply) → (read_answer r).kind ≡ short → ⊥
 read_has_room r e = (let few = read_at_most r in omega arith)
 
 -- no read answers masks
@@ -63,51 +63,53 @@ module _ {E : Type 0} (old new : Contents InBudget) (number : ℕ) (before after
   pub gathers_of : (z : Result (KernelResumed InBudget) E) → IfOk z (λ r. ResumedByKernel old number (length before) r after new) →
       OfReads old number (λ n. length before < gives_again old number → z ≡ Ok (Short (gives_again old number))) → OfReads old number (λ n. gives_again old number ≤ length before → IfOk z IsRead) → OfReads old number (λ n. most_capacity ≤ length before → IfOk z IsRead) → OfReads old number (λ n. IfOk z IsOfRead) →
       (((key n : ℕ) → ¬ ReadWaits {A = InBudget} old number key n) → IfOk z IsOfOther) → IfOk z (λ r. resumed_count r ≤ length after) →
-      IfOk z (λ r. drop (resumed_count r) after ≡ drop (resumed_count r) before) → OnErr z (after ≡ before) → OfReads old number (λ n. IsOk z) → Gathers old number before (resumed_answer z) after
-  gathers_of (Ok (Read r)) made wide fits enough reads others few rest unread frugal =
+      IfOk z (λ r. drop (resumed_count r) after ≡ drop (resumed_count r) before) → OnErr z (after ≡ before) → Gathers old number before (resumed_answer z) after
+  gathers_of (Ok (Read r)) made wide fits enough reads others few rest unread =
       record {
         bytes = λ key n waits. again_of old new number (length before) (read_answer r) (told r after) made (λ reply. after ≡ bytes_after before reply) (read_leaves r before after few rest);
-        narrow = λ key n waits less. absurd (let e = wide key n waits less in cc);
+        narrow = λ key n waits less found. absurd (let e = wide key n waits less in cc);
         fits = λ key n waits few. read_has_room r;
         enough = λ key n waits few. read_has_room r;
-        frugal = λ key n waits. read_has_memory r;
         others = λ none. absurd (others none);
         unread = λ e. absurd (read_has_memory r e);
         kept = λ e. absurd (read_has_room r e);
       }
-  gathers_of (Ok (Short m)) made wide fits enough reads others few rest unread frugal =
+  gathers_of (Ok (Short m)) made wide fits enough reads others few rest unread =
       record {
         bytes = λ key n waits some room. absurd (room refl);
-        narrow = λ key n waits less. ap (λ k. plain k short) (let e = wide key n waits less in cc);
+        narrow = λ key n waits less found. ap (λ k. plain k short) (let e = wide key n waits less in cc);
         fits = λ key n waits few e. fits key n waits few;
         enough = λ key n waits few e. enough key n waits few;
-        frugal = λ key n waits e. (omega arith);
         others = λ none. absurd (others none);
         unread = λ e. rest;
         kept = λ e. rest;
       }
-  gathers_of (Ok (Other reply)) made wide fits enough reads others few rest unread frugal =
+  gathers_of (Ok (Other reply)) made wide fits enough reads others few rest unread =
       record {
         bytes = λ key n waits. absurd (reads key n waits);
-        narrow = λ key n waits less. absurd (reads key n waits);
+        narrow = λ key n waits less found. absurd (reads key n waits);
         fits = λ key n waits few e. reads key n waits;
         enough = λ key n waits few e. reads key n waits;
-        frugal = λ key n waits e. reads key n waits;
         others = λ none. (rest, has_room (said reply) reply refl);
         unread = λ e. rest;
         kept = λ e. rest;
       }
-  gathers_of (Err error) made wide fits enough reads others few rest unread frugal =
+  gathers_of (Err error) made wide fits enough reads others few rest unread =
       record {
         bytes = λ key n waits some. absurd (some refl);
-        narrow = λ key n waits less. absurd (let e = wide key n waits less in cc);
+        narrow = λ key n waits less found. absurd (let e = wide key n waits less in cc);
         fits = λ key n waits few e. (omega arith);
         enough = λ key n waits few e. (omega arith);
-        frugal = λ key n waits e. (let found = frugal key n waits in cc);
         others = λ none. (unread, λ e. (omega arith));
         unread = λ e. unread;
         kept = λ e. unread;
       }
+
+  pub frugal_of : (z : Result (KernelResumed InBudget) E) → OfReads old number (λ n. IfOk z IsOfRead) → OfReads old number (λ n. IsOk z) → IsFrugal old number (resumed_answer z)
+  frugal_of (Ok (Read r)) reads frugal = λ key n waits. read_has_memory r
+  frugal_of (Ok (Short m)) reads frugal = λ key n waits e. (omega arith)
+  frugal_of (Ok (Other reply)) reads frugal = λ key n waits e. reads key n waits
+  frugal_of (Err error) reads frugal = λ key n waits e. (let found = frugal key n waits in cc)
 
   pub notes_of : (z : Result (KernelResumed InBudget) E) (entries : List PollEntry) → IfOk z (λ r. ResumedByKernel old number (length before) r after new) →
       OfReads old number (λ n. length before < gives_again old number → z ≡ Ok (Short (gives_again old number))) → OfReads old number (λ n. gives_again old number ≤ length before → IfOk z IsRead) → (((key n : ℕ) → ¬ ReadWaits {A = InBudget} old number key n) → IfOk z IsOfOther) → length before ≡ 0 →
@@ -115,7 +117,7 @@ module _ {E : Type 0} (old new : Contents InBudget) (number : ℕ) (before after
   notes_of (Ok (Read r)) entries made wide fits others none =
       record {
         entries = again_of old new number (length before) (read_answer r) (told r after) made (λ reply. entries ≡ entries_after entries reply) (read_marks_none entries r after);
-        reads = λ key n waits some. absurd (let e = wide key n waits (omega arith) in cc);
+        reads = λ key n waits some found. absurd (let e = wide key n waits (omega arith) in cc);
         fits = λ key n waits no. read_has_room r;
         others = λ none. absurd (others none);
         unmarked = λ e. refl;
@@ -124,7 +126,7 @@ module _ {E : Type 0} (old new : Contents InBudget) (number : ℕ) (before after
   notes_of (Ok (Short m)) entries made wide fits others none =
       record {
         entries = λ some room. absurd (room refl);
-        reads = λ key n waits some. ap (λ k. plain k short) (let e = wide key n waits (omega arith) in cc);
+        reads = λ key n waits some found. ap (λ k. plain k short) (let e = wide key n waits (omega arith) in cc);
         fits = λ key n waits no e. fits key n waits (omega arith);
         others = λ none. absurd (others none);
         unmarked = λ e. refl;
@@ -133,7 +135,7 @@ module _ {E : Type 0} (old new : Contents InBudget) (number : ℕ) (before after
   notes_of (Ok (Other reply)) entries made wide fits others none =
       record {
         entries = again_of old new number (length before) (said reply) reply made (λ r. entries_after entries reply ≡ entries_after entries r) refl;
-        reads = λ key n waits some. absurd (let e = wide key n waits (omega arith) in cc);
+        reads = λ key n waits some found. absurd (let e = wide key n waits (omega arith) in cc);
         fits = λ key n waits no. has_room (said reply) reply refl;
         others = λ none. has_room (said reply) reply refl;
         unmarked = λ e. absurd (has_memory (said reply) reply refl e);
@@ -142,7 +144,7 @@ module _ {E : Type 0} (old new : Contents InBudget) (number : ℕ) (before after
   notes_of (Err error) entries made wide fits others none =
       record {
         entries = λ some. absurd (some refl);
-        reads = λ key n waits some. absurd (let e = wide key n waits (omega arith) in cc);
+        reads = λ key n waits some found. absurd (let e = wide key n waits (omega arith) in cc);
         fits = λ key n waits no e. (omega arith);
         others = λ none e. (omega arith);
         unmarked = λ e. refl;

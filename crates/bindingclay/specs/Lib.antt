@@ -4,3 +4,5 @@ pub mod Made
 pub mod Moved
 pub mod Owned
 pub mod Facts
+pub mod Recorded
+pub mod Sayable

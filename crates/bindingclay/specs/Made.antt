@@ -73,17 +73,20 @@ pub record Resumes (old : Contents InBudget) (number room : ℕ) (a : Answer) (n
   pub wider : a.kind ≡ short → (room < a.value) × (new ≡ old)
   pub unmade : a.kind ≡ no_memory → new ≡ old
 
--- What it leaves in that room. A read whose bytes fit gives them, and wants no memory; one whose bytes don't fit tells how many they are;
--- nothing else changes any, and nothing else is too wide.
+-- What it leaves in that room. A read whose bytes fit gives them; one whose bytes don't fit tells how many they are; nothing else changes any, and
+-- nothing else is too wide.
 pub record Gathers (old : Contents InBudget) (number : ℕ) (before : List ℕ) (a : Answer) (after : List ℕ) : Type 0 where
   pub bytes : (key n : ℕ) → ReadWaits {A = InBudget} old number key n → Resumed old number a (λ reply. after ≡ bytes_after before reply)
-  pub narrow : (key n : ℕ) → ReadWaits {A = InBudget} old number key n → length before < gives_again old number → a ≡ plain (gives_again old number) short
+  pub narrow : (key n : ℕ) → ReadWaits {A = InBudget} old number key n → length before < gives_again old number → (a.kind ≡ no_memory → ⊥) → a ≡ plain (gives_again old number) short
   pub fits : (key n : ℕ) → ReadWaits {A = InBudget} old number key n → gives_again old number ≤ length before → a.kind ≡ short → ⊥
   pub enough : (key n : ℕ) → ReadWaits {A = InBudget} old number key n → most_capacity ≤ length before → a.kind ≡ short → ⊥
-  pub frugal : (key n : ℕ) → ReadWaits {A = InBudget} old number key n → a.kind ≡ no_memory → ⊥
   pub others : ((key n : ℕ) → ¬ ReadWaits {A = InBudget} old number key n) → (after ≡ before) × (a.kind ≡ short → ⊥)
   pub unread : a.kind ≡ no_memory → after ≡ before
   pub kept : a.kind ≡ short → after ≡ before
+
+-- a read that waits wants no memory
+abbrev pub IsFrugal : Contents InBudget → ℕ → Answer → Type 0
+IsFrugal old number a = (key n : ℕ) → ReadWaits {A = InBudget} old number key n → a.kind ≡ no_memory → ⊥
 
 -- The same of a call, unless it is a poll that can get on. Such a poll isn't tried: the answer tells how many entries it has, and nothing changes.
 pub record TriesAgain (old : Contents InBudget) (number : ℕ) (before : List ℕ) (a : Answer) (after : List ℕ) (new : Contents InBudget) : Type 0 where
@@ -93,7 +96,7 @@ pub record TriesAgain (old : Contents InBudget) (number : ℕ) (before : List �
 -- What it leaves in the entries of a poll. A read that gives bytes is told to have too little room.
 pub record Notes (old : Contents InBudget) (number : ℕ) (before : List PollEntry) (a : Answer) (after : List PollEntry) : Type 0 where
   pub entries : Resumed old number a (λ reply. after ≡ entries_after before reply)
-  pub reads : (key n : ℕ) → ReadWaits {A = InBudget} old number key n → 0 < gives_again old number → a ≡ plain (gives_again old number) short
+  pub reads : (key n : ℕ) → ReadWaits {A = InBudget} old number key n → 0 < gives_again old number → (a.kind ≡ no_memory → ⊥) → a ≡ plain (gives_again old number) short
   pub fits : (key n : ℕ) → ReadWaits {A = InBudget} old number key n → gives_again old number ≡ 0 → a.kind ≡ short → ⊥
   pub others : ((key n : ℕ) → ¬ ReadWaits {A = InBudget} old number key n) → a.kind ≡ short → ⊥
   pub unmarked : a.kind ≡ no_memory → after ≡ before

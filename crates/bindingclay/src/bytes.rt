@@ -1,5 +1,5 @@
 //! Bytes, and how they move.
-ghost use Rattle.std.specs.Prelude.{◌≡◌, ⊤, length, min, take, MatchOption};
+ghost use Rattle.std.specs.Prelude.{◌≡◌, None, ⊤, length, min, take, MatchOption};
 ghost use Rattle.pl_model.specs.Numbers.{most_bytes};
 ghost use Rattle.pl_model.specs.declared.replies.Errno.TheVariants.{EINVAL};
 ghost use Rattle.pl_kernel.specs.Buffers.{Parks};
@@ -16,7 +16,7 @@ use pl_numbers::Answer;
 #[unsafe(no_mangle)]
 pub extern "C" fn bindingclay_read(handle: Handle, pid: u32, fd: i32, into: &mut [u8]) -> Answer
     ensures says { Says handle.layer.kernel (Step.Begin pid (Call.Read fd (min most_bytes (length into.old)))) result }
-    ensures wants { result.kind ≡ 6 → Parks handle.layer.kernel (Step.Begin pid (Call.Read fd (min most_bytes (length into.old)))) }
+    ensures wants { handle.layer.recorder ≡ None → result.kind ≡ 6 → Parks handle.layer.kernel (Step.Begin pid (Call.Read fd (min most_bytes (length into.old)))) }
     ensures bytes { Replied handle.layer.kernel (Step.Begin pid (Call.Read fd (min most_bytes (length into.old)))) result (λ reply. into.new ≡ bytes_after into.old reply) }
     ensures unread { result.kind ≡ 6 → into.new ≡ into.old }
 {
@@ -32,7 +32,7 @@ pub extern "C" fn bindingclay_read(handle: Handle, pid: u32, fd: i32, into: &mut
 pub extern "C" fn bindingclay_write(handle: Handle, pid: u32, fd: i32, bytes: &[u8]) -> Answer
     ensures says { Says handle.layer.kernel (Step.Begin pid (Call.Write fd (take most_bytes bytes.now))) (unmoved result) }
     ensures moved { Moves handle.layer.kernel (Step.Begin pid (Call.Write fd (take most_bytes bytes.now))) result }
-    ensures wants { Wants handle.layer.kernel (Step.Begin pid (Call.Write fd (take most_bytes bytes.now))) result }
+    ensures wants { handle.layer.recorder ≡ None → Wants handle.layer.kernel (Step.Begin pid (Call.Write fd (take most_bytes bytes.now))) result }
 {
     let mut layer = handle.into_box();
     let answer = layer.write(pid, fd, bytes);
@@ -56,7 +56,7 @@ pub extern "C" fn bindingclay_splice_at(
     flags: u32,
 ) -> Answer
     ensures says { MatchOption (splice_flags_of_bits flags) (result ≡ faulty EINVAL) (λ flags. Says handle.layer.kernel (Step.Begin pid (Call.Splice from (offset_of has_from_offset from_offset) to (offset_of has_to_offset to_offset) len flags)) result) }
-    ensures wants { MatchOption (splice_flags_of_bits flags) ⊤ (λ flags. Wants handle.layer.kernel (Step.Begin pid (Call.Splice from (offset_of has_from_offset from_offset) to (offset_of has_to_offset to_offset) len flags)) result) }
+    ensures wants { handle.layer.recorder ≡ None → MatchOption (splice_flags_of_bits flags) ⊤ (λ flags. Wants handle.layer.kernel (Step.Begin pid (Call.Splice from (offset_of has_from_offset from_offset) to (offset_of has_to_offset to_offset) len flags)) result) }
 {
     let mut layer = handle.into_box();
     let answer = layer.splice(
@@ -86,7 +86,7 @@ pub extern "C" fn bindingclay_tee(
     flags: u32,
 ) -> Answer
     ensures says { MatchOption (splice_flags_of_bits flags) (result ≡ faulty EINVAL) (λ flags. Says handle.layer.kernel (Step.Begin pid (Call.Tee from to len flags)) result) }
-    ensures wants { MatchOption (splice_flags_of_bits flags) ⊤ (λ flags. Wants handle.layer.kernel (Step.Begin pid (Call.Tee from to len flags)) result) }
+    ensures wants { handle.layer.recorder ≡ None → MatchOption (splice_flags_of_bits flags) ⊤ (λ flags. Wants handle.layer.kernel (Step.Begin pid (Call.Tee from to len flags)) result) }
 {
     let mut layer = handle.into_box();
     let answer = layer.tee(pid, from, to, len, flags);

@@ -1,5 +1,5 @@
 //! Descriptors, and what they name.
-ghost use Rattle.std.specs.Prelude.{◌≡◌, ⊤, MatchOption, false};
+ghost use Rattle.std.specs.Prelude.{◌≡◌, None, ⊤, MatchOption, false};
 ghost use Rattle.pl_model.specs.declared.replies.Errno.TheVariants.{EINVAL};
 ghost use Rattle.pl_numbers.specs.Answers.{faulty, ends_after};
 ghost use Rattle.pl_numbers.specs.Flags.{open_flags_of_bits, pipe_flags_of_bits};
@@ -19,7 +19,7 @@ pub extern "C" fn bindingclay_pipe(
     ends: &mut Ends,
 ) -> Answer
     ensures says { Says handle.layer.kernel (Step.Begin pid (Call.Pipe nonblock false)) result }
-    ensures wants { Wants handle.layer.kernel (Step.Begin pid (Call.Pipe nonblock false)) result }
+    ensures wants { handle.layer.recorder ≡ None → Wants handle.layer.kernel (Step.Begin pid (Call.Pipe nonblock false)) result }
     ensures ends { Replied handle.layer.kernel (Step.Begin pid (Call.Pipe nonblock false)) result (λ reply. ends.new ≡ ends_after ends.old reply) }
     ensures untold { result.kind ≡ 6 → ends.new ≡ ends.old }
 {
@@ -34,7 +34,7 @@ pub extern "C" fn bindingclay_pipe(
 #[unsafe(no_mangle)]
 pub extern "C" fn bindingclay_pipe2(handle: Handle, pid: u32, flags: u32, ends: &mut Ends) -> Answer
     ensures says { MatchOption (pipe_flags_of_bits flags) (result ≡ faulty EINVAL) (λ flags. Says handle.layer.kernel (Step.Begin pid (Call.Pipe flags.nonblock flags.direct)) result) }
-    ensures wants { MatchOption (pipe_flags_of_bits flags) ⊤ (λ flags. Wants handle.layer.kernel (Step.Begin pid (Call.Pipe flags.nonblock flags.direct)) result) }
+    ensures wants { handle.layer.recorder ≡ None → MatchOption (pipe_flags_of_bits flags) ⊤ (λ flags. Wants handle.layer.kernel (Step.Begin pid (Call.Pipe flags.nonblock flags.direct)) result) }
     ensures ends { MatchOption (pipe_flags_of_bits flags) (ends.new ≡ ends.old) (λ flags. Replied handle.layer.kernel (Step.Begin pid (Call.Pipe flags.nonblock flags.direct)) result (λ reply. ends.new ≡ ends_after ends.old reply)) }
     ensures untold { result.kind ≡ 6 → ends.new ≡ ends.old }
 {
@@ -48,7 +48,7 @@ pub extern "C" fn bindingclay_pipe2(handle: Handle, pid: u32, flags: u32, ends: 
 #[unsafe(no_mangle)]
 pub extern "C" fn bindingclay_dup(handle: Handle, pid: u32, fd: i32) -> Answer
     ensures says { Says handle.layer.kernel (Step.Begin pid (Call.Dup fd)) result }
-    ensures wants { Wants handle.layer.kernel (Step.Begin pid (Call.Dup fd)) result }
+    ensures wants { handle.layer.recorder ≡ None → Wants handle.layer.kernel (Step.Begin pid (Call.Dup fd)) result }
 {
     handle.step(Step::Begin(pid, Call::Dup { fd }))
 }
@@ -57,7 +57,7 @@ pub extern "C" fn bindingclay_dup(handle: Handle, pid: u32, fd: i32) -> Answer
 #[unsafe(no_mangle)]
 pub extern "C" fn bindingclay_dup2(handle: Handle, pid: u32, fd: i32, target: i32) -> Answer
     ensures says { Says handle.layer.kernel (Step.Begin pid (Call.Dup2 fd target)) result }
-    ensures wants { Wants handle.layer.kernel (Step.Begin pid (Call.Dup2 fd target)) result }
+    ensures wants { handle.layer.recorder ≡ None → Wants handle.layer.kernel (Step.Begin pid (Call.Dup2 fd target)) result }
 {
     handle.step(Step::Begin(pid, Call::Dup2 { fd, target }))
 }
@@ -66,7 +66,7 @@ pub extern "C" fn bindingclay_dup2(handle: Handle, pid: u32, fd: i32, target: i3
 #[unsafe(no_mangle)]
 pub extern "C" fn bindingclay_dup_fd(handle: Handle, pid: u32, fd: i32, least: i32) -> Answer
     ensures says { Says handle.layer.kernel (Step.Begin pid (Call.DupFd fd least)) result }
-    ensures wants { Wants handle.layer.kernel (Step.Begin pid (Call.DupFd fd least)) result }
+    ensures wants { handle.layer.recorder ≡ None → Wants handle.layer.kernel (Step.Begin pid (Call.DupFd fd least)) result }
 {
     handle.step(Step::Begin(pid, Call::DupFd { fd, least }))
 }
@@ -75,7 +75,7 @@ pub extern "C" fn bindingclay_dup_fd(handle: Handle, pid: u32, fd: i32, least: i
 #[unsafe(no_mangle)]
 pub extern "C" fn bindingclay_close(handle: Handle, pid: u32, fd: i32) -> Answer
     ensures says { Says handle.layer.kernel (Step.Begin pid (Call.Close fd)) result }
-    ensures wants { Wants handle.layer.kernel (Step.Begin pid (Call.Close fd)) result }
+    ensures wants { handle.layer.recorder ≡ None → Wants handle.layer.kernel (Step.Begin pid (Call.Close fd)) result }
 {
     handle.step(Step::Begin(pid, Call::Close { fd }))
 }
@@ -84,7 +84,7 @@ pub extern "C" fn bindingclay_close(handle: Handle, pid: u32, fd: i32) -> Answer
 #[unsafe(no_mangle)]
 pub extern "C" fn bindingclay_get_fl(handle: Handle, pid: u32, fd: i32) -> Answer
     ensures says { Says handle.layer.kernel (Step.Begin pid (Call.GetFl fd)) result }
-    ensures wants { Wants handle.layer.kernel (Step.Begin pid (Call.GetFl fd)) result }
+    ensures wants { handle.layer.recorder ≡ None → Wants handle.layer.kernel (Step.Begin pid (Call.GetFl fd)) result }
 {
     handle.step(Step::Begin(pid, Call::GetFl { fd }))
 }
@@ -93,7 +93,7 @@ pub extern "C" fn bindingclay_get_fl(handle: Handle, pid: u32, fd: i32) -> Answe
 #[unsafe(no_mangle)]
 pub extern "C" fn bindingclay_set_fl(handle: Handle, pid: u32, fd: i32, flags: u32) -> Answer
     ensures says { Says handle.layer.kernel (Step.Begin pid (Call.SetFl fd (open_flags_of_bits flags))) result }
-    ensures wants { Wants handle.layer.kernel (Step.Begin pid (Call.SetFl fd (open_flags_of_bits flags))) result }
+    ensures wants { handle.layer.recorder ≡ None → Wants handle.layer.kernel (Step.Begin pid (Call.SetFl fd (open_flags_of_bits flags))) result }
 {
     handle.step(Step::Begin(
         pid,
@@ -108,7 +108,7 @@ pub extern "C" fn bindingclay_set_fl(handle: Handle, pid: u32, fd: i32, flags: u
 #[unsafe(no_mangle)]
 pub extern "C" fn bindingclay_get_pipe_sz(handle: Handle, pid: u32, fd: i32) -> Answer
     ensures says { Says handle.layer.kernel (Step.Begin pid (Call.GetPipeSz fd)) result }
-    ensures wants { Wants handle.layer.kernel (Step.Begin pid (Call.GetPipeSz fd)) result }
+    ensures wants { handle.layer.recorder ≡ None → Wants handle.layer.kernel (Step.Begin pid (Call.GetPipeSz fd)) result }
 {
     handle.step(Step::Begin(pid, Call::GetPipeSz { fd }))
 }
@@ -117,7 +117,7 @@ pub extern "C" fn bindingclay_get_pipe_sz(handle: Handle, pid: u32, fd: i32) -> 
 #[unsafe(no_mangle)]
 pub extern "C" fn bindingclay_set_pipe_sz(handle: Handle, pid: u32, fd: i32, size: u32) -> Answer
     ensures says { Says handle.layer.kernel (Step.Begin pid (Call.SetPipeSz fd size)) result }
-    ensures wants { Wants handle.layer.kernel (Step.Begin pid (Call.SetPipeSz fd size)) result }
+    ensures wants { handle.layer.recorder ≡ None → Wants handle.layer.kernel (Step.Begin pid (Call.SetPipeSz fd size)) result }
 {
     handle.step(Step::Begin(pid, Call::SetPipeSz { fd, size }))
 }
@@ -133,7 +133,7 @@ pub extern "C" fn bindingclay_lseek(
     whence: i32,
 ) -> Answer
     ensures says { MatchOption (whence_of_number whence) (result ≡ faulty EINVAL) (λ whence. Says handle.layer.kernel (Step.Begin pid (Call.Lseek fd offset whence)) result) }
-    ensures wants { MatchOption (whence_of_number whence) ⊤ (λ whence. Wants handle.layer.kernel (Step.Begin pid (Call.Lseek fd offset whence)) result) }
+    ensures wants { handle.layer.recorder ≡ None → MatchOption (whence_of_number whence) ⊤ (λ whence. Wants handle.layer.kernel (Step.Begin pid (Call.Lseek fd offset whence)) result) }
 {
     let mut layer = handle.into_box();
     let answer = layer.lseek(pid, fd, offset, whence);

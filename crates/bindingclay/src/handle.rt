@@ -1,5 +1,5 @@
 //! A boxed kernel as a struct of one pointer that C holds, whose type names no other type.
-ghost use Rattle.std.specs.Prelude.{◌≡◌};
+ghost use Rattle.std.specs.Prelude.{◌≡◌, None};
 ghost use Rattle.bindingclay.specs.declared.layer.Layer.{Layer};
 ghost use Rattle.bindingclay.specs.Made.{Says, Wants};
 ghost use Rattle.bindingclay.specs.Owned.{layer_coded, layer_owns};
@@ -46,7 +46,7 @@ impl Handle {
     #[inline(always)]
     pub fn step(self, step: Step<Heap>) -> Answer
         ensures says { Says self.layer.kernel step.entry result }
-        ensures wants { Wants self.layer.kernel step.entry result }
+        ensures wants { self.layer.recorder ≡ None → Wants self.layer.kernel step.entry result }
     {
         let mut layer = self.into_box();
         let answer = layer.step(step);

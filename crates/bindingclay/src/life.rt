@@ -1,5 +1,5 @@
 //! Kernels and processes.
-ghost use Rattle.std.specs.Prelude.{◌≡◌, ◌≤◌, false};
+ghost use Rattle.std.specs.Prelude.{◌≡◌, None, ◌≤◌, false};
 ghost use Rattle.pl_model.specs.Numbers.{most_file_bytes};
 ghost use Rattle.bindingclay.specs.Asked.{AreNone};
 ghost use Rattle.std.specs.Ptr.{as_ptr};
@@ -87,16 +87,19 @@ pub extern "C" fn bindingclay_tell_memory(handle: Handle, memory: &mut Memory)
 #[unsafe(no_mangle)]
 pub extern "C" fn bindingclay_start(handle: Handle) -> Answer
     ensures says { Says handle.layer.kernel Step.Start result }
-    ensures wants { Wants handle.layer.kernel Step.Start result }
+    ensures wants { handle.layer.recorder ≡ None → Wants handle.layer.kernel Step.Start result }
 {
-    handle.step(Step::Start)
+    let mut layer = handle.into_box();
+    let answer = layer.start();
+    let _kept = Box::into_raw(layer);
+    answer
 }
 
 /// Starts a process whose descriptors name what those of this one do: the value is its pid (POSIX.1-2017, fork).
 #[unsafe(no_mangle)]
 pub extern "C" fn bindingclay_fork(handle: Handle, pid: u32) -> Answer
     ensures says { Says handle.layer.kernel (Step.Begin pid Call.Fork) result }
-    ensures wants { Wants handle.layer.kernel (Step.Begin pid Call.Fork) result }
+    ensures wants { handle.layer.recorder ≡ None → Wants handle.layer.kernel (Step.Begin pid Call.Fork) result }
 {
     handle.step(Step::Begin(pid, Call::Fork))
 }
@@ -105,7 +108,7 @@ pub extern "C" fn bindingclay_fork(handle: Handle, pid: u32) -> Answer
 #[unsafe(no_mangle)]
 pub extern "C" fn bindingclay_exit(handle: Handle, pid: u32) -> Answer
     ensures says { Says handle.layer.kernel (Step.Begin pid Call.Exit) result }
-    ensures wants { Wants handle.layer.kernel (Step.Begin pid Call.Exit) result }
+    ensures wants { handle.layer.recorder ≡ None → Wants handle.layer.kernel (Step.Begin pid Call.Exit) result }
 {
     handle.step(Step::Begin(pid, Call::Exit))
 }

@@ -1,5 +1,5 @@
 //! What descriptors are ready for.
-ghost use Rattle.std.specs.Prelude.{◌≡◌};
+ghost use Rattle.std.specs.Prelude.{◌≡◌, None};
 ghost use Rattle.pl_model.specs.declared.calls.Call.{Call};
 ghost use Rattle.pl_model.specs.declared.calls.Step.{Step};
 ghost use Rattle.pl_kernel.specs.Buffers.{Parks};
@@ -22,7 +22,7 @@ pub extern "C" fn bindingclay_poll(
     ensures says { Says handle.layer.kernel (Step.Begin pid (Call.Poll (asked entries.old) wait)) result }
     ensures entries { Replied handle.layer.kernel (Step.Begin pid (Call.Poll (asked entries.old) wait)) result (λ reply. entries.new ≡ entries_after entries.old reply) }
     ensures unmarked { result.kind ≡ 6 → entries.new ≡ entries.old }
-    ensures wants { result.kind ≡ 6 → Parks handle.layer.kernel (Step.Begin pid (Call.Poll (asked entries.old) wait)) }
+    ensures wants { handle.layer.recorder ≡ None → result.kind ≡ 6 → Parks handle.layer.kernel (Step.Begin pid (Call.Poll (asked entries.old) wait)) }
 {
     let mut layer = handle.into_box();
     let answer = layer.poll(pid, entries, wait);

@@ -1,9 +1,9 @@
 //! Calls that wait.
-ghost use Rattle.std.specs.Prelude.{◌≡◌, ◌<◌, length};
+ghost use Rattle.std.specs.Prelude.{◌≡◌, None, ◌<◌, length};
 ghost use Rattle.pl_numbers.specs.Answers.{said, plain};
 ghost use Rattle.pl_kernel.specs.Progress.{TellsProgress, OrWaitsInVain, ready_entries};
 ghost use Rattle.bindingclay.specs.Heap.{InBudget};
-ghost use Rattle.bindingclay.specs.Made.{Says, Moves, Wants, Resumed, unmoved, Gathers, Notes, Owns, Takes, TellsNext};
+ghost use Rattle.bindingclay.specs.Made.{Says, Moves, Wants, Resumed, unmoved, Gathers, IsFrugal, Notes, Owns, Takes, TellsNext};
 
 use crate::handle::Handle;
 use pl_kernel::PollEntry;
@@ -17,10 +17,11 @@ use pl_numbers::Answer;
 pub extern "C" fn bindingclay_resume(handle: Handle, number: u64, into: &mut [u8]) -> Answer
     ensures says { Resumed handle.layer.kernel number result (λ reply. unmoved result ≡ said reply) }
     ensures moved { Moves handle.layer.kernel (Step.Resume number) result }
-    ensures wants { Wants handle.layer.kernel (Step.Resume number) result }
+    ensures wants { handle.layer.recorder ≡ None → Wants handle.layer.kernel (Step.Resume number) result }
     ensures polls { 0 < ready_entries handle.layer.kernel number → (result ≡ plain (ready_entries handle.layer.kernel number) 7) × (into.new ≡ into.old) }
     ensures wider { ready_entries handle.layer.kernel number ≡ 0 → result.kind ≡ 7 → length into.old < result.value }
     ensures bytes { ready_entries handle.layer.kernel number ≡ 0 → Gathers handle.layer.kernel number into.old result into.new }
+    ensures frugal { handle.layer.recorder ≡ None → IsFrugal handle.layer.kernel number result }
 {
     let mut layer = handle.into_box();
     let answer = layer.resume(number, into);
@@ -38,8 +39,9 @@ pub extern "C" fn bindingclay_resume_poll(
 ) -> Answer
     ensures says { Resumed handle.layer.kernel number result (λ reply. unmoved result ≡ said reply) }
     ensures moved { Moves handle.layer.kernel (Step.Resume number) result }
-    ensures wants { Wants handle.layer.kernel (Step.Resume number) result }
+    ensures wants { handle.layer.recorder ≡ None → Wants handle.layer.kernel (Step.Resume number) result }
     ensures entries { Notes handle.layer.kernel number entries.old result entries.new }
+    ensures frugal { handle.layer.recorder ≡ None → IsFrugal handle.layer.kernel number result }
 {
     let mut layer = handle.into_box();
     let answer = layer.resume_poll(number, entries);
@@ -99,7 +101,7 @@ pub extern "C" fn bindingclay_next_ready(handle: Handle, from: u64) -> Answer
 #[unsafe(no_mangle)]
 pub extern "C" fn bindingclay_interrupt(handle: Handle, number: u64) -> Answer
     ensures says { Says handle.layer.kernel (Step.Interrupt number) result }
-    ensures wants { Wants handle.layer.kernel (Step.Interrupt number) result }
+    ensures wants { handle.layer.recorder ≡ None → Wants handle.layer.kernel (Step.Interrupt number) result }
 {
     handle.step(Step::Interrupt(number))
 }

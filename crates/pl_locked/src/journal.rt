@@ -1,14 +1,19 @@
 //! The journal of a layer.
-ghost use Rattle.std.specs.Prelude.{◌≡◌, ◌≤◌, ◌↔◌, length, slice_get, option_copied, IfOk, IsTrue};
+ghost use Rattle.std.specs.Prelude.{◌≡◌, ◌≤◌, ◌↔◌, ◌++◌, length, slice_get, option_copied, string_bytes, IfOk, OnOk, OnErr, IsTrue};
+ghost use Rattle.std.specs.List.{list_all};
 ghost use Rattle.pl_model.specs.Numbers.{most_file_bytes};
 ghost use Rattle.pl_model.specs.History.{IsLegal};
+ghost use Rattle.pl_model.specs.Said.{is_sayable};
+ghost use Rattle.pl_recording.specs.Record.{made_in, recorded};
 ghost use Rattle.pl_locked.specs.Journals.{Replays};
 
 use crate::numbering::are_numbered;
 use crate::same::is_same;
 use pl_kernel::{Kernel, NoMemory};
+use pl_lines::is_sayable;
 use pl_model::{Entry, Limits};
-use std::alloc::{Allocator, Global};
+use pl_recording::push_record;
+use std::alloc::{AllocError, Allocator, Global};
 use std::marker::Model;
 
 /// All steps of a layer, in the order in which they were made, each with its caller and its reply. Contracts see it as the list of
@@ -49,6 +54,13 @@ impl<A: Allocator> Journal<A> {
     {
         self.entries.get(place)
     }
+
+    /// Whether a line of a script says each step: it doesn't say one with flags that have no name.
+    pub fn is_sayable(&self) -> bool
+        ensures { result ≡ list_all (λ e. is_sayable e.step) self.now }
+    {
+        self.entries.iter().all(|entry| is_sayable(&entry.step))
+    }
 }
 
 impl<A: Allocator + Copy> Journal<A> {
@@ -66,6 +78,25 @@ impl<A: Allocator + Copy> Journal<A> {
         let numbered = are_numbered(alloc, entries)?;
         let replayed = replays(alloc, limits, entries)?;
         Ok(numbered && replayed)
+    }
+
+    /// Adds the journal as a script, which asks for each step and has its reply in a comment. It names these limits, within which the kernel
+    /// was made. The law `pl_recording::journals` says that the script prints just these replies as it is run, if the journal is what happened
+    /// and `is_sayable` holds of it.
+    ///
+    /// # Errors
+    ///
+    /// `AllocError` if there is no memory for it. The text is as it was.
+    pub fn push_script(
+        &self,
+        alloc: A,
+        limits: Limits,
+        text: &mut String<A>,
+    ) -> Result<(), AllocError>
+        ensures done { OnOk result (string_bytes text.new ≡ string_bytes text.old ++ recorded limits (made_in self.now)) }
+        ensures undone { OnErr result (string_bytes text.new ≡ string_bytes text.old) }
+    {
+        push_record(alloc, text, limits, &self.entries)
     }
 }
 

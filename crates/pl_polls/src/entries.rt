@@ -34,7 +34,7 @@ pub(crate) fn mask_of_events(events: u16) -> PollMask
 /// # Errors
 ///
 /// `AllocError`, where there is no memory for the list.
-pub(crate) fn asked_of<A: Allocator + Copy>(
+pub fn asked_of<A: Allocator + Copy>(
     alloc: A,
     entries: &[PollEntry],
 ) -> Result<PollList<A>, AllocError>

@@ -11,6 +11,6 @@ mod waiting;
 
 pub use begin::poll;
 pub use counts::{masks_to_begin, masks_to_resume};
-pub use entries::{PollEntry, mark_entries};
+pub use entries::{PollEntry, asked_of, mark_entries};
 pub use into::{PollReply, poll_into};
 pub use waiting::{poll_can_progress, resume_poll};

@@ -1,9 +1,10 @@
 -- A record (our own): a script of version 2 that asks for each step that was made, and tells the reply of each in a comment behind it.
-use Rattle.std.specs.Prelude.{ℕ, List, [], ◌∷◌, ◌++◌, codes}
+use Rattle.std.specs.Prelude.{ℕ, List, [], ◌∷◌, ◌++◌, map, codes}
 use Rattle.std.specs.List.{flat_map}
 use Rattle.std.specs.Fmt.{decimal}
 use Rattle.pl_model.specs.declared.calls.Limits.{Limits}
 use Rattle.pl_model.specs.declared.calls.Step.{Step}
+use Rattle.pl_model.specs.declared.history.Entry.{Entry}
 use Rattle.pl_model.specs.declared.replies.Reply.{Reply}
 use Rattle.pl_model.specs.declared.script.Version.TheVariants.{Two}
 use Rattle.pl_model.specs.Shown.{reply_text}
@@ -38,3 +39,7 @@ module _ {A : Type 0} where
   -- the record of steps with their replies
   abbrev pub recorded : Limits → List (Step A × Reply A) → List ℕ
   recorded limits entries = header limits ++ flat_map entry_text entries
+
+  -- the steps of a journal, each with its reply
+  abbrev pub made_in : List (Entry A) → List (Step A × Reply A)
+  made_in entries = map (λ e. (e.step, e.reply)) entries

@@ -1,22 +1,28 @@
 //! Records: scripts of version 2 that ask for each step that was made, and tell the reply of each in a comment behind it.
 //!
 //! `push_header` gives the lines in front of a record, and `push_entry` those of a step with its reply; `push_reply_comment` gives the
-//! comment alone. What a record is, is defined in `specs/Record.antt`. `replaying` is the law that a record prints the replies that it
-//! has in its comments, as it is run: `specs/Replay.antt`.
+//! comment alone, and `push_record` the record of a journal. What a record is, is defined in `specs/Record.antt`. `replaying` and `journals`
+//! are the laws that a record prints the replies that it has in its comments, as it is run: `specs/Replay.antt`.
 #![tactic(auto)]
 
 ghost use Rattle.std.specs.Prelude.{◌≡◌, ◌++◌, OnOk, OnErr, string_bytes};
+ghost use Rattle.std.specs.List.{flat_map};
 ghost use Rattle.pl_lines.specs.Pushed.{Pushes};
-ghost use Rattle.pl_recording.specs.Record.{ended, limits_text, header, comment_text, entry_text};
-ghost use Rattle.pl_recording.specs.Replay.{RecordsReplay};
+ghost use Rattle.pl_recording.specs.Record.{ended, limits_text, header, comment_text, entry_text, made_in, recorded};
+ghost use Rattle.pl_recording.specs.Replay.{RecordsReplay, JournalsReplay};
 
 use pl_lines::{keep_if_pushed, push_number, push_reply_2, push_step};
-use pl_model::{Limits, Reply, Step};
+use pl_model::{Entry, Limits, Reply, Step};
 use std::alloc::{AllocError, Allocator};
 
 /// A record of a run, run again within the limits that it tells, prints the replies that it has in its comments, line by line.
 pub fn replaying<A: Allocator>()
     ensures { RecordsReplay A }
+{}
+
+/// The record of a journal that some run gave does so, if lines can say its steps.
+pub fn journals<A: Allocator>()
+    ensures { JournalsReplay A }
 {}
 
 /// Adds the comment that tells the limits.
@@ -113,6 +119,51 @@ pub fn push_entry<A: Allocator + Copy>(
 {
     let len = text.as_str().len();
     let pushed = push_front_of_entry(alloc, text, step, reply);
+    // As in `push_header`.
+    let _ = text.as_str();
+    keep_if_pushed(text, len, pushed)
+}
+
+/// Adds the lines of entries, or a front of them where there is no memory for them.
+fn push_entries<A: Allocator + Copy>(
+    alloc: A,
+    text: &mut String<A>,
+    entries: &[Entry<A>],
+) -> Result<(), AllocError>
+    ensures { Pushes result (string_bytes text.old) (string_bytes text.new) (flat_map entry_text (made_in entries.now)) }
+{
+    for entry in entries {
+        push_front_of_entry(alloc, text, &entry.step, &entry.reply)?;
+    }
+    Ok(())
+}
+
+/// Adds the record of entries, or a front of it where there is no memory for it.
+fn push_front_of_record<A: Allocator + Copy>(
+    alloc: A,
+    text: &mut String<A>,
+    limits: Limits,
+    entries: &[Entry<A>],
+) -> Result<(), AllocError>
+    ensures { Pushes result (string_bytes text.old) (string_bytes text.new) (recorded limits (made_in entries.now)) }
+{
+    push_front_of_header(text, limits)?;
+    push_entries(alloc, text, entries)
+}
+
+/// Adds the record of a journal: the lines in front, and those of each entry. Where there is no memory for it, which is the only error, the text
+/// is as it was.
+pub fn push_record<A: Allocator + Copy>(
+    alloc: A,
+    text: &mut String<A>,
+    limits: Limits,
+    entries: &[Entry<A>],
+) -> Result<(), AllocError>
+    ensures done { OnOk result (string_bytes text.new ≡ string_bytes text.old ++ recorded limits (made_in entries.now)) }
+    ensures undone { OnErr result (string_bytes text.new ≡ string_bytes text.old) }
+{
+    let len = text.as_str().len();
+    let pushed = push_front_of_record(alloc, text, limits, entries);
     // As in `push_header`.
     let _ = text.as_str();
     keep_if_pushed(text, len, pushed)

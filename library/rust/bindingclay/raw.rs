@@ -74,6 +74,8 @@ unsafe extern "C" {
     pub(super) fn bindingclay_fd_facts(clay: Handle, pid: u32, fd: i32, facts: *mut RawNode) -> RawAnswer;
     pub(super) fn bindingclay_name_facts(clay: Handle, name: *const u8, size: usize, facts: *mut RawNode) -> RawAnswer;
     pub(super) fn bindingclay_call_facts(clay: Handle, number: u64, facts: *mut RawCall) -> RawAnswer;
+    pub(super) fn bindingclay_record(clay: Handle, on: bool) -> RawAnswer;
+    pub(super) fn bindingclay_recorded(clay: Handle, into: *mut u8, size: usize) -> RawAnswer;
     pub(super) fn bindingclay_stats(clay: Handle, segments: *mut SegmentUse);
 }
 

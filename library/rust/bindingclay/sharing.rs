@@ -1,6 +1,6 @@
 //! What the shared kernel wants of this one beside its calls.
 
-use super::answers::ParkedCall;
+use super::answers::{ParkedCall, Result};
 use super::shared;
 use super::values::{Fd, Limits, PollEntry};
 use super::Clay;
@@ -15,7 +15,7 @@ impl Clay {
     }
 
     /// Ends the call of a number, and tells what it had taken.
-    pub(super) fn interrupt_number(&mut self, number: u64) -> io::Result<usize> {
+    pub(super) fn interrupt_number(&mut self, number: u64) -> Result<usize> {
         Ok(self.interrupt(ParkedCall::from_number(number))?.count())
     }
 

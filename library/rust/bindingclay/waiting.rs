@@ -26,7 +26,7 @@ impl Clay {
     ///
     /// # Errors
     ///
-    /// As of `resume`. A read is `Short` if it would give more bytes than there is room for, and asks for no memory.
+    /// As of `resume`. A read is `Short` if it would give more bytes than there is room for, and asks for no memory but to be recorded.
     pub fn resume_read(&mut self, call: ParkedCall, into: &mut [u8]) -> Result<Answer<usize>> {
         Ok(self.resume_into(call, into)?.map(Done::count))
     }
@@ -46,14 +46,17 @@ impl Clay {
         unsafe { bindingclay_resume(self.0, call.number, into.as_mut_ptr(), into.len()) }.resumed(call)
     }
 
-    /// Ends a call that waits, as a signal does. Of a write that took bytes it tells how many. It asks for no memory.
+    /// Ends a call that waits, as a signal does. Of a write that took bytes it tells how many. It asks for no memory but to be recorded.
     ///
     /// # Errors
     ///
     /// `Fault` with EINTR says that the call ended and had taken nothing; so it is with every call but such a write. `NoCall` says that no
-    /// call of its number waits.
+    /// call of its number waits. `NoMemoryToResume` comes only while steps are recorded, and gives the call back, which still waits.
     pub fn interrupt(&mut self, call: ParkedCall) -> Result<Done> {
-        unsafe { bindingclay_interrupt(self.0, call.number) }.done()
+        match unsafe { bindingclay_interrupt(self.0, call.number) }.resumed(call)? {
+            Answer::Done(done) => Ok(done),
+            Answer::Parked(call) => unreachable!("call {} waits, and it was ended", call.number),
+        }
     }
 
     /// The process that began a call that waits.

@@ -124,6 +124,18 @@ impl Clay {
         }
     }
 
+    pub(crate) fn record(&mut self) -> Result<()> {
+        self.kernel().record()
+    }
+
+    pub(crate) fn end_record(&mut self) {
+        self.kernel().end_record();
+    }
+
+    pub(crate) fn recorded(&mut self, into: &mut [u8]) -> Result<usize> {
+        self.kernel().recorded(into)
+    }
+
     pub(crate) fn start(&mut self) -> Result<u32> {
         match self.kernel().step(Step::Start)? {
             Reply::Fault(errno) => Err(NotDone::Fault(errno)),
@@ -289,7 +301,7 @@ impl Clay {
     }
 
     /// Ends the call of a number, and tells what it had taken.
-    pub(crate) fn interrupt_number(&mut self, call: u64) -> io::Result<usize> {
+    pub(crate) fn interrupt_number(&mut self, call: u64) -> Result<usize> {
         let reply = self.kernel().interrupt(ParkedCall::from_number(call))?;
         Ok(number(reply) as usize)
     }

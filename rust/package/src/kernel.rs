@@ -2,14 +2,16 @@
 
 mod calls;
 mod facts;
+mod recording;
 mod waiting;
 
-use crate::Reply;
 use crate::answers::{Answer, ParkedCall};
 use crate::faults::NotDone;
 use crate::memory::{Allocator, Global};
 use crate::parts::kernel as inner;
-use crate::parts::kernel::ReadReply;
+use crate::parts::kernel::{NoMemory, ReadReply};
+use crate::parts::recorder::Recorder;
+use crate::{Limits, Reply, Step};
 use core::fmt;
 
 /// A kernel of processes that talk through pipes, in the memory of one allocator.
@@ -38,9 +40,27 @@ use core::fmt;
 /// ```
 pub struct Kernel<A: Allocator = Global> {
     inner: inner::Kernel<A>,
+    alloc: A,
+    limits: Limits,
+    /// No process was started, and no recording begun.
+    is_fresh: bool,
+    /// The record, while steps are recorded.
+    recorder: Option<Recorder<A>>,
 }
 
 impl<A: Allocator + Copy> Kernel<A> {
+    /// Makes one step.
+    #[inline(always)]
+    fn make(&mut self, step: Step<A>) -> Result<Reply<A>, NoMemory> {
+        if let Step::Start = step {
+            self.is_fresh = false;
+        }
+        if self.recorder.is_some() {
+            return self.step_recorded(step);
+        }
+        self.inner.step(step)
+    }
+
     /// How many bytes the parked call of a number has taken; 0 if no call is parked under it.
     #[inline]
     fn taken_so_far(&self, number: u64) -> u32 {

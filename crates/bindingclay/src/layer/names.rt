@@ -8,6 +8,7 @@ ghost use Rattle.bindingclay.specs.Heap.{InBudget};
 ghost use Rattle.pl_numbers.specs.Answers.{faulty};
 ghost use Rattle.pl_numbers.specs.Flags.{mode_of_bits, open_flags_of_bits};
 ghost use Rattle.bindingclay.specs.Made.{Makes, Gives};
+ghost use Rattle.bindingclay.specs.Recorded.{Records};
 
 use super::{Heap, Layer, no_memory};
 use pl_kernel::NoMemory;
@@ -40,7 +41,8 @@ impl Layer {
 
     /// Makes a FIFO.
     pub fn mkfifo(&mut self, pid: u32, name: &[u8]) -> Answer
-        ensures { Makes self.old.kernel (Step.Begin pid (Call.Mkfifo (take 256 name.now))) result self.new.kernel }
+        ensures makes { Makes self.old.kernel (Step.Begin pid (Call.Mkfifo (take 256 name.now))) result self.new.kernel }
+        ensures records { Records self.old.kernel self.old.recorder (Step.Begin pid (Call.Mkfifo (take 256 name.now))) result self.new.recorder }
     {
         match self.name(name) {
             Ok(name) => self.step(Step::Begin(pid, Call::Mkfifo { name })),
@@ -50,9 +52,11 @@ impl Layer {
 
     /// Opens what a name stands for, or where the bits say no mode does nothing (POSIX.1-2017, open, `EINVAL`).
     pub fn open_name(&mut self, pid: u32, name: &[u8], bits: u32) -> Answer
-        ensures { MatchOption (mode_of_bits bits)
+        ensures makes { MatchOption (mode_of_bits bits)
             ((result ≡ faulty EINVAL) × (self.new.kernel ≡ self.old.kernel))
             (λ mode. Makes self.old.kernel (Step.Begin pid (Call.OpenName (take 256 name.now) mode (open_flags_of_bits bits))) result self.new.kernel) }
+        ensures records { MatchOption (mode_of_bits bits) (self.new.recorder ≡ self.old.recorder)
+            (λ mode. Records self.old.kernel self.old.recorder (Step.Begin pid (Call.OpenName (take 256 name.now) mode (open_flags_of_bits bits))) result self.new.recorder) }
     {
         let Some(mode) = mode_of_bits(bits) else {
             return Answer::fault(Errno::EINVAL);
@@ -66,7 +70,8 @@ impl Layer {
 
     /// Takes a name away.
     pub fn unlink(&mut self, pid: u32, name: &[u8]) -> Answer
-        ensures { Makes self.old.kernel (Step.Begin pid (Call.Unlink (take 256 name.now))) result self.new.kernel }
+        ensures makes { Makes self.old.kernel (Step.Begin pid (Call.Unlink (take 256 name.now))) result self.new.kernel }
+        ensures records { Records self.old.kernel self.old.recorder (Step.Begin pid (Call.Unlink (take 256 name.now))) result self.new.recorder }
     {
         match self.name(name) {
             Ok(name) => self.step(Step::Begin(pid, Call::Unlink { name })),

@@ -1,5 +1,5 @@
 //! Bytes from and into the caller's memory.
-ghost use Rattle.std.specs.Prelude.{◌≡◌, ◌≤◌, ◌<◌, ◌^◌, ◌&&◌, ⊤, List, false, length, nat_eq, nat_lt, take, min, MatchOption};
+ghost use Rattle.std.specs.Prelude.{◌≡◌, ◌≤◌, ◌<◌, ◌^◌, ◌&&◌, ⊤, List, None, false, length, nat_eq, nat_lt, take, min, MatchOption};
 ghost use Rattle.pl_model.specs.Numbers.{most_bytes};
 ghost use Rattle.pl_model.specs.declared.replies.Errno.TheVariants.{EINVAL};
 ghost use Rattle.bindingclay.specs.Heap.{InBudget};
@@ -14,9 +14,10 @@ ghost use Rattle.pl_polls.specs.declared.entries.PollEntry.{PollEntry as Entry};
 ghost use Rattle.pl_polls.specs.Entries.{asked, entries_after};
 ghost use Rattle.pl_polls.specs.Into.{told as poll_told};
 ghost use Rattle.bindingclay.specs.Made.{Makes, Moves, Wants, Replied, unmoved, bytes_after, read_answer, offset_of};
+ghost use Rattle.bindingclay.specs.Recorded.{Records};
 
 use super::moved::tell_moved;
-use super::{Heap, Layer, no_memory};
+use super::{Heap, Layer, no_memory, recorded};
 use pl_kernel::{Kernel, NoMemory, PollEntry, PollReply, ReadReply, WriteReply};
 use pl_model::{Call, Errno, Step};
 use pl_numbers::{Answer, kind, splice_flags_of_bits};
@@ -96,7 +97,7 @@ fn answer_of_other_write(kernel: &Kernel<Heap>, reply: WriteReply) -> Answer
 
 // The answer of a write, which tells too whether bytes of it went in where it waits. The kernel is as the write left it.
 #[inline(always)]
-fn answer_of_written(kernel: &Kernel<Heap>, reply: &WriteReply) -> Answer
+pub(super) fn answer_of_written(kernel: &Kernel<Heap>, reply: &WriteReply) -> Answer
     ensures rest { result ≡ record (said {A = InBudget} (reply_of reply.now)) { moved = result.moved } }
     ensures value { (s : State InBudget) → Stands kernel.now s → result.moved ≡ (nat_eq (said {A = InBudget} (reply_of reply.now)).kind parked && nat_lt 0 (taken_by s.core (said {A = InBudget} (reply_of reply.now)).value)) }
     ensures others { ((said {A = InBudget} (reply_of reply.now)).kind ≡ parked → ⊥) → result.moved ≡ false }
@@ -129,6 +130,7 @@ impl Layer {
         ensures bytes { Replied self.old.kernel (Step.Begin pid (Call.Read fd (length into.old))) result (λ reply. into.new ≡ bytes_after into.old reply) }
         ensures unread { result.kind ≡ 6 → into.new ≡ into.old }
         ensures wants { result.kind ≡ 6 → Parks self.old.kernel (Step.Begin pid (Call.Read fd (length into.old))) }
+        ensures same { self.new.recorder ≡ self.old.recorder }
     {
         match self.kernel.read_into(pid, fd, into) {
             Ok(reply) => answer_of_read(&reply),
@@ -144,6 +146,7 @@ impl Layer {
         ensures bytes { Replied self.old.kernel (Step.Begin pid (Call.Read fd (length into.old))) result (λ reply. into.new ≡ bytes_after into.old reply) }
         ensures unread { result.kind ≡ 6 → into.new ≡ into.old }
         ensures wants { result.kind ≡ 6 → Parks self.old.kernel (Step.Begin pid (Call.Read fd (length into.old))) }
+        ensures same { self.new.recorder ≡ self.old.recorder }
     {
         self.read_all(pid, fd, into)
     }
@@ -151,12 +154,16 @@ impl Layer {
     // Reads as many bytes as the caller's are, by the shorter way while no call waits.
     #[inline(always)]
     fn read_bytes(&mut self, pid: u32, fd: i32, into: &mut [u8]) -> Answer
-        requires { length into.old < 2 ^ 32 }
+        requires { length into.old ≤ most_bytes }
         ensures makes { Makes self.old.kernel (Step.Begin pid (Call.Read fd (length into.old))) result self.new.kernel }
         ensures bytes { Replied self.old.kernel (Step.Begin pid (Call.Read fd (length into.old))) result (λ reply. into.new ≡ bytes_after into.old reply) }
         ensures unread { result.kind ≡ 6 → into.new ≡ into.old }
-        ensures wants { result.kind ≡ 6 → Parks self.old.kernel (Step.Begin pid (Call.Read fd (length into.old))) }
+        ensures wants { self.old.recorder ≡ None → result.kind ≡ 6 → Parks self.old.kernel (Step.Begin pid (Call.Read fd (length into.old))) }
+        ensures records { Records self.old.kernel self.old.recorder (Step.Begin pid (Call.Read fd (length into.old))) result self.new.recorder }
     {
+        if let Some(recorder) = &mut self.recorder {
+            return recorded::read(&mut self.kernel, recorder, self.heap, pid, fd, into);
+        }
         if self.kernel.is_idle() {
             return self.read_all(pid, fd, into);
         }
@@ -168,7 +175,8 @@ impl Layer {
         ensures makes { Makes self.old.kernel (Step.Begin pid (Call.Read fd (min most_bytes (length into.old)))) result self.new.kernel }
         ensures bytes { Replied self.old.kernel (Step.Begin pid (Call.Read fd (min most_bytes (length into.old)))) result (λ reply. into.new ≡ bytes_after into.old reply) }
         ensures unread { result.kind ≡ 6 → into.new ≡ into.old }
-        ensures wants { result.kind ≡ 6 → Parks self.old.kernel (Step.Begin pid (Call.Read fd (min most_bytes (length into.old)))) }
+        ensures wants { self.old.recorder ≡ None → result.kind ≡ 6 → Parks self.old.kernel (Step.Begin pid (Call.Read fd (min most_bytes (length into.old)))) }
+        ensures records { Records self.old.kernel self.old.recorder (Step.Begin pid (Call.Read fd (min most_bytes (length into.old)))) result self.new.recorder }
     {
         let count = MOST_BYTES.min(into.len());
         self.read_bytes(pid, fd, &mut into[..count])
@@ -181,6 +189,7 @@ impl Layer {
         ensures makes { Makes self.old.kernel (Step.Begin pid (Call.Write fd bytes.now)) (unmoved result) self.new.kernel }
         ensures moved { Moves self.old.kernel (Step.Begin pid (Call.Write fd bytes.now)) result }
         ensures wants { Wants self.old.kernel (Step.Begin pid (Call.Write fd bytes.now)) result }
+        ensures same { self.new.recorder ≡ self.old.recorder }
     {
         match self.kernel.write_from(pid, fd, bytes) {
             Ok(reply) => answer_of_written(&self.kernel, &reply),
@@ -195,6 +204,7 @@ impl Layer {
         ensures makes { Makes self.old.kernel (Step.Begin pid (Call.Write fd bytes.now)) (unmoved result) self.new.kernel }
         ensures moved { Moves self.old.kernel (Step.Begin pid (Call.Write fd bytes.now)) result }
         ensures wants { Wants self.old.kernel (Step.Begin pid (Call.Write fd bytes.now)) result }
+        ensures same { self.new.recorder ≡ self.old.recorder }
     {
         self.write_all(pid, fd, bytes)
     }
@@ -205,8 +215,12 @@ impl Layer {
         requires { length bytes.now ≤ most_bytes }
         ensures makes { Makes self.old.kernel (Step.Begin pid (Call.Write fd bytes.now)) (unmoved result) self.new.kernel }
         ensures moved { Moves self.old.kernel (Step.Begin pid (Call.Write fd bytes.now)) result }
-        ensures wants { Wants self.old.kernel (Step.Begin pid (Call.Write fd bytes.now)) result }
+        ensures wants { self.old.recorder ≡ None → Wants self.old.kernel (Step.Begin pid (Call.Write fd bytes.now)) result }
+        ensures records { Records self.old.kernel self.old.recorder (Step.Begin pid (Call.Write fd bytes.now)) (unmoved result) self.new.recorder }
     {
+        if let Some(recorder) = &mut self.recorder {
+            return recorded::write(&mut self.kernel, recorder, pid, fd, bytes);
+        }
         if self.kernel.is_idle() {
             return self.write_all(pid, fd, bytes);
         }
@@ -217,7 +231,8 @@ impl Layer {
     pub fn write(&mut self, pid: u32, fd: i32, bytes: &[u8]) -> Answer
         ensures makes { Makes self.old.kernel (Step.Begin pid (Call.Write fd (take most_bytes bytes.now))) (unmoved result) self.new.kernel }
         ensures moved { Moves self.old.kernel (Step.Begin pid (Call.Write fd (take most_bytes bytes.now))) result }
-        ensures wants { Wants self.old.kernel (Step.Begin pid (Call.Write fd (take most_bytes bytes.now))) result }
+        ensures wants { self.old.recorder ≡ None → Wants self.old.kernel (Step.Begin pid (Call.Write fd (take most_bytes bytes.now))) result }
+        ensures records { Records self.old.kernel self.old.recorder (Step.Begin pid (Call.Write fd (take most_bytes bytes.now))) (unmoved result) self.new.recorder }
     {
         self.write_bytes(pid, fd, within(bytes))
     }
@@ -238,7 +253,8 @@ impl Layer {
         ensures makes { MatchOption (splice_flags_of_bits flags)
             ((result ≡ faulty EINVAL) × (self.new.kernel ≡ self.old.kernel))
             (λ flags. Makes self.old.kernel (Step.Begin pid (Call.Splice from (offset_of has_from_offset from_offset) to (offset_of has_to_offset to_offset) len flags)) result self.new.kernel) }
-        ensures wants { MatchOption (splice_flags_of_bits flags) ⊤ (λ flags. Wants self.old.kernel (Step.Begin pid (Call.Splice from (offset_of has_from_offset from_offset) to (offset_of has_to_offset to_offset) len flags)) result) }
+        ensures wants { self.old.recorder ≡ None → MatchOption (splice_flags_of_bits flags) ⊤ (λ flags. Wants self.old.kernel (Step.Begin pid (Call.Splice from (offset_of has_from_offset from_offset) to (offset_of has_to_offset to_offset) len flags)) result) }
+        ensures records { MatchOption (splice_flags_of_bits flags) (self.new.recorder ≡ self.old.recorder) (λ flags. Records self.old.kernel self.old.recorder (Step.Begin pid (Call.Splice from (offset_of has_from_offset from_offset) to (offset_of has_to_offset to_offset) len flags)) result self.new.recorder) }
     {
         let Some(flags) = splice_flags_of_bits(flags) else {
             return Answer::fault(Errno::EINVAL);
@@ -261,7 +277,8 @@ impl Layer {
         ensures makes { MatchOption (splice_flags_of_bits flags)
             ((result ≡ faulty EINVAL) × (self.new.kernel ≡ self.old.kernel))
             (λ flags. Makes self.old.kernel (Step.Begin pid (Call.Tee from to len flags)) result self.new.kernel) }
-        ensures wants { MatchOption (splice_flags_of_bits flags) ⊤ (λ flags. Wants self.old.kernel (Step.Begin pid (Call.Tee from to len flags)) result) }
+        ensures wants { self.old.recorder ≡ None → MatchOption (splice_flags_of_bits flags) ⊤ (λ flags. Wants self.old.kernel (Step.Begin pid (Call.Tee from to len flags)) result) }
+        ensures records { MatchOption (splice_flags_of_bits flags) (self.new.recorder ≡ self.old.recorder) (λ flags. Records self.old.kernel self.old.recorder (Step.Begin pid (Call.Tee from to len flags)) result self.new.recorder) }
     {
         let Some(flags) = splice_flags_of_bits(flags) else {
             return Answer::fault(Errno::EINVAL);
@@ -282,8 +299,12 @@ impl Layer {
         ensures makes { Makes self.old.kernel (Step.Begin pid (Call.Poll (asked entries.old) wait)) result self.new.kernel }
         ensures entries { Replied self.old.kernel (Step.Begin pid (Call.Poll (asked entries.old) wait)) result (λ reply. entries.new ≡ entries_after entries.old reply) }
         ensures unmarked { result.kind ≡ 6 → entries.new ≡ entries.old }
-        ensures wants { result.kind ≡ 6 → Parks self.old.kernel (Step.Begin pid (Call.Poll (asked entries.old) wait)) }
+        ensures wants { self.old.recorder ≡ None → result.kind ≡ 6 → Parks self.old.kernel (Step.Begin pid (Call.Poll (asked entries.old) wait)) }
+        ensures records { Records self.old.kernel self.old.recorder (Step.Begin pid (Call.Poll (asked entries.old) wait)) result self.new.recorder }
     {
+        if let Some(recorder) = &mut self.recorder {
+            return recorded::poll(&mut self.kernel, recorder, self.heap, pid, entries, wait);
+        }
         match self.kernel.poll_into(pid, entries, wait) {
             Ok(reply) => answer_of_poll(&reply),
             Err(NoMemory) => no_memory(),

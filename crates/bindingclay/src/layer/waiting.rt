@@ -1,19 +1,20 @@
 //! Parked calls, tried again.
-ghost use Rattle.std.specs.Prelude.{◌≡◌, length};
+ghost use Rattle.std.specs.Prelude.{◌≡◌, None, length};
 ghost use Rattle.pl_kernel.specs.Progress.{TellsProgress, OrWaitsInVain};
 ghost use Rattle.bindingclay.specs.Heap.{InBudget};
-ghost use Rattle.bindingclay.specs.Made.{Gathers, Moves, Notes, Owns, Resumes, Takes, TellsNext, TriesAgain, Wants, number_answer, resumed_answer, resumed_entries};
+ghost use Rattle.bindingclay.specs.Made.{Gathers, Moves, Notes, Owns, Resumes, Takes, TellsNext, TriesAgain, Wants, number_answer, resumed_answer, resumed_entries, IsFrugal};
+ghost use Rattle.bindingclay.specs.Recorded.{RecordsTry};
 
 use super::moved::{taken_so_far, tell_moved};
 use super::transfers::answer_of_read;
-use super::{Heap, Layer, no_memory};
+use super::{Heap, Layer, no_memory, recorded};
 use pl_kernel::{NoMemory, Resumed};
 use pl_model::Step;
 use pl_numbers::{Answer, answer_of, kind};
 use pl_polls::{PollEntry, mark_entries};
 
 // The answer of a call that was tried again.
-fn answer_of_resumed(resumed: &Result<Resumed<Heap>, NoMemory>) -> Answer
+pub(super) fn answer_of_resumed(resumed: &Result<Resumed<Heap>, NoMemory>) -> Answer
     ensures { result ≡ resumed_answer resumed.now }
 {
     match resumed {
@@ -25,7 +26,7 @@ fn answer_of_resumed(resumed: &Result<Resumed<Heap>, NoMemory>) -> Answer
 }
 
 // Notes in each entry what a poll that was tried again found of it.
-fn mark_resumed(resumed: &Result<Resumed<Heap>, NoMemory>, entries: &mut [PollEntry])
+pub(super) fn mark_resumed(resumed: &Result<Resumed<Heap>, NoMemory>, entries: &mut [PollEntry])
     ensures { entries.new ≡ resumed_entries entries.old resumed.now }
 {
     if let Ok(Resumed::Other(reply)) = resumed {
@@ -90,7 +91,9 @@ impl Layer {
     pub fn resume(&mut self, number: u64, into: &mut [u8]) -> Answer
         ensures tries { TriesAgain self.old.kernel number into.old result into.new self.new.kernel }
         ensures moved { Moves self.old.kernel (Step.Resume number) result }
-        ensures wants { Wants self.old.kernel (Step.Resume number) result }
+        ensures wants { self.old.recorder ≡ None → Wants self.old.kernel (Step.Resume number) result }
+        ensures frugal { self.old.recorder ≡ None → IsFrugal self.old.kernel number result }
+        ensures records { RecordsTry self.old.kernel self.old.recorder number result self.new.recorder }
     {
         let entries = self.kernel.ready_entries(number);
         if entries > 0 {
@@ -103,9 +106,14 @@ impl Layer {
     fn gather(&mut self, number: u64, into: &mut [u8]) -> Answer
         ensures made { Resumes self.old.kernel number (length into.old) result self.new.kernel }
         ensures moved { Moves self.old.kernel (Step.Resume number) result }
-        ensures wants { Wants self.old.kernel (Step.Resume number) result }
+        ensures wants { self.old.recorder ≡ None → Wants self.old.kernel (Step.Resume number) result }
         ensures bytes { Gathers self.old.kernel number into.old result into.new }
+        ensures frugal { self.old.recorder ≡ None → IsFrugal self.old.kernel number result }
+        ensures records { RecordsTry self.old.kernel self.old.recorder number result self.new.recorder }
     {
+        if let Some(recorder) = &mut self.recorder {
+            return recorded::gather(&mut self.kernel, recorder, self.heap, number, into);
+        }
         let before = taken_so_far(&self.kernel, number);
         let resumed = self.kernel.resume_into(number, into);
         tell_moved(&self.kernel, before, answer_of_resumed(&resumed))
@@ -116,9 +124,14 @@ impl Layer {
     pub fn resume_poll(&mut self, number: u64, entries: &mut [PollEntry]) -> Answer
         ensures made { Resumes self.old.kernel number 0 result self.new.kernel }
         ensures moved { Moves self.old.kernel (Step.Resume number) result }
-        ensures wants { Wants self.old.kernel (Step.Resume number) result }
+        ensures wants { self.old.recorder ≡ None → Wants self.old.kernel (Step.Resume number) result }
         ensures entries { Notes self.old.kernel number entries.old result entries.new }
+        ensures frugal { self.old.recorder ≡ None → IsFrugal self.old.kernel number result }
+        ensures records { RecordsTry self.old.kernel self.old.recorder number result self.new.recorder }
     {
+        if let Some(recorder) = &mut self.recorder {
+            return recorded::resume_poll(&mut self.kernel, recorder, self.heap, number, entries);
+        }
         let before = taken_so_far(&self.kernel, number);
         let resumed = self.kernel.resume_into(number, &mut []);
         mark_resumed(&resumed, entries);

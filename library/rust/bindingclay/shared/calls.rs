@@ -4,6 +4,7 @@ use super::super::{Answer, Clay, NodeFacts, NotDone, ParkedCall, PollEntry};
 use super::front::Locked;
 use super::polling::POLLOUT;
 use super::process::Owner;
+use super::recording::interrupt;
 use super::sleeping::Sleeper;
 use super::waiters::Stand;
 use std::io;
@@ -180,7 +181,7 @@ fn resume(locked: &mut Locked<'_>, pid: u32, number: u64, call: &mut Call<'_>) -
 
 /// Ends a call for whose next try there is no memory: it would be named for ever. A write that put in some bytes tells how many.
 pub(super) fn end_without_memory(clay: &mut Clay, number: u64) -> io::Result<usize> {
-    match clay.interrupt_number(number) {
+    match interrupt(clay, number) {
         Ok(count) => Ok(count),
         Err(_) => Err(io::ErrorKind::OutOfMemory.into()),
     }
@@ -188,7 +189,7 @@ pub(super) fn end_without_memory(clay: &mut Clay, number: u64) -> io::Result<usi
 
 /// Ends a call whose deadline is over: a write that put in some bytes tells how many.
 fn give_up(locked: &mut Locked<'_>, number: u64) -> io::Result<usize> {
-    match locked.clay().interrupt_number(number) {
+    match interrupt(locked.clay(), number) {
         Err(fault) if fault.kind() == io::ErrorKind::Interrupted => Err(io::ErrorKind::TimedOut.into()),
         ended => ended,
     }

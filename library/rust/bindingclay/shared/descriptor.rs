@@ -2,6 +2,7 @@
 
 use super::calls::{run, Call};
 use super::process::{Owner, Process};
+use super::recording::at_last;
 use std::fmt;
 use std::io;
 use std::sync::Arc;
@@ -98,7 +99,7 @@ impl Drop for Descriptor {
         }
         if let Ok(mut locked) = self.owner.lock() {
             // the only error is that somebody closed it by its number
-            let _closed = locked.clay().close(self.owner.pid, self.fd);
+            let _closed = at_last(locked.clay(), |clay| clay.close(self.owner.pid, self.fd));
         }
     }
 }

@@ -1,6 +1,7 @@
 //! The lock, and what is done as it is let go: whoever can get on is woken.
 
 use super::super::Clay;
+use super::recording::{at_last, interrupt};
 use super::waiters::{Batch, Waiters};
 use std::io;
 use std::sync::{Mutex, MutexGuard, PoisonError};
@@ -87,13 +88,13 @@ impl Locked<'_> {
     /// Ends the calls of a process that wait, as a signal does.
     pub(super) fn interrupt_all_of(&mut self, pid: u32) {
         let Inner { clay, waiters } = self.inner();
-        waiters.end_all_of(pid, |number| clay.interrupt_number(number));
+        waiters.end_all_of(pid, |number| interrupt(clay, number));
     }
 
     /// Ends a process, and what waits of it.
     pub(super) fn exit(&mut self, pid: u32) -> io::Result<()> {
         let Inner { clay, waiters } = self.inner();
-        clay.exit(pid)?;
+        at_last(clay, |clay| clay.exit(pid))?;
         waiters.end_all_of(pid, |_| Err(super::super::NotDone::NoProcess.into()));
         Ok(())
     }

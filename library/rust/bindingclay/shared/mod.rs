@@ -50,6 +50,7 @@ mod moving;
 mod pipes;
 mod polling;
 mod process;
+mod recording;
 mod sleeping;
 mod tasks;
 mod waiters;

@@ -8,6 +8,7 @@ use super::calls::Call;
 use super::descriptor::Descriptor;
 use super::front::Locked;
 use super::polling::{POLLIN, POLLOUT};
+use super::recording::interrupt;
 use super::waiters::Stand;
 use std::io;
 use std::task::{Context, Poll, Waker};
@@ -23,7 +24,7 @@ const WRITING: usize = 1;
 fn try_once(clay: &mut Clay, pid: u32, call: &mut Call<'_>) -> Option<io::Result<usize>> {
     let tried = match call.begin(clay, pid) {
         Ok(Answer::Done(count)) => Ok(count),
-        Ok(Answer::Parked(parked)) => clay.interrupt_number(parked.into_number()),
+        Ok(Answer::Parked(parked)) => interrupt(clay, parked.into_number()),
         Err(fault) => Err(fault.into()),
     };
     match tried {
@@ -52,7 +53,7 @@ fn wait_for(locked: &mut Locked<'_>, pid: u32, entry: PollEntry, waker: Waker) -
 fn end_poll(locked: &mut Locked<'_>, number: u64) -> Option<Waker> {
     let waker = locked.waiters().remove(number);
     // it had taken nothing, and nobody wants to know
-    let _ended = locked.clay().interrupt_number(number);
+    let _ended = interrupt(locked.clay(), number);
     waker
 }
 

@@ -30,6 +30,10 @@ impl<A: Allocator + Copy> Kernel<A> {
         }
         Ok(Kernel {
             inner: inner::Kernel::new(alloc, limits),
+            alloc,
+            limits,
+            is_fresh: true,
+            recorder: None,
         })
     }
 
@@ -41,7 +45,8 @@ impl<A: Allocator + Copy> Kernel<A> {
     /// # Errors
     ///
     /// [`NoMemory`], which leaves the kernel as it was. It never comes where the reply would be an error, nor at the calls that take no
-    /// memory: `Close`, `Dup`, `Dup2`, `DupFd`, `Lseek`, `GetFl`, `SetFl`, `GetPipeSz`, `Unlink`, `Exit`, and at `Interrupt`.
+    /// memory: `Close`, `Dup`, `Dup2`, `DupFd`, `Lseek`, `GetFl`, `SetFl`, `GetPipeSz`, `Unlink`, `Exit`, and at `Interrupt`. While steps are
+    /// recorded, it may come at any of them ([`record`](Self::record)).
     ///
     /// ```
     /// use bindingclay::memory::Global;
@@ -55,7 +60,7 @@ impl<A: Allocator + Copy> Kernel<A> {
     /// ```
     #[inline(always)]
     pub fn step(&mut self, step: Step<A>) -> Result<Reply<A>, NoMemory> {
-        self.inner.step(step)
+        self.make(step)
     }
 
     /// Makes one step, as [`step`](Self::step) does, and gives its reply twice: for a caller that keeps one and hands on the other.
@@ -74,6 +79,12 @@ impl<A: Allocator + Copy> Kernel<A> {
     /// ```
     #[inline(always)]
     pub fn step_pair(&mut self, step: Step<A>) -> Result<(Reply<A>, Reply<A>), NoMemory> {
+        if let Step::Start = step {
+            self.is_fresh = false;
+        }
+        if self.recorder.is_some() {
+            return self.pair_recorded(step);
+        }
         self.inner.step_pair(step)
     }
 
@@ -94,6 +105,12 @@ impl<A: Allocator + Copy> Kernel<A> {
     /// # Ok::<(), Box<dyn std::error::Error>>(())
     /// ```
     pub fn run(&mut self, steps: Vec<Step<A>, A>) -> Result<Vec<Outcome<A>, A>, NoMemory> {
+        if steps.iter().any(|step| matches!(step, Step::Start)) {
+            self.is_fresh = false;
+        }
+        if self.recorder.is_some() {
+            return self.run_recorded(steps);
+        }
         self.inner.run(steps)
     }
 
@@ -124,7 +141,7 @@ impl<A: Allocator + Copy> Kernel<A> {
     /// ```
     #[inline]
     pub fn begin(&mut self, pid: u32, call: Call<A>) -> Result<Answer<Reply<A>>, NotDone> {
-        let reply = self.inner.step(Step::Begin(pid, call))?;
+        let reply = self.make(Step::Begin(pid, call))?;
         self.answer_of_reply(0, reply)
     }
 
@@ -155,7 +172,12 @@ impl<A: Allocator + Copy> Kernel<A> {
         if bytes.len() > MAX_BYTES {
             return Err(NotDone::TooLong);
         }
-        match self.inner.write_from(pid, fd, bytes)? {
+        let reply = if self.recorder.is_some() {
+            self.write_recorded(pid, fd, bytes)?
+        } else {
+            self.inner.write_from(pid, fd, bytes)?
+        };
+        match reply {
             // a write that didn't wait never tells a signal
             WriteReply::Wrote { n, .. } => Ok(Answer::Done(n as usize)),
             WriteReply::Parked(number) => Ok(self.parked(0, number)),
@@ -214,6 +236,9 @@ impl<A: Allocator + Copy> Kernel<A> {
         if u32::try_from(into.len()).is_err() {
             return Err(NotDone::TooLong);
         }
+        if self.recorder.is_some() {
+            return answer_of_read(self.read_recorded(pid, fd, into)?);
+        }
         answer_of_read(self.inner.read_into(pid, fd, into)?)
     }
 
@@ -245,7 +270,12 @@ impl<A: Allocator + Copy> Kernel<A> {
         entries: &mut [PollEntry],
         wait: bool,
     ) -> Result<Answer<usize>, NotDone> {
-        match self.inner.poll_into(pid, entries, wait)? {
+        let reply = if self.recorder.is_some() {
+            self.poll_recorded(pid, entries, wait)?
+        } else {
+            self.inner.poll_into(pid, entries, wait)?
+        };
+        match reply {
             PollReply::Ready(count) => Ok(Answer::Done(count as usize)),
             PollReply::Parked(number) => Ok(Answer::Parked(ParkedCall::from_number(number))),
             PollReply::Fault(errno) => Err(NotDone::Fault(errno)),

@@ -10,6 +10,15 @@ use crate::parts::polls::mark_entries;
 use crate::{PollEntry, Reply, Step};
 
 impl<A: Allocator + Copy> Kernel<A> {
+    /// Tries a parked call again: a read gives its bytes into the caller's, and a poll tells so many masks.
+    #[inline]
+    fn try_again(&mut self, number: u64, into: &mut [u8], masks: usize) -> Result<Resumed<A>, NoMemory> {
+        if self.recorder.is_some() {
+            return self.resume_recorded(number, into, masks);
+        }
+        self.inner.resume_into(number, into)
+    }
+
     /// Tries a parked call again, as `Step::Resume` does. It is [`Answer::Parked`] again if it waits on.
     ///
     /// # Errors
@@ -34,7 +43,7 @@ impl<A: Allocator + Copy> Kernel<A> {
     #[inline]
     pub fn resume(&mut self, call: ParkedCall) -> Result<Answer<Reply<A>>, NotDone> {
         let before = self.taken_so_far(call.number());
-        match self.inner.step(Step::Resume(call.number())) {
+        match self.make(Step::Resume(call.number())) {
             Ok(reply) => self.answer_of_reply(before, reply),
             Err(NoMemory) => Err(NotDone::NoMemoryToResume(call.given_back())),
         }
@@ -48,7 +57,7 @@ impl<A: Allocator + Copy> Kernel<A> {
     ///
     /// [`NotDone::Short`] if the read would give more bytes than the caller has room for, or if the call is a poll that can get on. It gives
     /// the call back, which still waits, and leaves the kernel as it was. All others come as of `resume`, but
-    /// [`NotDone::NoMemoryToResume`] never if the call is a read.
+    /// [`NotDone::NoMemoryToResume`] never if the call is a read, but while steps are recorded.
     ///
     /// ```
     /// use bindingclay::memory::Global;
@@ -78,7 +87,7 @@ impl<A: Allocator + Copy> Kernel<A> {
             return Err(NotDone::Short { call, wants });
         }
         let before = self.taken_so_far(call.number());
-        match self.inner.resume_into(call.number(), into) {
+        match self.try_again(call.number(), into, 0) {
             Ok(Resumed::Read(reply)) => answer_of_read(reply),
             Ok(Resumed::Short(bytes)) => Err(NotDone::Short {
                 call: call.given_back(),
@@ -117,7 +126,8 @@ impl<A: Allocator + Copy> Kernel<A> {
         entries: &mut [PollEntry],
     ) -> Result<Answer<usize>, NotDone> {
         let before = self.taken_so_far(call.number());
-        match self.inner.resume_into(call.number(), &mut []) {
+        let masks = self.inner.ready_entries(call.number());
+        match self.try_again(call.number(), &mut [], masks) {
             Ok(Resumed::Read(reply)) => answer_of_read(reply),
             Ok(Resumed::Short(bytes)) => Err(NotDone::Short {
                 call: call.given_back(),
@@ -131,12 +141,13 @@ impl<A: Allocator + Copy> Kernel<A> {
         }
     }
 
-    /// Ends a parked call, as `Step::Interrupt` does. Of a write that took bytes it tells how many. It takes no memory.
+    /// Ends a parked call, as `Step::Interrupt` does. Of a write that took bytes it tells how many. It takes no memory but to be recorded.
     ///
     /// # Errors
     ///
     /// [`NotDone::Fault`] with `EINTR` says that the call ended and had taken nothing; so it is with every call but such a write.
-    /// [`NotDone::NoCall`] says that no call is parked under its number.
+    /// [`NotDone::NoCall`] says that no call is parked under its number. [`NotDone::NoMemoryToResume`] comes only while steps are recorded,
+    /// and gives the call back, which still waits.
     ///
     /// ```
     /// use bindingclay::memory::Global;
@@ -150,10 +161,11 @@ impl<A: Allocator + Copy> Kernel<A> {
     /// # Ok::<(), Box<dyn std::error::Error>>(())
     /// ```
     pub fn interrupt(&mut self, call: ParkedCall) -> Result<Reply<A>, NotDone> {
-        match self.inner.step(Step::Interrupt(call.number()))? {
-            Reply::Fault(errno) => Err(NotDone::Fault(errno)),
-            Reply::NoCall => Err(NotDone::NoCall),
-            reply => Ok(reply),
+        match self.make(Step::Interrupt(call.number())) {
+            Ok(Reply::Fault(errno)) => Err(NotDone::Fault(errno)),
+            Ok(Reply::NoCall) => Err(NotDone::NoCall),
+            Ok(reply) => Ok(reply),
+            Err(NoMemory) => Err(NotDone::NoMemoryToResume(call.given_back())),
         }
     }
 

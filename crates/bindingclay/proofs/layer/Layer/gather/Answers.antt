@@ -1,8 +1,8 @@
 use Rattle.std.proofs.Common.{subst, sym, length}
 use Rattle.pl_model.specs.declared.calls.Step.TheVariants.{Resume}
-use Rattle.bindingclay.specs.Made.{Resumes, Wants, Gathers}
-use Rattle.bindingclay.proofs.Resuming.{resumes_of, wants_of, gathers_of}
-use Rattle.bindingclay.proofs.Moving.{IsTold, moves_again, resumes_told, gathers_told}
+use Rattle.bindingclay.specs.Made.{Resumes, Wants, Gathers, IsFrugal}
+use Rattle.bindingclay.proofs.Resuming.{resumes_of, wants_of, gathers_of, frugal_of}
+use Rattle.bindingclay.proofs.Moving.{IsTold, moves_again, resumes_told, gathers_told, frugal_told}
 use Rattle.bindingclay.proofs.layer.Layer.gather.Goals as goal
 
 pub returns-clause-made : goal.returns-clause-made
@@ -26,7 +26,7 @@ returns-clause-moved c =
 pub returns-clause-wants : goal.returns-clause-wants
 returns-clause-wants c =
     let z = c.resume_into-resumed in
-    subst (λ a. Wants c.args.self.now.kernel (Resume c.args.number) a) (sym c.tell_moved.ensures.rest)
+    λ plain. subst (λ a. Wants c.args.self.now.kernel (Resume c.args.number) a) (sym c.tell_moved.ensures.rest)
     (subst (λ a. Wants c.args.self.now.kernel (Resume c.args.number) a) (sym c.answer_of_resumed.ensures)
     (wants_of c.args.self.now.kernel z.new.self c.args.number c.args.into.now z.new.into z.result z.ensures.wanted))
 
@@ -38,4 +38,13 @@ returns-clause-bytes c =
     subst (λ a. Gathers old c.args.number before a z.new.into) (sym c.tell_moved.ensures.rest)
     (gathers_told old z.new.self c.args.number c.answer_of_resumed.result c.tell_moved.result.moved c.tell_moved.ensures.others before z.new.into
     (subst (λ a. Gathers old c.args.number before a z.new.into) (sym c.answer_of_resumed.ensures)
-    (gathers_of old z.new.self c.args.number before z.new.into z.result z.ensures.made z.ensures.short z.ensures.fits z.ensures.enough z.ensures.reads z.ensures.others z.ensures.within z.ensures.rest z.ensures.unread z.ensures.frugal)))
+    (gathers_of old z.new.self c.args.number before z.new.into z.result z.ensures.made z.ensures.short z.ensures.fits z.ensures.enough z.ensures.reads z.ensures.others z.ensures.within z.ensures.rest z.ensures.unread)))
+
+pub returns-clause-frugal : goal.returns-clause-frugal
+returns-clause-frugal c =
+    let z = c.resume_into-resumed in
+    let old = c.args.self.now.kernel in
+    λ plain. subst (λ a. IsFrugal old c.args.number a) (sym c.tell_moved.ensures.rest)
+    (frugal_told old z.new.self c.args.number c.answer_of_resumed.result c.tell_moved.result.moved
+    (subst (λ a. IsFrugal old c.args.number a) (sym c.answer_of_resumed.ensures)
+    (frugal_of old z.new.self c.args.number c.args.into.now z.new.into z.result z.ensures.reads z.ensures.frugal)))

@@ -1,8 +1,8 @@
 use Rattle.std.proofs.Common.{refl, subst, sym, []}
 use Rattle.pl_model.specs.declared.calls.Step.TheVariants.{Resume}
-use Rattle.bindingclay.specs.Made.{Resumes, Wants, Notes, resumed_entries}
-use Rattle.bindingclay.proofs.Resuming.{resumes_of, wants_of, notes_of}
-use Rattle.bindingclay.proofs.Moving.{IsTold, moves_again, resumes_told, notes_told}
+use Rattle.bindingclay.specs.Made.{Resumes, Wants, IsFrugal, Notes, resumed_entries}
+use Rattle.bindingclay.proofs.Resuming.{resumes_of, wants_of, notes_of, frugal_of}
+use Rattle.bindingclay.proofs.Moving.{IsTold, moves_again, resumes_told, notes_told, frugal_told}
 use Rattle.bindingclay.proofs.layer.Layer.resume_poll.Goals as goal
 
 pub returns-clause-made : goal.returns-clause-made
@@ -24,7 +24,7 @@ returns-clause-moved c =
 pub returns-clause-wants : goal.returns-clause-wants
 returns-clause-wants c =
     let z = c.resume_into-resumed in
-    subst (λ a. Wants c.args.self.now.kernel (Resume c.args.number) a) (sym c.tell_moved.ensures.rest)
+    λ plain. subst (λ a. Wants c.args.self.now.kernel (Resume c.args.number) a) (sym c.tell_moved.ensures.rest)
     (subst (λ a. Wants c.args.self.now.kernel (Resume c.args.number) a) (sym c.answer_of_resumed.ensures)
     (wants_of c.args.self.now.kernel z.new.self c.args.number [] z.new.into z.result z.ensures.wanted))
 
@@ -39,3 +39,12 @@ returns-clause-entries c =
     (notes_told old z.new.self c.args.number c.answer_of_resumed.result c.tell_moved.result.moved c.tell_moved.ensures.others before after
     (subst (λ a. Notes old c.args.number before a after) (sym c.answer_of_resumed.ensures)
     (notes_of old z.new.self c.args.number [] z.new.into z.result before z.ensures.made z.ensures.short z.ensures.fits z.ensures.others refl))))
+
+pub returns-clause-frugal : goal.returns-clause-frugal
+returns-clause-frugal c =
+    let z = c.resume_into-resumed in
+    let old = c.args.self.now.kernel in
+    λ plain. subst (λ a. IsFrugal old c.args.number a) (sym c.tell_moved.ensures.rest)
+    (frugal_told old z.new.self c.args.number c.answer_of_resumed.result c.tell_moved.result.moved
+    (subst (λ a. IsFrugal old c.args.number a) (sym c.answer_of_resumed.ensures)
+    (frugal_of old z.new.self c.args.number [] z.new.into z.result z.ensures.reads z.ensures.frugal)))

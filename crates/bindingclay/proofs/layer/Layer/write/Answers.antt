@@ -25,4 +25,4 @@ returns-clause-moved c =
 pub returns-clause-wants : goal.returns-clause-wants
 returns-clause-wants c =
     let fits : SFits w32 c.args.fd = search rules in
-    subst (λ l. Wants c.args.self.now.kernel (Begin c.args.pid (Call.Write c.args.fd l)) c.write_bytes.result) c.within.ensures (rw (to_z-of_z w32 c.args.fd fits) at c.write_bytes.ensures.wants)
+    λ plain. subst (λ l. Wants c.args.self.now.kernel (Begin c.args.pid (Call.Write c.args.fd l)) c.write_bytes.result) c.within.ensures ((rw (to_z-of_z w32 c.args.fd fits) at c.write_bytes.ensures.wants) plain)
