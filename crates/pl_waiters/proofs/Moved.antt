@@ -3,13 +3,9 @@ use Rattle.std.proofs.Common.{◌≡◌, ◌≢◌, ℕ, ◌<◌, Bool, true, fa
 use Rattle.std.proofs.Math.ListN.{get_or-append}
 use Rattle.std.proofs.Math.Seq.{get_or-append_seam}
 use Rattle.std.specs.Prelude.{◌||◌, nat_le, All, slice_set}
-use Rattle.std.specs.List.{list_any}
-use Rattle.std.specs.BTreeSet.{BTreeSet}
 use Rattle.std.proofs.lemmas.Bool.Decides.{eqb_tells, nat_tests}
 use Rattle.std.proofs.lemmas.List.Folds.{list_any-append}
 use Rattle.std.proofs.lemmas.List.{length-set}
-use Rattle.pl_parked.specs.declared.groups.GroupedCall.{GroupedCall}
-use Rattle.pl_parked.specs.InGroups.{has_call, call_in}
 use Rattle.pl_waiters.specs.Marks.{AreMarked, is_marked, is_listed}
 use Rattle.pl_waiters.specs.Index.{waits_at_any, placed, may}
 use Rattle.pl_waiters.proofs.Kept.{or_left, or_right}
@@ -20,30 +16,30 @@ both_ways false true f g = absurd (let h = g refl in cc)
 both_ways false false f g = refl
 
 -- the calls of a node as they were, and as they are
-pub record Moves (old_places old_pending new_places new_pending : BTreeSet GroupedCall) (node : ℕ) : Type 0 where
-  pub others : (other number : ℕ) → node ≢ other → has_call new_places (call_in other number) ≡ has_call old_places (call_in other number)
-  pub either : (number : ℕ) → (has_call new_pending (call_in 0 number) || has_call new_places (call_in node number)) ≡ (has_call old_pending (call_in 0 number) || has_call old_places (call_in node number))
+pub record Moves (old_places : ℕ → ℕ → Bool) (old_pending : ℕ → Bool) (new_places : ℕ → ℕ → Bool) (new_pending : ℕ → Bool) (node : ℕ) : Type 0 where
+  pub others : (other number : ℕ) → node ≢ other → new_places other number ≡ old_places other number
+  pub either : (number : ℕ) → (new_pending number || new_places node number) ≡ (old_pending number || old_places node number)
 
-module _ (places pending new_places new_pending : BTreeSet GroupedCall) (node : ℕ) (m : Moves places pending new_places new_pending node) (number : ℕ) where
+module _ (places : ℕ → ℕ → Bool) (pending : ℕ → Bool) (new_places : ℕ → ℕ → Bool) (new_pending : ℕ → Bool) (node : ℕ) (m : Moves places pending new_places new_pending node) (number : ℕ) where
   -- the call may get on by itself, or is at the node
-  abbrev there : (pending places : BTreeSet GroupedCall) → Bool
-  there pending places = has_call pending (call_in 0 number) || has_call places (call_in node number)
+  abbrev there : (pending : ℕ → Bool) → (places : ℕ → ℕ → Bool) → Bool
+  there pending places = pending number || places node number
 
   across : (nodes : List ℕ) → waits_at_any places nodes number ≡ true → (waits_at_any new_places nodes number || there new_pending new_places) ≡ true
   across [] h = absurd (cc)
-  across (n ∷ nodes) h = by (across nodes) (has_call places (call_in n number)) refl h
+  across (n ∷ nodes) h = by (across nodes) (places n number) refl h
     where
-      by : (waits_at_any places nodes number ≡ true → (waits_at_any new_places nodes number || there new_pending new_places) ≡ true) → (b : Bool) → has_call places (call_in n number) ≡ b
-          → (b || waits_at_any places nodes number) ≡ true → ((has_call new_places (call_in n number) || waits_at_any new_places nodes number) || there new_pending new_places) ≡ true
-      by rest true is h = elim (eqb_tells node n) as (λ _. ((has_call new_places (call_in n number) || waits_at_any new_places nodes number) || there new_pending new_places) ≡ true) [
+      by : (waits_at_any places nodes number ≡ true → (waits_at_any new_places nodes number || there new_pending new_places) ≡ true) → (b : Bool) → places n number ≡ b
+          → (b || waits_at_any places nodes number) ≡ true → ((new_places n number || waits_at_any new_places nodes number) || there new_pending new_places) ≡ true
+      by rest true is h = elim (eqb_tells node n) as (λ _. ((new_places n number || waits_at_any new_places nodes number) || there new_pending new_places) ≡ true) [
         | inl s ↦
-            let at : has_call places (call_in node number) ≡ true = ap (λ k. has_call places (call_in k number)) s.1 ∙ is in
-            or_right (has_call new_places (call_in n number) || waits_at_any new_places nodes number) (there new_pending new_places) (m.either number ∙ or_right (has_call pending (call_in 0 number)) (has_call places (call_in node number)) at)
+            let at : places node number ≡ true = ap (λ k. places k number) s.1 ∙ is in
+            or_right (new_places n number || waits_at_any new_places nodes number) (there new_pending new_places) (m.either number ∙ or_right (pending number) (places node number) at)
         | inr s ↦
-            or_left (has_call new_places (call_in n number) || waits_at_any new_places nodes number) (there new_pending new_places)
-            (or_left (has_call new_places (call_in n number)) (waits_at_any new_places nodes number) (m.others n number s.1 ∙ is))
+            or_left (new_places n number || waits_at_any new_places nodes number) (there new_pending new_places)
+            (or_left (new_places n number) (waits_at_any new_places nodes number) (m.others n number s.1 ∙ is))
       ]
-      by rest false is h = more (has_call new_places (call_in n number)) (waits_at_any new_places nodes number) (there new_pending new_places) (rest h)
+      by rest false is h = more (new_places n number) (waits_at_any new_places nodes number) (there new_pending new_places) (rest h)
         where
           more : (a b c : Bool) → (b || c) ≡ true → ((a || b) || c) ≡ true
           more true b c h = refl
@@ -65,25 +61,25 @@ ordered false true p = refl
 ordered false false true = refl
 ordered false false false = refl
 
-module _ (places pending new_places new_pending : BTreeSet GroupedCall) (node : ℕ) (m : Moves places pending new_places new_pending node) (number : ℕ) (front : List ℕ) where
-  abbrev all : (pending places : BTreeSet GroupedCall) → Bool
-  all pending places = waits_at_any places front number || (has_call pending (call_in 0 number) || has_call places (call_in node number))
+module _ (places : ℕ → ℕ → Bool) (pending : ℕ → Bool) (new_places : ℕ → ℕ → Bool) (new_pending : ℕ → Bool) (node : ℕ) (m : Moves places pending new_places new_pending node) (number : ℕ) (front : List ℕ) where
+  abbrev all : (pending : ℕ → Bool) → (places : ℕ → ℕ → Bool) → Bool
+  all pending places = waits_at_any places front number || (pending number || places node number)
 
-  forth : (p q r s : BTreeSet GroupedCall) → Moves p q r s node → all q p ≡ true → all s r ≡ true
+  forth : (p : ℕ → ℕ → Bool) (q : ℕ → Bool) (r : ℕ → ℕ → Bool) (s : ℕ → Bool) → Moves p q r s node → all q p ≡ true → all s r ≡ true
   forth p q r s m h =
-      split (waits_at_any p front number) (has_call q (call_in 0 number) || has_call p (call_in node number)) h (all s r ≡ true)
+      split (waits_at_any p front number) (q number || p node number) h (all s r ≡ true)
       (across p q r s node m number front)
-      (λ e. or_right (waits_at_any r front number) (has_call s (call_in 0 number) || has_call r (call_in node number)) (m.either number ∙ e))
+      (λ e. or_right (waits_at_any r front number) (s number || r node number) (m.either number ∙ e))
 
   same_all : all new_pending new_places ≡ all pending places
   same_all = both_ways (all new_pending new_places) (all pending places)
       (forth new_places new_pending places pending (back places pending new_places new_pending node m number))
       (forth places pending new_places new_pending m)
 
-  listed_all : (q p : BTreeSet GroupedCall) → (has_call q (call_in 0 number) || waits_at_any p (front ++ node ∷ []) number) ≡ all q p
+  listed_all : (q : ℕ → Bool) (p : ℕ → ℕ → Bool) → (q number || waits_at_any p (front ++ node ∷ []) number) ≡ all q p
   listed_all q p =
-      ap (λ b. has_call q (call_in 0 number) || b) (list_any-append (λ n. has_call p (call_in n number)) front (node ∷ []))
-      ∙ ordered (has_call q (call_in 0 number)) (waits_at_any p front number) (has_call p (call_in node number))
+      ap (λ b. q number || b) (list_any-append (λ n. p n number) front (node ∷ []))
+      ∙ ordered (q number) (waits_at_any p front number) (p node number)
 
   -- the calls of the node moved, or some of them
   pub may-moved : (lost : Bool) (looked : ℕ) → may lost looked new_pending new_places (front ++ node ∷ []) number ≡ may lost looked pending places (front ++ node ∷ []) number
@@ -91,7 +87,7 @@ module _ (places pending new_places new_pending : BTreeSet GroupedCall) (node : 
   may-moved lost looked = ap (λ b. lost || (nat_le looked number || b)) (listed_all new_pending new_places ∙ same_all ∙ sym (listed_all pending places))
 
   -- all of them did, and it is touched no more
-  pub may-left : (lost : Bool) (looked : ℕ) → has_call new_places (call_in node number) ≡ false → may lost looked new_pending new_places front number ≡ may lost looked pending places (front ++ node ∷ []) number
+  pub may-left : (lost : Bool) (looked : ℕ) → new_places node number ≡ false → may lost looked new_pending new_places front number ≡ may lost looked pending places (front ++ node ∷ []) number
   unfolding may
   may-left lost looked none = ap (λ b. lost || (nat_le looked number || b)) (gone ∙ same_all ∙ sym (listed_all pending places))
     where
@@ -101,8 +97,8 @@ module _ (places pending new_places new_pending : BTreeSet GroupedCall) (node : 
       swapped false true p h = refl
       swapped false false p h = sym h
 
-      gone : (has_call new_pending (call_in 0 number) || waits_at_any new_places front number) ≡ all new_pending new_places
-      gone = swapped (has_call new_pending (call_in 0 number)) (waits_at_any new_places front number) (has_call new_places (call_in node number)) none
+      gone : (new_pending number || waits_at_any new_places front number) ≡ all new_pending new_places
+      gone = swapped (new_pending number) (waits_at_any new_places front number) (new_places node number) none
 
 neither : (lost l q f p : Bool) → (lost || (l || (q || (f || (p || false))))) ≡ false → (q ≡ false) × (p ≡ false)
 neither true l q f p h = absurd (cc)
@@ -112,16 +108,16 @@ neither false false false true p h = absurd (cc)
 neither false false false false true h = absurd (cc)
 neither false false false false false h = (refl, refl)
 
-module _ (places pending new_places new_pending : BTreeSet GroupedCall) (node : ℕ) (m : Moves places pending new_places new_pending node) where
+module _ (places : ℕ → ℕ → Bool) (pending : ℕ → Bool) (new_places : ℕ → ℕ → Bool) (new_pending : ℕ → Bool) (node : ℕ) (m : Moves places pending new_places new_pending node) where
   -- a call that can't get on wasn't moved
   pub placed-moved : (lost : Bool) (looked : ℕ) (front : List ℕ) (other number : ℕ) → may lost looked pending places (front ++ node ∷ []) number ≡ false → placed lost new_places other number ≡ placed lost places other number
   unfolding may placed
-  placed-moved lost looked front other number h = elim (eqb_tells node other) as (λ _. (lost || has_call new_places (call_in other number)) ≡ (lost || has_call places (call_in other number))) [
+  placed-moved lost looked front other number h = elim (eqb_tells node other) as (λ _. (lost || new_places other number) ≡ (lost || places other number)) [
     | inl s ↦
-        let parts = neither lost (nat_le looked number) (has_call pending (call_in 0 number)) (waits_at_any places front number) (has_call places (call_in node number))
-        (sym (ap (λ b. lost || (nat_le looked number || (has_call pending (call_in 0 number) || b))) (list_any-append (λ n. has_call places (call_in n number)) front (node ∷ []))) ∙ h) in
-        let none : has_call new_places (call_in node number) ≡ false = last (has_call new_pending (call_in 0 number)) (has_call new_places (call_in node number)) (m.either number ∙ (λ i. parts.0 i || parts.1 i)) in
-        subst (λ k. (lost || has_call new_places (call_in k number)) ≡ (lost || has_call places (call_in k number))) s.1 (ap (λ b. lost || b) (none ∙ sym parts.1))
+        let parts = neither lost (nat_le looked number) (pending number) (waits_at_any places front number) (places node number)
+        (sym (ap (λ b. lost || (nat_le looked number || (pending number || b))) (list_any-append (λ n. places n number) front (node ∷ []))) ∙ h) in
+        let none : new_places node number ≡ false = last (new_pending number) (new_places node number) (m.either number ∙ (λ i. parts.0 i || parts.1 i)) in
+        subst (λ k. (lost || new_places k number) ≡ (lost || places k number)) s.1 (ap (λ b. lost || b) (none ∙ sym parts.1))
     | inr s ↦ ap (λ b. lost || b) (m.others other number s.1)
   ]
     where
@@ -130,10 +126,10 @@ module _ (places pending new_places new_pending : BTreeSet GroupedCall) (node : 
       last false b h = h
 
   -- the marks, once the node has none
-  pub marked-moved : (marked : List Bool) (front : List ℕ) → AreMarked places marked (front ++ node ∷ []) → ((number : ℕ) → has_call new_places (call_in node number) ≡ false) → AreMarked new_places (slice_set marked node false) front
+  pub marked-moved : (marked : List Bool) (front : List ℕ) → AreMarked places marked (front ++ node ∷ []) → ((number : ℕ) → new_places node number ≡ false) → AreMarked new_places (slice_set marked node false) front
   marked-moved marked front kept none = record {
     room = λ n number h. elim (eqb_tells node n) as (λ _. n < length (slice_set marked node false)) [
-      | inl s ↦ absurd (let no : true ≡ false = sym h ∙ ap (λ k. has_call new_places (call_in k number)) (sym s.1) ∙ none number in cc)
+      | inl s ↦ absurd (let no : true ≡ false = sym h ∙ ap (λ k. new_places k number) (sym s.1) ∙ none number in cc)
       | inr s ↦ let l : n < length marked = kept.room n number (sym (m.others n number s.1) ∙ h) in omega (arith, length-set marked node false)
     ];
     within = within;

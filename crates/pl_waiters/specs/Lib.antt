@@ -1,3 +1,5 @@
+pub mod Held
 pub mod Index
 pub mod Marks
 pub mod Seen
+pub mod Standing

@@ -1,9 +1,6 @@
 -- The marks of nodes, and the nodes that are touched.
 use Rattle.std.specs.Prelude.{◌≡◌, ℕ, ◌<◌, Bool, true, false, List, All, length, nat_eq, slice_index_or}
 use Rattle.std.specs.List.{list_any}
-use Rattle.std.specs.BTreeSet.{BTreeSet}
-use Rattle.pl_parked.specs.declared.groups.GroupedCall.{GroupedCall}
-use Rattle.pl_parked.specs.InGroups.{has_call, call_in}
 
 -- the node has a mark
 abbrev pub is_marked : List Bool → ℕ → Bool
@@ -14,7 +11,7 @@ abbrev pub is_listed : List ℕ → ℕ → Bool
 is_listed touched node = list_any (nat_eq node) touched
 
 -- There is a place for the mark of each node at which a call waits, and of each that is touched. Each node that has a mark is touched.
-pub record AreMarked (places : BTreeSet GroupedCall) (marked : List Bool) (touched : List ℕ) : Type 0 where
-  pub room : (node number : ℕ) → has_call places (call_in node number) ≡ true → node < length marked
+pub record AreMarked (places : ℕ → ℕ → Bool) (marked : List Bool) (touched : List ℕ) : Type 0 where
+  pub room : (node number : ℕ) → places node number ≡ true → node < length marked
   pub within : All (λ node. node < length marked) touched
   pub listed : (node : ℕ) → is_marked marked node ≡ true → is_listed touched node ≡ true

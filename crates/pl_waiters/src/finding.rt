@@ -1,5 +1,5 @@
 //! How the calls that may get on are found, and taken out.
-use crate::waiters::{PENDING, Waiters};
+use crate::waiters::Waiters;
 use std::alloc::Allocator;
 
 impl<A: Allocator + Copy> Waiters<A> {
@@ -18,7 +18,7 @@ impl<A: Allocator + Copy> Waiters<A> {
         ensures touched { self.new.touched.items ≡ self.old.touched.items }
     {
         self.looked = number + 1;
-        if self.pending.add(PENDING, number).is_err() {
+        if !self.pending.add(number) {
             self.lost = true;
         }
     }
@@ -36,7 +36,12 @@ impl<A: Allocator> Waiters<A> {
         ensures least { AreSpread self.now → IfSome result (λ number. (other : ℕ) → from ≤ other → other < self.now.looked → may_get_on self.now other ≡ true → number ≤ other) }
         ensures none { AreSpread self.now → IfNone result ((other : ℕ) → from ≤ other → other < self.now.looked → may_get_on self.now other ≡ false) }
     {
-        self.pending.first_from(PENDING, from)
+        self.pending.next(from)
+    }
+
+    /// One of the calls that may get on, if one stands by itself. Which one it is, is left open.
+    pub fn first(&self) -> Option<u64> {
+        self.pending.first
     }
 
     /// The call of a number can't get on, but for where a node is touched at which it waits. It takes no memory.
@@ -48,6 +53,6 @@ impl<A: Allocator> Waiters<A> {
         ensures lost { self.new.lost ≡ self.old.lost }
         ensures touched { self.new.touched.items ≡ self.old.touched.items }
     {
-        self.pending.remove(PENDING, number);
+        self.pending.remove(number);
     }
 }

@@ -4,6 +4,9 @@
 mod finding;
 mod marks;
 mod moving;
+mod pending;
+mod place;
+mod places;
 mod waiters;
 
 pub use waiters::Waiters;

@@ -1,29 +1,30 @@
 //! How the calls of touched nodes come to stand by themselves.
 ghost use Rattle.std.specs.Prelude.{◌≡◌, ◌≢◌, ℕ, ◌||◌, true, false};
-ghost use Rattle.pl_parked.specs.InGroups.{has_call, call_in};
+ghost use Rattle.pl_waiters.specs.Held.{waits_in, is_in};
 
-use crate::waiters::{PENDING, Waiters};
-use pl_parked::Groups;
+use crate::pending::Pending;
+use crate::places::Places;
+use crate::waiters::Waiters;
 use std::alloc::Allocator;
 
 // Moves all calls of a node to those that may get on, if they are no more than are left to move; whether it could. Some may have moved where
 // it couldn't.
 fn move_all<A: Allocator + Copy>(
-    places: &mut Groups<A>,
-    pending: &mut Groups<A>,
+    places: &mut Places<A>,
+    pending: &mut Pending<A>,
     node: usize,
     left: &mut usize,
 ) -> bool
-    ensures others { (other number : ℕ) → node ≢ other → has_call places.new.set (call_in other number) ≡ has_call places.old.set (call_in other number) }
-    ensures either { (number : ℕ) → (has_call pending.new.set (call_in 0 number) || has_call places.new.set (call_in node number)) ≡ (has_call pending.old.set (call_in 0 number) || has_call places.old.set (call_in node number)) }
-    ensures none { result ≡ true → (number : ℕ) → has_call places.new.set (call_in node number) ≡ false }
+    ensures others { (other number : ℕ) → node ≢ other → waits_in places.new other number ≡ waits_in places.old other number }
+    ensures either { (number : ℕ) → (is_in pending.new number || waits_in places.new node number) ≡ (is_in pending.old number || waits_in places.old node number) }
+    ensures none { result ≡ true → (number : ℕ) → waits_in places.new node number ≡ false }
 {
-    while let Some(number) = places.first_from(node as u64, 0) {
-        if *left == 0 || pending.add(PENDING, number).is_err() {
+    while let Some(number) = places.find(node) {
+        if *left == 0 || !pending.add(number) {
             return false;
         }
         *left -= 1;
-        places.remove(node as u64, number);
+        places.remove(node, number);
     }
     true
 }

@@ -1,30 +1,29 @@
 //! The index of calls that wait.
 ghost use Rattle.pl_waiters.specs.Marks.{AreMarked};
+ghost use Rattle.pl_waiters.specs.Held.{waits_in};
 
 use crate::marks::make_room;
-use pl_parked::Groups;
+use crate::pending::Pending;
+use crate::places::Places;
 use std::alloc::{Allocator, Global};
-
-// All calls that may get on stand in one group.
-pub(crate) const PENDING: u64 = 0;
 
 /// An index of calls that wait, by the nodes at which they wait. It knows which of them may get on: those at a node that was touched
 /// since, and those that it wasn't told of. Where memory runs out it loses all that it knows: then any call may get on.
 #[derive(Drop)]
 pub struct Waiters<A: Allocator = Global> {
     /// The calls by the keys of the nodes at which they wait, but for those that moved to `pending`.
-    pub(crate) places: Groups<A>,
+    pub(crate) places: Places<A>,
     /// By the key of a node, whether it is in `touched`.
     pub(crate) marked: Vec<bool, A>,
     /// The nodes whose calls may get on.
     pub(crate) touched: Vec<usize, A>,
     /// More calls that may get on.
-    pub(crate) pending: Groups<A>,
+    pub(crate) pending: Pending<A>,
     /// Every call of this number or above may get on.
     pub(crate) looked: u64,
     /// Nothing is known.
     pub(crate) lost: bool,
-    ghost kept: { AreMarked places.set marked.items touched.items },
+    ghost kept: { AreMarked (waits_in places) marked.items touched.items },
 }
 
 impl<A: Allocator + Copy> Waiters<A> {
@@ -40,10 +39,10 @@ impl<A: Allocator + Copy> Waiters<A> {
         ensures looked { result.looked ≡ 0 }
     {
         Waiters {
-            places: Groups::new(alloc),
+            places: Places::new(alloc),
             marked: Vec::new(alloc),
             touched: Vec::new(alloc),
-            pending: Groups::new(alloc),
+            pending: Pending::new(alloc),
             looked: 0,
             lost: false,
         }
@@ -61,7 +60,7 @@ impl<A: Allocator + Copy> Waiters<A> {
             self.lost = true;
             return;
         }
-        if self.places.add(node as u64, number).is_err() {
+        if !self.places.add(node, number) {
             self.lost = true;
         }
     }
@@ -122,6 +121,6 @@ impl<A: Allocator> Waiters<A> {
         ensures lost { self.new.lost ≡ self.old.lost }
         ensures touched { self.new.touched.items ≡ self.old.touched.items }
     {
-        self.places.remove(node as u64, number);
+        self.places.remove(node, number);
     }
 }

@@ -28,8 +28,8 @@ use Rattle.pl_model.proofs.touching.InVain.{idle_resumed}
 use Rattle.pl_model.proofs.touching.Untouched.{untouched_by_another}
 use Rattle.pl_waiters.specs.declared.waiters.Waiters.{Waiters}
 use Rattle.pl_waiters.specs.Seen.{may_get_on}
+use Rattle.pl_waiters.specs.Held.{waits_in, is_in}
 use Rattle.pl_waiters.specs.Index.{waits_at_any, may}
-use Rattle.pl_parked.specs.InGroups.{has_call, call_in}
 use Rattle.pl_kernel.specs.ToldNodes.{key_of}
 use Rattle.pl_kernel.specs.Index.{IsAside, Knows, WillKnow, KnowsIfItWaits, IsNoLess, IsTouched, TriesWell}
 use Rattle.pl_kernel.proofs.index.Leaving.{left, rises, none_comes, Stays, aside_on, interrupts, exits}
@@ -43,7 +43,7 @@ pub record IsKnown {A : Type 0} (c : Core A numbers) : Type 0 where
 -- a call that wasn't looked at may get on
 pub to-come : {A : Type 0} (w : Waiters A) (number : ℕ) → w.looked ≤ number → may_get_on w number ≡ true
 unfolding may
-to-come w number later = (λ i. w.lost || (le-leb w.looked number later i || (has_call w.pending.set (call_in 0 number) || waits_at_any w.places.set w.touched.items number))) ∙ or_true w.lost
+to-come w number later = (λ i. w.lost || (le-leb w.looked number later i || (is_in w.pending number || waits_at_any (waits_in w.places) w.touched.items number))) ∙ or_true w.lost
   where
     or_true : (b : Bool) → (b || true) ≡ true
     or_true true = refl

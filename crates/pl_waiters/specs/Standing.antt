@@ -1,0 +1,28 @@
+-- A call that stands by itself, and further ones of its group.
+use Rattle.std.specs.Prelude.{◌≡◌, ℕ, Bool, List, false, Option, ◌||◌, nat_eq, slice_index_or}
+use Rattle.std.specs.declared.option.Option.TheVariants.{None, Some}
+use Rattle.std.specs.Option.{option_eq}
+use Rattle.std.specs.BTreeSet.{BTreeSet}
+use Rattle.pl_parked.specs.declared.groups.GroupedCall.{GroupedCall}
+use Rattle.pl_parked.specs.InGroups.{has_call, call_in}
+use Rattle.pl_waiters.specs.declared.place.Place.{Place}
+
+-- the call is the one that stands by itself, or one of the others
+abbrev pub stands : (first : Option ℕ) → (rest : BTreeSet GroupedCall) → (group number : ℕ) → Bool
+stands first rest group number = option_eq nat_eq first (Some number) || has_call rest (call_in group number)
+
+-- where it isn't said that there are others, there are none
+abbrev pub SaysMore : (more : Bool) → (rest : BTreeSet GroupedCall) → (group : ℕ) → Type 0
+SaysMore more rest group = more ≡ false → (number : ℕ) → has_call rest (call_in group number) ≡ false
+
+-- the place of a node
+abbrev pub place_at : List Place → ℕ → Place
+place_at firsts node = slice_index_or firsts node (record { first = None; more = false })
+
+-- the call stands at the node
+abbrev pub at_node : List Place → BTreeSet GroupedCall → (node number : ℕ) → Bool
+at_node firsts rest node number = stands (place_at firsts node).first rest node number
+
+-- the same of all nodes
+abbrev pub SayMore : List Place → BTreeSet GroupedCall → Type 0
+SayMore firsts rest = (node : ℕ) → SaysMore (place_at firsts node).more rest node
