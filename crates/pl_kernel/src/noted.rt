@@ -15,8 +15,8 @@ ghost use Rattle.pl_kernel.specs.Index.{Knows};
 
 use crate::steps;
 use crate::watch::{
-    expect, expect_again, expect_fd, expect_nothing, note, number_of, number_of_read,
-    number_of_write,
+    expect, expect_again, expect_fd, expect_nothing, expect_read_again, note, number_of,
+    number_of_read, number_of_write,
 };
 use pl_model::{Call, Reply, Step};
 use pl_polls::{PollEntry, PollReply};
@@ -154,13 +154,15 @@ pub(crate) fn try_again<A: Allocator + Copy>(
     steps::try_again(kernel, number)
 }
 
-/// Tries a parked read again, into the caller's bytes, which are as many as it gives, or more.
+/// Tries a parked read again, into the caller's bytes, which are as many as it gives, or more. `count` is how many it gives: if it is 0, it is
+/// asked whether the read can get on.
 pub(crate) fn resume_read_into<A: Allocator + Copy>(
     kernel: &mut KernelState<A>,
     waiters: &mut Waiters<A>,
     number: u64,
     key: usize,
     n: u32,
+    count: usize,
     into: &mut [u8],
 ) -> ReadReply
     requires waits { ReadWaits kernel.old number key n }
@@ -171,6 +173,6 @@ pub(crate) fn resume_read_into<A: Allocator + Copy>(
     ensures rest { drop (read_count result) into.new ≡ drop (read_count result) into.old }
     ensures knows { Knows (core_of {A = A} kernel.new) waiters.new }
 {
-    let _nothing = expect_again(kernel, waiters, number);
+    let _nothing = expect_read_again(kernel, waiters, number, key, count);
     pl_transfers::resume_read_into(kernel, number, key, n, into)
 }

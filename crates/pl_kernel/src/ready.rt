@@ -1,5 +1,5 @@
 //! Which call that waits can get on next, by the index.
-ghost use Rattle.std.specs.Prelude.{◌≡◌, ◌≤◌, ℕ, true, false, nat_eq, IsSome, None};
+ghost use Rattle.std.specs.Prelude.{◌≡◌, ◌≤◌, ℕ, true, false, nat_eq, IsSome, IfSome, IfNone, None};
 ghost use Rattle.std.specs.Set.{is_member};
 ghost use Rattle.std.specs.List.{list_any};
 ghost use Rattle.pl_model.specs.Map.{get};
@@ -14,10 +14,12 @@ ghost use Rattle.pl_kernel.specs.Progress.{is_ready, IsLeastFrom};
 ghost use Rattle.pl_kernel.specs.ToldNodes.{key_of};
 ghost use Rattle.pl_kernel.specs.Index.{Knows, IsNoLess};
 
-use crate::steps::can_progress;
+use crate::steps::{can_progress, is_read};
 use crate::watch::key_of_node;
 use pl_model::Node;
+use pl_parked::Parked;
 use pl_state::KernelState;
+use pl_transfers::one_can_progress;
 use pl_waiters::Waiters;
 use std::alloc::Allocator;
 
@@ -27,6 +29,9 @@ fn is_ready<A: Allocator + Copy>(state: &KernelState<A>, number: u64) -> bool
 {
     // A proof learns here what holds of the kernel.
     let _ = &state.descs;
+    if is_read(state, number) {
+        return one_can_progress(state, number);
+    }
     state.parked.get(number).is_some() && can_progress(state, number)
 }
 
@@ -46,13 +51,45 @@ fn ask_all<A: Allocator + Copy>(state: &KernelState<A>, from: u64) -> Option<u64
     None
 }
 
+// The least number, `from` or above, of the calls that wait. Mostly it is `from`, or there is none.
+fn next_new<A: Allocator>(parked: &Parked<A>, from: u64) -> Option<u64>
+    ensures parked { IfSome result (λ number. (from ≤ number) × IsSome (get nat_eq parked.now.calls number)) }
+    ensures least { IfSome result (λ number. (other : ℕ) → from ≤ other → IsSome (get nat_eq parked.now.calls other) → number ≤ other) }
+    ensures none { IfNone result ((number : ℕ) → from ≤ number → get nat_eq parked.now.calls number ≡ None) }
+{
+    if from >= parked.next_number() {
+        return None;
+    }
+    if parked.get(from).is_some() {
+        return Some(from);
+    }
+    parked.next_from(from)
+}
+
+// Takes a call out of those that may get on, if it ended: mostly the last one that was told.
+fn drop_ended<A: Allocator + Copy>(state: &KernelState<A>, waiters: &mut Waiters<A>)
+    requires { Knows (core_of {A = A} state.now) waiters.old }
+    ensures { Knows (core_of {A = A} state.now) waiters.new }
+{
+    // A proof learns here what holds of the kernel.
+    let _ = &state.descs;
+    let Some(first) = waiters.first() else {
+        return;
+    };
+    if state.parked.get(first).is_some() {
+        return;
+    }
+    waiters.take_out(first);
+}
+
 // The calls that were parked since the last time may get on.
 fn look_at_new<A: Allocator + Copy>(state: &KernelState<A>, waiters: &mut Waiters<A>)
     requires { Knows (core_of {A = A} state.now) waiters.old }
     ensures knows { Knows (core_of {A = A} state.now) waiters.new }
     ensures none { (number : ℕ) → waiters.new.looked ≤ number → get nat_eq state.now.calls.calls number ≡ None }
 {
-    while let Some(number) = state.parked.next_from(waiters.looked()) {
+    drop_ended(state, waiters);
+    while let Some(number) = next_new(&state.parked, waiters.looked()) {
         // A proof learns here that a number is never the greatest of its type.
         let _next = state.parked.next_number();
         waiters.look(number);

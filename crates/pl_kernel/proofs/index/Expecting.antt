@@ -78,6 +78,16 @@ module _ {A : Type 0} (s : Contents A) (m : Known A) (is : contents m.descs m.no
     unfolding touches
     expects_again k can u less touched = expects_done (Resume k) can u less touched
 
+    -- So they may be where it can't get on.
+    pub expects_touched : (k : ℕ) → (u : Waiters A) → IsNoLess w u → TouchesAll w u (λ node. waits_at c node (get nat_eq c.parked k)) → Expects c (Resume k) u Nothing
+    expects_touched k u less touched = by (can_progress c k) refl
+      where
+        by : (b : Bool) → can_progress c k ≡ b → Expects c (Resume k) u Nothing
+        by true can = expects_again k can u less touched
+        by false stuck =
+            let knows_u = knows_more c w u knows less in
+            record { now = knows_u; keys = new_keys m; unused = unused_in s m is; later = vain_on c (known_in s m is) u knows_u k stuck }
+
     pub expects_interrupt : (k : ℕ) (u : Waiters A) → IsNoLess w u → TouchesAll w u (λ node. waits_at c node (get nat_eq c.parked k)) → Expects c (Interrupt k) u Nothing
     unfolding touches
     expects_interrupt k u less touched = expects_done (Interrupt k) tt u less touched

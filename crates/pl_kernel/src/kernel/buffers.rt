@@ -152,6 +152,7 @@ impl<A: Allocator + Copy> Kernel<A> {
             number,
             read.key,
             read.n,
+            count,
             into,
         )))
     }

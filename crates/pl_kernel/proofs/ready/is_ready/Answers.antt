@@ -1,5 +1,5 @@
-use Rattle.std.proofs.Common.{◌≡◌, Bool, Bor, sym, ◌∙◌, ap, nat_eq}
-use Rattle.std.specs.Prelude.{◌&&◌, is_some}
+use Rattle.std.proofs.Common.{◌≡◌, Bool, true, Bor, Option, None, Some, refl, sym, ◌∙◌, ap, nat_eq}
+use Rattle.std.specs.Prelude.{◌&&◌, is_some, IfSome, IsSomeAnd}
 use Rattle.pl_model.specs.Map.{get}
 use Rattle.pl_model.specs.Waking.{can_progress}
 use Rattle.pl_parked.specs.declared.call.ParkedCall.{ParkedCall}
@@ -28,3 +28,21 @@ pub returns-else-is_some : goal.returns-else-is_some
 returns-else-is_some g c =
     let w = (goal.at.returns-else-is_some g c).After-is_some in
     c.if-is_some.false ∙ sym (ap (λ (b : Bool). b && can_progress (core_of c.args.state.now) c.args.number) (parked g w ∙ c.if-is_some.false))
+
+-- a read keeps one description
+
+there : {X : Type 0} (P : X → Type 0) (o : Option X) → IsSomeAnd o P → is_some o ≡ true
+there P None h = absurd h
+there P (Some x) h = refl
+
+if_there : {X : Type 0} (P : X → Type 0) (o : Option X) → IsSomeAnd o P → IfSome o P
+if_there P None h = absurd h
+if_there P (Some x) h = h
+
+pub one_can_progress-requires : goal.one_can_progress-requires
+one_can_progress-requires g c = if_there _ (get nat_eq c.args.state.now.calls.calls c.args.number) (c.is_read.ensures c.if-is_read.true)
+
+pub returns-then-is_read : goal.returns-then-is_read
+returns-then-is_read g c =
+    c.one_can_progress.ensures
+    ∙ sym (ap (λ (b : Bool). b && can_progress (core_of c.args.state.now) c.args.number) (parked-some c.args.state.now c.args.number ∙ there _ (get nat_eq c.args.state.now.calls.calls c.args.number) (c.is_read.ensures c.if-is_read.true)))
