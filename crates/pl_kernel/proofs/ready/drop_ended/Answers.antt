@@ -1,4 +1,4 @@
-use Rattle.std.proofs.Common.{◌≡◌, Bool, None, Some, true, false, Bor, Option, refl, sym, ◌∙◌, ap, nat_eq}
+use Rattle.std.proofs.Common.{◌≡◌, None, Some, false, Bor, Option, refl, sym, ◌∙◌, ap, nat_eq}
 use Rattle.std.specs.Prelude.{option_map, is_some}
 use Rattle.pl_model.specs.Map.{get}
 use Rattle.pl_parked.specs.declared.call.ParkedCall.{ParkedCall}

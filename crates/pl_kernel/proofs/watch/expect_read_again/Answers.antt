@@ -1,13 +1,10 @@
-use Rattle.std.proofs.Common.{◌≡◌, ℕ, Bool, true, false, List, [], ◌∷◌, Some, refl, sym, ◌∙◌, ap, subst, nat_eq, arith}
+use Rattle.std.proofs.Common.{◌≡◌, ℕ, Bool, true, false, [], ◌∷◌, Some, refl, sym, ◌∙◌, ap, subst, nat_eq, arith}
 use Rattle.std.specs.Prelude.{option_map, ◌||◌}
 use Rattle.std.specs.List.{list_any}
 use Rattle.std.specs.Set.{is_member}
 use Rattle.pl_model.specs.Map.{get}
-use Rattle.pl_model.specs.Keys.{Node as KeyNode}
 use Rattle.pl_model.specs.Modes.{any_mode}
 use Rattle.pl_model.specs.Live.{is_end}
-use Rattle.pl_model.specs.Numbered.{numbers}
-use Rattle.pl_model.specs.Touching.{waits_at}
 use Rattle.pl_desc.specs.Rows.{at}
 use Rattle.pl_desc.specs.Descs.{Opened}
 use Rattle.pl_state.specs.Contents.{Contents, core_of}
