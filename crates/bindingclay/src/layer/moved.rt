@@ -19,22 +19,31 @@ pub(super) fn taken_so_far(kernel: &Kernel<Heap>, number: u64) -> u32
     kernel.taken(number).unwrap_or(0)
 }
 
+// The same answer of a call that waits on. Out of line, as few steps leave one.
+#[inline(never)]
+fn tell_waiting(kernel: &Kernel<Heap>, before: u32, answer: Answer) -> Answer
+    ensures rest { result ≡ record answer { moved = result.moved } }
+    ensures value { (s : State InBudget) → Stands kernel.now s → result.moved ≡ nat_lt before (taken_by s.core answer.value) }
+{
+    Answer {
+        moved: before < taken_so_far(kernel, answer.value),
+        ..answer
+    }
+}
+
 /// The same answer, which tells too whether its step took bytes of a call that waits on. The kernel is as the step left it, and is asked only if
 /// the call waits. `before` is how many bytes the call had taken before the step.
-#[inline(never)]
+#[inline(always)]
 pub(super) fn tell_moved(kernel: &Kernel<Heap>, before: u32, answer: Answer) -> Answer
     ensures rest { result ≡ record answer { moved = result.moved } }
     ensures value { (s : State InBudget) → Stands kernel.now s → result.moved ≡ (nat_eq answer.kind parked && nat_lt before (taken_by s.core answer.value)) }
     ensures others { (answer.kind ≡ parked → ⊥) → result.moved ≡ false }
 {
-    if answer.kind != kind::PARKED {
-        return Answer {
-            moved: false,
-            ..answer
-        };
+    if answer.kind == kind::PARKED {
+        return tell_waiting(kernel, before, answer);
     }
     Answer {
-        moved: before < taken_so_far(kernel, answer.value),
+        moved: false,
         ..answer
     }
 }
