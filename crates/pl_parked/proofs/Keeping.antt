@@ -1,5 +1,5 @@
 -- What each change of the fields leaves.
-use Rattle.std.proofs.Common.{◌≡◌, ℕ, ◌+◌, true, not, cond, [], ◌∷◌, ◌++◌, Option, Some, None, IfSome, IfNone, IsSome, refl, sym, ◌∙◌, ap, subst, nat_eq, slice_set, slice_index_or, arith}
+use Rattle.std.proofs.Common.{◌≡◌, ℕ, ◌+◌, Bool, true, not, cond, [], ◌∷◌, ◌++◌, Option, Some, None, IfSome, IfNone, IsSome, refl, sym, ◌∙◌, ap, subst, nat_eq, slice_set, slice_index_or, arith}
 use Rattle.std.specs.Prelude.{◌&&◌, ◌||◌, is_some}
 use Rattle.std.specs.BTreeSet.{BTreeSet}
 use Rattle.std.specs.Option.{option_flatten}
@@ -12,7 +12,8 @@ use Rattle.pl_parked.specs.declared.parked.Parked.TheInside.{Inside}
 use Rattle.pl_parked.specs.Calls.{Calls, Rise, number_at}
 use Rattle.pl_parked.specs.CallsView.{view_of, IsSound}
 use Rattle.pl_parked.specs.Entries.{calls_in, is_empty}
-use Rattle.pl_parked.specs.InGroups.{has_call, is_call_in}
+use Rattle.pl_parked.specs.Held.{holds}
+use Rattle.pl_parked.specs.InGroups.{is_call_in}
 use Rattle.pl_parked.specs.Owned.{ListsAll}
 use Rattle.pl_parked.specs.Waiting.{is_in, is_named, waiting_open, Lists}
 use Rattle.pl_parked.proofs.EntryLemmas.{calls-rise, no-entry, get-call, call-at, emptied-calls, changed-calls, empties-set, empties-push, calls-push, full, full-calls, full-rise, full-empties}
@@ -22,7 +23,7 @@ use Rattle.pl_parked.proofs.Replacing.{replaces-push, replaces-pop, replaces-wit
 use Rattle.pl_parked.proofs.Rising.{Rise-push, Rise-pop, Rise-set, at-within, number_here, last_number, get-last}
 
 module _ {A : Type 0} where
-  module _ (es : Map ℕ (Option (ParkedCall A))) (empty next : ℕ) (owners : BTreeSet GroupedCall) (opens : BTreeSet WaitingOpen) (s : IsSound es empty owners opens next) where
+  module _ (es : Map ℕ (Option (ParkedCall A))) (empty next : ℕ) (owners : GroupedCall → Bool) (opens : BTreeSet WaitingOpen) (s : IsSound es empty owners opens next) where
     pub keeps-full : IsSound (full es) 0 owners opens next
     keeps-full = record {
       rise = full-rise 0 next es s.rise;
@@ -32,11 +33,11 @@ module _ {A : Type 0} where
     }
 
     -- another set with the same calls
-    pub keeps-own : (same : BTreeSet GroupedCall) → ((key : GroupedCall) → has_call same key ≡ has_call owners key) → IsSound es empty same opens next
+    pub keeps-own : (same : GroupedCall → Bool) → ((key : GroupedCall) → same key ≡ owners key) → IsSound es empty same opens next
     keeps-own same is = record { rise = s.rise; empty_ones = s.empty_ones; owned = λ key. is key ∙ s.owned key; listed = s.listed }
 
     -- a call that is added to the set
-    module _ (x : ParkedCall A) (more : BTreeSet GroupedCall) (own : (key : GroupedCall) → has_call more key ≡ (is_call_in x.pid next key || has_call owners key)) where
+    module _ (x : ParkedCall A) (more : GroupedCall → Bool) (own : (key : GroupedCall) → more key ≡ (is_call_in x.pid next key || owners key)) where
       rises : Rise 0 next (calls_in es)
       rises = calls-rise 0 next es s.rise
 
@@ -54,7 +55,7 @@ module _ {A : Type 0} where
       }
 
       -- it is removed again, and the other set has what it had
-      pub keeps-undone : (back : BTreeSet GroupedCall) (new : BTreeSet WaitingOpen) → ((key : GroupedCall) → has_call back key ≡ (not (is_call_in x.pid next key) && has_call more key)) → ((key : WaitingOpen) → is_in new key ≡ is_in opens key)
+      pub keeps-undone : (back : GroupedCall → Bool) (new : BTreeSet WaitingOpen) → ((key : GroupedCall) → back key ≡ (not (is_call_in x.pid next key) && more key)) → ((key : WaitingOpen) → is_in new key ≡ is_in opens key)
           → IsSound es empty back new next
       keeps-undone back new fewer same = record {
         rise = s.rise;
@@ -76,7 +77,7 @@ module _ {A : Type 0} where
   seen-some es now n next (Some k) is r h has = refl
 
 -- a search for the number of a call
-module _ {A : Type 0} (p : Inside A) (sound : IsSound p.entries.items p.empty p.owners.set p.opens.set p.next) (n : ℕ) (now : Map ℕ (Option (ParkedCall A))) (is : now ≡ p.entries.items) (o : Option ℕ) where
+module _ {A : Type 0} (p : Inside A) (sound : IsSound p.entries.items p.empty (holds p.owners) p.opens.set p.next) (n : ℕ) (now : Map ℕ (Option (ParkedCall A))) (is : now ≡ p.entries.items) (o : Option ℕ) where
   pub has-place : (v : Calls A) → view_of p ≡ v → ((next : ℕ) → Rise 0 next now → IfNone o (get nat_eq now n ≡ None)) → IsSome (get nat_eq v.calls n) → IsSome o
   has-place v seen none has = seen-some p.entries.items now n p.next o is sound.rise none (subst (λ (v : Calls A). IsSome (get nat_eq v.calls n)) (sym seen) has)
 
@@ -88,7 +89,7 @@ pub record Found (A : Type 0) : Type 0 where
   pub entries : Map ℕ (Option (ParkedCall A))
   pub empty : ℕ
   pub next : ℕ
-  pub owners : BTreeSet GroupedCall
+  pub owners : GroupedCall → Bool
   pub opens : BTreeSet WaitingOpen
   pub number : ℕ
   pub place : ℕ
@@ -97,13 +98,13 @@ pub record Found (A : Type 0) : Type 0 where
   pub at : number_at entries place ≡ Some number
   pub is : entry ≡ slice_index_or entries place entry
 
-abbrev pub found-in : {A : Type 0} (p : Inside A) → IsSound p.entries.items p.empty p.owners.set p.opens.set p.next → (number place : ℕ) (entry : ℕ × Option (ParkedCall A))
+abbrev pub found-in : {A : Type 0} (p : Inside A) → IsSound p.entries.items p.empty (holds p.owners) p.opens.set p.next → (number place : ℕ) (entry : ℕ × Option (ParkedCall A))
     → number_at p.entries.items place ≡ Some number → entry ≡ slice_index_or p.entries.items place entry → Found A
 found-in p sound number place entry at is = record {
   entries = p.entries.items;
   empty = p.empty;
   next = p.next;
-  owners = p.owners.set;
+  owners = holds p.owners;
   opens = p.opens.set;
   number = number;
   place = place;
@@ -137,7 +138,7 @@ module _ {A : Type 0} (f : Found A) where
     pub leaves : calls_in (slice_set entries place (entry.0, None)) ≡ without nat_eq (calls_in entries) number
     leaves = ap (λ m. calls_in (slice_set entries place (m, None))) numbered ∙ emptied-calls number 0 next place entries sound.rise at
 
-    pub keeps-emptied : (fewer : BTreeSet GroupedCall) (new : BTreeSet WaitingOpen) → ((key : GroupedCall) → has_call fewer key ≡ (not (is_call_in x.pid number key) && has_call owners key))
+    pub keeps-emptied : (fewer : GroupedCall → Bool) (new : BTreeSet WaitingOpen) → ((key : GroupedCall) → fewer key ≡ (not (is_call_in x.pid number key) && owners key))
         → ((key : WaitingOpen) → is_in new key ≡ (not (is_named (waiting_open number x) key) && is_in opens key))
         → IsSound (slice_set entries place (entry.0, None)) (empty + 1) fewer new next
     keeps-emptied fewer new own listed = record {
@@ -194,7 +195,7 @@ pub record Ended (A : Type 0) : Type 0 where
   pub entries : Map ℕ (Option (ParkedCall A))
   pub empty : ℕ
   pub next : ℕ
-  pub owners : BTreeSet GroupedCall
+  pub owners : GroupedCall → Bool
   pub opens : BTreeSet WaitingOpen
   pub number : ℕ
   pub before : Map ℕ (Option (ParkedCall A))
@@ -230,7 +231,7 @@ module _ {A : Type 0} (f : Ended A) where
     pub last-call : calls_in entries ≡ calls_in before ++ (number, x) ∷ []
     last-call = ap calls_in ends-there ∙ calls-push before number x
 
-    pub keeps-popped : (fewer : BTreeSet GroupedCall) (new : BTreeSet WaitingOpen) → ((key : GroupedCall) → has_call fewer key ≡ (not (is_call_in x.pid number key) && has_call owners key))
+    pub keeps-popped : (fewer : GroupedCall → Bool) (new : BTreeSet WaitingOpen) → ((key : GroupedCall) → fewer key ≡ (not (is_call_in x.pid number key) && owners key))
         → ((key : WaitingOpen) → is_in new key ≡ (not (is_named (waiting_open number x) key) && is_in opens key)) → IsSound before empty fewer new number
     keeps-popped fewer new own listed =
         let there = subst (λ (z : Map ℕ (Option (ParkedCall A))). IsSound z empty owners opens next) ends-there sound in

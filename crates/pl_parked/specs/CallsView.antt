@@ -1,5 +1,5 @@
 -- The fields of the parked calls, as what they hold.
-use Rattle.std.specs.Prelude.{◌≡◌, ℕ, Option}
+use Rattle.std.specs.Prelude.{◌≡◌, ℕ, Bool, Option}
 use Rattle.std.specs.BTreeSet.{BTreeSet}
 use Rattle.pl_model.specs.Map.{Map}
 use Rattle.pl_parked.specs.declared.call.ParkedCall.{ParkedCall}
@@ -16,7 +16,7 @@ view_of p = record { calls = calls_in p.entries.items; next = p.next }
 
 -- the numbers of all entries, the empty ones too, rise and are below the next one; the empty ones are counted; the calls
 -- are listed by their processes, and the opens that wait and weren't met are listed
-pub record IsSound {A : Type 0} (entries : Map ℕ (Option (ParkedCall A))) (empty : ℕ) (owners : BTreeSet GroupedCall) (opens : BTreeSet WaitingOpen) (next : ℕ) : Type 0 where
+pub record IsSound {A : Type 0} (entries : Map ℕ (Option (ParkedCall A))) (empty : ℕ) (owners : GroupedCall → Bool) (opens : BTreeSet WaitingOpen) (next : ℕ) : Type 0 where
   pub rise : Rise 0 next entries
   pub empty_ones : empty ≡ empties entries
   pub owned : ListsAll owners (calls_in entries)

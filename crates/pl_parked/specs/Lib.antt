@@ -1,7 +1,9 @@
 pub mod Calls
 pub mod CallsView
 pub mod Entries
+pub mod Held
 pub mod InGroups
 pub mod Meeting
 pub mod Owned
+pub mod Standing
 pub mod Waiting

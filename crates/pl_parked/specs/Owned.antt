@@ -1,17 +1,15 @@
 -- The calls that wait, by their processes.
 use Rattle.std.specs.Prelude.{◌≡◌, ℕ, Bool, false, Option, nat_eq}
 use Rattle.std.specs.declared.option.Option.TheVariants.{None, Some}
-use Rattle.std.specs.BTreeSet.{BTreeSet}
 use Rattle.pl_model.specs.Map.{Map, get}
 use Rattle.pl_parked.specs.declared.call.ParkedCall.{ParkedCall}
 use Rattle.pl_parked.specs.declared.groups.GroupedCall.{GroupedCall}
-use Rattle.pl_parked.specs.InGroups.{has_call}
 
 -- there is a call, and it is one of the process
 abbrev pub is_call_of : {A : Type 0} → ℕ → Option (ParkedCall A) → Bool
 is_call_of pid None = false
 is_call_of pid (Some call) = nat_eq call.pid pid
 
--- the set has the calls, each with its own process
-abbrev pub ListsAll : {A : Type 0} → BTreeSet GroupedCall → Map ℕ (ParkedCall A) → Type 0
-ListsAll set calls = (key : GroupedCall) → has_call set key ≡ is_call_of key.group (get nat_eq calls key.number)
+-- they are the calls, each with its own process
+abbrev pub ListsAll : {A : Type 0} → (GroupedCall → Bool) → Map ℕ (ParkedCall A) → Type 0
+ListsAll owned calls = (key : GroupedCall) → owned key ≡ is_call_of key.group (get nat_eq calls key.number)

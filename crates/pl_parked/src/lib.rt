@@ -9,8 +9,11 @@ mod fault;
 mod groups;
 mod opens;
 mod parked;
+mod place;
+mod places;
 
 pub use call::ParkedCall;
 pub use fault::ParkFault;
 pub use groups::{GroupedCall, Groups};
 pub use parked::Parked;
+pub use places::Places;

@@ -10,8 +10,8 @@ ghost use Rattle.pl_parked.specs.Meeting.{meets, all_marked};
 use crate::call::ParkedCall;
 use crate::entries::{Entry, count_below, place_of};
 use crate::fault::ParkFault;
-use crate::groups::Groups;
 use crate::opens::Opens;
+use crate::places::Places;
 use pl_model::numbers::LAST_CALL;
 use pl_model::{KeyList, Mode};
 use std::alloc::{Allocator, Global};
@@ -25,7 +25,7 @@ pub struct Parked<A: Allocator = Global> {
     /// How many entries are empty.
     empty: usize,
     /// All calls, by their processes.
-    owners: Groups<A>,
+    owners: Places<A>,
     /// The calls that are opens of FIFOs which wait and weren't met.
     opens: Opens<A>,
     next: u64,
@@ -37,10 +37,11 @@ impl<A: Allocator> Model for Parked<A> {
     ghost Value = { Calls A };
 
     ghost use Rattle.pl_parked.specs.CallsView.{view_of, IsSound};
+    ghost use Rattle.pl_parked.specs.Held.{holds};
 
     ghost view = { view_of };
 
-    ghost invariant = { λ p. IsSound p.entries.items p.empty p.owners.set p.opens.set p.next };
+    ghost invariant = { λ p. IsSound p.entries.items p.empty (holds p.owners) p.opens.set p.next };
 }
 
 impl<A: Allocator + Copy> Parked<A> {
@@ -51,7 +52,7 @@ impl<A: Allocator + Copy> Parked<A> {
         Parked {
             entries: Vec::new(alloc),
             empty: 0,
-            owners: Groups::new(alloc),
+            owners: Places::new(alloc),
             opens: Opens::new(alloc),
             next: first,
         }
@@ -74,13 +75,11 @@ impl<A: Allocator + Copy> Parked<A> {
             return Err(ParkFault::CallsSpent);
         }
         let number = self.next;
-        if self.entries.try_reserve(1).is_err()
-            || self.owners.add(call.pid as u64, number).is_err()
-        {
+        if self.entries.try_reserve(1).is_err() || !self.owners.add(call.pid as usize, number) {
             return Err(ParkFault::NoMemory);
         }
         if self.opens.list(&call, number).is_err() {
-            self.owners.remove(call.pid as u64, number);
+            self.owners.remove(call.pid as usize, number);
             return Err(ParkFault::NoMemory);
         }
         self.entries.push_reserved((number, Some(call)));
@@ -122,7 +121,7 @@ impl<A: Allocator> Parked<A> {
         let (_, entry) = self.entries.pop().unwrap();
         let call = entry.unwrap();
         self.opens.unlist(&call, number);
-        self.owners.remove(call.pid as u64, number);
+        self.owners.remove(call.pid as usize, number);
         self.next = number;
         call
     }
@@ -143,7 +142,7 @@ impl<A: Allocator> Parked<A> {
         let place = place_of(&self.entries, number)?;
         let call = self.entries[place].1.take()?;
         self.opens.unlist(&call, number);
-        self.owners.remove(call.pid as u64, number);
+        self.owners.remove(call.pid as usize, number);
         self.empty += 1;
         self.close_gaps();
         Some(call)
@@ -157,7 +156,7 @@ impl<A: Allocator> Parked<A> {
         ensures least { IfSome result (λ number. (other : ℕ) → from ≤ other → IfSome (get nat_eq self.now.calls other) (λ call. call.pid ≡ pid → number ≤ other)) }
         ensures none { IfNone result ((number : ℕ) → from ≤ number → IfSome (get nat_eq self.now.calls number) (λ call. ¬ (call.pid ≡ pid))) }
     {
-        self.owners.first_from(pid as u64, from)
+        self.owners.first_from(pid as usize, from)
     }
 
     /// The least number, `from` or above, of the calls that wait.

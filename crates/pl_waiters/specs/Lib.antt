@@ -2,4 +2,3 @@ pub mod Held
 pub mod Index
 pub mod Marks
 pub mod Seen
-pub mod Standing

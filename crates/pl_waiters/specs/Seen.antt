@@ -2,7 +2,8 @@
 use Rattle.std.specs.Prelude.{◌≡◌, ℕ, Bool, false, []}
 use Rattle.pl_waiters.specs.declared.waiters.Waiters.{Waiters}
 use Rattle.pl_waiters.specs.Index.{placed, may}
-use Rattle.pl_waiters.specs.Held.{waits_in, is_in}
+use Rattle.pl_parked.specs.Held.{waits_in}
+use Rattle.pl_waiters.specs.Held.{is_in}
 
 module _ {A : Type 0} where
   -- The call is known to wait at the node. Where all is lost, so is each.

@@ -5,8 +5,6 @@ mod finding;
 mod marks;
 mod moving;
 mod pending;
-mod place;
-mod places;
 mod waiters;
 
 pub use waiters::Waiters;

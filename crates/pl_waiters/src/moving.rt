@@ -1,10 +1,11 @@
 //! How the calls of touched nodes come to stand by themselves.
 ghost use Rattle.std.specs.Prelude.{◌≡◌, ◌≢◌, ℕ, ◌||◌, true, false};
-ghost use Rattle.pl_waiters.specs.Held.{waits_in, is_in};
+ghost use Rattle.pl_parked.specs.Held.{waits_in};
+ghost use Rattle.pl_waiters.specs.Held.{is_in};
 
 use crate::pending::Pending;
-use crate::places::Places;
 use crate::waiters::Waiters;
+use pl_parked::Places;
 use std::alloc::Allocator;
 
 // Moves all calls of a node to those that may get on, if they are no more than are left to move; whether it could. Some may have moved where

@@ -1,5 +1,5 @@
 //! Calls that may get on.
-ghost use Rattle.pl_waiters.specs.Standing.{SaysMore};
+ghost use Rattle.pl_parked.specs.Standing.{SaysMore};
 
 use pl_parked::Groups;
 use std::alloc::Allocator;

@@ -1,10 +1,10 @@
 //! The index of calls that wait.
 ghost use Rattle.pl_waiters.specs.Marks.{AreMarked};
-ghost use Rattle.pl_waiters.specs.Held.{waits_in};
+ghost use Rattle.pl_parked.specs.Held.{waits_in};
 
 use crate::marks::make_room;
 use crate::pending::Pending;
-use crate::places::Places;
+use pl_parked::Places;
 use std::alloc::{Allocator, Global};
 
 /// An index of calls that wait, by the nodes at which they wait. It knows which of them may get on: those at a node that was touched

@@ -28,7 +28,8 @@ use Rattle.pl_model.proofs.touching.InVain.{idle_resumed}
 use Rattle.pl_model.proofs.touching.Untouched.{untouched_by_another}
 use Rattle.pl_waiters.specs.declared.waiters.Waiters.{Waiters}
 use Rattle.pl_waiters.specs.Seen.{may_get_on}
-use Rattle.pl_waiters.specs.Held.{waits_in, is_in}
+use Rattle.pl_parked.specs.Held.{waits_in}
+use Rattle.pl_waiters.specs.Held.{is_in}
 use Rattle.pl_waiters.specs.Index.{waits_at_any, may}
 use Rattle.pl_kernel.specs.ToldNodes.{key_of}
 use Rattle.pl_kernel.specs.Index.{IsAside, Knows, WillKnow, KnowsIfItWaits, IsNoLess, IsTouched, TriesWell}

@@ -1,6 +1,7 @@
 use Rattle.std.proofs.Common.{◌≡◌, ◌≢◌, ℕ}
 use Rattle.std.specs.Prelude.{◌||◌}
-use Rattle.pl_waiters.specs.Held.{waits_in, is_in}
+use Rattle.pl_parked.specs.Held.{waits_in}
+use Rattle.pl_waiters.specs.Held.{is_in}
 use Rattle.pl_waiters.proofs.moving.move_all.Given as goal
 
 -- Other nodes keep their calls, and each call of this one is there or may get on.

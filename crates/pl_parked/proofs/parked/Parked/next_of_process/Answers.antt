@@ -1,6 +1,7 @@
 use Rattle.std.proofs.Common.{◌≡◌, ℕ, subst}
 use Rattle.std.specs.Prelude.{option_map}
 use Rattle.std.specs.List.{find}
+use Rattle.pl_parked.specs.Held.{holds}
 use Rattle.pl_parked.specs.declared.call.ParkedCall.{ParkedCall}
 use Rattle.pl_parked.specs.Calls.{Calls, Rise, is_of_from}
 use Rattle.pl_parked.specs.Owned.{ListsAll}
@@ -15,11 +16,11 @@ module _ (g : Over) (c : After-first_from g) where
   rises : Rise 0 c.args.self.now.next c.args.self.now.calls
   rises = subst (λ (v : Calls _). Rise 0 v.next v.calls) c.self.view_is (calls-rise 0 c.self.inside.next c.self.inside.entries.items c.self.invariant.rise)
 
-  lists : ListsAll c.self.inside.owners.set c.args.self.now.calls
-  lists = subst (λ (v : Calls _). ListsAll c.self.inside.owners.set v.calls) c.self.view_is c.self.invariant.owned
+  lists : ListsAll (holds c.self.inside.owners) c.args.self.now.calls
+  lists = subst (λ (v : Calls _). ListsAll (holds c.self.inside.owners) v.calls) c.self.view_is c.self.invariant.owned
 
   value : c.first_from.result ≡ option_map (λ (entry : ℕ × ParkedCall g.row.A.Denot). entry.0) (find (is_of_from c.args.pid c.args.from) c.args.self.now.calls)
-  value = first-owned c.args.pid c.args.from c.args.self.now.next c.args.self.now.calls rises c.self.inside.owners.set lists c.first_from.result c.first_from.ensures.some c.first_from.ensures.least c.first_from.ensures.none
+  value = first-owned c.args.pid c.args.from c.args.self.now.next c.args.self.now.calls rises (holds c.self.inside.owners) lists c.first_from.result c.first_from.ensures.some c.first_from.ensures.least c.first_from.ensures.none
 
 pub returns-clause-value : goal.returns-clause-value
 returns-clause-value g c = value g c

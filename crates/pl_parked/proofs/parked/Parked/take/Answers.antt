@@ -1,5 +1,6 @@
 use Rattle.std.proofs.Common.{◌≡◌, ℕ, Option, None, ap, sym, ◌∙◌, subst, nat_eq, slice_set, arith}
 use Rattle.pl_model.specs.Map.{Map, get, without}
+use Rattle.pl_parked.specs.Held.{holds}
 use Rattle.pl_parked.specs.declared.call.ParkedCall.{ParkedCall}
 use Rattle.pl_parked.specs.Calls.{Calls}
 use Rattle.pl_parked.specs.CallsView.{IsSound}
@@ -53,7 +54,7 @@ module _ (g : Over) (c : After-take g) where
 pub invariant_of-self : goal.invariant_of-self
 invariant_of-self g c =
     let w = (goal.at.invariant_of-self g c).After-take in
-    rw c.take.ensures.after (subst (λ es. IsSound es c.self.inside.empty c.self.inside.owners.set c.self.inside.opens.set c.self.inside.next) (sym (stays g w (sym c.in_err-call.ensures.value))) c.self.invariant)
+    rw c.take.ensures.after (subst (λ es. IsSound es c.self.inside.empty (holds c.self.inside.owners) c.self.inside.opens.set c.self.inside.next) (sym (stays g w (sym c.in_err-call.ensures.value))) c.self.invariant)
 
 pub returns-in_err-call-clause-call : goal.returns-in_err-call-clause-call
 returns-in_err-call-clause-call g c =
@@ -72,7 +73,7 @@ returns-in_err-call-clause-rest g c =
 pub invariant_of-self-2 : goal.invariant_of-self-2
 invariant_of-self-2 g c =
     let w = (goal.at.invariant_of-self-2 g c).After-take in
-    rw c.take.ensures.after (keeps-emptied (found g w) c.in_ok-call.call (sym c.in_ok-call.ensures.value) c.remove.new.self.set c.unlist.new.self.set c.remove.ensures.rest c.unlist.ensures)
+    rw c.take.ensures.after (keeps-emptied (found g w) c.in_ok-call.call (sym c.in_ok-call.ensures.value) (holds c.remove.new.self) c.unlist.new.self.set (λ key. c.remove.ensures key.group key.number) c.unlist.ensures)
 
 pub returns-clause-call : goal.returns-clause-call
 returns-clause-call g c = let w = (goal.at.returns-clause-call g c).After-take in c.in_ok-call.ensures.value ∙ sym (is-had g w)

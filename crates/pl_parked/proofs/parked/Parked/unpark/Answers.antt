@@ -1,6 +1,7 @@
 use Rattle.std.proofs.Common.{◌++◌, IsSome, ap, sym, ◌∙◌, subst, nat_eq}
 use Rattle.std.specs.Option.{option_to_list}
 use Rattle.pl_model.specs.Map.{get}
+use Rattle.pl_parked.specs.Held.{holds}
 use Rattle.pl_parked.specs.Calls.{Calls}
 use Rattle.pl_parked.proofs.Keeping.{Ended, last-full, last-call, keeps-popped}
 use Rattle.pl_parked.proofs.parked.Parked.unpark.Given.{Over}
@@ -14,7 +15,7 @@ module _ (g : Over) (c : After-unwrap-entry g) where
     entries = c.self.inside.entries.items;
     empty = c.self.inside.empty;
     next = c.self.inside.next;
-    owners = c.self.inside.owners.set;
+    owners = (holds c.self.inside.owners);
     opens = c.self.inside.opens.set;
     number = c.args.number;
     before = c.pop.new.self.items;
@@ -30,7 +31,7 @@ unwrap-call-requires g c = last-full (ended g c)
 
 pub invariant_of-self : goal.invariant_of-self
 invariant_of-self g c =
-    keeps-popped (ended g (goal.at.invariant_of-self g c).After-unwrap-entry) c.unwrap-call.result c.unwrap-call.ensures c.remove.new.self.set c.unlist.new.self.set c.remove.ensures.rest c.unlist.ensures
+    keeps-popped (ended g (goal.at.invariant_of-self g c).After-unwrap-entry) c.unwrap-call.result c.unwrap-call.ensures (holds c.remove.new.self) c.unlist.new.self.set (λ key. c.remove.ensures key.group key.number) c.unlist.ensures
 
 pub returns-clause-calls : goal.returns-clause-calls
 returns-clause-calls g c =

@@ -1,6 +1,7 @@
 use Rattle.std.proofs.Common.{◌≡◌, true, ◌∙◌, sym, subst, nat_eq, List, ℕ}
 use Rattle.std.specs.Prelude.{◌&&◌}
-use Rattle.pl_waiters.specs.Held.{waits_in, is_in}
+use Rattle.pl_parked.specs.Held.{waits_in}
+use Rattle.pl_waiters.specs.Held.{is_in}
 use Rattle.pl_waiters.specs.Index.{may}
 use Rattle.pl_waiters.proofs.Kept.{may-more, or_right}
 use Rattle.pl_waiters.proofs.waiters.Waiters.add.Goals as goal

@@ -1,4 +1,5 @@
-use Rattle.pl_waiters.specs.Held.{waits_in, is_in}
+use Rattle.pl_parked.specs.Held.{waits_in}
+use Rattle.pl_waiters.specs.Held.{is_in}
 use Rattle.pl_waiters.proofs.Kept.{may-forgotten}
 use Rattle.pl_waiters.proofs.waiters.Waiters.forget.Goals as goal
 

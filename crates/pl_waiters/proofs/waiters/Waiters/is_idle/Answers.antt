@@ -1,7 +1,8 @@
 use Rattle.std.proofs.Common.{◌≡◌, true, vec_len, sym, ◌∙◌, arith}
 use Rattle.std.specs.Prelude.{◌==◌}
 use Rattle.std.proofs.lemmas.Bool.{eqb-true}
-use Rattle.pl_waiters.specs.Held.{waits_in, is_in}
+use Rattle.pl_parked.specs.Held.{waits_in}
+use Rattle.pl_waiters.specs.Held.{is_in}
 use Rattle.pl_waiters.proofs.Kept.{idle-empty}
 use Rattle.pl_waiters.proofs.waiters.Waiters.is_idle.Goals as goal
 

@@ -1,6 +1,7 @@
 use Rattle.std.proofs.Common.{◌≡◌, ℕ, List, [], ◌∷◌, ◌++◌, sym, ◌∙◌, ap, subst}
 use Rattle.std.specs.Option.{option_to_list}
-use Rattle.pl_waiters.specs.Held.{waits_in, is_in}
+use Rattle.pl_parked.specs.Held.{waits_in}
+use Rattle.pl_waiters.specs.Held.{is_in}
 use Rattle.pl_waiters.specs.Index.{may}
 use Rattle.pl_waiters.specs.Marks.{AreMarked}
 use Rattle.pl_waiters.proofs.Moved.{Moves, may-moved, may-left, placed-moved, marked-moved}

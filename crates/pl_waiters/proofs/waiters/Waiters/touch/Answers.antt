@@ -1,6 +1,7 @@
 use Rattle.std.proofs.Common.{false, length, refl, sym, ◌∙◌, arith}
 use Rattle.std.proofs.lemmas.List.{get_or_read_under}
-use Rattle.pl_waiters.specs.Held.{waits_in, is_in}
+use Rattle.pl_parked.specs.Held.{waits_in}
+use Rattle.pl_waiters.specs.Held.{is_in}
 use Rattle.pl_waiters.proofs.Kept.{may-touched, beyond, marked-touched}
 use Rattle.pl_waiters.proofs.waiters.Waiters.touch.Goals.{then-node-len-via-then-node-len, then-node-len-via-else-node-len+then-index}
 use Rattle.pl_waiters.proofs.waiters.Waiters.touch.Goals as goal

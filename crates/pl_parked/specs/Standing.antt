@@ -5,7 +5,7 @@ use Rattle.std.specs.Option.{option_eq}
 use Rattle.std.specs.BTreeSet.{BTreeSet}
 use Rattle.pl_parked.specs.declared.groups.GroupedCall.{GroupedCall}
 use Rattle.pl_parked.specs.InGroups.{has_call, call_in}
-use Rattle.pl_waiters.specs.declared.place.Place.{Place}
+use Rattle.pl_parked.specs.declared.place.Place.{Place}
 
 -- the call is the one that stands by itself, or one of the others
 abbrev pub stands : (first : Option ℕ) → (rest : BTreeSet GroupedCall) → (group number : ℕ) → Bool
