@@ -367,6 +367,40 @@ piperun_checks_within_a_header() {
     piperun_answers 0 "$work/header.out" '' "$work/bad_header.record"
 }
 
+# Whether piperun keeps within the limits that its words name, in a run, a live run and a check, and whether a limit that a record names goes
+# before them.
+piperun_keeps_within_limits() {
+    printf 'start\n1 pipe\n1 open a w creat\n1 open b w creat\n1 write 2 616263\n1 read 0 1\n1 read 0 1\n1 setsz 1 65537\n' > "$work/limits.script"
+    printf 'pid 1\nfds 0 1\nfd 2\nENOSPC\ncount 2\nparked 7\nEAGAIN\nEPERM\n' > "$work/limits.out"
+    set -- --first-call 7 --file-max 2 --names-max=1 --waiting-max 1 --capacity-max 65536
+    piperun_answers 0 "$work/limits.out" '' "$@" "$work/limits.script" || return 1
+    piperun_answers 0 "$work/limits.out" '' --live "$@" "$work/limits.script" || return 1
+    paste -d '\n' "$work/limits.script" "$work/limits.out" | sed 'n;s/^/# => /' > "$work/limits.record"
+    echo '8 replies as recorded' > "$work/as_recorded"
+    piperun_answers 0 "$work/as_recorded" '' --check "$@" "$work/limits.record" || return 1
+    { echo '# piperun --file-max 2'; cat "$work/limits.record"; } > "$work/named.record"
+    piperun_answers 0 "$work/as_recorded" '' --check "$@" "$work/named.record" || return 1
+    shift 4
+    piperun_answers 0 "$work/as_recorded" '' --check --file-max 3 --first-call 7 "$@" "$work/named.record"
+}
+
+# Whether piperun refuses limits that are out of their range.
+piperun_refuses_limits() {
+    for limit in --file-max=16777217 --capacity-max=1048577 --names-max=18446744073709551616 --waiting-max=-1 --waiting-max=two; do
+        piperun_answers 2 /dev/null 'piperun: bad command line' "$limit" "$examples/session.script" || return 1
+    done
+    piperun_answers 0 "$examples/session.out" '' --file-max 16777216 --capacity-max=1048576 --names-max 18446744073709551615 \
+        "$examples/session.script"
+}
+
+# Whether piperun tells its version, which is that of the library's header, and reads no script.
+piperun_tells_its_version() {
+    sed -n 's/^#define BINDINGCLAY_VERSION_[A-Z]* \([0-9]*\)$/\1/p' "$here/include/bindingclay.h" | paste -s -d . | sed 's/^/piperun /' > "$work/version"
+    piperun_answers 0 "$work/version" '' --version || return 1
+    piperun_answers 0 "$work/version" '' -V "$work/no_such_file" || return 1
+    piperun_answers 2 /dev/null 'piperun: bad command line' -v
+}
+
 # Whether a live run answers the lines beside a bad one, or ends there if it is a strict one, in version 2 and without a last line feed.
 piperun_runs_live() {
     printf 'piperun 2\nstart\nstrat\n1 pipe\n1 write 1 5*00\n1 read 0 9' > "$work/live.script"
@@ -422,6 +456,9 @@ try_piperun() {
     check "piperun with a word that is no text" piperun_answers 2 /dev/null 'piperun: bad command line' "$(printf '\377')"
     check "piperun on a record" piperun_checks_a_record
     check "piperun on records with a header" piperun_checks_within_a_header
+    check "piperun within limits" piperun_keeps_within_limits
+    check "piperun with limits out of range" piperun_refuses_limits
+    check "the version of piperun" piperun_tells_its_version
     check "piperun that is to tell all of no record" piperun_answers 2 /dev/null 'piperun: bad command line' --all "$examples/session.script"
     check "piperun on a live run" piperun_runs_live
     check "piperun that answers at once" piperun_answers_at_once

@@ -132,7 +132,8 @@ GUARDED: dict[tuple[str, str], dict[str, str]] = {
         "{most_reads≤S.reads_leftreader.old}": "check_from of pl_run has the same precondition, and run_words alone makes the reader",
     },
     ("pl_script", "header_limits"): {"{limits.file_max≤most_file_bytes}": "check_script alone calls it"},
-    ("pl_script", "run_live"): {"{limits.file_max≤most_file_bytes}": "live_from of pl_run alone calls it, within LIMITS"},
+    ("pl_script", "run_live"): {"{limits.file_max≤most_file_bytes}": "live_from of pl_run alone calls it"},
+    ("pl_run", "live_from"): {"{limits.file_max≤most_file_bytes}": "run_left alone calls it, with the limits of `words`"},
     ("pl_run", "run"): {"{most_reads≤S.reads_leftinput.old}": "run_words alone calls it"},
     ("bindingclay", "new"): {"{limits.file_max≤most_file_bytes}": "asked_by refuses more"},
 }

@@ -12,6 +12,8 @@ pub mod error {
     pub enum ErrorKind {
         /// They ask for the help text.
         DisplayHelp,
+        /// They ask for the version.
+        DisplayVersion,
         /// There was no memory to read them.
         OutOfMemory,
         /// They are others than the command has.
@@ -83,6 +85,7 @@ impl Arg {
 /// What a command line may have.
 pub struct Command<'a> {
     args: Vec<Arg>,
+    has_version: bool,
     names: PhantomData<&'a ()>,
 }
 
@@ -90,6 +93,7 @@ impl<'a> Command<'a> {
     pub fn new(alloc: Global, _name: &'static str) -> Command<'a> {
         Command {
             args: Vec::new(alloc),
+            has_version: false,
             names: PhantomData,
         }
     }
@@ -98,6 +102,14 @@ impl<'a> Command<'a> {
     pub fn no_binary_name(self, yes: bool) -> Command<'a> {
         assert!(yes, "the program's own name is not among the words");
         self
+    }
+
+    /// Whoever asks for the version is told so by the fault, and prints it.
+    pub fn version(self, _version: &'static str) -> Command<'a> {
+        Command {
+            has_version: true,
+            ..self
+        }
     }
 
     pub fn arg(mut self, arg: Arg) -> Result<Command<'a>, AllocError> {
@@ -135,9 +147,10 @@ impl<'a> Command<'a> {
                 });
                 matches.add(arg, value.ok_or(Error(ErrorKind::InvalidValue))?)?;
             } else {
-                let is_help = word.starts_with("-h");
-                return Err(Error(if is_help {
+                return Err(Error(if word.starts_with("-h") {
                     ErrorKind::DisplayHelp
+                } else if self.has_version && word.starts_with("-V") {
+                    ErrorKind::DisplayVersion
                 } else {
                     ErrorKind::UnknownArgument
                 }));
@@ -163,6 +176,9 @@ impl<'a> Command<'a> {
         match self.args.iter().find(|arg| arg.long == Some(name)) {
             Some(arg) => Ok((*arg, value)),
             None if name == "help" && value.is_none() => Err(Error(ErrorKind::DisplayHelp)),
+            None if self.has_version && name == "version" && value.is_none() => {
+                Err(Error(ErrorKind::DisplayVersion))
+            }
             None => Err(Error(ErrorKind::UnknownArgument)),
         }
     }

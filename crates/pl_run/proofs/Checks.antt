@@ -10,46 +10,46 @@ use Rattle.pl_script.specs.declared.comparing.Checked.{Checked}
 use Rattle.pl_script.specs.declared.fault.ScriptFault.{ScriptFault}
 use Rattle.pl_script.specs.declared.fault.ScriptFault.TheVariants as script
 use Rattle.pl_run.specs.Fault.{fault_of}
-use Rattle.pl_run.specs.Program.{InBudget, IsCheckedWithin, limits_from, line_of_same}
+use Rattle.pl_run.specs.Program.{InBudget, IsCheckedWithin, line_of_same}
 use Rattle.pl_run.specs.declared.fault.Fault.TheVariants.{CannotWrite, NoMemory, Differs}
 use Rattle.pl_run.proofs.Fronts.{WritesSome}
 
-module _ (all : Bool) (n : ℕ) where
+module _ (all : Bool) (limits : Limits) where
   -- the check failed
   pub fails : (input old new : Option (List ℕ)) (fault : ScriptFault)
-      → IfSome input (λ record_of. (text : List ℕ) × Appends old new text × IsCheckWithin InBudget all (limits_of_header (limits_from n) record_of) record_of (Err fault) text)
-      → IfSome input (λ record_of. (text : List ℕ) × Appends old new text × IsCheckedWithin all n record_of (Err (fault_of fault)) text)
+      → IfSome input (λ record_of. (text : List ℕ) × Appends old new text × IsCheckWithin InBudget all (limits_of_header limits record_of) record_of (Err fault) text)
+      → IfSome input (λ record_of. (text : List ℕ) × Appends old new text × IsCheckedWithin all limits record_of (Err (fault_of fault)) text)
   fails None old new fault check = tt
   fails (Some bytes) old new fault check = (check.0, check.1, (Err fault, check.0, [], sym (append-nil check.0), check.2, (refl, refl)))
 
   module _ (input old mid : Option (List ℕ)) (checked : Checked)
-      (check : IfSome input (λ record_of. (text : List ℕ) × Appends old mid text × IsCheckWithin InBudget all (limits_of_header (limits_from n) record_of) record_of (Ok checked) text)) where
+      (check : IfSome input (λ record_of. (text : List ℕ) × Appends old mid text × IsCheckWithin InBudget all (limits_of_header limits record_of) record_of (Ok checked) text)) where
     -- replies differ
-    pub differs : 0 < checked.different → IfSome input (λ record_of. (text : List ℕ) × Appends old mid text × IsCheckedWithin all n record_of (Err (Differs checked.different checked.compared)) text)
+    pub differs : 0 < checked.different → IfSome input (λ record_of. (text : List ℕ) × Appends old mid text × IsCheckedWithin all limits record_of (Err (Differs checked.different checked.compared)) text)
     differs some = by input check
       where
-        by : (told : Option (List ℕ)) → IfSome told (λ record_of. (text : List ℕ) × Appends old mid text × IsCheckWithin InBudget all (limits_of_header (limits_from n) record_of) record_of (Ok checked) text)
-            → IfSome told (λ record_of. (text : List ℕ) × Appends old mid text × IsCheckedWithin all n record_of (Err (Differs checked.different checked.compared)) text)
+        by : (told : Option (List ℕ)) → IfSome told (λ record_of. (text : List ℕ) × Appends old mid text × IsCheckWithin InBudget all (limits_of_header limits record_of) record_of (Ok checked) text)
+            → IfSome told (λ record_of. (text : List ℕ) × Appends old mid text × IsCheckedWithin all limits record_of (Err (Differs checked.different checked.compared)) text)
         by None known = tt
         by (Some bytes) known = (known.0, known.1, (Ok checked, known.0, [], sym (append-nil known.0), known.2, inr (some, refl, refl)))
 
     -- none does, and the line that says so was written
     pub as_recorded : (new : Option (List ℕ)) → checked.different ≡ 0 → Appends mid new (line_of_same checked.compared)
-        → IfSome input (λ record_of. (text : List ℕ) × Appends old new text × IsCheckedWithin all n record_of (Ok tt) text)
+        → IfSome input (λ record_of. (text : List ℕ) × Appends old new text × IsCheckedWithin all limits record_of (Ok tt) text)
     as_recorded new none written = by input check
       where
-        by : (told : Option (List ℕ)) → IfSome told (λ record_of. (text : List ℕ) × Appends old mid text × IsCheckWithin InBudget all (limits_of_header (limits_from n) record_of) record_of (Ok checked) text)
-            → IfSome told (λ record_of. (text : List ℕ) × Appends old new text × IsCheckedWithin all n record_of (Ok tt) text)
+        by : (told : Option (List ℕ)) → IfSome told (λ record_of. (text : List ℕ) × Appends old mid text × IsCheckWithin InBudget all (limits_of_header limits record_of) record_of (Ok checked) text)
+            → IfSome told (λ record_of. (text : List ℕ) × Appends old new text × IsCheckedWithin all limits record_of (Ok tt) text)
         by None known = tt
         by (Some bytes) known = (known.0 ++ line_of_same checked.compared, Appends-trans old mid new known.0 (line_of_same checked.compared) known.1 written, (Ok checked, known.0, line_of_same checked.compared, refl, known.2, inl (none, refl)))
 
     -- none does, and a front of that line was written
     pub cut : (new : Option (List ℕ)) → checked.different ≡ 0 → WritesSome mid new (line_of_same checked.compared)
-        → IfSome input (λ record_of. (text : List ℕ) × Appends old new text × IsCheckedWithin all n record_of (Err CannotWrite) text)
+        → IfSome input (λ record_of. (text : List ℕ) × Appends old new text × IsCheckedWithin all limits record_of (Err CannotWrite) text)
     cut new none some = by input check
       where
-        by : (told : Option (List ℕ)) → IfSome told (λ record_of. (text : List ℕ) × Appends old mid text × IsCheckWithin InBudget all (limits_of_header (limits_from n) record_of) record_of (Ok checked) text)
-            → IfSome told (λ record_of. (text : List ℕ) × Appends old new text × IsCheckedWithin all n record_of (Err CannotWrite) text)
+        by : (told : Option (List ℕ)) → IfSome told (λ record_of. (text : List ℕ) × Appends old mid text × IsCheckWithin InBudget all (limits_of_header limits record_of) record_of (Ok checked) text)
+            → IfSome told (λ record_of. (text : List ℕ) × Appends old new text × IsCheckedWithin all limits record_of (Err CannotWrite) text)
         by None known = tt
         by (Some bytes) known = (
           known.0 ++ take some.0 (line_of_same checked.compared),
@@ -58,11 +58,11 @@ module _ (all : Bool) (n : ℕ) where
         )
 
 -- whatever the input gives, nothing was checked and nothing written
-pub not_checked : (all : Bool) (n : ℕ) (input output : Option (List ℕ))
-    → IfSome input (λ bytes. (written : List ℕ) × Appends output output written × IsCheckedWithin all n bytes (Err NoMemory) written)
-not_checked all n None output = tt
-not_checked all n (Some bytes) output = ([], Appends-nil output, (Err script.NoMemory, [], [], refl, unread (limits_of_header (limits_from n) bytes), (refl, refl)))
+pub not_checked : (all : Bool) (limits : Limits) (input output : Option (List ℕ))
+    → IfSome input (λ bytes. (written : List ℕ) × Appends output output written × IsCheckedWithin all limits bytes (Err NoMemory) written)
+not_checked all limits None output = tt
+not_checked all limits (Some bytes) output = ([], Appends-nil output, (Err script.NoMemory, [], [], refl, unread (limits_of_header limits bytes), (refl, refl)))
   where
     unread : (named : Option Limits) → IsCheckWithin InBudget all named bytes (Err script.NoMemory) []
     unread None = refl
-    unread (Some limits) = inl refl
+    unread (Some own) = inl refl

@@ -8,13 +8,13 @@ use Rattle.clap.specs.declared.error.kind.ErrorKind.TheVariants.{OutOfMemory}
 use Rattle.clap.specs.declared.parser.matches.ArgMatches.{ArgMatches}
 use Rattle.clap.proofs.OnLiterals.{clap_on_literals}
 use Rattle.clap.proofs.WalkLemmas.{first_value-rows, one_text-rows}
+use Rattle.pl_model.specs.declared.calls.Limits.{Limits}
 use Rattle.pl_run.specs.declared.choice.Choice.{Choice}
-use Rattle.pl_run.specs.declared.choice.Choice.TheVariants.{Run, Check, Live, Help}
+use Rattle.pl_run.specs.declared.choice.Choice.TheVariants.{Run, Check, Live, Help, Version}
 use Rattle.pl_run.specs.declared.choice.LiveChoice.{LiveChoice}
 use Rattle.pl_run.specs.declared.fault.Fault.{Fault}
 use Rattle.pl_run.specs.declared.fault.Fault.TheVariants.{CannotRead, CannotWrite, CommandLine, BadLine, BadLines, TooLong, Endless, NoMemory, Differs}
-use Rattle.pl_run.specs.Words.{piperun, rows, faults, IsFirstCall, IsMemory, IsNoNumber, IsGiven, IsSet, AreAtOdds, are_at_odds, HoldsMatches, Refuses, Chooses, AskOfInput, AskWith, AskForInput, AskForCheck, AskForLive}
-use Rattle.pl_run.specs.Program.{IsLeft}
+use Rattle.pl_run.specs.Words.{piperun, rows, faults, Told, told_of, told_by, IsLimit, IsNoLimit, AreLimits, AreNoLimits, IsMemory, IsNoNumber, IsGiven, IsSet, AreAtOdds, are_at_odds, AreGiven, GiveValues, HoldsMatches, Refuses, Chooses, AskOfInput, AskForInput, AskForCheck, AskForLive}
 
 has_plain_rules : is_simple_and_free piperun ≡ true
 unfolding clap_on_literals
@@ -44,87 +44,109 @@ unfolding faults
 of_faults P a words same says = subst (λ b. P (fault_of b words)) same (says (ap is_simple_and_free same ∙ has_plain_rules))
 
 -- the words that the command takes
-pub taken : (words : List Text) (check all live strict number most name : Option Text) (r : Result Choice Fault) → check ≡ one_of (codes "check") (rows words) → all ≡ one_of (codes "all") (rows words)
-    → live ≡ one_of (codes "live") (rows words) → strict ≡ one_of (codes "strict") (rows words)
-    → number ≡ one_of (codes "first-call") (rows words) → most ≡ one_of (codes "memory") (rows words) → name ≡ first_of (codes "file") (rows words) → faults words ≡ []
-    → HoldsMatches check all live strict number most name r → Chooses words r
-taken words check all live strict number most name (Ok (Run n bytes file)) a b l s c d e none holds = (none, rw (← a, ← b, ← l, ← s, ← c, ← d, ← e) holds)
-taken words check all live strict number most name (Ok (Check every n bytes file)) a b l s c d e none holds = (none, rw (← a, ← b, ← l, ← s, ← c, ← d, ← e) holds)
-taken words check all live strict number most name (Ok (Live asked)) a b l s c d e none holds = (none, rw (← a, ← b, ← l, ← s, ← c, ← d, ← e) holds)
-taken words check all live strict number most name (Ok Help) a b l s c d e none holds = absurd holds
-taken words check all live strict number most name (Err CommandLine) a b l s c d e none holds = inr (none, rw (← a, ← b, ← l, ← s, ← c, ← d) holds)
-taken words check all live strict number most name (Err NoMemory) a b l s c d e none holds = tt
-taken words check all live strict number most name (Err CannotRead) a b l s c d e none holds = absurd holds
-taken words check all live strict number most name (Err CannotWrite) a b l s c d e none holds = absurd holds
-taken words check all live strict number most name (Err (BadLine n)) a b l s c d e none holds = absurd holds
-taken words check all live strict number most name (Err (BadLines n)) a b l s c d e none holds = absurd holds
-taken words check all live strict number most name (Err TooLong) a b l s c d e none holds = absurd holds
-taken words check all live strict number most name (Err Endless) a b l s c d e none holds = absurd holds
-taken words check all live strict number most name (Err (Differs n m)) a b l s c d e none holds = absurd holds
+pub taken : (words : List Text) (told : Told) (r : Result Choice Fault) → told ≡ told_by words → faults words ≡ [] → HoldsMatches told r → Chooses words r
+taken words told (Ok (Run limits bytes file)) same none holds = (none, subst (λ other. HoldsMatches other (Ok (Run limits bytes file))) same holds)
+taken words told (Ok (Check every limits bytes file)) same none holds = (none, subst (λ other. HoldsMatches other (Ok (Check every limits bytes file))) same holds)
+taken words told (Ok (Live asked)) same none holds = (none, subst (λ other. HoldsMatches other (Ok (Live asked))) same holds)
+taken words told (Ok Help) same none holds = absurd holds
+taken words told (Ok Version) same none holds = absurd holds
+taken words told (Err CommandLine) same none holds = inr (none, subst (λ other. HoldsMatches other (Err CommandLine)) same holds)
+taken words told (Err NoMemory) same none holds = tt
+taken words told (Err CannotRead) same none holds = absurd holds
+taken words told (Err CannotWrite) same none holds = absurd holds
+taken words told (Err (BadLine m)) same none holds = absurd holds
+taken words told (Err (BadLines m)) same none holds = absurd holds
+taken words told (Err TooLong) same none holds = absurd holds
+taken words told (Err Endless) same none holds = absurd holds
+taken words told (Err (Differs m k)) same none holds = absurd holds
+
+-- what words tell of the options and of FILE is one, where it is one of each
+pub told_alike : (value one first other : Text → Option Text) → ((name : Text) → value name ≡ one name) → ((name : Text) → first name ≡ other name) → told_of value first ≡ told_of one other
+told_alike value one first other same alike =
+    rw (
+      same (codes "check"),
+      same (codes "all"),
+      same (codes "live"),
+      same (codes "strict"),
+      same (codes "first-call"),
+      same (codes "file-max"),
+      same (codes "names-max"),
+      same (codes "waiting-max"),
+      same (codes "capacity-max"),
+      same (codes "memory"),
+      alike (codes "file"),
+    ) refl
 
 -- options that aren't at odds are those of a check, of a live run or of a run
-odds_of : (told_check told_all told_live told_strict : Option Text) (check all live strict : Bool) → are_at_odds check all live strict ≡ true
-    → IsGiven told_check check → IsGiven told_all all → IsGiven told_live live → IsGiven told_strict strict → AreAtOdds told_check told_all told_live told_strict
-odds_of told_check told_all told_live told_strict false true live strict e c a l s = inl (c, a)
-odds_of told_check told_all told_live told_strict false false false true e c a l s = inr (inl (l, s))
-odds_of told_check told_all told_live told_strict true all true strict e c a l s = inr (inr (c, l))
-odds_of told_check told_all told_live told_strict true true false true e c a l s = inr (inl (l, s))
-odds_of told_check told_all told_live told_strict true false false true e c a l s = inr (inl (l, s))
-odds_of told_check told_all told_live told_strict true true false false e c a l s = absurd (cc e)
-odds_of told_check told_all told_live told_strict true false false false e c a l s = absurd (cc e)
-odds_of told_check told_all told_live told_strict false false true true e c a l s = absurd (cc e)
-odds_of told_check told_all told_live told_strict false false true false e c a l s = absurd (cc e)
-odds_of told_check told_all told_live told_strict false false false false e c a l s = absurd (cc e)
+odds_of : (told : Told) (check all live strict : Bool) → are_at_odds check all live strict ≡ true → AreGiven told check all live strict → AreAtOdds told
+odds_of told false true live strict e given = inl (given.0, given.1)
+odds_of told false false false true e given = inr (inl (given.2, given.3))
+odds_of told true all true strict e given = inr (inr (given.0, given.2))
+odds_of told true true false true e given = inr (inl (given.2, given.3))
+odds_of told true false false true e given = inr (inl (given.2, given.3))
+odds_of told true true false false e given = absurd (cc e)
+odds_of told true false false false e given = absurd (cc e)
+odds_of told false false true true e given = absurd (cc e)
+odds_of told false false true false e given = absurd (cc e)
+odds_of told false false false false e given = absurd (cc e)
 
 -- what the options and FILE come to is what their values hold
-pub chosen_holds : (told_check told_all told_live told_strict number most name : Option Text) (check all live strict : Bool) (n : ℕ) (bytes : Option ℕ) (file : Option (String Global)) (r : Result Choice Fault)
-    → r ≡ cond (are_at_odds check all live strict) (Err CommandLine) (cond check (Ok (Check all n bytes file))
-    (cond live (Ok (Live (record { strict = strict; first_call = n; memory = bytes; file = file }))) (Ok (Run n bytes file))))
-    → IsGiven told_check check → IsGiven told_all all → IsGiven told_live live → IsGiven told_strict strict
-    → IsFirstCall number n → IsMemory most bytes → option_map string_bytes file ≡ name → HoldsMatches told_check told_all told_live told_strict number most name r
-chosen_holds tc ta tl ts number most name true true true true n bytes file r e c a l s f m same = rw e (inl (odds_of tc ta tl ts true true true true refl c a l s))
-chosen_holds tc ta tl ts number most name true true true false n bytes file r e c a l s f m same = rw e (inl (odds_of tc ta tl ts true true true false refl c a l s))
-chosen_holds tc ta tl ts number most name true true false true n bytes file r e c a l s f m same = rw e (inl (odds_of tc ta tl ts true true false true refl c a l s))
-chosen_holds tc ta tl ts number most name true true false false n bytes file r e c a l s f m same = rw e (c, a, l, s, f, m, same)
-chosen_holds tc ta tl ts number most name true false true true n bytes file r e c a l s f m same = rw e (inl (odds_of tc ta tl ts true false true true refl c a l s))
-chosen_holds tc ta tl ts number most name true false true false n bytes file r e c a l s f m same = rw e (inl (odds_of tc ta tl ts true false true false refl c a l s))
-chosen_holds tc ta tl ts number most name true false false true n bytes file r e c a l s f m same = rw e (inl (odds_of tc ta tl ts true false false true refl c a l s))
-chosen_holds tc ta tl ts number most name true false false false n bytes file r e c a l s f m same = rw e (c, a, l, s, f, m, same)
-chosen_holds tc ta tl ts number most name false true true true n bytes file r e c a l s f m same = rw e (inl (odds_of tc ta tl ts false true true true refl c a l s))
-chosen_holds tc ta tl ts number most name false true true false n bytes file r e c a l s f m same = rw e (inl (odds_of tc ta tl ts false true true false refl c a l s))
-chosen_holds tc ta tl ts number most name false true false true n bytes file r e c a l s f m same = rw e (inl (odds_of tc ta tl ts false true false true refl c a l s))
-chosen_holds tc ta tl ts number most name false true false false n bytes file r e c a l s f m same = rw e (inl (odds_of tc ta tl ts false true false false refl c a l s))
-chosen_holds tc ta tl ts number most name false false true true n bytes file r e c a l s f m same = rw e (c, a, l, s, f, m, same)
-chosen_holds tc ta tl ts number most name false false true false n bytes file r e c a l s f m same = rw e (c, a, l, s, f, m, same)
-chosen_holds tc ta tl ts number most name false false false true n bytes file r e c a l s f m same = rw e (inl (odds_of tc ta tl ts false false false true refl c a l s))
-chosen_holds tc ta tl ts number most name false false false false n bytes file r e c a l s f m same = rw e (c, a, l, s, f, m, same)
+pub chosen_holds : (told : Told) (check all live strict : Bool) (limits : Limits) (bytes : Option ℕ) (file : Option (String Global)) (r : Result Choice Fault)
+    → r ≡ cond (are_at_odds check all live strict) (Err CommandLine) (cond check (Ok (Check all limits bytes file))
+    (cond live (Ok (Live (record { strict = strict; limits = limits; memory = bytes; file = file }))) (Ok (Run limits bytes file))))
+    → AreGiven told check all live strict → GiveValues told limits bytes (option_map string_bytes file) → HoldsMatches told r
+chosen_holds told true true true true limits bytes file r e given values = rw e (inl (odds_of told true true true true refl given))
+chosen_holds told true true true false limits bytes file r e given values = rw e (inl (odds_of told true true true false refl given))
+chosen_holds told true true false true limits bytes file r e given values = rw e (inl (odds_of told true true false true refl given))
+chosen_holds told true true false false limits bytes file r e given values = rw e (given, values)
+chosen_holds told true false true true limits bytes file r e given values = rw e (inl (odds_of told true false true true refl given))
+chosen_holds told true false true false limits bytes file r e given values = rw e (inl (odds_of told true false true false refl given))
+chosen_holds told true false false true limits bytes file r e given values = rw e (inl (odds_of told true false false true refl given))
+chosen_holds told true false false false limits bytes file r e given values = rw e (given, values)
+chosen_holds told false true true true limits bytes file r e given values = rw e (inl (odds_of told false true true true refl given))
+chosen_holds told false true true false limits bytes file r e given values = rw e (inl (odds_of told false true true false refl given))
+chosen_holds told false true false true limits bytes file r e given values = rw e (inl (odds_of told false true false true refl given))
+chosen_holds told false true false false limits bytes file r e given values = rw e (inl (odds_of told false true false false refl given))
+chosen_holds told false false true true limits bytes file r e given values = rw e (given, values)
+chosen_holds told false false true false limits bytes file r e given values = rw e (given, values)
+chosen_holds told false false false true limits bytes file r e given values = rw e (inl (odds_of told false false false true refl given))
+chosen_holds told false false false false limits bytes file r e given values = rw e (given, values)
 
 -- the words that it doesn't take
 pub refused : (words : List Text) (kind : ErrorKind) (r : Result Choice Fault) → (kind ≡ OutOfMemory) ⊎ IsAmong kind (faults words)
     → Refuses kind r → Chooses words r
-refused words kind (Ok (Run n bytes file)) among made = absurd (cc made.1)
-refused words kind (Ok (Check every n bytes file)) among made = absurd (cc made.1)
-refused words kind (Ok (Live asked)) among made = absurd (cc made.1)
-refused words kind (Ok Help) (inl memory) made = absurd (cc (memory, made.0))
-refused words kind (Ok Help) (inr among) made = subst (λ k. IsAmong k (faults words)) made.0 among
-refused words kind (Err CommandLine) (inl memory) made = absurd (made.1 memory)
-refused words kind (Err CommandLine) (inr among) made = inl (kind, among, made.0)
+refused words kind (Ok (Run limits bytes file)) among made = absurd made
+refused words kind (Ok (Check every limits bytes file)) among made = absurd made
+refused words kind (Ok (Live asked)) among made = absurd made
+refused words kind (Ok Help) (inl memory) made = absurd (cc (memory, made))
+refused words kind (Ok Help) (inr among) made = subst (λ k. IsAmong k (faults words)) made among
+refused words kind (Ok Version) (inl memory) made = absurd (cc (memory, made))
+refused words kind (Ok Version) (inr among) made = subst (λ k. IsAmong k (faults words)) made among
+refused words kind (Err CommandLine) (inl memory) made = absurd (made.2 memory)
+refused words kind (Err CommandLine) (inr among) made = inl (kind, among, made.0, made.1)
 refused words kind (Err NoMemory) among made = tt
 refused words kind (Err CannotRead) among made = absurd made
 refused words kind (Err CannotWrite) among made = absurd made
-refused words kind (Err (BadLine n)) among made = absurd made
-refused words kind (Err (BadLines n)) among made = absurd made
+refused words kind (Err (BadLine m)) among made = absurd made
+refused words kind (Err (BadLines m)) among made = absurd made
 refused words kind (Err TooLong) among made = absurd made
 refused words kind (Err Endless) among made = absurd made
-refused words kind (Err (Differs n m)) among made = absurd made
+refused words kind (Err (Differs m k)) among made = absurd made
 
-no_number : (value : Option Text) (n : ℕ) → IsNoNumber value → IsFirstCall value n → ⊥
-no_number None n none number = none
-no_number (Some text) n none number = none number.0
+no_limit_given : (most none : ℕ) (value : Option Text) (n : ℕ) → IsNoLimit most value → IsLimit most none value n → ⊥
+no_limit_given most none None n bad limit = bad
+no_limit_given most none (Some text) n bad limit = bad (limit.0, limit.1)
 
-no_limit : (value : Option Text) (bytes : Option ℕ) → IsNoNumber value → IsMemory value bytes → ⊥
-no_limit None bytes none most = none
-no_limit (Some text) bytes none most = none most.0
+no_limits_given : (told : Told) (limits : Limits) → AreNoLimits told → AreLimits told limits → ⊥
+no_limits_given told limits (inl bad) are = no_limit_given _ _ told.first_call limits.first_call bad are.0
+no_limits_given told limits (inr (inl bad)) are = no_limit_given _ _ told.file_max limits.file_max bad are.1
+no_limits_given told limits (inr (inr (inl bad))) are = no_limit_given _ _ told.names_max limits.names_max bad are.2
+no_limits_given told limits (inr (inr (inr (inl bad)))) are = no_limit_given _ _ told.waiting_max limits.waiting_max bad are.3
+no_limits_given told limits (inr (inr (inr (inr bad)))) are = no_limit_given _ _ told.capacity_max limits.capacity_max bad are.4
+
+no_memory_given : (value : Option Text) (bytes : Option ℕ) → IsNoNumber value → IsMemory value bytes → ⊥
+no_memory_given None bytes bad most = bad
+no_memory_given (Some text) bytes bad most = bad most.0
 
 -- an option is found to be given if the words tell so
 set_so : (told : Option Text) (set given : Bool) → IsSet told set → IsGiven told given → given ≡ set
@@ -133,83 +155,83 @@ set_so told false given (inl e) found = found.0 e
 set_so told false given (inr e) found = found.2 e
 
 -- words that ask for a run, a check or a live run are refused for want of memory alone
-refused_for_memory : (words : List Text) (n : ℕ) (bytes : Option ℕ) (fault : Fault) → AskOfInput words n bytes
-    → (AreAtOdds (one_of (codes "check") (rows words)) (one_of (codes "all") (rows words)) (one_of (codes "live") (rows words)) (one_of (codes "strict") (rows words)) → ⊥)
-    → Chooses words (Err fault) → fault ≡ NoMemory
-refused_for_memory words n bytes CommandLine asked some (inl bad) =
+refused_for_memory : (words : List Text) (limits : Limits) (bytes : Option ℕ) (fault : Fault) → AskOfInput words limits bytes → (AreAtOdds (told_by words) → ⊥) → Chooses words (Err fault) → fault ≡ NoMemory
+refused_for_memory words limits bytes CommandLine asked some (inl bad) =
     let among = rw asked.0 at bad.1 in
     absurd among
-refused_for_memory words n bytes CommandLine asked some (inr (none, inl nothing)) = absurd (some nothing)
-refused_for_memory words n bytes CommandLine asked some (inr (none, inr (inl bad))) = absurd (no_number _ n bad asked.1)
-refused_for_memory words n bytes CommandLine asked some (inr (none, inr (inr bad))) = absurd (no_limit _ bytes bad asked.2)
-refused_for_memory words n bytes NoMemory asked some chosen = refl
-refused_for_memory words n bytes CannotRead asked some chosen = absurd chosen
-refused_for_memory words n bytes CannotWrite asked some chosen = absurd chosen
-refused_for_memory words n bytes (BadLine m) asked some chosen = absurd chosen
-refused_for_memory words n bytes (BadLines m) asked some chosen = absurd chosen
-refused_for_memory words n bytes TooLong asked some chosen = absurd chosen
-refused_for_memory words n bytes Endless asked some chosen = absurd chosen
-refused_for_memory words n bytes (Differs m k) asked some chosen = absurd chosen
+refused_for_memory words limits bytes CommandLine asked some (inr (none, inl odd)) = absurd (some odd)
+refused_for_memory words limits bytes CommandLine asked some (inr (none, inr (inl bad))) = absurd (no_limits_given (told_by words) limits bad asked.1.0)
+refused_for_memory words limits bytes CommandLine asked some (inr (none, inr (inr bad))) = absurd (no_memory_given (told_by words).memory bytes bad asked.1.1)
+refused_for_memory words limits bytes NoMemory asked some chosen = refl
+refused_for_memory words limits bytes CannotRead asked some chosen = absurd chosen
+refused_for_memory words limits bytes CannotWrite asked some chosen = absurd chosen
+refused_for_memory words limits bytes (BadLine m) asked some chosen = absurd chosen
+refused_for_memory words limits bytes (BadLines m) asked some chosen = absurd chosen
+refused_for_memory words limits bytes TooLong asked some chosen = absurd chosen
+refused_for_memory words limits bytes Endless asked some chosen = absurd chosen
+refused_for_memory words limits bytes (Differs m k) asked some chosen = absurd chosen
 
-pub run_refused : (words : List Text) (n : ℕ) (bytes : Option ℕ) (fault : Fault) → AskForInput words n bytes → Chooses words (Err fault) → fault ≡ NoMemory
-run_refused words n bytes fault asked chosen = refused_for_memory words n bytes fault asked.0 even chosen
+pub run_refused : (words : List Text) (limits : Limits) (bytes : Option ℕ) (fault : Fault) → AskForInput words limits bytes → Chooses words (Err fault) → fault ≡ NoMemory
+run_refused words limits bytes fault asked chosen = refused_for_memory words limits bytes fault asked.0 even chosen
   where
-    even : AreAtOdds (one_of (codes "check") (rows words)) (one_of (codes "all") (rows words)) (one_of (codes "live") (rows words)) (one_of (codes "strict") (rows words)) → ⊥
+    even : AreAtOdds (told_by words) → ⊥
     even (inl odd) = absurd (cc (set_so _ false true asked.1.1 odd.1))
     even (inr (inl odd)) = absurd (cc (set_so _ false true asked.1.3 odd.1))
     even (inr (inr odd)) = absurd (cc (set_so _ false true asked.1.0 odd.0))
 
-pub check_refused : (words : List Text) (every : Bool) (n : ℕ) (bytes : Option ℕ) (fault : Fault) → AskForCheck words every n bytes → Chooses words (Err fault) → fault ≡ NoMemory
-check_refused words every n bytes fault asked chosen = refused_for_memory words n bytes fault asked.0 even chosen
+pub check_refused : (words : List Text) (every : Bool) (limits : Limits) (bytes : Option ℕ) (fault : Fault) → AskForCheck words every limits bytes → Chooses words (Err fault) → fault ≡ NoMemory
+check_refused words every limits bytes fault asked chosen = refused_for_memory words limits bytes fault asked.0 even chosen
   where
-    even : AreAtOdds (one_of (codes "check") (rows words)) (one_of (codes "all") (rows words)) (one_of (codes "live") (rows words)) (one_of (codes "strict") (rows words)) → ⊥
+    even : AreAtOdds (told_by words) → ⊥
     even (inl odd) = absurd (cc (set_so _ true false asked.1.0 odd.0))
     even (inr (inl odd)) = absurd (cc (set_so _ false true asked.1.3 odd.1))
     even (inr (inr odd)) = absurd (cc (set_so _ false true asked.1.2 odd.1))
 
-pub live_refused : (words : List Text) (strict : Bool) (n : ℕ) (bytes : Option ℕ) (fault : Fault) → AskForLive words strict n bytes → Chooses words (Err fault) → fault ≡ NoMemory
-live_refused words strict n bytes fault asked chosen = refused_for_memory words n bytes fault asked.0 even chosen
+pub live_refused : (words : List Text) (strict : Bool) (limits : Limits) (bytes : Option ℕ) (fault : Fault) → AskForLive words strict limits bytes → Chooses words (Err fault) → fault ≡ NoMemory
+live_refused words strict limits bytes fault asked chosen = refused_for_memory words limits bytes fault asked.0 even chosen
   where
-    even : AreAtOdds (one_of (codes "check") (rows words)) (one_of (codes "all") (rows words)) (one_of (codes "live") (rows words)) (one_of (codes "strict") (rows words)) → ⊥
+    even : AreAtOdds (told_by words) → ⊥
     even (inl odd) = absurd (cc (set_so _ false true asked.1.1 odd.1))
     even (inr (inl odd)) = absurd (cc (set_so _ true false asked.1.2 odd.0))
     even (inr (inr odd)) = absurd (cc (set_so _ false true asked.1.0 odd.0))
 
 -- ---- what words that ask for a run, a check or a live run come to
 
-same_call : (told : Option Text) (n m : ℕ) → IsFirstCall told n → IsFirstCall told m → n ≡ m
-same_call None n m a b = a ∙ sym b
-same_call (Some text) n m a b = a.1 ∙ sym b.1
+same_limit : (most none : ℕ) (told : Option Text) (n m : ℕ) → IsLimit most none told n → IsLimit most none told m → n ≡ m
+same_limit most none None n m a b = a ∙ sym b
+same_limit most none (Some text) n m a b = a.2 ∙ sym b.2
 
-same_limit : (told : Option Text) (n m : Option ℕ) → IsMemory told n → IsMemory told m → n ≡ m
-same_limit None n m a b = a ∙ sym b
-same_limit (Some text) n m a b = a.1 ∙ sym b.1
+same_fields : (a b : Limits) → a.first_call ≡ b.first_call → a.file_max ≡ b.file_max → a.names_max ≡ b.names_max → a.waiting_max ≡ b.waiting_max → a.capacity_max ≡ b.capacity_max → a ≡ b
+same_fields a b first files names waiting capacity =
+    ap (λ x. record a { first_call = x }) first
+    ∙ ap (λ x. record a { first_call = b.first_call; file_max = x }) files
+    ∙ ap (λ x. record a { first_call = b.first_call; file_max = b.file_max; names_max = x }) names
+    ∙ ap (λ x. record a { first_call = b.first_call; file_max = b.file_max; names_max = b.names_max; waiting_max = x }) waiting
+    ∙ ap (λ x. record b { capacity_max = x }) capacity
 
-pub run_asked : (words : List Text) (n m : ℕ) (bytes most : Option ℕ) (file : Option (String Global)) → AskForInput words n bytes → Chooses words (Ok (Run m most file)) → (m ≡ n) × (option_map string_bytes file ≡ None)
-run_asked words n m bytes most file asked chosen = (same_call _ m n chosen.1.4 asked.0.1, chosen.1.6 ∙ asked.0.3)
+same_limits : (told : Told) (a b : Limits) → AreLimits told a → AreLimits told b → a ≡ b
+same_limits told a b are be =
+    same_fields a b (same_limit _ _ told.first_call _ _ are.0 be.0) (same_limit _ _ told.file_max _ _ are.1 be.1) (same_limit _ _ told.names_max _ _ are.2 be.2)
+    (same_limit _ _ told.waiting_max _ _ are.3 be.3) (same_limit _ _ told.capacity_max _ _ are.4 be.4)
 
-pub run_is_no_check : (words : List Text) (every : Bool) (n m : ℕ) (bytes most : Option ℕ) (file : Option (String Global)) → AskForInput words n bytes → Chooses words (Ok (Check every m most file)) → ⊥
-run_is_no_check words every n m bytes most file asked chosen = absurd (cc (set_so _ false true asked.1.0 chosen.1.0))
+pub run_asked : (words : List Text) (limits given : Limits) (bytes most : Option ℕ) (file : Option (String Global)) → AskForInput words limits bytes → Chooses words (Ok (Run given most file))
+    → (given ≡ limits) × (option_map string_bytes file ≡ None)
+run_asked words limits given bytes most file asked chosen = (same_limits (told_by words) given limits chosen.1.1.0 asked.0.1.0, chosen.1.1.2 ∙ sym asked.0.1.2)
 
-pub run_is_not_live : (words : List Text) (n : ℕ) (bytes : Option ℕ) (left : LiveChoice) → AskForInput words n bytes → Chooses words (Ok (Live left)) → ⊥
-run_is_not_live words n bytes left asked chosen = absurd (cc (set_so _ false true asked.1.2 chosen.1.2))
+pub check_asked : (words : List Text) (every all : Bool) (limits given : Limits) (bytes most : Option ℕ) (file : Option (String Global)) → AskForCheck words every limits bytes → Chooses words (Ok (Check all given most file))
+    → (all ≡ every) × (given ≡ limits) × (option_map string_bytes file ≡ None)
+check_asked words every all limits given bytes most file asked chosen =
+    (set_so _ every all asked.1.1 chosen.1.0.1, same_limits (told_by words) given limits chosen.1.1.0 asked.0.1.0, chosen.1.1.2 ∙ sym asked.0.1.2)
 
-pub check_asked : (words : List Text) (every all : Bool) (n m : ℕ) (bytes most : Option ℕ) (file : Option (String Global)) → AskForCheck words every n bytes → Chooses words (Ok (Check all m most file))
-    → (all ≡ every) × (m ≡ n) × (option_map string_bytes file ≡ None)
-check_asked words every all n m bytes most file asked chosen = (set_so _ every all asked.1.1 chosen.1.1, same_call _ m n chosen.1.4 asked.0.1, chosen.1.6 ∙ asked.0.3)
+same_memory : (told : Option Text) (n m : Option ℕ) → IsMemory told n → IsMemory told m → n ≡ m
+same_memory None n m a b = a ∙ sym b
+same_memory (Some text) n m a b = a.1 ∙ sym b.1
 
-pub check_is_no_run : (words : List Text) (every : Bool) (n m : ℕ) (bytes most : Option ℕ) (file : Option (String Global)) → AskForCheck words every n bytes → Chooses words (Ok (Run m most file)) → ⊥
-check_is_no_run words every n m bytes most file asked chosen = absurd (cc (set_so _ true false asked.1.0 chosen.1.0))
-
-pub check_is_not_live : (words : List Text) (every : Bool) (n : ℕ) (bytes : Option ℕ) (left : LiveChoice) → AskForCheck words every n bytes → Chooses words (Ok (Live left)) → ⊥
-check_is_not_live words every n bytes left asked chosen = absurd (cc (set_so _ true false asked.1.0 chosen.1.0))
-
-pub live_asked : (words : List Text) (strict : Bool) (n : ℕ) (bytes : Option ℕ) (left : LiveChoice) → AskForLive words strict n bytes → Chooses words (Ok (Live left)) → IsLeft strict n bytes (Ok (Some left))
-live_asked words strict n bytes left asked chosen =
-    (set_so _ strict left.strict asked.1.3 chosen.1.3, same_call _ left.first_call n chosen.1.4 asked.0.1, same_limit _ left.memory bytes chosen.1.5 asked.0.2, chosen.1.6 ∙ asked.0.3)
-
-pub live_is_no_run : (words : List Text) (strict : Bool) (n m : ℕ) (bytes most : Option ℕ) (file : Option (String Global)) → AskForLive words strict n bytes → Chooses words (Ok (Run m most file)) → ⊥
-live_is_no_run words strict n m bytes most file asked chosen = absurd (cc (set_so _ true false asked.1.2 chosen.1.2))
-
-pub live_is_no_check : (words : List Text) (strict every : Bool) (n m : ℕ) (bytes most : Option ℕ) (file : Option (String Global)) → AskForLive words strict n bytes → Chooses words (Ok (Check every m most file)) → ⊥
-live_is_no_check words strict every n m bytes most file asked chosen = absurd (cc (set_so _ true false asked.1.2 chosen.1.2))
+pub live_asked : (words : List Text) (strict : Bool) (limits : Limits) (bytes : Option ℕ) (left : LiveChoice) → AskForLive words strict limits bytes → Chooses words (Ok (Live left))
+    → (left.strict ≡ strict) × (left.limits ≡ limits) × (left.memory ≡ bytes) × (option_map string_bytes left.file ≡ None)
+live_asked words strict limits bytes left asked chosen = (
+  set_so _ strict left.strict asked.1.3 chosen.1.0.3,
+  same_limits (told_by words) left.limits limits chosen.1.1.0 asked.0.1.0,
+  same_memory _ left.memory bytes chosen.1.1.1 asked.0.1.1,
+  chosen.1.1.2 ∙ sym asked.0.1.2,
+)

@@ -6,7 +6,6 @@ use Rattle.std.specs.Global.{Global}
 use Rattle.pl_budget.specs.declared.Budget.{Budget}
 use Rattle.pl_model.specs.declared.calls.Limits.{Limits}
 use Rattle.pl_model.specs.declared.script.Totals.{Totals}
-use Rattle.pl_model.specs.Numbers.{most_file_bytes, most_capacity, no_limit}
 use Rattle.pl_script.specs.declared.fault.ScriptFault.{ScriptFault}
 use Rattle.pl_script.specs.Running.{IsRun}
 use Rattle.pl_script.specs.Header.{limits_of_header, IsCheckWithin}
@@ -20,11 +19,6 @@ use Rattle.pl_run.specs.declared.fault.Fault.{Fault}
 use Rattle.pl_run.specs.declared.fault.Fault.TheVariants.{CannotWrite, BadLines, NoMemory, Differs}
 use Rattle.pl_run.specs.Fault.{fault_of, fault_of_live, status_of}
 
--- the limits of a run: the number of the first call is given, and a file may be as long as any limit lets it
-abbrev pub limits_from : ℕ → Limits
-limits_from first_call =
-    record { first_call = first_call; file_max = most_file_bytes; names_max = no_limit; waiting_max = no_limit; capacity_max = most_capacity }
-
 abbrev pub as_fault : Result Totals ScriptFault → Result (Unit {0}) Fault
 as_fault (Ok counted) = Ok tt
 as_fault (Err fault) = Err (fault_of fault)
@@ -34,9 +28,13 @@ abbrev pub InBudget : Type 0
 InBudget = Bor (Budget Global)
 
 -- what a run of the script within the limits answers, and what it writes
-abbrev pub IsRunWithin : ℕ → List ℕ → Result (Unit {0}) Fault → List ℕ → Type 0
-IsRunWithin first_call script result written =
-    (ran : Result Totals ScriptFault) × (result ≡ as_fault ran) × IsRun InBudget script (limits_from first_call) ran written
+abbrev pub IsRunWithin : Limits → List ℕ → Result (Unit {0}) Fault → List ℕ → Type 0
+IsRunWithin limits script result written =
+    (ran : Result Totals ScriptFault) × (result ≡ as_fault ran) × IsRun InBudget script limits ran written
+
+-- the line of the version
+abbrev pub version_line : List ℕ
+version_line = codes "piperun 0.7.0" ++ 10 ∷ []
 
 -- the line that is written where no reply differs
 abbrev pub line_of_same : ℕ → List ℕ
@@ -56,10 +54,10 @@ EndsCheck (Ok checked) result line =
 EndsCheck (Err fault) result line = (result ≡ Err (fault_of fault)) × (line ≡ [])
 
 -- what a check of the record within the limits answers, and what it writes: what it tells of the differences, and the line behind that
-abbrev pub IsCheckedWithin : Bool → ℕ → List ℕ → Result (Unit {0}) Fault → List ℕ → Type 0
-IsCheckedWithin all first_call script result written =
+abbrev pub IsCheckedWithin : Bool → Limits → List ℕ → Result (Unit {0}) Fault → List ℕ → Type 0
+IsCheckedWithin all limits script result written =
     (checked : Result Checked ScriptFault) × (told : List ℕ) × (line : List ℕ) × (written ≡ told ++ line)
-    × IsCheckWithin InBudget all (limits_of_header (limits_from first_call) script) script checked told × EndsCheck checked result line
+    × IsCheckWithin InBudget all (limits_of_header limits script) script checked told × EndsCheck checked result line
 
 -- what a live run ends with: a fault also where it came to its end and some lines were bad
 abbrev pub as_live : Result LiveTotals LiveFault → Result (Unit {0}) Fault
@@ -67,9 +65,9 @@ as_live (Ok counted) = if counted.bad == 0 then Ok tt else Err (BadLines counted
 as_live (Err fault) = Err (fault_of_live fault)
 
 -- what a live run within the limits answers, and what was said
-abbrev pub IsLiveWithin : Bool → ℕ → Result (Unit {0}) Fault → Talk → Type 0
-IsLiveWithin strict first_call result talk =
-    (ran : Result LiveTotals LiveFault) × (result ≡ as_live ran) × IsLiveRun InBudget (limits_from first_call) strict ran talk
+abbrev pub IsLiveWithin : Bool → Limits → Result (Unit {0}) Fault → Talk → Type 0
+IsLiveWithin strict limits result talk =
+    (ran : Result LiveTotals LiveFault) × (result ≡ as_live ran) × IsLiveRun InBudget limits strict ran talk
 
 -- what came of the words, whether a live run is left to do or not
 abbrev pub as_done : Result (Option LiveChoice) Fault → Result (Unit {0}) Fault
@@ -77,12 +75,12 @@ as_done (Ok left) = Ok tt
 as_done (Err fault) = Err fault
 
 -- such a live run of the input is left to do, or there was no memory to read the words
-abbrev pub IsLeft : Bool → ℕ → Option ℕ → Result (Option LiveChoice) Fault → Type 0
-IsLeft strict n bytes (Ok None) = ⊥
-IsLeft strict n bytes (Ok (Some asked)) =
-    (asked.strict ≡ strict) × (asked.first_call ≡ n) × (asked.memory ≡ bytes) × (option_map string_bytes asked.file ≡ None)
-IsLeft strict n bytes (Err NoMemory) = ⊤
-IsLeft strict n bytes (Err fault) = ⊥
+abbrev pub IsLeft : Bool → Limits → Option ℕ → Result (Option LiveChoice) Fault → Type 0
+IsLeft strict limits bytes (Ok None) = ⊥
+IsLeft strict limits bytes (Ok (Some asked)) =
+    (asked.strict ≡ strict) × (asked.limits ≡ limits) × (asked.memory ≡ bytes) × (option_map string_bytes asked.file ≡ None)
+IsLeft strict limits bytes (Err NoMemory) = ⊤
+IsLeft strict limits bytes (Err fault) = ⊥
 
 -- the status that a run ends with
 abbrev pub ends_with : Result (Unit {0}) Fault → ℕ

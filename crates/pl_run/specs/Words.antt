@@ -1,61 +1,109 @@
 -- What the words of the command line ask for, by the kit's clap (our own).
-use Rattle.std.specs.Prelude.{◌≡◌, ◌≢◌, ◌⊎◌, ⊤, ℕ, ◌<◌, ◌^◌, List, [], Option, Some, None, Result, Ok, Err, Bool, true, false, not, ◌&&◌, ◌||◌, codes, option_map, string_bytes}
+use Rattle.std.specs.Prelude.{◌≡◌, ◌≢◌, ◌⊎◌, ⊤, ℕ, ◌<◌, ◌≤◌, ◌^◌, List, [], Option, Some, None, Result, Ok, Err, Bool, true, false, not, ◌&&◌, ◌||◌, codes, option_map, string_bytes}
 use Rattle.std.specs.Str.Parse.{IsNumeral, digits_value, without_leading_plus}
 use Rattle.clap.specs.Words.{App, Row, Rule, Text, IsAmong, new_app, new_rule, with_rule, matches_of, one_of, first_of, fault_of}
 use Rattle.clap.specs.Simple.{on_top}
 use Rattle.clap.specs.declared.builder.action.ArgAction.TheVariants.{SetTrue}
 use Rattle.clap.specs.declared.error.kind.ErrorKind.{ErrorKind}
-use Rattle.clap.specs.declared.error.kind.ErrorKind.TheVariants.{DisplayHelp, OutOfMemory}
+use Rattle.clap.specs.declared.error.kind.ErrorKind.TheVariants.{DisplayHelp, DisplayVersion, OutOfMemory}
+use Rattle.pl_model.specs.declared.calls.Limits.{Limits}
+use Rattle.pl_model.specs.Numbers.{most_file_bytes, most_capacity, no_limit}
 use Rattle.pl_run.specs.declared.choice.Choice.{Choice}
-use Rattle.pl_run.specs.declared.choice.Choice.TheVariants.{Run, Check, Live, Help}
+use Rattle.pl_run.specs.declared.choice.Choice.TheVariants.{Run, Check, Live, Help, Version}
 use Rattle.pl_run.specs.declared.fault.Fault.{Fault}
 use Rattle.pl_run.specs.declared.fault.Fault.TheVariants.{CommandLine, NoMemory}
 
--- `--first-call N`
-abbrev pub first_call : Rule
-first_call = record (new_rule (codes "first-call")) { long = Some (codes "first-call") }
+-- an option of this name that has a value
+abbrev pub valued_rule : Text → Rule
+valued_rule name = record (new_rule name) { long = Some name }
 
--- `--memory BYTES`
-abbrev pub memory : Rule
-memory = record (new_rule (codes "memory")) { long = Some (codes "memory") }
+-- one that has none
+abbrev pub flag_rule : Text → Rule
+flag_rule name = record (new_rule name) { long = Some name; action = Some SetTrue }
 
--- `--check`
-abbrev pub check : Rule
-check = record (new_rule (codes "check")) { long = Some (codes "check"); action = Some SetTrue }
-
--- `--all`
-abbrev pub all : Rule
-all = record (new_rule (codes "all")) { long = Some (codes "all"); action = Some SetTrue }
-
--- `--live`
-abbrev pub live : Rule
-live = record (new_rule (codes "live")) { long = Some (codes "live"); action = Some SetTrue }
-
--- `--strict`
-abbrev pub strict : Rule
-strict = record (new_rule (codes "strict")) { long = Some (codes "strict"); action = Some SetTrue }
-
--- the command with these options, whose own name isn't among the words
+-- the command with `--first-call N` and `--memory BYTES`, whose own name isn't among the words
 abbrev pub with_numbers : App
-with_numbers = with_rule (with_rule (on_top (λ s. record s { no_binary_name = true }) (new_app (codes "piperun"))) first_call) memory
+with_numbers = with_rule (with_rule (on_top (λ s. record s { no_binary_name = true; has_version = true }) (new_app (codes "piperun"))) (valued_rule (codes "first-call"))) (valued_rule (codes "memory"))
 
--- the command `piperun [--first-call N] [--memory BYTES] [--check] [--all] [--live] [--strict] [FILE]`
+-- `--file-max N`, `--names-max N`, `--waiting-max N` and `--capacity-max N`
+abbrev pub with_limits : App → App
+with_limits app = with_rule (with_rule (with_rule (with_rule app (valued_rule (codes "file-max"))) (valued_rule (codes "names-max"))) (valued_rule (codes "waiting-max"))) (valued_rule (codes "capacity-max"))
+
+-- `--check` and `--all`
+abbrev pub with_flags : App → App
+with_flags app = with_rule (with_rule app (flag_rule (codes "check"))) (flag_rule (codes "all"))
+
+-- `--live` and `--strict`
+abbrev pub with_live_flags : App → App
+with_live_flags app = with_rule (with_rule app (flag_rule (codes "live"))) (flag_rule (codes "strict"))
+
+-- the command `piperun [OPTION ..] [FILE]`, with all of these options
 abbrev pub piperun : App
-piperun = with_rule (with_rule (with_rule (with_rule (with_rule with_numbers check) all) live) strict) (new_rule (codes "file"))
+piperun = with_rule (with_live_flags (with_flags (with_limits with_numbers))) (new_rule (codes "file"))
 
--- the decimal digits of a number below 2^64, before which a plus may stand
+-- what words tell of each option, and of FILE
+pub record Told : Type 0 where
+  pub check : Option Text
+  pub all : Option Text
+  pub live : Option Text
+  pub strict : Option Text
+  pub first_call : Option Text
+  pub file_max : Option Text
+  pub names_max : Option Text
+  pub waiting_max : Option Text
+  pub capacity_max : Option Text
+  pub memory : Option Text
+  pub file : Option Text
+
+-- the same, where the values of a name are told so, and the first of several so
+abbrev pub told_of : (value : Text → Option Text) (first : Text → Option Text) → Told
+told_of value first = record {
+  check = value (codes "check");
+  all = value (codes "all");
+  live = value (codes "live");
+  strict = value (codes "strict");
+  first_call = value (codes "first-call");
+  file_max = value (codes "file-max");
+  names_max = value (codes "names-max");
+  waiting_max = value (codes "waiting-max");
+  capacity_max = value (codes "capacity-max");
+  memory = value (codes "memory");
+  file = first (codes "file");
+}
+
+-- the number that decimal digits say, before which a plus may stand
+abbrev pub value_of : Text → ℕ
+value_of text = digits_value 10 (without_leading_plus text)
+
+-- the text says a number below 2^64 so
 abbrev pub IsWord64 : Text → Type 0
-IsWord64 text = IsNumeral 10 (without_leading_plus text) × (digits_value 10 (without_leading_plus text) < 2 ^ 64)
+IsWord64 text = IsNumeral 10 (without_leading_plus text) × (value_of text < 2 ^ 64)
 
--- the number that a value of `--first-call` gives, and 1 where there is none
-abbrev pub IsFirstCall : Option Text → ℕ → Type 0
-IsFirstCall None n = n ≡ 1
-IsFirstCall (Some text) n = IsWord64 text × (n ≡ digits_value 10 (without_leading_plus text))
+-- the number that an option's value gives, which is at most this, and another one where the option has no value
+abbrev pub IsLimit : (most none : ℕ) → Option Text → ℕ → Type 0
+IsLimit most none None n = n ≡ none
+IsLimit most none (Some text) n = IsWord64 text × (value_of text ≤ most) × (n ≡ value_of text)
+
+-- a value gives no such number
+abbrev pub IsNoLimit : (most : ℕ) → Option Text → Type 0
+IsNoLimit most None = ⊥
+IsNoLimit most (Some text) = ¬ (IsWord64 text × (value_of text ≤ most))
+
+-- the limits that the options give: calls are numbered from 1, and nothing has a limit of its own, where no option says otherwise
+abbrev pub AreLimits : Told → Limits → Type 0
+AreLimits told limits = IsLimit no_limit 1 told.first_call limits.first_call × IsLimit most_file_bytes most_file_bytes told.file_max limits.file_max
+    × IsLimit no_limit no_limit told.names_max limits.names_max × IsLimit no_limit no_limit told.waiting_max limits.waiting_max
+    × IsLimit most_capacity most_capacity told.capacity_max limits.capacity_max
+
+-- one of the options gives none
+abbrev pub AreNoLimits : Told → Type 0
+AreNoLimits told = IsNoLimit no_limit told.first_call ⊎ (IsNoLimit most_file_bytes told.file_max ⊎ (IsNoLimit no_limit told.names_max
+    ⊎ (IsNoLimit no_limit told.waiting_max ⊎ IsNoLimit most_capacity told.capacity_max)))
 
 -- the limit that a value of `--memory` gives, and none where there is no value
 abbrev pub IsMemory : Option Text → Option ℕ → Type 0
 IsMemory None bytes = bytes ≡ None
-IsMemory (Some text) bytes = IsWord64 text × (bytes ≡ Some (digits_value 10 (without_leading_plus text)))
+IsMemory (Some text) bytes = IsWord64 text × (bytes ≡ Some (value_of text))
 
 -- a value gives no number
 abbrev pub IsNoNumber : Option Text → Type 0
@@ -75,31 +123,35 @@ IsSet told false = (told ≡ None) ⊎ (told ≡ Some (codes "false"))
 abbrev pub are_at_odds : (check all live strict : Bool) → Bool
 are_at_odds check all live strict = (all && not check) || ((strict && not live) || (check && live))
 
-abbrev pub AreAtOdds : (told_check told_all told_live told_strict : Option Text) → Type 0
-AreAtOdds told_check told_all told_live told_strict = (IsGiven told_check false × IsGiven told_all true)
-    ⊎ ((IsGiven told_live false × IsGiven told_strict true) ⊎ (IsGiven told_check true × IsGiven told_live true))
+abbrev pub AreAtOdds : Told → Type 0
+AreAtOdds told = (IsGiven told.check false × IsGiven told.all true)
+    ⊎ ((IsGiven told.live false × IsGiven told.strict true) ⊎ (IsGiven told.check true × IsGiven told.live true))
 
--- what the values of `--check`, of `--all`, of `--live`, of `--strict`, of `--first-call`, of `--memory` and of FILE come to
-abbrev pub HoldsMatches : (told_check told_all told_live told_strict number most name : Option Text) → Result Choice Fault → Type 0
-HoldsMatches told_check told_all told_live told_strict number most name (Ok (Run n bytes file)) =
-    IsGiven told_check false × IsGiven told_all false × IsGiven told_live false × IsGiven told_strict false
-    × IsFirstCall number n × IsMemory most bytes × (option_map string_bytes file ≡ name)
-HoldsMatches told_check told_all told_live told_strict number most name (Ok (Check every n bytes file)) =
-    IsGiven told_check true × IsGiven told_all every × IsGiven told_live false × IsGiven told_strict false
-    × IsFirstCall number n × IsMemory most bytes × (option_map string_bytes file ≡ name)
-HoldsMatches told_check told_all told_live told_strict number most name (Ok (Live asked)) =
-    IsGiven told_check false × IsGiven told_all false × IsGiven told_live true × IsGiven told_strict asked.strict
-    × IsFirstCall number asked.first_call × IsMemory most asked.memory × (option_map string_bytes asked.file ≡ name)
-HoldsMatches told_check told_all told_live told_strict number most name (Ok Help) = ⊥
-HoldsMatches told_check told_all told_live told_strict number most name (Err CommandLine) =
-    AreAtOdds told_check told_all told_live told_strict ⊎ (IsNoNumber number ⊎ IsNoNumber most)
-HoldsMatches told_check told_all told_live told_strict number most name (Err NoMemory) = ⊤
-HoldsMatches told_check told_all told_live told_strict number most name (Err fault) = ⊥
+-- what the options that have no value come to
+abbrev pub AreGiven : Told → (check all live strict : Bool) → Type 0
+AreGiven told check all live strict = IsGiven told.check check × IsGiven told.all all × IsGiven told.live live × IsGiven told.strict strict
+
+-- what those that have one and FILE come to
+abbrev pub GiveValues : Told → Limits → Option ℕ → Option Text → Type 0
+GiveValues told limits bytes file = AreLimits told limits × IsMemory told.memory bytes × (file ≡ told.file)
+
+-- what all of them come to
+abbrev pub HoldsMatches : Told → Result Choice Fault → Type 0
+HoldsMatches told (Ok (Run limits bytes file)) = AreGiven told false false false false × GiveValues told limits bytes (option_map string_bytes file)
+HoldsMatches told (Ok (Check every limits bytes file)) = AreGiven told true every false false × GiveValues told limits bytes (option_map string_bytes file)
+HoldsMatches told (Ok (Live asked)) = AreGiven told false false true asked.strict × GiveValues told asked.limits asked.memory (option_map string_bytes asked.file)
+HoldsMatches told (Ok Help) = ⊥
+HoldsMatches told (Ok Version) = ⊥
+HoldsMatches told (Err CommandLine) = AreAtOdds told ⊎ (AreNoLimits told ⊎ IsNoNumber told.memory)
+HoldsMatches told (Err NoMemory) = ⊤
+HoldsMatches told (Err fault) = ⊥
 
 -- what a refusal of clap's of a kind comes to
 abbrev pub Refuses : ErrorKind → Result Choice Fault → Type 0
-Refuses kind (Ok choice) = (kind ≡ DisplayHelp) × (choice ≡ Help)
-Refuses kind (Err CommandLine) = (kind ≢ DisplayHelp) × (kind ≢ OutOfMemory)
+Refuses kind (Ok Help) = kind ≡ DisplayHelp
+Refuses kind (Ok Version) = kind ≡ DisplayVersion
+Refuses kind (Ok choice) = ⊥
+Refuses kind (Err CommandLine) = (kind ≢ DisplayHelp) × (kind ≢ DisplayVersion) × (kind ≢ OutOfMemory)
 Refuses kind (Err NoMemory) = kind ≡ OutOfMemory
 Refuses kind (Err fault) = ⊥
 
@@ -111,47 +163,43 @@ rows words = matches_of piperun words
 unfoldable pub faults : List Text → List ErrorKind
 faults words = fault_of piperun words
 
--- what HoldsMatches says of the values that the words give
-abbrev pub Holds : List Text → Result Choice Fault → Type 0
-Holds words = HoldsMatches (one_of (codes "check") (rows words)) (one_of (codes "all") (rows words))
-    (one_of (codes "live") (rows words)) (one_of (codes "strict") (rows words)) (one_of (codes "first-call") (rows words))
-    (one_of (codes "memory") (rows words)) (first_of (codes "file") (rows words))
+-- what the words tell
+abbrev pub told_by : List Text → Told
+told_by words = told_of (λ id. one_of id (rows words)) (λ id. first_of id (rows words))
 
--- the words are refused: by the command, not for help, or as options are at odds, or because N or BYTES is no number
+-- the words are refused: by the command, neither for help nor for the version, or as options are at odds, or because a number is none
 abbrev pub AreBad : List Text → Type 0
-AreBad words = ((kind : ErrorKind) × IsAmong kind (faults words) × (kind ≢ DisplayHelp))
-    ⊎ ((faults words ≡ []) × (AreAtOdds (one_of (codes "check") (rows words)) (one_of (codes "all") (rows words))
-    (one_of (codes "live") (rows words)) (one_of (codes "strict") (rows words))
-    ⊎ (IsNoNumber (one_of (codes "first-call") (rows words)) ⊎ IsNoNumber (one_of (codes "memory") (rows words)))))
+AreBad words = ((kind : ErrorKind) × IsAmong kind (faults words) × (kind ≢ DisplayHelp) × (kind ≢ DisplayVersion))
+    ⊎ ((faults words ≡ []) × HoldsMatches (told_by words) (Err CommandLine))
 
 -- what the words ask for
 abbrev pub Chooses : List Text → Result Choice Fault → Type 0
-Chooses words (Ok (Run n bytes file)) = (faults words ≡ []) × Holds words (Ok (Run n bytes file))
-Chooses words (Ok (Check every n bytes file)) = (faults words ≡ []) × Holds words (Ok (Check every n bytes file))
-Chooses words (Ok (Live asked)) = (faults words ≡ []) × Holds words (Ok (Live asked))
+Chooses words (Ok (Run limits bytes file)) = (faults words ≡ []) × HoldsMatches (told_by words) (Ok (Run limits bytes file))
+Chooses words (Ok (Check every limits bytes file)) = (faults words ≡ []) × HoldsMatches (told_by words) (Ok (Check every limits bytes file))
+Chooses words (Ok (Live asked)) = (faults words ≡ []) × HoldsMatches (told_by words) (Ok (Live asked))
 Chooses words (Ok Help) = IsAmong DisplayHelp (faults words)
+Chooses words (Ok Version) = IsAmong DisplayVersion (faults words)
 Chooses words (Err CommandLine) = AreBad words
 Chooses words (Err NoMemory) = ⊤
 Chooses words (Err fault) = ⊥
 
--- the words give these numbers, and no FILE
-abbrev pub AskOfInput : List Text → ℕ → Option ℕ → Type 0
-AskOfInput words n bytes = (faults words ≡ []) × IsFirstCall (one_of (codes "first-call") (rows words)) n
-    × IsMemory (one_of (codes "memory") (rows words)) bytes × (first_of (codes "file") (rows words) ≡ None)
+-- the words give these limits, and no FILE
+abbrev pub AskOfInput : List Text → Limits → Option ℕ → Type 0
+AskOfInput words limits bytes = (faults words ≡ []) × GiveValues (told_by words) limits bytes None
 
 -- the words tell which of the four options are there
 abbrev pub AskWith : List Text → (check all live strict : Bool) → Type 0
-AskWith words check all live strict = IsSet (one_of (codes "check") (rows words)) check × IsSet (one_of (codes "all") (rows words)) all
-    × IsSet (one_of (codes "live") (rows words)) live × IsSet (one_of (codes "strict") (rows words)) strict
+AskWith words check all live strict = IsSet (told_by words).check check × IsSet (told_by words).all all
+    × IsSet (told_by words).live live × IsSet (told_by words).strict strict
 
--- the words ask for a run of the script of the input, with calls numbered from n, within this limit on its memory, if any
-abbrev pub AskForInput : List Text → ℕ → Option ℕ → Type 0
-AskForInput words n bytes = AskOfInput words n bytes × AskWith words false false false false
+-- the words ask for a run of the script of the input within these limits, and this one on its memory, if any
+abbrev pub AskForInput : List Text → Limits → Option ℕ → Type 0
+AskForInput words limits bytes = AskOfInput words limits bytes × AskWith words false false false false
 
 -- the words ask for a check of the record of the input, of which all differences are told, or the first
-abbrev pub AskForCheck : List Text → Bool → ℕ → Option ℕ → Type 0
-AskForCheck words every n bytes = AskOfInput words n bytes × AskWith words true every false false
+abbrev pub AskForCheck : List Text → Bool → Limits → Option ℕ → Type 0
+AskForCheck words every limits bytes = AskOfInput words limits bytes × AskWith words true every false false
 
 -- the words ask for a live run of the lines of the input, which ends at its first bad line if it is a strict one
-abbrev pub AskForLive : List Text → Bool → ℕ → Option ℕ → Type 0
-AskForLive words strict n bytes = AskOfInput words n bytes × AskWith words false false true strict
+abbrev pub AskForLive : List Text → Bool → Limits → Option ℕ → Type 0
+AskForLive words strict limits bytes = AskOfInput words limits bytes × AskWith words false false true strict

@@ -3,12 +3,14 @@ ghost use Rattle.std.specs.Prelude.{◌≡◌, Ok, Err, if◌then◌else◌, IfO
 ghost use Rattle.clap.specs.Words.{with_rule, app_of, found_of, first_value, one_text, kind_of};
 ghost use Rattle.pl_run.specs.declared.choice.Choice.TheVariants.{Run, Check, Live};
 ghost use Rattle.pl_run.specs.declared.fault.Fault.TheVariants.{CommandLine, NoMemory};
-ghost use Rattle.pl_run.specs.Words.{check, all, live, strict, with_numbers, piperun, are_at_odds, IsFirstCall, IsMemory, IsNoNumber, HoldsMatches, Refuses, Chooses};
+ghost use Rattle.pl_run.specs.Words.{with_flags, with_limits, with_live_flags, with_numbers, valued_rule, piperun, are_at_odds, told_of, HoldsMatches, Refuses, Chooses};
 
-use crate::LIMITS;
 use crate::fault::Fault;
+use crate::limits::{limits_of, memory_of};
+use crate::version::VERSION;
 use clap::error::ErrorKind;
 use clap::{Arg, ArgAction, ArgMatches, Command, Error};
+use pl_model::Limits;
 use std::alloc::{AllocError, Global};
 
 /// What the words of the command line ask for.
@@ -16,8 +18,8 @@ use std::alloc::{AllocError, Global};
 pub enum Choice {
     /// A run of a script.
     Run {
-        /// The number of the first call that waits.
-        first_call: u64,
+        /// The number of the first call that waits, and the limits of the kernel.
+        limits: Limits,
         /// The most bytes that the run may hold; without it there is no such limit.
         memory: Option<u64>,
         /// The file that the script is read from; without one it is standard input.
@@ -27,8 +29,8 @@ pub enum Choice {
     Check {
         /// Whether all differences are told, and not the first alone.
         all: bool,
-        /// The number of the first call that waits, where the record names none.
-        first_call: u64,
+        /// The number of the first call that waits, and the limits of the kernel, where the record names no others.
+        limits: Limits,
         /// The most bytes that the check may hold; without it there is no such limit.
         memory: Option<u64>,
         /// The file that the record is read from; without one it is standard input.
@@ -38,6 +40,8 @@ pub enum Choice {
     Live(LiveChoice),
     /// The help text.
     Help,
+    /// The version.
+    Version,
 }
 
 /// A live run that is asked for.
@@ -45,8 +49,8 @@ pub enum Choice {
 pub struct LiveChoice {
     /// Whether it ends at its first bad line.
     pub strict: bool,
-    /// The number of the first call that waits.
-    pub first_call: u64,
+    /// The number of the first call that waits, and the limits of the kernel.
+    pub limits: Limits,
     /// The most bytes that the run may hold; without it there is no such limit.
     pub memory: Option<u64>,
     /// The file that the lines are read from; without one it is standard input.
@@ -55,7 +59,7 @@ pub struct LiveChoice {
 
 /// The command with the options `--check` and `--all`, which have no value.
 fn with_flags<'a>(alloc: Global, command: Command<'a>) -> Result<Command<'a>, AllocError>
-    ensures { IfOk result (λ made. app_of made ≡ with_rule (with_rule (app_of command.entry) check) all) }
+    ensures { IfOk result (λ made. app_of made ≡ with_flags (app_of command.entry)) }
 {
     let check = Arg::new(alloc, "check")
         .long("check")
@@ -68,7 +72,7 @@ fn with_flags<'a>(alloc: Global, command: Command<'a>) -> Result<Command<'a>, Al
 
 /// The command with the options `--live` and `--strict`, which have no value.
 fn with_live_flags<'a>(alloc: Global, command: Command<'a>) -> Result<Command<'a>, AllocError>
-    ensures { IfOk result (λ made. app_of made ≡ with_rule (with_rule (app_of command.entry) live) strict) }
+    ensures { IfOk result (λ made. app_of made ≡ with_live_flags (app_of command.entry)) }
 {
     let live = Arg::new(alloc, "live")
         .long("live")
@@ -79,22 +83,46 @@ fn with_live_flags<'a>(alloc: Global, command: Command<'a>) -> Result<Command<'a
     command.arg(live)?.arg(strict)
 }
 
-/// The command with the options `--first-call N` and `--memory BYTES`.
+/// The command with the options `--first-call N` and `--memory BYTES`, and with its version.
 fn with_numbers<'a>(alloc: Global) -> Result<Command<'a>, AllocError>
     ensures { IfOk result (λ made. app_of made ≡ with_numbers) }
 {
     let first_call = Arg::new(alloc, "first-call").long("first-call");
     let memory = Arg::new(alloc, "memory").long("memory");
-    let command = Command::new(alloc, "piperun").no_binary_name(true);
+    let command = Command::new(alloc, "piperun")
+        .no_binary_name(true)
+        .version(VERSION);
     command.arg(first_call)?.arg(memory)
 }
 
-/// The command `piperun [--first-call N] [--memory BYTES] [--check] [--all] [--live] [--strict] [FILE]`.
+/// The command with an option of this name, which has a value.
+fn with_option<'a>(
+    alloc: Global,
+    command: Command<'a>,
+    name: &'static str,
+) -> Result<Command<'a>, AllocError>
+    ensures { IfOk result (λ made. app_of made ≡ with_rule (app_of command.entry) (valued_rule name.now)) }
+{
+    command.arg(Arg::new(alloc, name).long(name))
+}
+
+/// The command with the options `--file-max N`, `--names-max N`, `--waiting-max N` and `--capacity-max N`.
+fn with_limits<'a>(alloc: Global, command: Command<'a>) -> Result<Command<'a>, AllocError>
+    ensures { IfOk result (λ made. app_of made ≡ with_limits (app_of command.entry)) }
+{
+    let command = with_option(alloc, command, "file-max")?;
+    let command = with_option(alloc, command, "names-max")?;
+    let command = with_option(alloc, command, "waiting-max")?;
+    with_option(alloc, command, "capacity-max")
+}
+
+/// The command `piperun [OPTION ..] [FILE]`, with all of these options.
 fn command<'a>(alloc: Global) -> Result<Command<'a>, AllocError>
     ensures { IfOk result (λ made. app_of made ≡ piperun) }
 {
     let file = Arg::new(alloc, "file");
-    let command = with_flags(alloc, with_numbers(alloc)?)?;
+    let command = with_limits(alloc, with_numbers(alloc)?)?;
+    let command = with_flags(alloc, command)?;
     with_live_flags(alloc, command)?.arg(file)
 }
 
@@ -104,56 +132,34 @@ fn chosen(
     all: bool,
     live: bool,
     strict: bool,
-    first_call: u64,
+    limits: Limits,
     memory: Option<u64>,
     file: Option<String>,
 ) -> Result<Choice, Fault>
     ensures { result ≡ (if are_at_odds check all live strict then Err CommandLine
-        else if check then Ok (Check all first_call memory file)
-        else if live then Ok (Live (record { strict = strict; first_call = first_call; memory = memory; file = file }))
-        else Ok (Run first_call memory file)) }
+        else if check then Ok (Check all limits memory file)
+        else if live then Ok (Live (record { strict = strict; limits = limits; memory = memory; file = file }))
+        else Ok (Run limits memory file)) }
 {
     match (check, all, live, strict) {
         (true, all, false, false) => Ok(Choice::Check {
             all,
-            first_call,
+            limits,
             memory,
             file,
         }),
         (false, false, true, strict) => Ok(Choice::Live(LiveChoice {
             strict,
-            first_call,
+            limits,
             memory,
             file,
         })),
         (false, false, false, false) => Ok(Choice::Run {
-            first_call,
+            limits,
             memory,
             file,
         }),
         _ => Err(Fault::CommandLine),
-    }
-}
-
-/// The number of the first call, by the words that the command took.
-fn first_call_of(matches: &ArgMatches) -> Result<u64, Fault>
-    ensures { MatchResult result (λ n. IsFirstCall (one_text (found_of matches.now) (codes "first-call")) n)
-        (λ fault. (fault ≡ CommandLine) × IsNoNumber (one_text (found_of matches.now) (codes "first-call"))) }
-{
-    match matches.try_get_one::<u64>("first-call") {
-        Ok(first_call) => Ok(first_call.unwrap_or(LIMITS.first_call)),
-        Err(_) => Err(Fault::CommandLine),
-    }
-}
-
-/// The limit on memory, by these words.
-fn memory_of(matches: &ArgMatches) -> Result<Option<u64>, Fault>
-    ensures { MatchResult result (λ most. IsMemory (one_text (found_of matches.now) (codes "memory")) most)
-        (λ fault. (fault ≡ CommandLine) × IsNoNumber (one_text (found_of matches.now) (codes "memory"))) }
-{
-    match matches.try_get_one::<u64>("memory") {
-        Ok(memory) => Ok(memory),
-        Err(_) => Err(Fault::CommandLine),
     }
 }
 
@@ -170,19 +176,16 @@ fn file_of(alloc: Global, matches: &ArgMatches) -> Result<Option<String>, Fault>
 
 /// What the words that the command took ask for.
 fn run_of(alloc: Global, matches: &ArgMatches) -> Result<Choice, Fault>
-    ensures { HoldsMatches (one_text (found_of matches.now) (codes "check")) (one_text (found_of matches.now) (codes "all"))
-        (one_text (found_of matches.now) (codes "live")) (one_text (found_of matches.now) (codes "strict"))
-        (one_text (found_of matches.now) (codes "first-call")) (one_text (found_of matches.now) (codes "memory"))
-        (first_value (found_of matches.now) (codes "file")) result }
+    ensures { HoldsMatches (told_of (one_text (found_of matches.now)) (first_value (found_of matches.now))) result }
 {
-    let first_call = first_call_of(matches)?;
+    let limits = limits_of(matches)?;
     let memory = memory_of(matches)?;
     let file = file_of(alloc, matches)?;
     let check = matches.get_flag("check");
     let all = matches.get_flag("all");
     let live = matches.get_flag("live");
     let strict = matches.get_flag("strict");
-    chosen(check, all, live, strict, first_call, memory, file)
+    chosen(check, all, live, strict, limits, memory, file)
 }
 
 /// What the words that the command didn't take ask for.
@@ -191,19 +194,22 @@ fn refusal(error: &Error) -> Result<Choice, Fault>
 {
     match error.kind() {
         ErrorKind::DisplayHelp => Ok(Choice::Help),
+        ErrorKind::DisplayVersion => Ok(Choice::Version),
         ErrorKind::OutOfMemory => Err(Fault::NoMemory),
         _ => Err(Fault::CommandLine),
     }
 }
 
-/// What the words of the command line ask for, without the program's own name: `--help` or `-h` for the help text, else at most
-/// one `--first-call N` and one `--memory BYTES`, both below 2^64, one `--check`, one `--all` beside it, one `--live`, one `--strict`
-/// beside that, and at most one FILE. What stands behind `--` is FILE, whatever it looks like.
+/// What the words of the command line ask for, without the program's own name: `--help` or `-h` for the help text, `--version` or
+/// `-V` for the version, else each option at most once, and at most one FILE. The options are `--check`, `--all` beside it, `--live`,
+/// `--strict` beside that, and, each with a number below 2^64, `--first-call`, `--file-max`, `--names-max`, `--waiting-max`,
+/// `--capacity-max` and `--memory`. What stands behind `--` is FILE, whatever it looks like.
 ///
 /// # Errors
 ///
 /// `CommandLine` where the command doesn't take the words, `--all` stands without `--check`, `--strict` without `--live`, both `--check`
-/// and `--live` are there, or N or BYTES isn't a number; `NoMemory` where there was none to read them.
+/// and `--live` are there, or an option's value isn't a number, or above 16,777,216 of `--file-max` or 1,048,576 of `--capacity-max`;
+/// `NoMemory` where there was none to read them.
 pub fn words(alloc: Global, words: &[String]) -> Result<Choice, Fault>
     ensures { Chooses (map string_bytes words.now) result }
 {

@@ -2,14 +2,21 @@
 
 /// The text of `--help`: the commands, each line of a script, an example with what it prints, and the statuses.
 pub const HELP: &str = "\
-Usage: piperun [--first-call N] [--memory BYTES] [FILE]
-       piperun --check [--all] [--first-call N] [--memory BYTES] [FILE]
-       piperun --live [--strict] [--first-call N] [--memory BYTES] [FILE]
+Usage: piperun [LIMIT ..] [--memory BYTES] [FILE]
+       piperun --check [--all] [LIMIT ..] [--memory BYTES] [FILE]
+       piperun --live [--strict] [LIMIT ..] [--memory BYTES] [FILE]
 
 Runs a script of pipe calls and prints a line for each reply. The script is
-FILE, or standard input where there is none.
+FILE, or standard input where there is none. LIMIT is one of these:
 
       --first-call N  the number of the first call that waits; else it is 1
+      --file-max N    the most bytes of a file; else it is 16777216, the most
+      --names-max N   the most names of files and FIFOs; else there is no limit
+      --waiting-max N the most calls that wait; else there is no limit
+      --capacity-max N
+                      the most bytes that setsz gives a pipe; else it is
+                      1048576, the most
+
       --memory BYTES  the most bytes that the script, what it makes and its
                       output may take at once; a call that finds none prints
                       `nomem`, and changes nothing
@@ -22,6 +29,7 @@ FILE, or standard input where there is none.
                       over, and the end tells how many there were
       --strict        ends a live run at its first bad line
   -h, --help          this text
+  -V, --version       the version
 
 Each line of a script is one call, a question or a comment:
 

@@ -5,8 +5,10 @@
 mod choice;
 mod fault;
 mod help;
+mod limits;
 mod program;
 mod terminal;
+mod version;
 
 pub use choice::{Choice, LiveChoice, words};
 pub use fault::{Fault, status, write_fault};
@@ -14,6 +16,7 @@ pub use help::HELP;
 use pl_model::Limits;
 pub use program::{end, live_from, run, run_program};
 pub use terminal::Terminal;
+pub use version::VERSION;
 
 /// The limits of a run: calls are numbered from 1, unless the command line says otherwise, a file has at most 16,777,216 bytes, and
 /// nothing else has a limit of its own.

@@ -1,21 +1,21 @@
 //! The program: what the words of its command line ask for, from one stream to another, and its fault to a third.
 ghost use Rattle.std.specs.Prelude.{◌≡◌, ◌<◌, ◌≤◌, ◌↔◌, ◌⊎◌, ℕ, List, Bool, Option, map, string_bytes, true, false, not, Ok, Some, OnOk, IfOk, IfSome, IfErr, IsErrOf};
 ghost use Rattle.std.specs.Io.KnownBytes.{Appends};
-ghost use Rattle.pl_model.specs.Numbers.{most_reads};
+ghost use Rattle.pl_model.specs.declared.calls.Limits.{Limits};
+ghost use Rattle.pl_model.specs.Numbers.{most_reads, most_file_bytes};
 ghost use Rattle.pl_script.specs.Streams.{WritesFront};
-ghost use Rattle.pl_script.specs.Talk.{Talk, silence};
-ghost use Rattle.pl_script.specs.LiveSteps.{Knows};
+ghost use Rattle.pl_script.specs.Talk.{Talk, WasSaid};
 ghost use Rattle.pl_run.specs.Fault.{status_of, line_of, WritesLine};
-ghost use Rattle.pl_run.specs.Program.{IsRunWithin, IsCheckedWithin, IsLiveWithin, IsLeft, as_done, line_of_same, ends_with};
+ghost use Rattle.pl_run.specs.Program.{IsRunWithin, IsCheckedWithin, IsLiveWithin, IsLeft, as_done, line_of_same, version_line, ends_with};
 ghost use Rattle.pl_run.specs.Words.{AskOfInput, AskForInput, AskForCheck, AskForLive, Chooses};
 ghost use Rattle.pl_run.specs.declared.choice.Choice.TheVariants.{Live};
 ghost use Rattle.pl_run.specs.declared.fault.Fault.TheVariants.{CannotRead, CannotWrite, CommandLine, NoMemory};
 
-use crate::LIMITS;
 use crate::choice::{Choice, LiveChoice, words};
 use crate::fault::{Fault, status, write_fault};
 use crate::help::HELP;
 use crate::terminal::Terminal;
+use crate::version::VERSION;
 use itoa::Buffer;
 use pl_budget::Budget;
 use pl_model::Limits;
@@ -27,29 +27,26 @@ use std::env::{self, Env};
 use std::fs::{File, Files};
 use std::io::{ErrorKind, Read, Write};
 
-/// Runs the script that the reader gives, with its calls numbered from `first_call`, within so many bytes of memory. All that the run
-/// holds counts: the script, the kernel, and the output that isn't written yet.
+/// Runs the script that the reader gives, within the limits and so many bytes of memory. All that the run holds counts: the script, the
+/// kernel, and the output that isn't written yet.
 fn run_from<S: Source, T: Sink>(
     alloc: Global,
-    first_call: u64,
+    limits: Limits,
     memory: Option<u64>,
     reader: &mut S,
     writer: &mut T,
 ) -> Result<(), Fault>
     requires reads { most_reads ≤ S.reads_left reader.old }
+    requires most { limits.file_max ≤ most_file_bytes }
     ensures run { IfSome (S.remaining reader.old) (λ script.
         (written : List ℕ) × Appends (T.contents writer.old) (T.contents writer.new) written
-        × IsRunWithin first_call script result written) }
+        × IsRunWithin limits script result written) }
     ensures known { IsErrOf result CommandLine → ⊥ }
     ensures read { S.has_failed reader.old ≡ false →
         (IsErrOf result CannotRead ↔ (S.has_failed reader.new ≡ true)) }
     ensures write { T.has_stopped writer.old ≡ false →
         (IsErrOf result CannotWrite ↔ (T.has_stopped writer.new ≡ true)) }
 {
-    let limits = Limits {
-        first_call,
-        ..LIMITS
-    };
     let budget = Budget::new(alloc, memory.unwrap_or(u64::MAX));
     run_script(&budget, reader, writer, limits)?;
     Ok(())
@@ -65,30 +62,27 @@ fn write_same<T: Sink>(writer: &mut T, compared: u32) -> Result<(), ScriptFault>
     write_whole(writer, b" replies as recorded\n")
 }
 
-/// Checks the record that the reader gives, within so many bytes of memory, and writes the differences that are to be told, or the line
-/// that there is none. The record's header may name other limits than those of a run.
+/// Checks the record that the reader gives, within the limits, where its header names no others, and so many bytes of memory. Writes the
+/// differences that are to be told, or the line that there is none.
 fn check_from<S: Source, T: Sink>(
     alloc: Global,
     all: bool,
-    first_call: u64,
+    limits: Limits,
     memory: Option<u64>,
     reader: &mut S,
     writer: &mut T,
 ) -> Result<(), Fault>
     requires reads { most_reads ≤ S.reads_left reader.old }
+    requires most { limits.file_max ≤ most_file_bytes }
     ensures check { IfSome (S.remaining reader.old) (λ script.
         (written : List ℕ) × Appends (T.contents writer.old) (T.contents writer.new) written
-        × IsCheckedWithin all first_call script result written) }
+        × IsCheckedWithin all limits script result written) }
     ensures known { IsErrOf result CommandLine → ⊥ }
     ensures read { S.has_failed reader.old ≡ false →
         (IsErrOf result CannotRead ↔ (S.has_failed reader.new ≡ true)) }
     ensures write { T.has_stopped writer.old ≡ false →
         (IsErrOf result CannotWrite ↔ (T.has_stopped writer.new ≡ true)) }
 {
-    let limits = Limits {
-        first_call,
-        ..LIMITS
-    };
     let budget = Budget::new(alloc, memory.unwrap_or(u64::MAX));
     let checked = check_script(&budget, reader, writer, limits, all)?;
     if checked.different > 0 {
@@ -98,8 +92,9 @@ fn check_from<S: Source, T: Sink>(
     Ok(())
 }
 
-/// Runs the lines that the far end says as they come, with their calls numbered from `first_call`, within so many bytes of memory: the
-/// kernel, the line that is read, and the answers that aren't written yet. A bad line is refused and passed over; a strict run ends there.
+/// Runs the lines that the far end says as they come, within the limits and so many bytes of memory: the kernel, the line that is read, and
+/// the answers that aren't written yet. A bad line is refused and passed over; a strict run ends there. `limits.file_max` is at most
+/// 16,777,216.
 ///
 /// # Errors
 ///
@@ -113,22 +108,18 @@ fn check_from<S: Source, T: Sink>(
 /// - `NoMemory` where there was none for a line or its answer.
 pub fn live_from<P: Peer>(
     alloc: Global,
-    first_call: u64,
+    limits: Limits,
     memory: Option<u64>,
     strict: bool,
     peer: &mut P,
 ) -> Result<(), Fault>
-    ensures run { Knows (P.talk peer.old) silence →
-        (t : Talk) × Knows (P.talk peer.new) t × IsLiveWithin strict first_call result t }
+    requires { limits.file_max ≤ most_file_bytes }
+    ensures run { (t : Talk) × WasSaid (P.side peer.old) (P.side peer.new) t × IsLiveWithin strict limits result t }
     ensures known { IsErrOf result CommandLine → ⊥ }
     ensures read { P.cannot_read peer.old ≡ false → IsErrOf result CannotRead → P.cannot_read peer.new ≡ true }
     ensures write { P.cannot_write peer.old ≡ false →
         (IsErrOf result CannotWrite ↔ (P.cannot_write peer.new ≡ true)) }
 {
-    let limits = Limits {
-        first_call,
-        ..LIMITS
-    };
     let budget = Budget::new(alloc, memory.unwrap_or(u64::MAX));
     let counted = run_live(&budget, peer, limits, strict)?;
     if counted.bad > 0 {
@@ -147,13 +138,24 @@ fn open<R: Files>(rt: &R, path: &str) -> Result<R::File, Fault>
     })
 }
 
+/// Writes the line of the version, as far as the writer takes it.
+fn write_version<T: Sink>(writer: &mut T) -> Result<(), ScriptFault>
+    ensures front { WritesFront (T.contents writer.old) (T.contents writer.new) result version_line }
+    ensures kept { OnOk result (T.has_stopped writer.new ≡ T.has_stopped writer.old) }
+    ensures stopped { IfErr result (λ e. (e ≡ ScriptFault.Write) × (T.has_stopped writer.new ≡ true)) }
+{
+    write_whole(writer, b"piperun ")?;
+    write_whole(writer, VERSION.as_bytes())?;
+    write_whole(writer, b"\n")
+}
+
 /// Does what the words ask for: runs the script of FILE, or of the input where there is no FILE, or checks it as a record, or writes the
-/// help text. If they ask for a live run, it does nothing, and answers the run that is left to do.
+/// help text or the version. If they ask for a live run, it does nothing, and answers the run that is left to do.
 ///
 /// # Errors
 ///
 /// Those of `words`, and then nothing was read or written; `CannotRead` where FILE can't be opened; `CannotWrite` where the
-/// help text, or the line that nothing differs, can't be written; `Differs` where a check found that replies differ; else those of
+/// help text, the version, or the line that nothing differs can't be written; `Differs` where a check found that replies differ; else those of
 /// `run_script` and of `check_script`.
 pub fn run<R: Files + AllocGlobal, S: Source, T: Sink>(
     rt: &R,
@@ -163,25 +165,25 @@ pub fn run<R: Files + AllocGlobal, S: Source, T: Sink>(
 ) -> Result<Option<LiveChoice>, Fault>
     requires reads { most_reads ≤ S.reads_left input.old }
 
-    // Where the words ask for a run of the script of the input, with calls numbered from n.
-    ensures run { (n : ℕ) → (bytes : Option ℕ) → AskForInput (map string_bytes given.now) n bytes → IfSome (S.remaining input.old) (λ script.
+    // Where the words ask for a run of the script of the input, within these limits.
+    ensures run { (limits : Limits) → (bytes : Option ℕ) → AskForInput (map string_bytes given.now) limits bytes → IfSome (S.remaining input.old) (λ script.
         (written : List ℕ) × Appends (T.contents output.old) (T.contents output.new) written
-        × IsRunWithin n script (as_done result) written) }
+        × IsRunWithin limits script (as_done result) written) }
 
     // Where they ask for a check of the record of the input.
-    ensures check { (all : Bool) → (n : ℕ) → (bytes : Option ℕ) → AskForCheck (map string_bytes given.now) all n bytes → IfSome (S.remaining input.old) (λ script.
+    ensures check { (all : Bool) → (limits : Limits) → (bytes : Option ℕ) → AskForCheck (map string_bytes given.now) all limits bytes → IfSome (S.remaining input.old) (λ script.
         (written : List ℕ) × Appends (T.contents output.old) (T.contents output.new) written
-        × IsCheckedWithin all n script (as_done result) written) }
+        × IsCheckedWithin all limits script (as_done result) written) }
 
     // Where they ask for a live run of the input.
-    ensures live { (strict : Bool) → (n : ℕ) → (bytes : Option ℕ) → AskForLive (map string_bytes given.now) strict n bytes → IsLeft strict n bytes result }
+    ensures live { (strict : Bool) → (limits : Limits) → (bytes : Option ℕ) → AskForLive (map string_bytes given.now) strict limits bytes → IsLeft strict limits bytes result }
 
     // Where a live run is left to do.
     ensures left { IfOk result (λ left. IfSome left (λ asked.
         Chooses (map string_bytes given.now) (Ok (Live asked)) × (input.new ≡ input.old) × (output.new ≡ output.old))) }
 
     // Where they give no FILE.
-    ensures read { (n : ℕ) → (bytes : Option ℕ) → AskOfInput (map string_bytes given.now) n bytes → S.has_failed input.old ≡ false →
+    ensures read { (limits : Limits) → (bytes : Option ℕ) → AskOfInput (map string_bytes given.now) limits bytes → S.has_failed input.old ≡ false →
         (IsErrOf result CannotRead ↔ (S.has_failed input.new ≡ true)) }
 
     // Whatever they ask for.
@@ -195,40 +197,44 @@ pub fn run<R: Files + AllocGlobal, S: Source, T: Sink>(
             write_whole(output, HELP.as_bytes())?;
             Ok(None)
         }
-        Choice::Run {
-            first_call,
-            memory,
-            file: None,
-        } => {
-            run_from(rt.alloc(), first_call, memory, input, output)?;
+        Choice::Version => {
+            write_version(output)?;
             Ok(None)
         }
         Choice::Run {
-            first_call,
+            limits,
+            memory,
+            file: None,
+        } => {
+            run_from(rt.alloc(), limits, memory, input, output)?;
+            Ok(None)
+        }
+        Choice::Run {
+            limits,
             memory,
             file: Some(path),
         } => {
             let mut reader = Reads::of_script(open(rt, path.as_str())?);
-            run_from(rt.alloc(), first_call, memory, &mut reader, output)?;
+            run_from(rt.alloc(), limits, memory, &mut reader, output)?;
             Ok(None)
         }
         Choice::Check {
             all,
-            first_call,
+            limits,
             memory,
             file: None,
         } => {
-            check_from(rt.alloc(), all, first_call, memory, input, output)?;
+            check_from(rt.alloc(), all, limits, memory, input, output)?;
             Ok(None)
         }
         Choice::Check {
             all,
-            first_call,
+            limits,
             memory,
             file: Some(path),
         } => {
             let mut reader = Reads::of_script(open(rt, path.as_str())?);
-            check_from(rt.alloc(), all, first_call, memory, &mut reader, output)?;
+            check_from(rt.alloc(), all, limits, memory, &mut reader, output)?;
             Ok(None)
         }
     }
@@ -269,19 +275,21 @@ fn run_left<R: Files + AllocGlobal, I: Read + Drop, O: Write + Drop, E: Write + 
     input: I,
     output: O,
     errors: E,
-) -> Result<(), Fault> {
+) -> Result<(), Fault>
+    requires { asked.limits.file_max ≤ most_file_bytes }
+{
     let LiveChoice {
         strict,
-        first_call,
+        limits,
         memory,
         file,
     } = asked;
     let Some(path) = file else {
         let mut peer = Terminal::new(input, output, errors);
-        return live_from(rt.alloc(), first_call, memory, strict, &mut peer);
+        return live_from(rt.alloc(), limits, memory, strict, &mut peer);
     };
     let mut peer = Terminal::new(open(rt, path.as_str())?, output, errors);
-    live_from(rt.alloc(), first_call, memory, strict, &mut peer)
+    live_from(rt.alloc(), limits, memory, strict, &mut peer)
 }
 
 /// Does what the words of the command line ask for.

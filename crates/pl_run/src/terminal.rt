@@ -1,8 +1,11 @@
 //! The far end of a live run that a program has: its input, its output and its errors.
-ghost use Rattle.std.specs.Prelude.{◌≡◌, false, None};
+ghost use Rattle.std.specs.Prelude.{◌≡◌, false, not, None};
+ghost use Rattle.pl_script.specs.Talk.{Side};
+ghost use Rattle.pl_run.specs.Fault.{line_of, WritesLine};
+ghost use Rattle.pl_run.specs.declared.fault.Fault.TheVariants.{BadLine};
 
 use crate::fault::{Fault, write_fault};
-use pl_script::{Peer, Writes};
+use pl_script::{Peer, Sink, Writes};
 use std::io::{self, Read, Write};
 
 /// A far end that says what the input gives, is told on the output, and of its bad lines on the errors.
@@ -20,6 +23,7 @@ impl<I: Read, O: Write, E: Write> Terminal<I, O, E> {
     pub fn new(input: I, output: O, errors: E) -> Self
         ensures read { ⟦<Terminal<I, O, E> as Peer>⟧.cannot_read result ≡ false }
         ensures write { ⟦<Terminal<I, O, E> as Peer>⟧.cannot_write result ≡ false }
+        ensures side { ⟦<Terminal<I, O, E> as Peer>⟧.side result ≡ record { talk = None; remaining = I.remaining input; contents = O.contents output } }
     {
         Terminal {
             input,
@@ -32,8 +36,8 @@ impl<I: Read, O: Write, E: Write> Terminal<I, O, E> {
 }
 
 impl<I: Read, O: Write, E: Write> Peer for Terminal<I, O, E> {
-    // What these three keep isn't known here.
-    ghost talk = { λ _. None };
+    // When these three were asked isn't kept.
+    ghost side = { λ s. record { talk = None; remaining = I.remaining s.input; contents = O.contents s.output } };
 
     ghost cannot_read = { λ s. s.cannot_read };
 
@@ -68,7 +72,16 @@ impl<I: Read, O: Write, E: Write> Peer for Terminal<I, O, E> {
         result
     }
 
-    fn refuse(&mut self, number: u64) {
+    fn refuse(&mut self, number: u64)
+        // The line of the fault is written to the errors, or the front that they take.
+        ensures line { ⟦<Writes<E> as Sink>⟧.has_stopped self.old.errors ≡ false →
+            WritesLine (not (⟦<Writes<E> as Sink>⟧.has_stopped self.new.errors))
+            (⟦<Writes<E> as Sink>⟧.contents self.old.errors) (⟦<Writes<E> as Sink>⟧.contents self.new.errors) (line_of (BadLine number)) }
+        ensures unwritten { O.contents self.new.output ≡ O.contents self.old.output }
+        ensures unread { I.remaining self.new.input ≡ I.remaining self.old.input }
+        ensures read { self.new.cannot_read ≡ self.old.cannot_read }
+        ensures write { self.new.cannot_write ≡ self.old.cannot_write }
+    {
         // Where the line can't be written, the count of bad lines at the end tells.
         let _told = write_fault(&mut self.errors, &Fault::BadLine(number));
     }

@@ -1,22 +1,21 @@
 -- From one part of a live run to the next.
-use Rattle.std.proofs.Common.{◌≡◌, ℕ, suc, ◌+◌, ◌<◌, ◌≤◌, Bool, true, false, cond, List, [], ◌∷◌, ◌++◌, length, take, drop, Option, Some, None, Ok, Err, refl, ap, ◌∙◌, sym, subst, append_assoc, arith}
-use Rattle.std.specs.Prelude.{string_bytes, Result, All, ◌==◌}
+use Rattle.std.proofs.Common.{◌≡◌, ℕ, ◌+◌, ◌<◌, Bool, true, false, List, [], ◌∷◌, ◌++◌, length, take, Ok, Err, refl, ap, ◌∙◌, sym, subst, append_assoc, arith}
+use Rattle.std.specs.Prelude.{string_bytes, Result, ◌==◌}
 use Rattle.std.proofs.lemmas.List.{append-nil, length-append}
 use Rattle.std.proofs.lemmas.List.Elements.{All-push, All-nil}
 use Rattle.pl_model.specs.declared.calls.Limits.{Limits}
-use Rattle.pl_model.specs.Numbered.{State}
-use Rattle.pl_model.specs.Script.{lines, version_of_lines}
+use Rattle.pl_model.specs.Script.{lines}
 use Rattle.pl_state.specs.Makes.{Stands}
 use Rattle.pl_script.specs.Talk.{Talk, Moment, now, refusing, telling, silence}
-use Rattle.pl_script.specs.Live.{ended_lines, number_unless, bad_lines, AreAnswered, IsPrompt, EndsBefore, IsToldAll, IsLiveRun}
-use Rattle.pl_script.specs.LiveText.{HasNoFeed, StandsBehind}
+use Rattle.pl_script.specs.Live.{most_live_reads, ended_lines, number_unless, AreAnswered, IsPrompt, EndsBefore, IsToldAll, IsLiveRun}
+use Rattle.pl_script.specs.LiveText.{HasNoFeed}
 use Rattle.pl_script.specs.LiveSteps.{IsHeld, IsBehind, IsAmid, IsUnderway, IsEnding, IsWrittenAll, is_unwritable}
 use Rattle.pl_script.specs.declared.live_lines.Live.{Live}
 use Rattle.pl_script.specs.declared.peer.LiveTotals.{LiveTotals}
 use Rattle.pl_script.specs.declared.peer.LiveFault.{LiveFault}
 use Rattle.pl_script.specs.declared.peer.LiveFault.TheVariants as faults
-use Rattle.pl_script.proofs.LiveText.{no_feed-append, lines-feed, ended-feed, ended-none, lines-last, lines-nil, ended-nil}
-use Rattle.pl_script.proofs.LiveBehind.{answered_so_far, nothing_bad}
+use Rattle.pl_script.proofs.LiveText.{no_feed-append, lines-feed, ended-feed, ended-none, lines-last, lines-nil}
+use Rattle.pl_script.proofs.LiveBehind.{answered_so_far}
 
 empty : (xs : List ℕ) → length xs ≡ 0 → xs ≡ []
 empty [] e = refl
@@ -229,8 +228,8 @@ module _ {A : Type 0} (limits : Limits) (strict : Bool) (live : Live A) (t : Tal
   pub ends_unread : IsEnding A limits strict (string_bytes live.out) t (Err faults.Read)
   ends_unread = record { prompt = at.prompt; before = at.before; later = lines (at.line ++ []); parts = all_parts limits strict live live t [] at; text = t.written ++ string_bytes live.out; answered = answered_so_far at.before (t.written ++ string_bytes live.out) t.refused at.behind.behind at.behind.refusals; written = refl; ends = sym all_ended }
 
-  pub ends_endless : IsEnding A limits strict (string_bytes live.out) t (Err faults.TooLong)
-  ends_endless = record { prompt = at.prompt; before = at.before; later = lines (at.line ++ []); parts = all_parts limits strict live live t [] at; text = t.written ++ string_bytes live.out; answered = answered_so_far at.before (t.written ++ string_bytes live.out) t.refused at.behind.behind at.behind.refusals; written = refl; ends = sym all_ended }
+  pub ends_endless : length t.moments ≡ most_live_reads → IsEnding A limits strict (string_bytes live.out) t (Err faults.TooLong)
+  ends_endless all = record { prompt = at.prompt; before = at.before; later = lines (at.line ++ []); parts = all_parts limits strict live live t [] at; text = t.written ++ string_bytes live.out; answered = answered_so_far at.before (t.written ++ string_bytes live.out) t.refused at.behind.behind at.behind.refusals; written = refl; ends = (all, sym all_ended) }
 
   -- no line is left
   pub ends_well : t.is_over ≡ true → length at.line ≡ 0 → IsEnding A limits strict (string_bytes live.out) t (Ok (record { lines = live.lines; bad = live.bad }))
@@ -267,6 +266,10 @@ ends_behind limits strict live t ls over at = record {
   ends = (over, refl, at.behind.count, at.behind.bad, at.none_bad);
 }
 
+-- the far end was listened to once more
+pub one_more : (before said after : List Moment) (m : Moment) (n : ℕ) → length before ≡ n → said ≡ before → after ≡ said ++ m ∷ [] → length after ≡ n + 1
+one_more before said after m n count same more = ap length more ∙ length-append said (m ∷ []) ∙ ap (λ k. k + 1) (ap length same ∙ count)
+
 -- before the first byte
 pub underway_first : {A : Type 0} (limits : Limits) (strict : Bool) (live : Live A) → IsBehind limits live (string_bytes live.out) [] [] [] → live.bad ≡ 0 → IsUnderway limits strict live silence []
 underway_first {A} limits strict live at bad = record {
@@ -293,11 +296,11 @@ module _ (A : Type 0) (limits : Limits) (strict : Bool) (t : Talk) (waiting : Li
 
   told_is : (result : Result LiveTotals LiveFault) (text : List ℕ) → is_unwritable result ≡ false → t.written ++ waiting ≡ text → IsToldAll result (telling waiting t) text
   told_is (Err faults.Write) text e h = absurd cc
-  told_is (Ok x) text e h = h
-  told_is (Err faults.Read) text e h = h
-  told_is (Err faults.TooLong) text e h = h
-  told_is (Err faults.NoMemory) text e h = h
-  told_is (Err (faults.BadLine n)) text e h = h
+  told_is (Ok x) text e h = (h, h)
+  told_is (Err faults.Read) text e h = (h, h)
+  told_is (Err faults.TooLong) text e h = (h, h)
+  told_is (Err faults.NoMemory) text e h = (h, h)
+  told_is (Err (faults.BadLine n)) text e h = (h, h)
 
   still_ends : (result : Result LiveTotals LiveFault) (ls later : List (List ℕ)) → EndsBefore A strict t result ls later → EndsBefore A strict (telling waiting t) result ls later
   still_ends (Err faults.Write) ls later h = tt

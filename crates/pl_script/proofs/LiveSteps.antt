@@ -1,13 +1,13 @@
 -- From one line of a live run to the next.
-use Rattle.std.proofs.Common.{◌≡◌, ℕ, suc, ◌+◌, ◌-◌, ◌<◌, ◌≤◌, Bool, true, false, not, cond, ◌&&◌, List, [], ◌∷◌, ◌++◌, length, take, drop, Option, Some, None, Ok, Err, inl, inr, refl, ap, ◌∙◌, sym, subst, append_assoc, arith}
-use Rattle.std.specs.Prelude.{nat_le, nat_lt, ◌==◌, is_some, ◌⊎◌, option_map, string_bytes, slice_index, codes, Result, All}
+use Rattle.std.proofs.Common.{◌≡◌, ℕ, ◌+◌, ◌-◌, ◌<◌, ◌≤◌, Bool, true, false, not, cond, ◌&&◌, List, [], ◌∷◌, ◌++◌, length, take, drop, Option, Some, None, Ok, Err, inl, inr, refl, ap, ◌∙◌, sym, subst, append_assoc, arith}
+use Rattle.std.specs.Prelude.{nat_le, nat_lt, ◌==◌, is_some, option_map, string_bytes, slice_index, codes, Result}
 use Rattle.std.specs.Str.{bytes_eq}
 use Rattle.std.proofs.lemmas.Bool.{eqb-true}
 use Rattle.std.proofs.lemmas.Grind.{common_steps}
 use Rattle.std.proofs.lemmas.List.{append-nil, length-append, take-append-drop}
-use Rattle.std.proofs.lemmas.List.Elements.{All-push, All-nil}
+use Rattle.std.specs.Io.KnownBytes.{Appends, Consumes}
+use Rattle.std.proofs.KnownBytes.{Appends-nil, Appends-trans, Appends-kept, Consumes-nil, Consumes-trans, Consumes-kept}
 use Rattle.pl_model.specs.declared.calls.Limits.{Limits}
-use Rattle.pl_model.specs.declared.script.Line.{Line}
 use Rattle.pl_model.specs.declared.script.Line.TheVariants.{Do}
 use Rattle.pl_model.specs.declared.script.Version.{Version}
 use Rattle.pl_model.specs.declared.script.Version.TheVariants.{One, Two}
@@ -17,31 +17,87 @@ use Rattle.pl_model.specs.Numbered.{State, opening}
 use Rattle.pl_model.specs.Lines.{line}
 use Rattle.pl_model.specs.Shown.{outcome_text}
 use Rattle.pl_model.specs.Words.{without_return}
-use Rattle.pl_model.specs.Script.{lines, version_of_lines, names_version_2}
+use Rattle.pl_model.specs.Script.{version_of_lines, names_version_2}
 use Rattle.pl_state.specs.Makes.{Stands}
-use Rattle.pl_script.specs.LineByLine.{IsAnswered, IsRefused}
-use Rattle.pl_script.specs.Talk.{Talk, Moment, now, refusing}
-use Rattle.pl_script.specs.Live.{most_line_bytes, ended_lines, is_good, asked_live, number_unless, bad_lines, AreAnswered, IsPrompt, EndsBefore}
-use Rattle.pl_script.specs.LiveText.{HasNoFeed, StandsBehind, IsRunLine, IsNotRun}
-use Rattle.pl_script.specs.LiveSteps.{IsHeld, Knows, IsBehind, IsJudged, IsAmid, IsUnderway, IsEnding, IsWrittenAll, GoesOnOrEnds}
+use Rattle.pl_script.specs.LineByLine.{IsRefused}
+use Rattle.pl_script.specs.Talk.{Talk, now, silence, listened, wrote, flushed, refusing, Side, Hears, Takes, Flushes, Refuses, WasSaid}
+use Rattle.pl_script.specs.Live.{most_line_bytes, is_good, number_unless, bad_lines}
+use Rattle.pl_script.specs.LiveText.{IsRunLine}
+use Rattle.pl_script.specs.LiveSteps.{IsHeld, IsBehind, IsJudged}
 use Rattle.pl_script.specs.declared.live_lines.Live.{Live}
-use Rattle.pl_script.specs.declared.peer.LiveTotals.{LiveTotals}
-use Rattle.pl_script.specs.declared.peer.LiveFault.{LiveFault}
-use Rattle.pl_script.specs.declared.peer.LiveFault.TheVariants as faults
 use Rattle.pl_script.proofs.RunSteps.{replies}
-use Rattle.pl_script.proofs.LiveBehind.{is_header_line, one_behind, bad_lines-push, header_alone, at_first, behind_version, behind_bad, behind_run, answered_so_far, nothing_bad}
+use Rattle.pl_script.proofs.LiveBehind.{is_header_line, one_behind, bad_lines-push, header_alone, at_first, behind_version, behind_bad, behind_run, nothing_bad}
+
+-- ---- what was said, with whatever faults
 
 -- what is known of a talk that went on
-pub goes_on : (f : Talk → Talk) (t : Talk) (old new : Option Talk) → new ≡ option_map f old → old ≡ Some t → new ≡ Some (f t)
+goes_on : (f : Talk → Talk) (t : Talk) (old new : Option Talk) → new ≡ option_map f old → old ≡ Some t → new ≡ Some (f t)
 goes_on f t old new e known = e ∙ ap (option_map f) known
+
+pub nothing_said : (now : Side) → WasSaid now now silence
+nothing_said now = record { known = λ e. e; heard = Consumes-nil now.remaining; written = Appends-nil now.contents }
+
+module _ (first old new : Side) (t : Talk) (before : WasSaid first old t) where
+  -- what it gave was heard
+  pub heard_so : (r : Result ℕ (Unit {0})) (bytes : List ℕ) → Hears old new r bytes → WasSaid first new (listened r bytes t)
+  heard_so (Ok n) bytes h = record {
+    known = λ e. goes_on (λ (s : Talk). record s { heard = s.heard ++ take n bytes; moments = s.moments ++ now s ∷ []; is_over = n == 0 }) t old.talk new.talk h.0 (before.known e);
+    heard = Consumes-trans first.remaining old.remaining new.remaining t.heard (take n bytes) before.heard h.1.0;
+    written = subst (λ x. Appends first.contents x t.written) (sym h.2) before.written;
+  }
+  heard_so (Err e) bytes h = record {
+    known = λ is. goes_on (λ (s : Talk). record s { moments = s.moments ++ now s ∷ [] }) t old.talk new.talk h.0 (before.known is);
+    heard = Consumes-kept first.remaining old.remaining new.remaining t.heard before.heard h.1;
+    written = subst (λ x. Appends first.contents x t.written) (sym h.2) before.written;
+  }
+
+  -- what it took was written
+  pub wrote_so : (r : Result ℕ (Unit {0})) (bytes : List ℕ) → Takes old new r bytes → WasSaid first new (wrote r bytes t)
+  wrote_so (Ok n) bytes h = record {
+    known = λ e. goes_on (λ (s : Talk). record s { written = s.written ++ take n bytes }) t old.talk new.talk h.0 (before.known e);
+    heard = subst (λ x. Consumes first.remaining x t.heard) (sym h.2) before.heard;
+    written = Appends-trans first.contents old.contents new.contents t.written (take n bytes) before.written h.1;
+  }
+  wrote_so (Err e) bytes h = record {
+    known = λ is. goes_on (λ (s : Talk). s) t old.talk new.talk h.0 (before.known is);
+    heard = subst (λ x. Consumes first.remaining x t.heard) (sym h.2) before.heard;
+    written = Appends-kept first.contents old.contents new.contents t.written before.written h.1;
+  }
+
+  pub flushed_so : (r : Result (Unit {0}) (Unit {0})) → Flushes old new r → WasSaid first new (flushed r t)
+  flushed_so (Ok x) h = record {
+    known = λ e. goes_on (λ (s : Talk). record s { told = s.written }) t old.talk new.talk h.0 (before.known e);
+    heard = subst (λ x. Consumes first.remaining x t.heard) (sym h.2) before.heard;
+    written = Appends-kept first.contents old.contents new.contents t.written before.written h.1;
+  }
+  flushed_so (Err e) h = record {
+    known = λ is. goes_on (λ (s : Talk). s) t old.talk new.talk h.0 (before.known is);
+    heard = subst (λ x. Consumes first.remaining x t.heard) (sym h.2) before.heard;
+    written = Appends-kept first.contents old.contents new.contents t.written before.written h.1;
+  }
+
+  pub refused_so : (n : ℕ) → Refuses old new n → WasSaid first new (refusing n t)
+  refused_so n h = record {
+    known = λ e. goes_on (refusing n) t old.talk new.talk h.0 (before.known e);
+    heard = subst (λ x. Consumes first.remaining x t.heard) (sym h.2) before.heard;
+    written = subst (λ x. Appends first.contents x t.written) (sym h.1) before.written;
+  }
 
 -- ---- writing
 
-pub wrote_more : (t : Talk) (front bytes : List ℕ) (n : ℕ) (old new : Option Talk) → new ≡ option_map (λ (s : Talk). record s { written = s.written ++ take n bytes }) old → old ≡ Some (record t { written = t.written ++ front })
-    → new ≡ Some (record t { written = t.written ++ (front ++ take n bytes) })
-wrote_more t front bytes n old new e known =
-    goes_on (λ (s : Talk). record s { written = s.written ++ take n bytes }) (record t { written = t.written ++ front }) old new e known
-    ∙ ap (λ x. Some (record t { written = x })) (append_assoc t.written front (take n bytes))
+-- the talk with this written instead of that
+pub written_so : (first now : Side) (t : Talk) (these those : List ℕ) → these ≡ those → WasSaid first now (record t { written = these }) → WasSaid first now (record t { written = those })
+written_so first now t these those same said = subst (λ x. WasSaid first now (record t { written = x })) same said
+
+pub wrote_more : (first old new : Side) (t : Talk) (front bytes : List ℕ) (n : ℕ) → Takes {E = Unit {0}} old new (Ok n) bytes → WasSaid first old (record t { written = t.written ++ front })
+    → WasSaid first new (record t { written = t.written ++ (front ++ take n bytes) })
+wrote_more first old new t front bytes n h said =
+    written_so first new t ((t.written ++ front) ++ take n bytes) (t.written ++ (front ++ take n bytes)) (append_assoc t.written front (take n bytes))
+    (wrote_so first old new (record t { written = t.written ++ front }) said (Ok n) bytes h)
+
+pub nothing_left : (front rest : List ℕ) → length rest ≡ 0 → front ++ rest ≡ front
+nothing_left front [] e = append-nil front
+nothing_left front (x ∷ xs) e = absurd (omega (arith, e))
 
 pub cut_more : (bytes front rest back : List ℕ) (n : ℕ) → bytes ≡ front ++ rest → back ≡ drop n rest → bytes ≡ (front ++ take n rest) ++ back
 cut_more bytes front rest back n e is = e ∙ ap (λ x. front ++ x) (sym (take-append-drop n rest)) ∙ sym (append_assoc front (take n rest) (drop n rest)) ∙ ap (λ x. (front ++ take n rest) ++ x) (sym is)

@@ -1,19 +1,12 @@
 -- The lines that were heard, and what they are answered, one line at a time.
-use Rattle.std.proofs.Common.{◌≡◌, ℕ, suc, ◌+◌, ◌<◌, ◌≤◌, Bool, true, false, not, cond, eqb, ◌&&◌, List, [], ◌∷◌, ◌++◌, length, take, drop, Option, Some, None, refl, ap, ◌∙◌, sym, subst, append_assoc, arith, one-add}
-use Rattle.std.specs.Prelude.{position, filter, nat_le, is_some, ⊤}
+use Rattle.std.proofs.Common.{◌≡◌, ℕ, suc, ◌+◌, ◌<◌, Bool, true, false, not, cond, eqb, List, [], ◌∷◌, ◌++◌, length, take, drop, Some, None, refl, ap, subst, arith, one-add}
+use Rattle.std.specs.Prelude.{position}
 use Rattle.std.specs.List.{position_or_len}
 use Rattle.std.proofs.lemmas.Bool.{eqb-true}
-use Rattle.std.proofs.lemmas.List.{append-nil, length-append, take_all}
+use Rattle.std.proofs.lemmas.List.{take_all}
 use Rattle.pl_words.proofs.Places.{place_of, nowhere}
-use Rattle.std.proofs.lemmas.List.Elements.{filter-append}
-use Rattle.pl_model.specs.declared.calls.Limits.{Limits}
-use Rattle.pl_model.specs.declared.script.Line.{Line}
-use Rattle.pl_model.specs.declared.script.Version.{Version}
-use Rattle.pl_model.specs.declared.script.Version.TheVariants.{One, Two}
-use Rattle.pl_model.specs.Numbered.{State, opening}
-use Rattle.pl_model.specs.Lines.{line}
-use Rattle.pl_model.specs.Script.{lines, onto_first, version_of_lines, names_version_2, header_lines, asked, if_good, with_line, answers, are_marks}
-use Rattle.pl_script.specs.Live.{most_line_bytes, onto_ended, ended_lines, is_good, behind_header, asked_live, number_unless, bad_among, bad_lines, AreAnswered}
+use Rattle.pl_model.specs.Script.{lines, onto_first}
+use Rattle.pl_script.specs.Live.{onto_ended, ended_lines}
 use Rattle.pl_script.specs.LiveText.{HasNoFeed}
 
 -- ---- bytes without a line feed

@@ -1,5 +1,5 @@
 -- A live run: what it answers to the lines that it has heard, and when.
-use Rattle.std.specs.Prelude.{◌≡◌, ◌≤◌, ⊤, ℕ, ◌+◌, List, [], ◌∷◌, ◌++◌, length, drop, filter, All, Bool, true, false, ◌==◌, ◌&&◌, nat_le, if◌then◌else◌, is_some, Result, Ok, Err}
+use Rattle.std.specs.Prelude.{◌≡◌, ⊤, ℕ, ◌+◌, List, [], ◌∷◌, ◌++◌, length, drop, filter, All, Bool, true, false, ◌==◌, ◌&&◌, nat_le, if◌then◌else◌, is_some, Result, Ok, Err}
 use Rattle.pl_model.specs.declared.calls.Limits.{Limits}
 use Rattle.pl_model.specs.declared.script.Line.{Line}
 use Rattle.pl_model.specs.declared.script.Version.{Version}
@@ -75,18 +75,18 @@ EndsBefore A strict talk (Ok counted) ls later =
 EndsBefore A strict talk (Err (faults.BadLine n)) ls later =
     (strict ≡ true) × (n ≡ length ls + 1) × ((l : List ℕ) × (others : List (List ℕ)) × (later ≡ l ∷ others) × (bad_lines A (ls ++ l ∷ []) ≡ n ∷ []))
 EndsBefore A strict talk (Err faults.Read) ls later = ls ≡ ended_lines talk.heard
-EndsBefore A strict talk (Err faults.TooLong) ls later = ls ≡ ended_lines talk.heard
+EndsBefore A strict talk (Err faults.TooLong) ls later = (length talk.moments ≡ most_live_reads) × (ls ≡ ended_lines talk.heard)
 EndsBefore A strict talk (Err faults.Write) ls later = ⊤
 EndsBefore A strict talk (Err faults.NoMemory) ls later = ⊤
 
--- What was told: all that the lines before the end are answered. Where a write failed, what was written is a front of it.
+-- What was written and told: all that the lines before the end are answered. Where a write failed, what was written is a front of it.
 abbrev pub IsToldAll : Result LiveTotals LiveFault → Talk → List ℕ → Type 0
 IsToldAll (Err faults.Write) talk text = (more : List ℕ) × (text ≡ talk.written ++ more)
-IsToldAll (Ok counted) talk text = talk.told ≡ text
-IsToldAll (Err faults.Read) talk text = talk.told ≡ text
-IsToldAll (Err faults.TooLong) talk text = talk.told ≡ text
-IsToldAll (Err (faults.BadLine n)) talk text = talk.told ≡ text
-IsToldAll (Err faults.NoMemory) talk text = talk.told ≡ text
+IsToldAll (Ok counted) talk text = (talk.written ≡ text) × (talk.told ≡ text)
+IsToldAll (Err faults.Read) talk text = (talk.written ≡ text) × (talk.told ≡ text)
+IsToldAll (Err faults.TooLong) talk text = (talk.written ≡ text) × (talk.told ≡ text)
+IsToldAll (Err (faults.BadLine n)) talk text = (talk.written ≡ text) × (talk.told ≡ text)
+IsToldAll (Err faults.NoMemory) talk text = (talk.written ≡ text) × (talk.told ≡ text)
 
 -- A live run: at each moment at which it listened no answer was held back, and at its end some first lines of what it heard
 -- were answered, and no others.

@@ -1,18 +1,11 @@
 -- How a live run stands between two bytes of its input.
-use Rattle.std.specs.Prelude.{◌≡◌, ◌≢◌, ◌≤◌, ◌<◌, ⊤, ◌⊎◌, ℕ, ◌+◌, List, [], ◌∷◌, ◌++◌, length, All, Bool, true, false, ◌==◌, Option, Some, None, Result, Ok, Err, string_bytes}
+use Rattle.std.specs.Prelude.{◌≡◌, ◌≢◌, ◌≤◌, ◌<◌, ⊤, ℕ, ◌+◌, List, [], ◌∷◌, ◌++◌, length, All, Bool, true, false, Result, Ok, Err, string_bytes}
 use Rattle.pl_model.specs.declared.calls.Limits.{Limits}
-use Rattle.pl_model.specs.declared.script.Line.{Line}
-use Rattle.pl_model.specs.declared.script.Version.{Version}
-use Rattle.pl_model.specs.Numbered.{State, opening}
-use Rattle.pl_model.specs.Lines.{line}
-use Rattle.pl_model.specs.Script.{lines, version_of_lines, answers, are_marks}
+use Rattle.pl_model.specs.Script.{lines, version_of_lines}
 use Rattle.pl_state.specs.Makes.{Stands}
-use Rattle.pl_words.specs.declared.fault.LineFault.{LineFault}
-use Rattle.pl_words.specs.declared.fault.LineFault.TheVariants as stops
-use Rattle.pl_script.specs.LineByLine.{IsAnswered}
-use Rattle.pl_script.specs.Talk.{Talk}
+use Rattle.pl_script.specs.Talk.{Talk, Side, WasSaid}
 use Rattle.pl_script.specs.LiveText.{HasNoFeed, StandsBehind}
-use Rattle.pl_script.specs.Live.{most_line_bytes, ended_lines, is_good, asked_live, bad_lines, AreAnswered, IsPrompt, EndsBefore, number_unless}
+use Rattle.pl_script.specs.Live.{most_line_bytes, ended_lines, bad_lines, AreAnswered, IsPrompt, EndsBefore, number_unless}
 use Rattle.pl_script.specs.declared.live_lines.Live.{Live}
 use Rattle.pl_script.specs.declared.peer.LiveTotals.{LiveTotals}
 use Rattle.pl_script.specs.declared.peer.LiveFault.{LiveFault}
@@ -25,17 +18,13 @@ IsHeld true held bytes = most_line_bytes < length bytes
 
 -- ---- the writing
 
--- the talk is known, and is this
-abbrev pub Knows : Option Talk → Talk → Type 0
-Knows known t = known ≡ Some t
-
 -- all of the bytes were written, or a front of them
-abbrev pub WritesInFull : Option Talk → Talk → List ℕ → Type 0
-WritesInFull new t bytes = Knows new (record t { written = t.written ++ bytes })
+abbrev pub WritesInFull : (first new : Side) → Talk → List ℕ → Type 0
+WritesInFull first new t bytes = WasSaid first new (record t { written = t.written ++ bytes })
 
-abbrev pub WritesInPart : Option Talk → Talk → List ℕ → LiveFault → Type 0
-WritesInPart new t bytes fault =
-    (fault ≡ faults.Write) × ((front : List ℕ) × (more : List ℕ) × (bytes ≡ front ++ more) × Knows new (record t { written = t.written ++ front }))
+abbrev pub WritesInPart : (first new : Side) → Talk → List ℕ → LiveFault → Type 0
+WritesInPart first new t bytes fault =
+    (fault ≡ faults.Write) × ((front : List ℕ) × (more : List ℕ) × (bytes ≡ front ++ more) × WasSaid first new (record t { written = t.written ++ front }))
 
 -- A fault of writing comes exactly where a write or a flush failed or took nothing. The two Bools say whether one had before, and has now.
 abbrev pub WritingComesTo : {X : Type 0} → Bool → Bool → Result X LiveFault → Type 0
@@ -147,6 +136,6 @@ pub record IsEnding (A : Type 0) (limits : Limits) (strict : Bool) (waiting : Li
   pub ends : EndsBefore A strict talk result before later
 
 -- what came of a part of a run
-abbrev pub GoesOnOrEnds : {X : Type 0} (A : Type 0) → Limits → Bool → List ℕ → Result X LiveFault → Option Talk → (Talk → Type 0) → Type 0
-GoesOnOrEnds A limits strict waiting (Ok x) new Goes = (t : Talk) × Knows new t × Goes t
-GoesOnOrEnds A limits strict waiting (Err fault) new Goes = (t : Talk) × Knows new t × IsEnding A limits strict waiting t (Err fault)
+abbrev pub GoesOnOrEnds : {X : Type 0} (A : Type 0) → Limits → Bool → List ℕ → Result X LiveFault → (first new : Side) → (Talk → Type 0) → Type 0
+GoesOnOrEnds A limits strict waiting (Ok x) first new Goes = (t : Talk) × WasSaid first new t × Goes t
+GoesOnOrEnds A limits strict waiting (Err fault) first new Goes = (t : Talk) × WasSaid first new t × IsEnding A limits strict waiting t (Err fault)

@@ -2,9 +2,9 @@
 ghost use Rattle.std.specs.Prelude.{◌≡◌, ◌+◌, ◌<◌, ◌≤◌, ◌^◌, ◌++◌, ◌∷◌, ℕ, List, [], length, Bool, true, string_bytes, OnOk, IfErr};
 ghost use Rattle.pl_model.specs.declared.calls.Limits.{Limits};
 ghost use Rattle.pl_model.specs.Numbers.{most_file_bytes};
-ghost use Rattle.pl_script.specs.Talk.{Talk, silence};
+ghost use Rattle.pl_script.specs.Talk.{Talk, Side, WasSaid};
 ghost use Rattle.pl_script.specs.Live.{IsLiveRun};
-ghost use Rattle.pl_script.specs.LiveSteps.{Knows, IsAmid, IsUnderway, IsEnding, GoesOnOrEnds, WritingComesTo, ReadingComesTo, OtherFault, NoReadFault, ReadingEnds, is_unwritable};
+ghost use Rattle.pl_script.specs.LiveSteps.{IsAmid, IsUnderway, IsEnding, GoesOnOrEnds, WritingComesTo, ReadingComesTo, OtherFault, NoReadFault, ReadingEnds, is_unwritable};
 ghost use Rattle.pl_script.specs.declared.peer.LiveFault.TheVariants.{Write};
 
 use crate::live_lines::{Live, gather, holds_none, new_live, take_line};
@@ -24,10 +24,10 @@ fn tell_waiting<A: Allocator + Copy, P: Peer>(
     live: &mut Live<A>,
     peer: &mut P,
 ) -> Result<(), LiveFault>
-    ensures run { (limits : Limits) (strict : Bool) (t : Talk) (pending : List ℕ) → Knows (P.talk peer.old) t →
+    ensures run { (limits : Limits) (strict : Bool) (first : Side) (t : Talk) (pending : List ℕ) → WasSaid first (P.side peer.old) t →
         IsUnderway limits strict live.old t pending →
-        GoesOnOrEnds A limits strict (string_bytes live.new.out) result (P.talk peer.new) (λ now.
-        IsUnderway limits strict live.new now pending × (now.told ≡ now.written) × (string_bytes live.new.out ≡ [])) }
+        GoesOnOrEnds A limits strict (string_bytes live.new.out) result first (P.side peer.new) (λ now.
+        IsUnderway limits strict live.new now pending × (now.told ≡ now.written) × (string_bytes live.new.out ≡ []) × (now.moments ≡ t.moments)) }
     ensures fault { IfErr result (λ e. e ≡ Write) }
     ensures read { P.cannot_read peer.new ≡ P.cannot_read peer.old }
     ensures write { WritingComesTo (P.cannot_write peer.old) (P.cannot_write peer.new) result }
@@ -48,10 +48,10 @@ fn run_held<A: Allocator + Copy, P: Peer>(
 ) -> Result<(), LiveFault>
     requires lines { live.old.lines + 1 < 2 ^ 64 }
     requires bad { live.old.bad ≤ live.old.lines }
-    ensures run { (limits : Limits) (t : Talk) (ls : List (List ℕ)) (line : List ℕ) (others : List (List ℕ)) → Knows (P.talk peer.old) t →
+    ensures run { (limits : Limits) (first : Side) (t : Talk) (ls : List (List ℕ)) (line : List ℕ) (others : List (List ℕ)) → WasSaid first (P.side peer.old) t →
         IsAmid limits strict live.old t ls line (line ∷ others) →
-        GoesOnOrEnds A limits strict (string_bytes live.new.out) result (P.talk peer.new) (λ now.
-        IsAmid limits strict live.new now (ls ++ line ∷ []) [] others × (now.heard ≡ t.heard) × (now.is_over ≡ t.is_over)) }
+        GoesOnOrEnds A limits strict (string_bytes live.new.out) result first (P.side peer.new) (λ now.
+        IsAmid limits strict live.new now (ls ++ line ∷ []) [] others × (now.heard ≡ t.heard) × (now.is_over ≡ t.is_over) × (now.moments ≡ t.moments)) }
     ensures read { P.cannot_read peer.new ≡ P.cannot_read peer.old }
     ensures write { P.cannot_write peer.new ≡ P.cannot_write peer.old }
     ensures fault { OtherFault result }
@@ -79,8 +79,9 @@ fn take_in<A: Allocator + Copy, P: Peer>(
 ) -> Result<(), LiveFault>
     requires lines { live.old.lines + length bytes.now < 2 ^ 64 }
     requires bad { live.old.bad ≤ live.old.lines }
-    ensures run { (limits : Limits) (t : Talk) → Knows (P.talk peer.old) t → IsUnderway limits strict live.old t bytes.now →
-        GoesOnOrEnds A limits strict (string_bytes live.new.out) result (P.talk peer.new) (λ now. IsUnderway limits strict live.new now []) }
+    ensures run { (limits : Limits) (first : Side) (t : Talk) → WasSaid first (P.side peer.old) t → IsUnderway limits strict live.old t bytes.now →
+        GoesOnOrEnds A limits strict (string_bytes live.new.out) result first (P.side peer.new) (λ now.
+        IsUnderway limits strict live.new now [] × (now.moments ≡ t.moments)) }
     ensures read { P.cannot_read peer.new ≡ P.cannot_read peer.old }
     ensures write { WritingComesTo (P.cannot_write peer.old) (P.cannot_write peer.new) result }
     ensures fault { NoReadFault result }
@@ -109,8 +110,8 @@ fn finish<A: Allocator + Copy, P: Peer>(
 ) -> Result<LiveTotals, LiveFault>
     requires lines { live.old.lines + 1 < 2 ^ 64 }
     requires bad { live.old.bad ≤ live.old.lines }
-    ensures run { (limits : Limits) (t : Talk) → Knows (P.talk peer.old) t → t.is_over ≡ true → IsUnderway limits strict live.old t [] →
-        (now : Talk) × Knows (P.talk peer.new) now × IsEnding A limits strict (string_bytes live.new.out) now result }
+    ensures run { (limits : Limits) (first : Side) (t : Talk) → WasSaid first (P.side peer.old) t → t.is_over ≡ true → IsUnderway limits strict live.old t [] →
+        (now : Talk) × WasSaid first (P.side peer.new) now × IsEnding A limits strict (string_bytes live.new.out) now result }
     ensures read { P.cannot_read peer.new ≡ P.cannot_read peer.old }
     ensures write { P.cannot_write peer.new ≡ P.cannot_write peer.old }
     ensures fault { OtherFault result }
@@ -137,8 +138,8 @@ fn converse<A: Allocator + Copy, P: Peer>(
 ) -> Result<LiveTotals, LiveFault>
     requires lines { live.old.lines ≡ 0 }
     requires bad { live.old.bad ≡ 0 }
-    ensures run { (limits : Limits) (t : Talk) → Knows (P.talk peer.old) t → IsUnderway limits strict live.old t [] →
-        (now : Talk) × Knows (P.talk peer.new) now × IsEnding A limits strict (string_bytes live.new.out) now result }
+    ensures run { (limits : Limits) (first : Side) (t : Talk) → WasSaid first (P.side peer.old) t → t.moments ≡ [] → IsUnderway limits strict live.old t [] →
+        (now : Talk) × WasSaid first (P.side peer.new) now × IsEnding A limits strict (string_bytes live.new.out) now result }
     ensures read { ReadingComesTo (P.cannot_read peer.old) (P.cannot_read peer.new) result }
     ensures write { WritingComesTo (P.cannot_write peer.old) (P.cannot_write peer.new) result }
 {
@@ -188,9 +189,8 @@ pub fn run_live<A: Allocator + Copy, P: Peer>(
 ) -> Result<LiveTotals, LiveFault>
     requires most { limits.file_max ≤ most_file_bytes }
 
-    // Where it is known what is said: whenever the run listened, it had answered all lines that it had heard.
-    ensures run { Knows (P.talk peer.old) silence →
-        (t : Talk) × Knows (P.talk peer.new) t × IsLiveRun A limits strict result t }
+    // What was said and heard is a talk in which the run, whenever it listened, had answered all lines that it had heard.
+    ensures run { (t : Talk) × WasSaid (P.side peer.old) (P.side peer.new) t × IsLiveRun A limits strict result t }
 
     // Of failures, whatever is known.
     ensures read { ReadingEnds (P.cannot_read peer.old) (P.cannot_read peer.new) result }

@@ -1,7 +1,7 @@
 //! The far end of a live run, and what such a run comes to.
-ghost use Rattle.std.specs.Prelude.{◌≡◌, ◌≤◌, ◌||◌, ℕ, List, length, Option, Bool, IfOk, is_err, option_map};
+ghost use Rattle.std.specs.Prelude.{◌≡◌, ◌≤◌, ◌||◌, length, Bool, IfOk, is_err};
 ghost use Rattle.pl_script.specs.Streams.{took_nothing};
-ghost use Rattle.pl_script.specs.Talk.{Talk, listened, wrote, flushed, refusing};
+ghost use Rattle.pl_script.specs.Talk.{Side, Hears, Takes, Flushes, Refuses};
 ghost use Rattle.pl_script.specs.declared.peer.LiveFault.TheVariants.{NoMemory};
 
 use std::alloc::AllocError;
@@ -48,8 +48,8 @@ impl From<AllocError> for LiveFault {
 
 /// Who asks the lines of a live run and waits for their answers.
 pub trait Peer {
-    // What was said on both sides so far, where that is known.
-    ghost talk: { Self → Option Talk };
+    // What is known of it.
+    ghost side: { Self → Side };
     // Whether a read failed.
     ghost cannot_read: { Self → Bool };
     // Whether a write failed or took no byte, or a flush failed.
@@ -63,7 +63,7 @@ pub trait Peer {
     /// Those of the reader. An interrupted read is one that failed; nothing is tried again.
     fn read(&mut self, buf: &mut [u8]) -> io::Result<usize>
         ensures bound { IfOk result (λ n. n ≤ length buf.new) }
-        ensures talk { talk self.new ≡ option_map (listened result buf.new) (talk self.old) }
+        ensures side { Hears (side self.old) (side self.new) result buf.new }
         ensures read { cannot_read self.new ≡ (is_err result || cannot_read self.old) }
         ensures write { cannot_write self.new ≡ cannot_write self.old };
 
@@ -74,7 +74,7 @@ pub trait Peer {
     /// Those of the writer. An interrupted write is one that failed; nothing is tried again.
     fn write(&mut self, bytes: &[u8]) -> io::Result<usize>
         ensures bound { IfOk result (λ n. n ≤ length bytes.now) }
-        ensures talk { talk self.new ≡ option_map (wrote result bytes.now) (talk self.old) }
+        ensures side { Takes (side self.old) (side self.new) result bytes.now }
         ensures read { cannot_read self.new ≡ cannot_read self.old }
         ensures write { cannot_write self.new ≡ (took_nothing result || cannot_write self.old) };
 
@@ -84,13 +84,13 @@ pub trait Peer {
     ///
     /// Those of the writer.
     fn flush(&mut self) -> io::Result<()>
-        ensures talk { talk self.new ≡ option_map (flushed result) (talk self.old) }
+        ensures side { Flushes (side self.old) (side self.new) result }
         ensures read { cannot_read self.new ≡ cannot_read self.old }
         ensures write { cannot_write self.new ≡ (is_err result || cannot_write self.old) };
 
     /// Is told that the line of this number, counted from 1, is a bad one, and was passed over.
     fn refuse(&mut self, number: u64)
-        ensures talk { talk self.new ≡ option_map (refusing number) (talk self.old) }
+        ensures side { Refuses (side self.old) (side self.new) number }
         ensures read { cannot_read self.new ≡ cannot_read self.old }
         ensures write { cannot_write self.new ≡ cannot_write self.old };
 }

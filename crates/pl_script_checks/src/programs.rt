@@ -59,6 +59,37 @@ const PROGRAMS: &[Program] = &[
         status: 0,
     },
     Program {
+        words: &["--version"],
+        input: "start\n",
+        output: "piperun 0.7.0\n",
+        line: "",
+        status: 0,
+    },
+    // A call that would wait above the limit is refused, and a pipe gets no larger than its own.
+    Program {
+        words: &["--waiting-max", "0", "--capacity-max", "65536"],
+        input: "start\n1 pipe\n1 read 0 1\n1 setsz 1 65537\n",
+        output: "pid 1\nfds 0 1\nEAGAIN\nEPERM\n",
+        line: "",
+        status: 0,
+    },
+    // A name more than the limit has no room, and a file ends at its own.
+    Program {
+        words: &["--live", "--names-max", "1", "--file-max", "2"],
+        input: "start\n1 open a w creat\n1 open b w creat\n1 write 0 616263\n1 write 0 64\n",
+        output: "pid 1\nfd 0\nENOSPC\ncount 2\nEFBIG\n",
+        line: "",
+        status: 0,
+    },
+    // A limit that the record names goes before that of the command line.
+    Program {
+        words: &["--check", "--waiting-max", "0", "--capacity-max", "65536"],
+        input: "# piperun --waiting-max 1\nstart\n1 pipe\n1 read 0 1\n# => parked 1\n1 setsz 1 65537\n# => EPERM\n",
+        output: "2 replies as recorded\n",
+        line: "",
+        status: 0,
+    },
+    Program {
         words: &[],
         input: "start\n1 wrlte 1 61\nstart\n",
         output: "pid 1\n",
@@ -197,13 +228,7 @@ fn run_between<R: Files + AllocGlobal, I: Read + Drop, O: Write + Drop, E: Write
         return Ok(());
     };
     let mut peer = Terminal::new(input, output, told);
-    live_from(
-        rt.alloc(),
-        live.first_call,
-        live.memory,
-        live.strict,
-        &mut peer,
-    )
+    live_from(rt.alloc(), live.limits, live.memory, live.strict, &mut peer)
 }
 
 /// Writes the line of a fault, and answers the status.

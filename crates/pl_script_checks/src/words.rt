@@ -1,9 +1,11 @@
 //! What the words of the command line ask for.
 use self::Asked::{
-    Checks, ChecksFile, Fails, Helps, LivesOn, LivesOnFile, Runs, RunsFile, RunsWithin,
+    Checks, ChecksFile, ChecksIn, Fails, Helps, LivesIn, LivesOn, LivesOnFile, Runs, RunsFile,
+    RunsIn, RunsWithin, Tells,
 };
 use super::equal::is;
-use pl_run::{Choice, Fault, LiveChoice, words};
+use pl_model::Limits;
+use pl_run::{Choice, Fault, LIMITS, LiveChoice, words};
 use std::alloc::Global;
 use std::test::Fail;
 
@@ -16,19 +18,40 @@ enum Asked {
     RunsFile(u64, &'static str),
     /// A run of the input, with calls numbered from here, within so many bytes.
     RunsWithin(u64, u64),
+    /// A run of the input within these limits.
+    RunsIn(Limits),
     /// A check of the input that tells all or the first difference, with calls numbered from here.
     Checks(bool, u64),
     /// The same of a file.
     ChecksFile(bool, u64, &'static str),
+    /// A check of the input that tells the first difference, within these limits.
+    ChecksIn(Limits),
     /// A live run of the input that is strict or not, with calls numbered from here, and within so many bytes, if there is a limit.
     LivesOn(bool, u64, Option<u64>),
     /// The same of a file.
     LivesOnFile(bool, u64, &'static str),
+    /// A live run of the input that isn't strict, within these limits.
+    LivesIn(Limits),
     Helps,
+    /// The version.
+    Tells,
     Fails(Fault),
 }
 
 const BAD: Asked = Fails(Fault::CommandLine);
+
+const SHORT_FILES: Limits = Limits {
+    file_max: 4_096,
+    ..LIMITS
+};
+
+const ALL_SET: Limits = Limits {
+    first_call: 7,
+    file_max: 0,
+    names_max: 3,
+    waiting_max: 2,
+    capacity_max: 8_192,
+};
 
 const WORDS: &[(&[&str], Asked)] = &[
     (&[], Runs(1)),
@@ -74,6 +97,29 @@ const WORDS: &[(&[&str], Asked)] = &[
     (&["--memory", "5", "--first-call", "x"], BAD),
     (&["--memory", "x", "--first-call", "7"], BAD),
     (&["--memory", "5", "--help"], Helps),
+    // the limits of the kernel, each in its range (RULES.md, "Records")
+    (&["--file-max", "4096"], RunsIn(SHORT_FILES)),
+    (&["--file-max=16777216"], Runs(1)),
+    (&["--file-max", "16777217"], BAD),
+    (&["--names-max", "18446744073709551615"], Runs(1)),
+    (&["--names-max", "18446744073709551616"], BAD),
+    (&["--waiting-max", "x"], BAD),
+    (&["--capacity-max", "1048576"], Runs(1)),
+    (&["--capacity-max", "1048577"], BAD),
+    (&["--capacity-max"], BAD),
+    (&["--file-max", "1", "--file-max", "1"], BAD),
+    (
+        &[
+            "--capacity-max=8192",
+            "--waiting-max=2",
+            "--names-max=3",
+            "--file-max=0",
+            "--first-call=7",
+        ],
+        RunsIn(ALL_SET),
+    ),
+    (&["--check", "--file-max", "4096"], ChecksIn(SHORT_FILES)),
+    (&["--file-max", "4096", "--live"], LivesIn(SHORT_FILES)),
     // checks
     (&["--check"], Checks(false, 1)),
     (&["--check", "s"], ChecksFile(false, 1, "s")),
@@ -109,7 +155,13 @@ const WORDS: &[(&[&str], Asked)] = &[
     (&["--First-call", "7"], BAD),
     (&["--first-calls", "7"], BAD),
     (&["-7"], BAD),
-    (&["--version"], BAD),
+    // the version
+    (&["--version"], Tells),
+    (&["-V"], Tells),
+    (&["s", "--version"], Tells),
+    (&["--file-max", "x", "-V"], Tells),
+    (&["-v"], BAD),
+    (&["--version=1"], BAD),
     // FILE
     (&["a", "b"], BAD),
     (&["-"], RunsFile(1, "-")),
@@ -131,21 +183,30 @@ pub(crate) fn strings(alloc: Global, given: &[&str]) -> Result<Vec<String>, Fail
     Ok(strings)
 }
 
+/// The limits where the number of the first call alone is set.
+fn from_call(first_call: u64) -> Limits {
+    Limits {
+        first_call,
+        ..LIMITS
+    }
+}
+
 /// Whether this live run is asked for.
 fn is_live(live: &LiveChoice, asked: Asked) -> bool {
     match asked {
         LivesOn(strict, n, memory) => {
             live.strict == strict
-                && live.first_call == n
+                && live.limits == from_call(n)
                 && live.memory == memory
                 && live.file.is_none()
         }
         LivesOnFile(strict, n, name) => {
             live.strict == strict
-                && live.first_call == n
+                && live.limits == from_call(n)
                 && live.memory.is_none()
                 && live.file.as_deref() == Some(name)
         }
+        LivesIn(limits) => !live.strict && live.limits == limits,
         _ => false,
     }
 }
@@ -155,39 +216,44 @@ fn is_so(choice: &Result<Choice, Fault>, asked: Asked) -> bool {
         (
             Ok(
                 Choice::Run {
-                    first_call,
+                    limits,
                     memory,
                     file,
                 },
             ),
             wanted,
         ) => match wanted {
-            Runs(n) => *first_call == n && memory.is_none() && file.is_none(),
+            Runs(n) => *limits == from_call(n) && memory.is_none() && file.is_none(),
             RunsFile(n, name) => {
-                *first_call == n && memory.is_none() && file.as_deref() == Some(name)
+                *limits == from_call(n) && memory.is_none() && file.as_deref() == Some(name)
             }
-            RunsWithin(n, most) => *first_call == n && *memory == Some(most) && file.is_none(),
+            RunsWithin(n, most) => {
+                *limits == from_call(n) && *memory == Some(most) && file.is_none()
+            }
+            RunsIn(wanted) => *limits == wanted,
             _ => false,
         },
         (
             Ok(
                 Choice::Check {
                     all,
-                    first_call,
+                    limits,
                     memory: None,
                     file,
                 },
             ),
             wanted,
         ) => match wanted {
-            Checks(every, n) => *all == every && *first_call == n && file.is_none(),
+            Checks(every, n) => *all == every && *limits == from_call(n) && file.is_none(),
             ChecksFile(every, n, name) => {
-                *all == every && *first_call == n && file.as_deref() == Some(name)
+                *all == every && *limits == from_call(n) && file.as_deref() == Some(name)
             }
+            ChecksIn(wanted) => !*all && *limits == wanted,
             _ => false,
         },
         (Ok(Choice::Live(live)), wanted) => is_live(live, wanted),
         (Ok(Choice::Help), Helps) => true,
+        (Ok(Choice::Version), Tells) => true,
         (Err(fault), Fails(wanted)) => *fault == wanted,
         _ => false,
     }

@@ -2,7 +2,7 @@
 
 use crate::std_shim::alloc::Global;
 use crate::std_shim::clap::error::ErrorKind::{
-    self, ArgumentConflict, DisplayHelp, InvalidValue, UnknownArgument,
+    self, ArgumentConflict, DisplayHelp, DisplayVersion, InvalidValue, UnknownArgument,
 };
 use crate::std_shim::clap::{Arg, Command};
 use crate::std_shim::string::String;
@@ -10,7 +10,10 @@ use crate::std_shim::string::String;
 type Read = Result<(Option<u64>, Option<std::string::String>), ErrorKind>;
 
 fn read(words: &[&str]) -> Read {
-    let command = Command::new(Global, "a").no_binary_name(true);
+    read_by(Command::new(Global, "a").no_binary_name(true), words)
+}
+
+fn read_by(command: Command<'_>, words: &[&str]) -> Read {
     let number = Arg::new(Global, "number").long("number");
     let command = command
         .arg(number)
@@ -69,6 +72,19 @@ fn the_first_word_that_is_not_taken_ends_it() {
     );
     assert_eq!(read(&["--", "a", "-h"]), Err(UnknownArgument));
     assert_eq!(read(&["--help=1"]).err(), Some(UnknownArgument));
+}
+
+#[test]
+fn a_command_with_a_version_tells_it() {
+    let by = |words| read_by(Command::new(Global, "a").no_binary_name(true).version("1"), words);
+    assert_eq!(by(&["-V"]), Err(DisplayVersion));
+    assert_eq!(by(&["--version", "--other"]), Err(DisplayVersion));
+    assert_eq!(by(&["-Vh"]), Err(DisplayVersion));
+    assert_eq!(by(&["-hV"]), Err(DisplayHelp));
+    assert_eq!(by(&["--version=1"]), Err(UnknownArgument));
+    assert_eq!(by(&["-v"]), Err(UnknownArgument));
+    assert_eq!(read(&["-V"]), Err(UnknownArgument));
+    assert_eq!(read(&["--version"]), Err(UnknownArgument));
 }
 
 #[test]

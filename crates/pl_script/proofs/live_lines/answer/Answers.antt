@@ -1,4 +1,3 @@
-use Rattle.std.proofs.Common.{◌≡◌}
 use Rattle.pl_script.proofs.LiveSteps.{refused_line}
 use Rattle.pl_script.proofs.live_lines.answer.Goals as goal
 

@@ -1,4 +1,4 @@
-use Rattle.std.proofs.Common.{◌≡◌, refl, sym, ◌∙◌, rules}
+use Rattle.std.proofs.Common.{refl, sym, ◌∙◌}
 use Rattle.pl_script.proofs.LiveSteps.{judged_long, judged_header, judged_run, judged_bad}
 use Rattle.pl_script.proofs.live_lines.judge.Goals as goal
 

@@ -1,4 +1,4 @@
-use Rattle.std.proofs.Common.{◌≡◌, ◌+◌, false, true, add-zero, refl, sym, ◌∙◌, ap, rules}
+use Rattle.std.proofs.Common.{◌+◌, false, true, add-zero, refl, sym, ◌∙◌, ap}
 use Rattle.std.proofs.lemmas.Result.{err_from_is_err_and}
 use Rattle.pl_script.proofs.LiveSteps.{counted_line}
 use Rattle.pl_script.proofs.live_lines.take_line.Goals as goal

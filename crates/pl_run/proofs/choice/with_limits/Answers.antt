@@ -1,0 +1,11 @@
+use Rattle.std.proofs.Common.{◌≡◌, ◌∙◌, ap, subst}
+use Rattle.std.specs.Prelude.{IfOk, codes}
+use Rattle.clap.specs.Words.{App, with_rule, app_of}
+use Rattle.pl_run.specs.Words.{valued_rule}
+use Rattle.pl_run.proofs.choice.with_limits.Goals as goal
+
+pub returns : goal.returns
+returns c =
+    let two = c.in_ok-command-2.ensures ∙ ap (λ (app : App). with_rule app (valued_rule (codes "names-max"))) c.in_ok-command.ensures in
+    let three = c.in_ok-command-3.ensures ∙ ap (λ (app : App). with_rule app (valued_rule (codes "waiting-max"))) two in
+    subst (λ (app : App). IfOk c.with_option-4.result (λ made. app_of made ≡ with_rule app (valued_rule (codes "capacity-max")))) three c.with_option-4.ensures

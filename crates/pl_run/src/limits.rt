@@ -1,0 +1,56 @@
+//! The numbers that the options of the command line give.
+ghost use Rattle.std.specs.Prelude.{◌≡◌, ◌≤◌, ◌^◌, ◌<◌, IfOk, MatchResult, codes};
+ghost use Rattle.clap.specs.Words.{found_of, first_value, one_text};
+ghost use Rattle.pl_run.specs.declared.fault.Fault.TheVariants.{CommandLine};
+ghost use Rattle.pl_run.specs.Words.{IsLimit, IsNoLimit, AreLimits, AreNoLimits, IsMemory, IsNoNumber, told_of};
+
+use crate::LIMITS;
+use crate::fault::Fault;
+use clap::ArgMatches;
+use pl_model::Limits;
+
+/// The number that the option of this name gives, at most `most`, and `none` where the option isn't given.
+fn limit_of(matches: &ArgMatches, name: &str, most: u64, none: u64) -> Result<u64, Fault>
+    requires { none ≤ most }
+    ensures said { MatchResult result (IsLimit most none (one_text (found_of matches.now) name.now))
+        (λ fault. (fault ≡ CommandLine) × IsNoLimit most (one_text (found_of matches.now) name.now)) }
+    ensures most { IfOk result (λ n. n ≤ most) }
+{
+    match matches.try_get_one::<u64>(name) {
+        Ok(Some(n)) if n <= most => Ok(n),
+        Ok(None) => Ok(none),
+        _ => Err(Fault::CommandLine),
+    }
+}
+
+/// The number of the first call and the limits of the kernel, by the words that the command took.
+pub(crate) fn limits_of(matches: &ArgMatches) -> Result<Limits, Fault>
+    ensures { MatchResult result (AreLimits (told_of (one_text (found_of matches.now)) (first_value (found_of matches.now))))
+        (λ fault. (fault ≡ CommandLine) × AreNoLimits (told_of (one_text (found_of matches.now)) (first_value (found_of matches.now)))) }
+{
+    let most_bytes = u64::from(LIMITS.file_max);
+    let most_capacity = u64::from(LIMITS.capacity_max);
+    let first_call = limit_of(matches, "first-call", u64::MAX, LIMITS.first_call)?;
+    let file_max = limit_of(matches, "file-max", most_bytes, most_bytes)?;
+    let names_max = limit_of(matches, "names-max", u64::MAX, LIMITS.names_max)?;
+    let waiting_max = limit_of(matches, "waiting-max", u64::MAX, LIMITS.waiting_max)?;
+    let capacity_max = limit_of(matches, "capacity-max", most_capacity, most_capacity)?;
+    Ok(Limits {
+        first_call,
+        file_max: file_max as u32,
+        names_max,
+        waiting_max,
+        capacity_max: capacity_max as u32,
+    })
+}
+
+/// The limit on memory, by these words.
+pub(crate) fn memory_of(matches: &ArgMatches) -> Result<Option<u64>, Fault>
+    ensures { MatchResult result (IsMemory (one_text (found_of matches.now) (codes "memory")))
+        (λ fault. (fault ≡ CommandLine) × IsNoNumber (one_text (found_of matches.now) (codes "memory"))) }
+{
+    match matches.try_get_one::<u64>("memory") {
+        Ok(memory) => Ok(memory),
+        Err(_) => Err(Fault::CommandLine),
+    }
+}
