@@ -82,6 +82,10 @@ impl<A: Allocator> String<A> {
         self.text.truncate(len);
     }
 
+    pub fn capacity(&self) -> usize {
+        self.text.capacity()
+    }
+
     pub fn clear(&mut self) {
         self.text.clear();
     }

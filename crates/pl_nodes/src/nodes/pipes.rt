@@ -58,6 +58,7 @@ impl<A: Allocator + Copy> Nodes<A> {
     }
 
     /// How many bytes of a pipe the next read can get.
+    #[inline(always)]
     pub fn front(&self, key: usize) -> usize
         requires { IsSome (at self.now.pipes key) }
         ensures value { IfSome (at self.now.pipes key) (λ x. result ≡ front x) }
@@ -95,6 +96,7 @@ impl<A: Allocator + Copy> Nodes<A> {
     }
 
     /// How many more bytes a pipe can hold.
+    #[inline(always)]
     pub fn room(&self, key: usize) -> usize
         requires { IsSome (at self.now.pipes key) }
         ensures value { IfSome (at self.now.pipes key) (λ x. result ≡ room x) }
