@@ -7,6 +7,7 @@ use super::equal::is;
 use pl_model::Limits;
 use pl_run::{Choice, Fault, LIMITS, LiveChoice, words};
 use std::alloc::Global;
+use std::process::Abort;
 use std::test::Fail;
 
 /// What words ask for.
@@ -97,29 +98,6 @@ const WORDS: &[(&[&str], Asked)] = &[
     (&["--memory", "5", "--first-call", "x"], BAD),
     (&["--memory", "x", "--first-call", "7"], BAD),
     (&["--memory", "5", "--help"], Helps),
-    // the limits of the kernel, each in its range (RULES.md, "Records")
-    (&["--file-max", "4096"], RunsIn(SHORT_FILES)),
-    (&["--file-max=16777216"], Runs(1)),
-    (&["--file-max", "16777217"], BAD),
-    (&["--names-max", "18446744073709551615"], Runs(1)),
-    (&["--names-max", "18446744073709551616"], BAD),
-    (&["--waiting-max", "x"], BAD),
-    (&["--capacity-max", "1048576"], Runs(1)),
-    (&["--capacity-max", "1048577"], BAD),
-    (&["--capacity-max"], BAD),
-    (&["--file-max", "1", "--file-max", "1"], BAD),
-    (
-        &[
-            "--capacity-max=8192",
-            "--waiting-max=2",
-            "--names-max=3",
-            "--file-max=0",
-            "--first-call=7",
-        ],
-        RunsIn(ALL_SET),
-    ),
-    (&["--check", "--file-max", "4096"], ChecksIn(SHORT_FILES)),
-    (&["--file-max", "4096", "--live"], LivesIn(SHORT_FILES)),
     // checks
     (&["--check"], Checks(false, 1)),
     (&["--check", "s"], ChecksFile(false, 1, "s")),
@@ -155,13 +133,6 @@ const WORDS: &[(&[&str], Asked)] = &[
     (&["--First-call", "7"], BAD),
     (&["--first-calls", "7"], BAD),
     (&["-7"], BAD),
-    // the version
-    (&["--version"], Tells),
-    (&["-V"], Tells),
-    (&["s", "--version"], Tells),
-    (&["--file-max", "x", "-V"], Tells),
-    (&["-v"], BAD),
-    (&["--version=1"], BAD),
     // FILE
     (&["a", "b"], BAD),
     (&["-"], RunsFile(1, "-")),
@@ -172,6 +143,40 @@ const WORDS: &[(&[&str], Asked)] = &[
     (&["--", "--help"], RunsFile(1, "--help")),
     (&["--first-call", "7", "--", "-x"], RunsFile(7, "-x")),
     (&["--", "a", "b"], BAD),
+];
+
+/// The same of the limits of the kernel and of the version.
+const WORDS_OF_LIMITS: &[(&[&str], Asked)] = &[
+    // the limits of the kernel, each in its range (RULES.md, "Records")
+    (&["--file-max", "4096"], RunsIn(SHORT_FILES)),
+    (&["--file-max=16777216"], Runs(1)),
+    (&["--file-max", "16777217"], BAD),
+    (&["--names-max", "18446744073709551615"], Runs(1)),
+    (&["--names-max", "18446744073709551616"], BAD),
+    (&["--waiting-max", "x"], BAD),
+    (&["--capacity-max", "1048576"], Runs(1)),
+    (&["--capacity-max", "1048577"], BAD),
+    (&["--capacity-max"], BAD),
+    (&["--file-max", "1", "--file-max", "1"], BAD),
+    (
+        &[
+            "--capacity-max=8192",
+            "--waiting-max=2",
+            "--names-max=3",
+            "--file-max=0",
+            "--first-call=7",
+        ],
+        RunsIn(ALL_SET),
+    ),
+    (&["--check", "--file-max", "4096"], ChecksIn(SHORT_FILES)),
+    (&["--file-max", "4096", "--live"], LivesIn(SHORT_FILES)),
+    // the version
+    (&["--version"], Tells),
+    (&["-V"], Tells),
+    (&["s", "--version"], Tells),
+    (&["--file-max", "x", "-V"], Tells),
+    (&["-v"], BAD),
+    (&["--version=1"], BAD),
 ];
 
 /// The words as the command line gives them.
@@ -259,14 +264,24 @@ fn is_so(choice: &Result<Choice, Fault>, asked: Asked) -> bool {
     }
 }
 
-#[test]
-fn what_words_ask_for(rt: HostRuntime) -> Result<(), Fail> {
+/// Whether each row of a table is read as it says.
+fn are_so<R: AllocGlobal + Abort>(rt: &R, rows: &[(&[&str], Asked)]) -> Result<(), Fail> {
     let mut row = 0usize;
-    for (given, asked) in WORDS {
+    for (given, asked) in rows {
         let strings = strings(rt.alloc(), given)?;
         let choice = words(rt.alloc(), strings.as_slice());
-        is(&rt, "the words of a row", row, is_so(&choice, *asked), true);
+        is(rt, "the words of a row", row, is_so(&choice, *asked), true);
         row = row.saturating_add(1);
     }
     Ok(())
+}
+
+#[test]
+fn what_words_ask_for(rt: HostRuntime) -> Result<(), Fail> {
+    are_so(&rt, WORDS)
+}
+
+#[test]
+fn what_words_of_limits_ask_for(rt: HostRuntime) -> Result<(), Fail> {
+    are_so(&rt, WORDS_OF_LIMITS)
 }
