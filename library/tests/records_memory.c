@@ -173,14 +173,15 @@ static void each_request_is_refused(void)
         granted++;
     }
     printf("each of %ld requests refused in turn, and %ld calls told it\n", granted, rounds_told);
-    HOLDS(granted > 100 && rounds_told > 100);
+    HOLDS(granted > 50 && rounds_told > 50);
     free(whole.text);
     free(other.text);
 }
 
 /* ---- A budget ---- */
 
-/* The record fills the budget, until a call finds no memory that asks for none otherwise. Handed out, it leaves room for as much again. */
+/* The record fills the budget, until a call finds no memory that asks for none otherwise. Handed out, it leaves room for hundreds of lines: room for
+ * lines that was taken before is kept, so it may be for half as many. */
 static void a_budget_is_filled(void)
 {
     struct record record = { NULL, 0, 0 };
@@ -200,7 +201,7 @@ static void a_budget_is_filled(void)
         while ((got = bindingclay_close(clay, 1, 9)).kind == BINDINGCLAY_FAULT && closes < 10000)
             closes++;
         OTHER(got, BINDINGCLAY_NO_MEMORY);
-        HOLDS(closes > 500 && bindingclay_memory(clay).held <= limits.memory);
+        HOLDS(closes > 250 && bindingclay_memory(clay).held <= limits.memory);
         HOLDS(drain(clay, &record, 1000));
         replies += closes + 2;
     }
