@@ -54,7 +54,7 @@ WITH_ALLOCATOR = {"repeat": ("repeat_in", "string", "RepeatIn")}
 SHIMMED = {"bitflags", "circular_buffer", "clap", "hex", "itoa", "memchr", "slab"}
 # Modules of std: those that the shim gives, and those that are the same in Rust.
 STD_SHIMMED = {"alloc", "collections", "env", "fs", "io", "process", "test"}
-STD_SAME = {"cell", "fmt", "mem", "ptr", "sync::atomic"}
+STD_SAME = {"cell", "fmt", "mem", "ptr", "slice", "sync::atomic"}
 # Names that Rattle's prelude has and Rust's lacks, or has otherwise: the module of the shim that has them.
 PRELUDE = {
     "Vec": "vec",

@@ -1,19 +1,28 @@
 //! Keys of descriptions.
-ghost use Rattle.std.specs.Prelude.{◌≡◌, List, ℕ, nat_eq};
+ghost use Rattle.std.specs.Prelude.{◌≡◌, [], ◌∷◌, List, ℕ, nat_eq};
+ghost use Rattle.pl_model.specs.Kept.{keys_of};
 
 use std::alloc::{Allocator, Global};
 use std::marker::Model;
+use std::slice;
 
 /// Keys in order, each any number of 64 bits. Contracts see them as their list.
 #[derive(Drop, Debug)]
 pub struct KeyList<A: Allocator = Global> {
-    keys: Vec<usize, A>,
+    keys: Keys<A>,
+}
+
+/// How keys are kept. Most calls that wait keep one, which stands in place.
+#[derive(Drop, Debug)]
+enum Keys<A: Allocator> {
+    One(usize),
+    Several(Vec<usize, A>),
 }
 
 impl<A: Allocator> Model for KeyList<A> {
     ghost Value = { List ℕ };
 
-    ghost view = { λ k. k.keys.items };
+    ghost view = { λ k. keys_of k.keys };
 }
 
 impl<A: Allocator> KeyList<A> {
@@ -21,14 +30,30 @@ impl<A: Allocator> KeyList<A> {
     pub fn from_vec(keys: Vec<usize, A>) -> Self
         ensures { result ≡ keys.items }
     {
-        KeyList { keys }
+        KeyList {
+            keys: Keys::Several(keys),
+        }
     }
 
     /// The keys, in order.
     pub fn as_slice(&self) -> &[usize]
         ensures { result.now ≡ self.now }
     {
-        self.keys.as_slice()
+        match &self.keys {
+            Keys::One(key) => slice::from_ref(key),
+            Keys::Several(keys) => keys.as_slice(),
+        }
+    }
+}
+
+impl<A: Allocator> From<usize> for KeyList<A> {
+    ghost from_gives = { λ key made. made ≡ key ∷ [] };
+
+    /// One key. It takes no memory.
+    fn from(key: usize) -> Self {
+        KeyList {
+            keys: Keys::One(key),
+        }
     }
 }
 

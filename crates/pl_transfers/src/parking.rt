@@ -11,7 +11,6 @@ use std::alloc::Allocator;
 /// Parks a call that waits on the description of a key, under the next number, which is answered. The caller holds the
 /// description for it.
 pub(crate) fn park_call<A: Allocator + Copy>(
-    alloc: A,
     parked: &mut Parked<A>,
     pid: u32,
     call: Call<A>,
@@ -23,12 +22,10 @@ pub(crate) fn park_call<A: Allocator + Copy>(
     ensures ok { OnOk result (parked.new ≡ record { calls = parked.old.calls ++ (parked.old.next, call_on key pid call taken) ∷ []; next = parked.old.next + 1 }) }
     ensures err { OnErr result (parked.new ≡ parked.old) }
 {
-    let mut kept = Vec::with_capacity(alloc, 1)?;
-    kept.push_reserved(key);
     let Ok(number) = parked.park(ParkedCall {
         pid,
         call,
-        kept: KeyList::from_vec(kept),
+        kept: KeyList::from(key),
         fifo: None,
         taken,
         met: false,

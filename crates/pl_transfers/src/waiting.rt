@@ -67,7 +67,7 @@ pub(crate) fn park<A: Allocator + Copy>(
     ensures ok { OnOk result (kernel.new ≡ with_call kernel.old (call_on key pid call taken)) }
     ensures err { OnErr result (kernel.new ≡ kernel.old) }
 {
-    let number = park_call(kernel.alloc, &mut kernel.parked, pid, call, key, taken)?;
+    let number = park_call(&mut kernel.parked, pid, call, key, taken)?;
     kernel.descs.hold(key);
     Ok(number)
 }
@@ -113,14 +113,7 @@ pub(crate) fn park_write<A: Allocator + Copy>(
     ensures ok { OnOk result (Adds (with_call kernel.old (call_on end.key pid call taken)) end.pipe (take taken (written call)) kernel.new) }
     ensures err { OnErr result (kernel.new ≡ kernel.old) }
 {
-    let number = park_call(
-        kernel.alloc,
-        &mut kernel.parked,
-        pid,
-        call,
-        end.key,
-        taken as u32,
-    )?;
+    let number = park_call(&mut kernel.parked, pid, call, end.key, taken as u32)?;
     let call = kernel.parked.get(number).unwrap();
     let bytes = bytes_of(&call.call);
     match kernel.nodes.write_pipe(end.pipe, &bytes[..taken]) {
