@@ -68,16 +68,25 @@ pub fn decode<A: Allocator>(alloc: A, digits: &[u8]) -> Result<Vec<u8, A>, FromH
     Ok(bytes)
 }
 
+/// Writes the digits of bytes, in lower case, to a list that has to be twice as long.
+pub fn encode_to_slice(bytes: &[u8], digits: &mut [u8]) -> Result<(), FromHexError> {
+    let (pairs, rest) = digits.as_chunks_mut::<2>();
+    if !rest.is_empty() || pairs.len() != bytes.len() {
+        return Err(FromHexError::NotDigits);
+    }
+    for (pair, byte) in pairs.iter_mut().zip(bytes) {
+        *pair = [digit(byte >> 4), digit(byte & 15)];
+    }
+    Ok(())
+}
+
 /// The digits of bytes, in lower case.
 pub fn encode<A: Allocator + Copy>(alloc: A, bytes: &[u8]) -> Result<String<A>, AllocError> {
     let Some(count) = bytes.len().checked_mul(2) else {
         return Err(AllocError);
     };
     let mut digits = Vec::from_elem(alloc, 0, count)?;
-    let (pairs, _) = digits.as_mut_slice().as_chunks_mut::<2>();
-    for (pair, byte) in pairs.iter_mut().zip(bytes) {
-        *pair = [digit(byte >> 4), digit(byte & 15)];
-    }
+    encode_to_slice(bytes, digits.as_mut_slice()).map_err(|_| AllocError)?;
     Ok(String::from_ascii(digits, alloc))
 }
 

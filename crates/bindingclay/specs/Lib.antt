@@ -2,6 +2,7 @@ pub mod Asked
 pub mod Heap
 pub mod Made
 pub mod Moved
+pub mod Opened
 pub mod Owned
 pub mod Facts
 pub mod Recorded

@@ -18,6 +18,7 @@ ghost use Rattle.pl_numbers.specs.Answers.{plain, faulty, ends_after};
 ghost use Rattle.pl_numbers.specs.Flags.{pipe_flags_of_bits};
 ghost use Rattle.pl_numbers.specs.Places.{whence_of_number};
 ghost use Rattle.bindingclay.specs.Made.{Makes, Wants, Replied};
+ghost use Rattle.bindingclay.specs.Opened.{StaysAsOpened};
 ghost use Rattle.bindingclay.specs.Recorded.{Records};
 
 pub use facts::{SegmentUse, ToldCall, ToldNode};
@@ -75,6 +76,7 @@ impl Layer {
         ensures makes { Makes self.old.kernel step.entry result self.new.kernel }
         ensures wants { Wants self.old.kernel step.entry result }
         ensures same { self.new.recorder ≡ self.old.recorder }
+        ensures opened { StaysAsOpened self.old self.new }
     {
         match self.kernel.step(step) {
             Ok(reply) => answer_of(&reply),
@@ -88,6 +90,7 @@ impl Layer {
         ensures makes { Makes self.old.kernel step.entry result self.new.kernel }
         ensures wants { Wants self.old.kernel step.entry result }
         ensures same { self.new.recorder ≡ self.old.recorder }
+        ensures opened { StaysAsOpened self.old self.new }
     {
         self.answer_step(step)
     }
@@ -98,6 +101,7 @@ impl Layer {
         ensures makes { Makes self.old.kernel step.entry result self.new.kernel }
         ensures wants { self.old.recorder ≡ None → Wants self.old.kernel step.entry result }
         ensures records { Records self.old.kernel self.old.recorder step.entry result self.new.recorder }
+        ensures opened { StaysAsOpened self.old self.new }
     {
         if let Some(recorder) = &mut self.recorder {
             return recorded::step(&mut self.kernel, recorder, step);
@@ -115,6 +119,7 @@ impl Layer {
         ensures records { Records self.old.kernel self.old.recorder (Step.Begin pid (Call.Pipe nonblock direct)) result self.new.recorder }
         ensures ends { Replied self.old.kernel (Step.Begin pid (Call.Pipe nonblock direct)) result (λ reply. ends.new ≡ ends_after ends.old reply) }
         ensures untold { result.kind ≡ 6 → ends.new ≡ ends.old }
+        ensures opened { StaysAsOpened self.old self.new }
     {
         if let Some(recorder) = &mut self.recorder {
             return recorded::pipe(&mut self.kernel, recorder, pid, nonblock, direct, ends);
@@ -142,6 +147,7 @@ impl Layer {
         ensures ends { MatchOption (pipe_flags_of_bits bits) (ends.new ≡ ends.old)
             (λ flags. Replied self.old.kernel (Step.Begin pid (Call.Pipe flags.nonblock flags.direct)) result (λ reply. ends.new ≡ ends_after ends.old reply)) }
         ensures untold { result.kind ≡ 6 → ends.new ≡ ends.old }
+        ensures opened { StaysAsOpened self.old self.new }
     {
         let Some(flags) = pipe_flags_of_bits(bits) else {
             return Answer::fault(Errno::EINVAL);
@@ -157,6 +163,7 @@ impl Layer {
         ensures wants { self.old.recorder ≡ None → MatchOption (whence_of_number whence) ⊤ (λ whence. Wants self.old.kernel (Step.Begin pid (Call.Lseek fd offset whence)) result) }
         ensures records { MatchOption (whence_of_number whence) (self.new.recorder ≡ self.old.recorder)
             (λ whence. Records self.old.kernel self.old.recorder (Step.Begin pid (Call.Lseek fd offset whence)) result self.new.recorder) }
+        ensures opened { StaysAsOpened self.old self.new }
     {
         let Some(whence) = whence_of_number(whence) else {
             return Answer::fault(Errno::EINVAL);

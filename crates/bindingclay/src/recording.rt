@@ -1,7 +1,7 @@
 //! Records of runs.
-ghost use Rattle.std.specs.Prelude.{◌≡◌, true, false};
+ghost use Rattle.std.specs.Prelude.{◌≡◌, ◌⊎◌, true, false};
 ghost use Rattle.pl_model.specs.declared.replies.Errno.TheVariants.{EINVAL};
-ghost use Rattle.pl_numbers.specs.Answers.{plain, faulty};
+ghost use Rattle.pl_numbers.specs.Answers.{plain, faulty, no_memory};
 ghost use Rattle.bindingclay.specs.Recorded.{HandsOut};
 
 use crate::handle::Handle;
@@ -12,7 +12,7 @@ use pl_numbers::Answer;
 #[unsafe(no_mangle)]
 pub extern "C" fn bindingclay_record(handle: Handle, on: bool) -> Answer
     ensures refused { on ≡ true → handle.layer.is_fresh ≡ false → result ≡ faulty EINVAL }
-    ensures tried { on ≡ true → handle.layer.is_fresh ≡ true → result.value ≡ 0 }
+    ensures tried { on ≡ true → handle.layer.is_fresh ≡ true → (result ≡ plain 0 0) ⊎ (result ≡ plain 0 no_memory) }
     ensures ended { on ≡ false → result ≡ plain 0 0 }
 {
     let mut layer = handle.into_box();

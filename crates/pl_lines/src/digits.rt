@@ -1,12 +1,12 @@
 //! Bytes as digits.
-ghost use Rattle.std.specs.Prelude.{[], ◌∷◌, string_bytes};
+ghost use Rattle.std.specs.Prelude.{[], ◌∷◌, ◌≤◌, length, string_bytes};
 ghost use Rattle.pl_model.specs.Shown.{hex_text};
 ghost use Rattle.pl_lines.specs.Pushed.{Pushes};
 
 use std::alloc::{AllocError, Allocator};
 
-/// Fewer bytes than these are put one by one.
-const SHORT: usize = 16;
+/// The most bytes whose digits are made in place, without memory of their own.
+const FEW: usize = 64;
 
 /// Adds a byte as two digits, in lower case.
 pub(crate) fn push_byte<A: Allocator + Copy>(
@@ -18,6 +18,17 @@ pub(crate) fn push_byte<A: Allocator + Copy>(
     let digits = b"0123456789abcdef".as_slice();
     text.push(char::from(digits[usize::from(byte / 16)]))?;
     text.push(char::from(digits[usize::from(byte % 16)]))
+}
+
+/// Adds a few bytes as digits, all at once.
+fn push_few<A: Allocator + Copy>(text: &mut String<A>, bytes: &[u8]) -> Result<(), AllocError>
+    requires { length bytes.now ≤ 64 }
+    ensures { Pushes result (string_bytes text.old) (string_bytes text.new) (hex_text bytes.now) }
+{
+    let mut digits = [0; 2 * FEW];
+    let digits = &mut digits[..2 * bytes.len()];
+    hex::encode_to_slice(bytes, digits).unwrap();
+    text.push_str(str::from_utf8(digits).unwrap())
 }
 
 /// Adds many bytes as digits, all at once.
@@ -40,11 +51,8 @@ pub(crate) fn push_digits<A: Allocator + Copy>(
 ) -> Result<(), AllocError>
     ensures { Pushes result (string_bytes text.old) (string_bytes text.new) (hex_text bytes.now) }
 {
-    if bytes.len() >= SHORT {
+    if bytes.len() > FEW {
         return push_encoded(alloc, text, bytes);
     }
-    for byte in bytes {
-        push_byte(text, *byte)?;
-    }
-    Ok(())
+    push_few(text, bytes)
 }

@@ -8,6 +8,7 @@ ghost use Rattle.bindingclay.specs.Heap.{InBudget};
 ghost use Rattle.pl_numbers.specs.Answers.{faulty};
 ghost use Rattle.pl_numbers.specs.Flags.{mode_of_bits, open_flags_of_bits};
 ghost use Rattle.bindingclay.specs.Made.{Makes, Gives};
+ghost use Rattle.bindingclay.specs.Opened.{StaysAsOpened};
 ghost use Rattle.bindingclay.specs.Recorded.{Records};
 
 use super::{Heap, Layer, no_memory};
@@ -43,6 +44,7 @@ impl Layer {
     pub fn mkfifo(&mut self, pid: u32, name: &[u8]) -> Answer
         ensures makes { Makes self.old.kernel (Step.Begin pid (Call.Mkfifo (take 256 name.now))) result self.new.kernel }
         ensures records { Records self.old.kernel self.old.recorder (Step.Begin pid (Call.Mkfifo (take 256 name.now))) result self.new.recorder }
+        ensures opened { StaysAsOpened self.old self.new }
     {
         match self.name(name) {
             Ok(name) => self.step(Step::Begin(pid, Call::Mkfifo { name })),
@@ -57,6 +59,7 @@ impl Layer {
             (λ mode. Makes self.old.kernel (Step.Begin pid (Call.OpenName (take 256 name.now) mode (open_flags_of_bits bits))) result self.new.kernel) }
         ensures records { MatchOption (mode_of_bits bits) (self.new.recorder ≡ self.old.recorder)
             (λ mode. Records self.old.kernel self.old.recorder (Step.Begin pid (Call.OpenName (take 256 name.now) mode (open_flags_of_bits bits))) result self.new.recorder) }
+        ensures opened { StaysAsOpened self.old self.new }
     {
         let Some(mode) = mode_of_bits(bits) else {
             return Answer::fault(Errno::EINVAL);
@@ -72,6 +75,7 @@ impl Layer {
     pub fn unlink(&mut self, pid: u32, name: &[u8]) -> Answer
         ensures makes { Makes self.old.kernel (Step.Begin pid (Call.Unlink (take 256 name.now))) result self.new.kernel }
         ensures records { Records self.old.kernel self.old.recorder (Step.Begin pid (Call.Unlink (take 256 name.now))) result self.new.recorder }
+        ensures opened { StaysAsOpened self.old self.new }
     {
         match self.name(name) {
             Ok(name) => self.step(Step::Begin(pid, Call::Unlink { name })),

@@ -14,6 +14,7 @@ ghost use Rattle.pl_polls.specs.declared.entries.PollEntry.{PollEntry as Entry};
 ghost use Rattle.pl_polls.specs.Entries.{asked, entries_after};
 ghost use Rattle.pl_polls.specs.Into.{told as poll_told};
 ghost use Rattle.bindingclay.specs.Made.{Makes, Moves, Wants, Replied, unmoved, bytes_after, read_answer, offset_of};
+ghost use Rattle.bindingclay.specs.Opened.{StaysAsOpened};
 ghost use Rattle.bindingclay.specs.Recorded.{Records};
 
 use super::moved::tell_moved;
@@ -131,6 +132,7 @@ impl Layer {
         ensures unread { result.kind ≡ 6 → into.new ≡ into.old }
         ensures wants { result.kind ≡ 6 → Parks self.old.kernel (Step.Begin pid (Call.Read fd (length into.old))) }
         ensures same { self.new.recorder ≡ self.old.recorder }
+        ensures opened { StaysAsOpened self.old self.new }
     {
         match self.kernel.read_into(pid, fd, into) {
             Ok(reply) => answer_of_read(&reply),
@@ -147,6 +149,7 @@ impl Layer {
         ensures unread { result.kind ≡ 6 → into.new ≡ into.old }
         ensures wants { result.kind ≡ 6 → Parks self.old.kernel (Step.Begin pid (Call.Read fd (length into.old))) }
         ensures same { self.new.recorder ≡ self.old.recorder }
+        ensures opened { StaysAsOpened self.old self.new }
     {
         self.read_all(pid, fd, into)
     }
@@ -160,6 +163,7 @@ impl Layer {
         ensures unread { result.kind ≡ 6 → into.new ≡ into.old }
         ensures wants { self.old.recorder ≡ None → result.kind ≡ 6 → Parks self.old.kernel (Step.Begin pid (Call.Read fd (length into.old))) }
         ensures records { Records self.old.kernel self.old.recorder (Step.Begin pid (Call.Read fd (length into.old))) result self.new.recorder }
+        ensures opened { StaysAsOpened self.old self.new }
     {
         if let Some(recorder) = &mut self.recorder {
             return recorded::read(&mut self.kernel, recorder, self.heap, pid, fd, into);
@@ -177,6 +181,7 @@ impl Layer {
         ensures unread { result.kind ≡ 6 → into.new ≡ into.old }
         ensures wants { self.old.recorder ≡ None → result.kind ≡ 6 → Parks self.old.kernel (Step.Begin pid (Call.Read fd (min most_bytes (length into.old)))) }
         ensures records { Records self.old.kernel self.old.recorder (Step.Begin pid (Call.Read fd (min most_bytes (length into.old)))) result self.new.recorder }
+        ensures opened { StaysAsOpened self.old self.new }
     {
         let count = MOST_BYTES.min(into.len());
         self.read_bytes(pid, fd, &mut into[..count])
@@ -190,6 +195,7 @@ impl Layer {
         ensures moved { Moves self.old.kernel (Step.Begin pid (Call.Write fd bytes.now)) result }
         ensures wants { Wants self.old.kernel (Step.Begin pid (Call.Write fd bytes.now)) result }
         ensures same { self.new.recorder ≡ self.old.recorder }
+        ensures opened { StaysAsOpened self.old self.new }
     {
         match self.kernel.write_from(pid, fd, bytes) {
             Ok(reply) => answer_of_written(&self.kernel, &reply),
@@ -205,6 +211,7 @@ impl Layer {
         ensures moved { Moves self.old.kernel (Step.Begin pid (Call.Write fd bytes.now)) result }
         ensures wants { Wants self.old.kernel (Step.Begin pid (Call.Write fd bytes.now)) result }
         ensures same { self.new.recorder ≡ self.old.recorder }
+        ensures opened { StaysAsOpened self.old self.new }
     {
         self.write_all(pid, fd, bytes)
     }
@@ -217,6 +224,7 @@ impl Layer {
         ensures moved { Moves self.old.kernel (Step.Begin pid (Call.Write fd bytes.now)) result }
         ensures wants { self.old.recorder ≡ None → Wants self.old.kernel (Step.Begin pid (Call.Write fd bytes.now)) result }
         ensures records { Records self.old.kernel self.old.recorder (Step.Begin pid (Call.Write fd bytes.now)) (unmoved result) self.new.recorder }
+        ensures opened { StaysAsOpened self.old self.new }
     {
         if let Some(recorder) = &mut self.recorder {
             return recorded::write(&mut self.kernel, recorder, pid, fd, bytes);
@@ -233,6 +241,7 @@ impl Layer {
         ensures moved { Moves self.old.kernel (Step.Begin pid (Call.Write fd (take most_bytes bytes.now))) result }
         ensures wants { self.old.recorder ≡ None → Wants self.old.kernel (Step.Begin pid (Call.Write fd (take most_bytes bytes.now))) result }
         ensures records { Records self.old.kernel self.old.recorder (Step.Begin pid (Call.Write fd (take most_bytes bytes.now))) (unmoved result) self.new.recorder }
+        ensures opened { StaysAsOpened self.old self.new }
     {
         self.write_bytes(pid, fd, within(bytes))
     }
@@ -255,6 +264,7 @@ impl Layer {
             (λ flags. Makes self.old.kernel (Step.Begin pid (Call.Splice from (offset_of has_from_offset from_offset) to (offset_of has_to_offset to_offset) len flags)) result self.new.kernel) }
         ensures wants { self.old.recorder ≡ None → MatchOption (splice_flags_of_bits flags) ⊤ (λ flags. Wants self.old.kernel (Step.Begin pid (Call.Splice from (offset_of has_from_offset from_offset) to (offset_of has_to_offset to_offset) len flags)) result) }
         ensures records { MatchOption (splice_flags_of_bits flags) (self.new.recorder ≡ self.old.recorder) (λ flags. Records self.old.kernel self.old.recorder (Step.Begin pid (Call.Splice from (offset_of has_from_offset from_offset) to (offset_of has_to_offset to_offset) len flags)) result self.new.recorder) }
+        ensures opened { StaysAsOpened self.old self.new }
     {
         let Some(flags) = splice_flags_of_bits(flags) else {
             return Answer::fault(Errno::EINVAL);
@@ -279,6 +289,7 @@ impl Layer {
             (λ flags. Makes self.old.kernel (Step.Begin pid (Call.Tee from to len flags)) result self.new.kernel) }
         ensures wants { self.old.recorder ≡ None → MatchOption (splice_flags_of_bits flags) ⊤ (λ flags. Wants self.old.kernel (Step.Begin pid (Call.Tee from to len flags)) result) }
         ensures records { MatchOption (splice_flags_of_bits flags) (self.new.recorder ≡ self.old.recorder) (λ flags. Records self.old.kernel self.old.recorder (Step.Begin pid (Call.Tee from to len flags)) result self.new.recorder) }
+        ensures opened { StaysAsOpened self.old self.new }
     {
         let Some(flags) = splice_flags_of_bits(flags) else {
             return Answer::fault(Errno::EINVAL);
@@ -301,6 +312,7 @@ impl Layer {
         ensures unmarked { result.kind ≡ 6 → entries.new ≡ entries.old }
         ensures wants { self.old.recorder ≡ None → result.kind ≡ 6 → Parks self.old.kernel (Step.Begin pid (Call.Poll (asked entries.old) wait)) }
         ensures records { Records self.old.kernel self.old.recorder (Step.Begin pid (Call.Poll (asked entries.old) wait)) result self.new.recorder }
+        ensures opened { StaysAsOpened self.old self.new }
     {
         if let Some(recorder) = &mut self.recorder {
             return recorded::poll(&mut self.kernel, recorder, self.heap, pid, entries, wait);

@@ -3,6 +3,7 @@ ghost use Rattle.std.specs.Prelude.{◌≡◌, None, length};
 ghost use Rattle.pl_kernel.specs.Progress.{TellsProgress, OrWaitsInVain};
 ghost use Rattle.bindingclay.specs.Heap.{InBudget};
 ghost use Rattle.bindingclay.specs.Made.{Gathers, Moves, Notes, Owns, Resumes, Takes, TellsNext, TriesAgain, Wants, number_answer, resumed_answer, resumed_entries, IsFrugal};
+ghost use Rattle.bindingclay.specs.Opened.{StaysAsOpened};
 ghost use Rattle.bindingclay.specs.Recorded.{RecordsTry};
 
 use super::moved::{taken_so_far, tell_moved};
@@ -81,6 +82,8 @@ impl Layer {
     pub fn next_ready(&mut self, from: u64) -> Answer
         ensures tells { TellsNext self.old.kernel from result }
         ensures same { self.new.kernel ≡ self.old.kernel }
+        ensures unrecorded { self.new.recorder ≡ self.old.recorder }
+        ensures opened { StaysAsOpened self.old self.new }
     {
         answer_of_call(self.kernel.next_ready(from))
     }
@@ -94,6 +97,7 @@ impl Layer {
         ensures wants { self.old.recorder ≡ None → Wants self.old.kernel (Step.Resume number) result }
         ensures frugal { self.old.recorder ≡ None → IsFrugal self.old.kernel number result }
         ensures records { RecordsTry self.old.kernel self.old.recorder number result self.new.recorder }
+        ensures opened { StaysAsOpened self.old self.new }
     {
         let entries = self.kernel.ready_entries(number);
         if entries > 0 {
@@ -110,6 +114,7 @@ impl Layer {
         ensures bytes { Gathers self.old.kernel number into.old result into.new }
         ensures frugal { self.old.recorder ≡ None → IsFrugal self.old.kernel number result }
         ensures records { RecordsTry self.old.kernel self.old.recorder number result self.new.recorder }
+        ensures opened { StaysAsOpened self.old self.new }
     {
         if let Some(recorder) = &mut self.recorder {
             return recorded::gather(&mut self.kernel, recorder, self.heap, number, into);
@@ -128,6 +133,7 @@ impl Layer {
         ensures entries { Notes self.old.kernel number entries.old result entries.new }
         ensures frugal { self.old.recorder ≡ None → IsFrugal self.old.kernel number result }
         ensures records { RecordsTry self.old.kernel self.old.recorder number result self.new.recorder }
+        ensures opened { StaysAsOpened self.old self.new }
     {
         if let Some(recorder) = &mut self.recorder {
             return recorded::resume_poll(&mut self.kernel, recorder, self.heap, number, entries);
