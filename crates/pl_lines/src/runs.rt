@@ -13,14 +13,13 @@ fn digits_len(bytes: &[u8]) -> usize
     ensures { IsBeforeFour bytes.now result }
 {
     let mut len = 0;
-    while bytes.len() - len >= 4 {
+    while let [first, second, third, last, ..] = &bytes[len..] {
         // The last two bytes that differ tell how many places can be passed over.
-        let last = bytes[len + 3];
-        if bytes[len + 2] != last {
+        if third != last {
             len += 3;
-        } else if bytes[len + 1] != last {
+        } else if second != last {
             len += 2;
-        } else if bytes[len] != last {
+        } else if first != last {
             len += 1;
         } else {
             return len;
