@@ -75,6 +75,7 @@ def main() -> int:
     faults = table.faults(rows)
     for fault in faults:
         print(f"bench: {fault}", file=sys.stderr)
+    print(f"\n{len(rows)} rows")
     return 1 if faults else 0
 
 

@@ -31,7 +31,7 @@ def described() -> str:
     lines = [
         f"{len(os.sched_getaffinity(0))} of {os.cpu_count()} processors, {processor()}; a load of {load:.1f} before",
         f"{os.uname().sysname} {os.uname().release}",
-        f"{compiler()}, with {' '.join(programs.FLAGS)}",
+        f"{compiler()}, with {programs.OPTIMIZED}",
         f"Bindingclay {programs.version()}",
     ]
     return "".join(f"- {line}\n" for line in lines)

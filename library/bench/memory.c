@@ -1,4 +1,5 @@
-/* How many bytes of memory idle pipes, names and waiting calls take. A kernel makes a thousand of them, and is asked before and behind what it holds. */
+/* How many bytes of memory idle pipes, names and waiting calls take. A kernel that makes a thousand of them is asked before and behind what it
+ * holds. */
 #define _GNU_SOURCE
 #include "bench.h"
 #include "queue.h"

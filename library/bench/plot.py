@@ -7,7 +7,8 @@ from typing import List
 
 from table import Row
 
-ROW, TOP, LEFT, WIDTH, RIGHT = 18, 40, 590, 560, 70
+ROW, TOP, WIDTH, RIGHT = 18, 40, 560, 70
+CHARACTER = 6.7
 LESS, MORE = "#00695c", "#b71c1c"
 STYLE = "text { font: 12px ui-sans-serif, system-ui, Helvetica, Arial, sans-serif; fill: #263238 }"
 
@@ -23,12 +24,13 @@ def as_svg(rows: List[Row]) -> str:
     lowest = min([-2, *(math.floor(math.log10(ratio)) for _, ratio in drawn)])
     highest = max([1, *(math.ceil(math.log10(ratio)) for _, ratio in drawn)])
     bottom = TOP + ROW * len(drawn)
+    left = round(24 + CHARACTER * max((len(named(row)) for row, _ in drawn), default=0))
 
     def place(ratio: float) -> float:
         """Where a ratio stands."""
-        return LEFT + WIDTH * (math.log10(ratio) - lowest) / (highest - lowest)
+        return left + WIDTH * (math.log10(ratio) - lowest) / (highest - lowest)
 
-    width, height, one = LEFT + WIDTH + RIGHT, bottom + 16, place(1)
+    width, height, one = left + WIDTH + RIGHT, bottom + 16, place(1)
     pieces = [
         f'<svg xmlns="http://www.w3.org/2000/svg" width="{width}" height="{height}" viewBox="0 0 {width} {height}">',
         f'<style>{STYLE}</style><rect width="{width}" height="{height}" fill="#fff"/>',
@@ -40,9 +42,9 @@ def as_svg(rows: List[Row]) -> str:
         pieces.append(f'<text x="{x:.1f}" y="{TOP - 6}" text-anchor="middle">{10.0**power:g}</text>')
     for number, (row, ratio) in enumerate(drawn):
         y, x = TOP + ROW * number, place(ratio)
-        pieces.append(f'<text x="{LEFT - 8}" y="{y + 13}" text-anchor="end">{escape(named(row))}</text>')
+        pieces.append(f'<text x="{left - 8}" y="{y + 13}" text-anchor="end">{escape(named(row))}</text>')
         color = LESS if ratio <= 1 else MORE
         pieces.append(f'<rect x="{min(x, one):.1f}" y="{y + 4}" width="{max(abs(x - one), 1):.1f}" height="{ROW - 7}" fill="{color}"/>')
-        pieces.append(f'<text x="{LEFT + WIDTH + 12}" y="{y + 13}">{ratio:.2f}</text>')
+        pieces.append(f'<text x="{left + WIDTH + 12}" y="{y + 13}">{ratio:.2f}</text>')
     pieces.append(f'<line x1="{one:.1f}" y1="{TOP}" x2="{one:.1f}" y2="{bottom}" stroke="#263238" stroke-width="2"/>')
     return "\n".join([*pieces, "</svg>"]) + "\n"

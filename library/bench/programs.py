@@ -10,7 +10,8 @@ from typing import List, NamedTuple, Tuple
 
 HERE = pathlib.Path(__file__).resolve().parent
 ROOT = HERE.parent.parent
-FLAGS = ["-std=c11", "-O2", "-Wall", "-Wextra", "-Werror"]
+OPTIMIZED = "-O2"
+FLAGS = ["-std=c11", OPTIMIZED, "-Wall", "-Wextra", "-Werror"]
 # an hour, though the longest takes some minutes
 MOST_SECONDS = 3600
 

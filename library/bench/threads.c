@@ -8,7 +8,9 @@
 #include <stdatomic.h>
 #include <unistd.h>
 
-enum { BYTES = 64, PIECE = 64 * KIB, PAIRS = 20000, TURNS = 5000, MOST_THREADS = 4 };
+enum { BYTES = 64, PIECE = 64 * KIB, PIECES = 256 * MIB / PIECE, LONG_PIECES = 4 * PIECES, PAIRS = 20000, TURNS = 5000 };
+/* At once there are more pairs, so that threads that begin on one processor have time to part. */
+enum { MOST_THREADS = 4, PAIRS_AT_ONCE = 50000 };
 enum { MOST_SLEEPERS = 1000, QUICK_SLEEPERS = 100, PIPES_OF_ONE = 100, SPARE_DESCRIPTORS = 64, STACK = 65536, WHILE_OF_HOST = 20000 };
 enum { GROUPS = 4, MEMBERS = 20, MESSAGES = 50, MESSAGE = 100, THREADS_OF_GROUP = 2 * MEMBERS };
 
@@ -151,7 +153,7 @@ static void crowds(void)
     for (size_t i = 0; i < sizeof ROWS / sizeof *ROWS; i++) {
         ours.threads = hosts.threads = queues.threads = ROWS[i].threads;
         ours.is_one_pipe = hosts.is_one_pipe = queues.is_one_pipe = ROWS[i].is_one_pipe;
-        compare(&(struct row){ "threads", ROWS[i].what, BYTES, "ns", 30, PAIRS }, sides, 3);
+        compare(&(struct row){ "threads", ROWS[i].what, BYTES, "ns", 30, PAIRS_AT_ONCE }, sides, 3);
     }
 }
 
@@ -372,7 +374,7 @@ static double beside_sleepers(const void *subject, int times)
 
 static void sleeping(const struct pipes *ours, const struct pipes *host)
 {
-    const struct side sides[] = { { "bindingclay", beside_sleepers, ours }, { "without these threads", ping_pong, ours },
+    const struct side sides[] = { { "bindingclay", beside_sleepers, ours }, { "the same without them", ping_pong, ours },
         { "host's pipe", beside_sleepers, host } };
     sleeper_count = pace == QUICK ? QUICK_SLEEPERS : MOST_SLEEPERS;
     size_t size = (size_t)sleeper_count, count = most_descriptors() < 2 * size + SPARE_DESCRIPTORS ? 2 : 3;
@@ -388,12 +390,13 @@ int main(int count, char **words)
     const struct side there_and_back[] = { { "bindingclay", ping_pong, &ours }, { "host's pipe", ping_pong, &host } };
     const struct side streams[] = { { "bindingclay", stream, &ours }, { "host's pipe", stream, &host } };
     const struct side groups[] = { { "bindingclay", messages, &ours }, { "host's pipe", messages, &host } };
-    /* 1 GiB, or 256 MiB */
-    int pieces = pace == LONG ? 16384 : 4096;
+    bool is_long = pace == LONG;
+    const struct row of_stream = { "threads", is_long ? "64 KiB of a stream of 1 GiB" : "64 KiB of a stream of 256 MiB", PIECE, "ns", 30,
+        is_long ? LONG_PIECES : PIECES };
     compare(&(struct row){ "threads", "write and read, one thread", BYTES, "ns", 30, PAIRS }, pairs, 3);
     crowds();
     compare(&(struct row){ "threads", "a byte there and back", 1, "ns", 30, TURNS }, there_and_back, 2);
-    compare(&(struct row){ "threads", "64 KiB of a stream from thread to thread", PIECE, "ns", 30, pieces }, streams, 2);
+    compare(&of_stream, streams, 2);
     compare(&(struct row){ "threads", "a message among 160 threads, in four groups", MESSAGE, "ns", 30, MESSAGES }, groups, 2);
     sleeping(&ours, &host);
     return 0;

@@ -103,7 +103,4 @@ try_front() {
     done
     # 681,000 lines are 10 MiB, and 6,810,000 are 100 MiB
     check "pipeline over both" over_both pipeline "${PIPELINE_LINES:-681000}"
-    # shellcheck disable=SC2086
-    check "building bench_shared" "$cc" $strict -O2 "-I$work/prefix/include" -o "$work/bench_shared" "$here/bench_shared.c" \
-        "-L$work/prefix/lib" -lbindingclay_shared -lbindingclay -pthread
 }

@@ -1,4 +1,4 @@
-//! What calls cost, beside the host's own pipe in the same run: the least of many short rounds, in nanoseconds, as `library/bench.c`
+//! What calls cost, beside the host's own pipe in the same run: the least of many short rounds, in nanoseconds, as `library/bench`
 //! measures them over the library for C. Run it by `cargo run --release --example measure`.
 
 use bindingclay::memory::Global;
