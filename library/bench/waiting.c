@@ -9,12 +9,14 @@
 /* Further reads wait at the same pipes. A process has at most 256 descriptors, and a kernel 4,096 descriptions. */
 enum { MOST_PIPES = 1000, PIPES_OF_ONE = 100, TIMES = 1000, SPARE_DESCRIPTORS = 64 };
 
-/* A pipe on which one read waits by turns, and what else waits beside it. */
+/* A pipe on which one read waits by turns, and what else waits beside it: so many reads, and as many of the host's pipes that are watched. */
 struct beside {
     bindingclay clay;
     uint32_t pid;
     bindingclay_ends ends;
-    int epoll, host[2];
+    size_t waiting;
+    bool has_host;
+    int epoll, host[2], (*idle)[2];
 };
 
 /* The write, the question which call can get on, and its resumption, of a read that waits under a number. */
@@ -78,7 +80,7 @@ static double host_calls(const void *subject, int times)
     return (now() - begun) / times;
 }
 
-/* Lets so many reads wait on pipes of their own, or some of them on each pipe. As a host does, it asks behind each of them which call can get on. */
+/* Lets reads wait on pipes of their own, or some of them on each pipe. As a host does, it asks behind each of them which call can get on. */
 static void fill(bindingclay clay, size_t waiting)
 {
     size_t pipes = waiting < MOST_PIPES ? waiting : MOST_PIPES;
@@ -96,49 +98,82 @@ static void fill(bindingclay clay, size_t waiting)
     }
 }
 
-static void watch(int epoll, int fd)
+static void new_watched(int epoll, int ends[2])
 {
-    struct epoll_event event = { .events = EPOLLIN, .data.fd = fd };
-    need(epoll_ctl(epoll, EPOLL_CTL_ADD, fd, &event) == 0, "epoll_ctl");
+    as_host(pipe(ends));
+    struct epoll_event event = { .events = EPOLLIN, .data.fd = ends[0] };
+    need(epoll_ctl(epoll, EPOLL_CTL_ADD, ends[0], &event) == 0, "epoll_ctl");
 }
 
-/* The host's pipes, each watched by its read end, and whether there may be so many. */
-static bool fill_host(struct beside *beside, size_t waiting)
+static void close_both(const int ends[2])
 {
-    if (2 * waiting + SPARE_DESCRIPTORS > most_descriptors())
-        return false;
+    as_host(close(ends[0]));
+    as_host(close(ends[1]));
+}
+
+static void fill_host(struct beside *beside)
+{
+    beside->has_host = 2 * beside->waiting + SPARE_DESCRIPTORS <= most_descriptors();
+    if (!beside->has_host)
+        return;
+    need((beside->idle = calloc(beside->waiting, sizeof *beside->idle)) != NULL, "calloc");
     need((beside->epoll = epoll_create1(0)) >= 0, "epoll_create1");
-    as_host(pipe(beside->host));
-    watch(beside->epoll, beside->host[0]);
-    for (size_t i = 0; i < waiting; i++) {
-        int ends[2];
-        as_host(pipe(ends));
-        watch(beside->epoll, ends[0]);
-    }
-    return true;
+    new_watched(beside->epoll, beside->host);
+    for (size_t i = 0; i < beside->waiting; i++)
+        new_watched(beside->epoll, beside->idle[i]);
 }
 
-static void beside_so_many(size_t waiting)
+static struct beside new_beside(size_t waiting)
 {
-    struct beside beside = { .clay = new_kernel() };
-    const struct side four[] = { { "bindingclay", four_calls, &beside }, { "host's write, epoll_wait, read", host_calls, &beside } },
-                      three[] = { { "bindingclay", three_calls, &beside }, four[1] };
+    struct beside beside = { .clay = new_kernel(), .waiting = waiting };
     beside.pid = (uint32_t)done(bindingclay_start(beside.clay));
     done(bindingclay_pipe(beside.clay, beside.pid, false, &beside.ends));
     fill(beside.clay, waiting);
-    size_t sides = fill_host(&beside, waiting) ? 2 : 1;
-    compare(&(struct row){ "waiting", "write, next_ready, resume", waiting, "ns", 300, TIMES }, three, sides);
-    compare(&(struct row){ "waiting", "read that waits, write, next_ready, resume", waiting, "ns", 300, TIMES }, four, sides);
-    bindingclay_free(beside.clay);
+    fill_host(&beside);
+    return beside;
+}
+
+static void end(struct beside *beside)
+{
+    bindingclay_free(beside->clay);
+    if (!beside->has_host)
+        return;
+    for (size_t i = 0; i < beside->waiting; i++)
+        close_both(beside->idle[i]);
+    close_both(beside->host);
+    as_host(close(beside->epoll));
+    free(beside->idle);
+}
+
+/* The rows of so many reads that wait, beside the host, and beside few reads if there are any. */
+static void rows(const struct beside *beside, const struct beside *few)
+{
+    static const struct {
+        const char *what;
+        double (*sample)(const void *subject, int times);
+    } ROWS[] = { { "write, next_ready, resume", three_calls }, { "read that waits, write, next_ready, resume", four_calls } };
+    for (size_t i = 0; i < sizeof ROWS / sizeof *ROWS; i++) {
+        struct side sides[MOST_SIDES] = { { "bindingclay", ROWS[i].sample, beside } };
+        size_t count = 1;
+        if (beside->has_host)
+            sides[count++] = (struct side){ "host's write, epoll_wait, read", host_calls, beside };
+        if (few != NULL)
+            sides[count++] = (struct side){ "the same beside 10 reads", ROWS[i].sample, few };
+        compare(&(struct row){ "waiting", ROWS[i].what, beside->waiting, "ns", 300, TIMES }, sides, count);
+    }
 }
 
 int main(int count, char **words)
 {
+    static const size_t COUNTS[] = { 1000, 100000, 1000000 };
     begin(count, words);
-    beside_so_many(10);
-    beside_so_many(1000);
-    beside_so_many(100000);
-    if (pace == LONG)
-        beside_so_many(1000000);
+    struct beside few = new_beside(10);
+    rows(&few, NULL);
+    for (size_t i = 0; i < sizeof COUNTS / sizeof *COUNTS - (pace == LONG ? 0 : 1); i++) {
+        struct beside many = new_beside(COUNTS[i]);
+        rows(&many, &few);
+        end(&many);
+    }
+    end(&few);
     return 0;
 }
