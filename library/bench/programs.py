@@ -68,9 +68,11 @@ class Library:
         self.prefix = pathlib.Path(os.environ.get("PREFIX", work / "prefix"))
         if "PREFIX" not in os.environ:
             output([str(HERE.parent / "install.sh"), str(self.prefix)])
+        if not (self.prefix / "lib/libbindingclay.a").is_file():
+            raise Failed(f"no library is installed below {self.prefix}")
 
     def has(self, program: Program) -> bool:
-        """Whether there is what a program stands on. The front for threads is installed only where there was a compiler."""
+        """Whether there is what a program stands on. The front for threads is installed only if there was a compiler."""
         return (self.prefix / f"lib/lib{program.library}.a").is_file()
 
     def build(self, program: Program) -> pathlib.Path:
