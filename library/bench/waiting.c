@@ -9,7 +9,7 @@
 /* Further reads wait at the same pipes. A process has at most 256 descriptors, and a kernel 4,096 descriptions. */
 enum { MOST_PIPES = 1000, PIPES_OF_ONE = 100, TIMES = 1000, SPARE_DESCRIPTORS = 64 };
 
-/* A pipe on which one read waits by turns, and what else waits beside it: so many reads, and as many of the host's pipes that are watched. */
+/* A pipe on which one read waits by turns. Beside it so many reads wait, and the host watches as many pipes. */
 struct beside {
     bindingclay clay;
     uint32_t pid;
