@@ -82,18 +82,21 @@ fn drop_ended<A: Allocator + Copy>(state: &KernelState<A>, waiters: &mut Waiters
     waiters.take_out(first);
 }
 
-// The calls that were parked since the last time may get on.
-fn look_at_new<A: Allocator + Copy>(state: &KernelState<A>, waiters: &mut Waiters<A>)
+// The calls that were parked since the last time may get on. Answers how many they are.
+fn look_at_new<A: Allocator + Copy>(state: &KernelState<A>, waiters: &mut Waiters<A>) -> usize
     requires { Knows (core_of {A = A} state.now) waiters.old }
     ensures knows { Knows (core_of {A = A} state.now) waiters.new }
     ensures none { (number : ℕ) → waiters.new.looked ≤ number → get nat_eq state.now.calls.calls number ≡ None }
 {
     drop_ended(state, waiters);
+    let mut count: usize = 0;
     while let Some(number) = next_new(&state.parked, waiters.looked()) {
         // A proof learns here that a number is never the greatest of its type.
         let _next = state.parked.next_number();
         waiters.look(number);
+        count = count.saturating_add(1);
     }
+    count
 }
 
 // The call of a number waits at a node.
@@ -167,12 +170,13 @@ pub(crate) fn next_ready<A: Allocator + Copy>(
     if waiters.is_lost() {
         *waiters = Waiters::new(state.alloc);
     }
-    look_at_new(state, waiters);
+    // Each new call is asked once, whatever their count.
+    let new = look_at_new(state, waiters);
     if !waiters.spread(most_moves(waiting)) {
         return ask_all(state, from);
     }
     let mut least = from;
-    for _ in 0..most_moves(waiting) {
+    for _ in 0..most_moves(waiting).saturating_add(new) {
         let Some(number) = waiters.next(least) else {
             return None;
         };
