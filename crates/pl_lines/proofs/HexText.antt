@@ -1,10 +1,9 @@
 -- What `hex` encodes is the text of the bytes.
-use Rattle.std.proofs.Common.{◌≡◌, ℕ, ◌+◌, ◌<◌, Bool, true, false, List, [], ◌∷◌, ◌++◌, length, drop, slice_index, Result, Ok, Err, refl, ap, arith}
+use Rattle.std.proofs.Common.{◌≡◌, ℕ, ◌<◌, Bool, true, false, List, [], ◌∷◌, length, slice_index, Result, Ok, Err, refl, arith}
 use Rattle.std.specs.Prelude.{codes, nat_lt, MatchResult, OnOk}
 use Rattle.std.specs.Result.{IsOk}
 use Rattle.std.specs.List.{list_all}
 use Rattle.std.proofs.lemmas.Bool.{ltb-true}
-use Rattle.std.proofs.lemmas.List.{drop_more}
 use Rattle.std.proofs.lemmas.List.Folds.{list_all_at}
 use Rattle.std.specs.Str.{IsUtf8}
 use Rattle.std.proofs.lemmas.Str.{IsUtf8-from_ascii}
@@ -45,15 +44,6 @@ digit_ascii n lt = by (nat_lt (slice_index lower_digits n) 128) refl
     by : (b : Bool) → nat_lt (slice_index lower_digits n) 128 ≡ b → slice_index lower_digits n < 128
     by true e = ltb-true (slice_index lower_digits n) 128 e
     by false e = let none : list_all (λ c. nat_lt c 128) lower_digits ≡ false = list_all_at (λ c. nat_lt c 128) lower_digits n 0 lt e in absurd cc
-
--- the bytes from a place on begin with the one that stands there
-pub hex_next : (bytes : List ℕ) (place : ℕ) → place < length bytes → hex_text (drop place bytes) ≡ hex_text (slice_index bytes place ∷ []) ++ hex_text (drop (place + 1) bytes)
-unfolding hex_text
-hex_next bytes place lt = ap hex_text (drop_more bytes place 0 lt)
-
-pub hex_text-nil : hex_text [] ≡ []
-unfolding hex_text
-hex_text-nil = refl
 
 -- what is encoded is text
 pub encoded_is_text : (bytes : List ℕ) → IsUtf8 (encode_lower bytes)
