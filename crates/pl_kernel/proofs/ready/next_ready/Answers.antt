@@ -10,13 +10,13 @@ use Rattle.pl_kernel.proofs.ready.next_ready.Goals.{In-Some, After-put_aside}
 use Rattle.pl_kernel.proofs.ready.next_ready.Goals as goal
 
 pub returns-then-not-spread-clause-knows : goal.returns-then-not-spread-clause-knows
-returns-then-not-spread-clause-knows g c = spread_on (core_of c.args.state.now) c.look_at_new.new.waiters c.spread.new.self c.look_at_new.ensures.knows c.spread.ensures.may c.spread.ensures.places c.spread.ensures.looked
+returns-then-not-spread-clause-knows g c = spread_on (core_of c.args.state.now) c.look_at_new-new.new.waiters c.spread.new.self c.look_at_new-new.ensures.knows c.spread.ensures.may c.spread.ensures.places c.spread.ensures.looked
 
 pub loop-init : goal.loop-init
 loop-init g c = record {
-  knows = spread_on (core_of c.args.state.now) c.look_at_new.new.waiters c.spread.new.self c.look_at_new.ensures.knows c.spread.ensures.may c.spread.ensures.places c.spread.ensures.looked;
+  knows = spread_on (core_of c.args.state.now) c.look_at_new-new.new.waiters c.spread.new.self c.look_at_new-new.ensures.knows c.spread.ensures.may c.spread.ensures.places c.spread.ensures.looked;
   spread = c.spread.ensures.spread c.if-not-spread.false;
-  looked = λ number late. c.look_at_new.ensures.none number (subst (λ n. n ≤ number) c.spread.ensures.looked late);
+  looked = λ number late. c.look_at_new-new.ensures.none number (subst (λ n. n ≤ number) c.spread.ensures.looked late);
   up = omega arith;
   none = λ other on early. absurd (omega (arith, on, early));
 }
