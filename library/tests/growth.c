@@ -440,6 +440,34 @@ static void the_next_beside_calls_that_wait(long count)
     HOLDS(bytes_left == 0);
 }
 
+/* The seconds of a question which call can get on, where none can. */
+static double seconds_of_a_question(bindingclay clay)
+{
+    double begun = seconds();
+    OTHER(bindingclay_next_ready(clay, 0), BINDINGCLAY_NO_CALL);
+    return seconds() - begun;
+}
+
+/* Calls that began to wait are asked once each, however many they are. The next question costs what it costs beside a few. */
+static void the_next_after_many_calls(long count)
+{
+    bindingclay clay = kernel_with_process();
+    bindingclay_ends ends = NEW_PIPE(clay, 1, false);
+    for (long i = 0; i < count; i++)
+        if (take(clay, 1, ends.read_end, 1).kind != BINDINGCLAY_PARKED)
+            HOLDS(false);
+    double first = seconds_of_a_question(clay), next = first;
+    for (int run = 0; run < 5; run++) {
+        double taken = seconds_of_a_question(clay);
+        next = taken < next ? taken : next;
+    }
+    if (count >= LARGE)
+        HOLDS(16 * next < first);
+    OTHER(bindingclay_exit(clay, 1), BINDINGCLAY_DONE);
+    bindingclay_free(clay);
+    HOLDS(bytes_left == 0);
+}
+
 /* The seconds of a byte that comes to a pipe, until it is read and nobody can get on any more. */
 static double seconds_of_a_byte(bindingclay clay, bindingclay_ends ends)
 {
@@ -535,6 +563,7 @@ int main(int words, char **word)
     bytes_one_by_one(count);
     an_exit_beside_calls_that_wait(count);
     the_next_beside_calls_that_wait(count);
+    the_next_after_many_calls(count);
     a_byte_for_many_readers(count);
     the_next_without_any_memory();
     return end();
