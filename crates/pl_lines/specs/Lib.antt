@@ -2,3 +2,4 @@ pub mod Parsed
 pub mod Pushed
 pub mod Runs
 pub mod Blanks
+pub mod Explained

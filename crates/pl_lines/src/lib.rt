@@ -19,6 +19,7 @@
 
 mod calls;
 mod digits;
+mod explain;
 mod lines;
 mod parse;
 mod runs;
@@ -27,6 +28,7 @@ mod sayable;
 mod saying;
 mod text;
 
+pub use explain::{Explanation, Reason, explain_line};
 pub use lines::{names_version_2, next_line, split_version};
 pub use parse::{RepeatedWrite, parse_line, parse_line_2, parse_line_of, repeated_write};
 pub use pl_words::LineFault;
