@@ -9,3 +9,4 @@ pub mod LiveText
 pub mod LiveBehind
 pub mod LiveSteps
 pub mod LiveRuns
+pub mod WhyBad

@@ -15,7 +15,9 @@ use Rattle.pl_script.specs.declared.peer.LiveTotals.{LiveTotals}
 use Rattle.pl_script.specs.declared.peer.LiveFault.{LiveFault}
 use Rattle.pl_script.specs.declared.peer.LiveFault.TheVariants as faults
 use Rattle.pl_script.proofs.LiveText.{no_feed-append, lines-feed, ended-feed, ended-none, lines-last, lines-nil}
+use Rattle.pl_script.specs.Explaining.{why_of_held, why_live}
 use Rattle.pl_script.proofs.LiveBehind.{answered_so_far}
+use Rattle.pl_script.proofs.WhyBad.{why_heard}
 
 empty : (xs : List ℕ) → length xs ≡ 0 → xs ≡ []
 empty [] e = refl
@@ -65,6 +67,11 @@ module _ {A : Type 0} (limits : Limits) (strict : Bool) (live new : Live A) (t :
         written = refl;
         ends = (is, next.count ∙ length-append ls (l ∷ []), (l, others, refl, sym next.refusals ∙ ap (λ r. r ++ new.lines ∷ []) none));
       }
+
+  -- what is wrong with it
+  pub stops_why : (text refused : List ℕ) → IsAmid limits strict live t ls l (l ∷ others) → IsBehind limits new text refused (ls ++ l ∷ []) [] → new.why ≡ why_of_held new.version live.is_too_long live.line.items
+      → new.why ≡ why_live t.heard new.lines
+  stops_why text refused at next is = why_heard t.heard ls l others new.version new.lines live.is_too_long live.line.items new.why at.parts next.version (next.count ∙ length-append ls (l ∷ [])) at.behind.held is
 
   -- it is bad, and is refused
   pub refuses_line : strict ≡ false → IsAmid limits strict live t ls l (l ∷ others) → IsBehind limits new (t.written ++ string_bytes new.out) (t.refused ++ number_unless false new.lines []) (ls ++ l ∷ []) []

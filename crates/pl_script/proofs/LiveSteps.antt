@@ -145,14 +145,15 @@ is_asking A v Old New l before after (inl silent) = ap is_some silent.0
 is_asking A v Old New l before after (inr run) = ap is_some run.2
 
 module _ {A : Type 0} (limits : Limits) (live new : Live A) (front refused : List ℕ) (ls : List (List ℕ)) (l : List ℕ) where
-  pub judged_long : live.is_too_long ≡ true → IsBehind limits live (front ++ string_bytes live.out) refused ls l → IsJudged limits live front ls l false
-  judged_long long at =
+  pub judged_long : live.is_too_long ≡ true → Stands new.kernel ≡ Stands live.kernel → string_bytes new.out ≡ string_bytes live.out → new.version ≡ live.version
+      → IsBehind limits live (front ++ string_bytes live.out) refused ls l → IsJudged limits new front ls l false
+  judged_long long kernel out same at =
       let more : most_line_bytes < length l = rw long at at.held in
       let bad : is_good A (version_of_lines ls) l ≡ false = too_long_is_bad A (version_of_lines ls) l (nat_le (length l) most_line_bytes) refl more in
       let plain = no_header ls l more in
       record {
-        behind = behind_bad (Stands live.kernel) ls l (front ++ string_bytes live.out) plain bad (λ s h. h) at.behind;
-        version = at.version ∙ sym (one_behind ls l plain).0;
+        behind = rw (kernel, out) (behind_bad (Stands live.kernel) ls l (front ++ string_bytes live.out) plain bad (λ s h. h) at.behind);
+        version = same ∙ at.version ∙ sym (one_behind ls l plain).0;
         bad = bad_lines-push A ls l plain ∙ ap (λ b. bad_lines A ls ++ number_unless b (length ls + 1) []) bad;
       }
 

@@ -7,4 +7,5 @@ pub mod Header
 pub mod Talk
 pub mod Live
 pub mod LiveText
+pub mod Explaining
 pub mod LiveSteps

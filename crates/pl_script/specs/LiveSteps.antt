@@ -1,9 +1,11 @@
 -- How a live run stands between two bytes of its input.
-use Rattle.std.specs.Prelude.{◌≡◌, ◌≢◌, ◌≤◌, ◌<◌, ⊤, ℕ, ◌+◌, List, [], ◌∷◌, ◌++◌, length, All, Bool, true, false, Result, Ok, Err, string_bytes}
+use Rattle.std.specs.Prelude.{◌≡◌, ◌≢◌, ◌≤◌, ◌<◌, ⊤, ℕ, ◌+◌, List, [], ◌∷◌, ◌++◌, length, All, Bool, true, false, Option, Result, Ok, Err, string_bytes}
 use Rattle.pl_model.specs.declared.calls.Limits.{Limits}
 use Rattle.pl_model.specs.Script.{lines, version_of_lines}
 use Rattle.pl_state.specs.Makes.{Stands}
 use Rattle.pl_script.specs.Talk.{Talk, Side, WasSaid}
+use Rattle.pl_lines.specs.declared.explain.Explanation.{Explanation}
+use Rattle.pl_script.specs.Explaining.{IsWhy}
 use Rattle.pl_script.specs.LiveText.{HasNoFeed, StandsBehind}
 use Rattle.pl_script.specs.Live.{most_line_bytes, ended_lines, bad_lines, AreAnswered, IsPrompt, EndsBefore, number_unless}
 use Rattle.pl_script.specs.declared.live_lines.Live.{Live}
@@ -135,7 +137,8 @@ pub record IsEnding (A : Type 0) (limits : Limits) (strict : Bool) (waiting : Li
   pub written : IsWrittenAll result talk waiting text
   pub ends : EndsBefore A strict talk result before later
 
--- what came of a part of a run
-abbrev pub GoesOnOrEnds : {X : Type 0} (A : Type 0) → Limits → Bool → List ℕ → Result X LiveFault → (first new : Side) → (Talk → Type 0) → Type 0
-GoesOnOrEnds A limits strict waiting (Ok x) first new Goes = (t : Talk) × WasSaid first new t × Goes t
-GoesOnOrEnds A limits strict waiting (Err fault) first new Goes = (t : Talk) × WasSaid first new t × IsEnding A limits strict waiting t (Err fault)
+-- what came of a part of a run, which keeps why its line is bad, if it ended at one
+abbrev pub GoesOnOrEnds : {X : Type 0} (A : Type 0) → Limits → Bool → List ℕ → Option Explanation → Result X LiveFault → (first new : Side) → (Talk → Type 0) → Type 0
+GoesOnOrEnds A limits strict waiting why (Ok x) first new Goes = (t : Talk) × WasSaid first new t × Goes t
+GoesOnOrEnds A limits strict waiting why (Err fault) first new Goes =
+    (t : Talk) × WasSaid first new t × IsEnding A limits strict waiting t (Err fault) × IsWhy t fault why

@@ -7,11 +7,13 @@ ghost use Rattle.pl_model.specs.Script.{version_of};
 ghost use Rattle.pl_model.specs.Numbers.{most_file_bytes, most_script_bytes, most_reads};
 ghost use Rattle.pl_state.specs.Makes.{Stands};
 ghost use Rattle.pl_script.specs.Checked.{IsCheck, IsCheckedToEnd, counts_of};
+ghost use Rattle.pl_script.specs.Explaining.{IsExplained};
 ghost use Rattle.pl_script.specs.Header.{limits_of_header, IsCheckWithin};
 ghost use Rattle.pl_script.specs.Comparing.{text_of, IsDone, IsChecking, IsStopped, Ends, with_counts};
 ghost use Rattle.pl_script.specs.Running.{WritingEnds};
 
 use crate::comparing::{Checked, compare, expected, text_of};
+use crate::explaining::explain;
 use crate::fault::ScriptFault;
 use crate::header::header_limits;
 use crate::reading::read_script;
@@ -19,7 +21,7 @@ use crate::running::{WAITING, answer_line, header_lines, refusal_of_line};
 use crate::streams::{Sink, Source};
 use crate::writing::write_whole;
 use pl_kernel::Kernel;
-use pl_lines::{LineFault, next_line, parse_line_of, push_line, split_version};
+use pl_lines::{Explanation, LineFault, next_line, parse_line_of, push_line, split_version};
 use pl_model::{Limits, Outcome, Version};
 use std::alloc::Allocator;
 
@@ -160,6 +162,72 @@ fn check_lines<A: Allocator + Copy, T: Sink>(
     )
 }
 
+/// Checks a record that was read, on a new kernel, within the limits that it names.
+fn check_whole<A: Allocator + Copy, T: Sink>(
+    alloc: A,
+    all: bool,
+    script: &[u8],
+    writer: &mut T,
+    limits: Limits,
+) -> Result<Checked, ScriptFault>
+    requires short { length script.now ≤ most_script_bytes }
+    requires most { limits.file_max ≤ most_file_bytes }
+    ensures run { (written : List ℕ) × Appends (T.contents writer.old) (T.contents writer.new) written
+        × IsCheckWithin A all (limits_of_header limits script.now) script.now result written }
+    ensures ends { WritingEnds (T.has_stopped writer.old) (T.has_stopped writer.new) result }
+{
+    let named = header_limits(script, limits)?;
+    let mut checked = Checked {
+        compared: 0,
+        different: 0,
+    };
+    check_lines(alloc, all, script, writer, named, &mut checked)?;
+    Ok(checked)
+}
+
+/// Does what `check_script` does. Where it ends at a bad line, it also tells what is wrong with it, in `why`, if that is known; else what
+/// `why` holds stays. Of a line that names limits wrongly, which is a comment, nothing is known.
+///
+/// # Errors
+///
+/// Those of `check_script`.
+pub fn check_script_explained<A: Allocator + Copy, S: Source, T: Sink>(
+    alloc: A,
+    reader: &mut S,
+    writer: &mut T,
+    limits: Limits,
+    all: bool,
+    why: &mut Option<Explanation>,
+) -> Result<Checked, ScriptFault>
+    requires reads { most_reads ≤ S.reads_left reader.old }
+    requires most { limits.file_max ≤ most_file_bytes }
+
+    // Where the reader tells its bytes: what was written is what is told of the record, or as much of it as the fault says.
+    ensures run { IfSome (S.remaining reader.old) (λ script.
+        (written : List ℕ) × Appends (T.contents writer.old) (T.contents writer.new) written
+        × IsCheckWithin A all (limits_of_header limits script) script result written) }
+    ensures end { IsCheckedToEnd result (S.remaining reader.new) }
+    ensures reads { S.reads_left reader.old ≤ S.reads_left reader.new + most_reads }
+
+    // Where no read had failed, and the writer hadn't stopped, before.
+    ensures read { S.has_failed reader.old ≡ false →
+        (IsErrOf result ScriptFault.Read ↔ (S.has_failed reader.new ≡ true)) }
+    ensures write { T.has_stopped writer.old ≡ false →
+        (IsErrOf result ScriptFault.Write ↔ (T.has_stopped writer.new ≡ true)) }
+
+    // Also where the writer doesn't tell what it holds.
+    ensures untouched { IsErrOf result ScriptFault.Read ⊎ IsErrOf result ScriptFault.TooLong →
+        writer.new ≡ writer.old }
+
+    // Where the reader tells its bytes.
+    ensures why { IfSome (S.remaining reader.old) (λ script. IsExplained script result why.old why.new) }
+{
+    let script = read_script(alloc, reader)?;
+    let ended = check_whole(alloc, all, script.as_slice(), writer, limits);
+    explain(script.as_slice(), &ended, why);
+    ended
+}
+
 /// Reads a record to its end, runs its lines on a new kernel, and compares what they are answered with what its comments expect. A
 /// comment `# => TEXT` expects that TEXT is what the last line before it that asks something is answered, as its version prints it. It
 /// expects nothing else of a script: one without such comments differs nowhere.
@@ -210,12 +278,6 @@ pub fn check_script<A: Allocator + Copy, S: Source, T: Sink>(
     ensures untouched { IsErrOf result ScriptFault.Read ⊎ IsErrOf result ScriptFault.TooLong →
         writer.new ≡ writer.old }
 {
-    let script = read_script(alloc, reader)?;
-    let named = header_limits(script.as_slice(), limits)?;
-    let mut checked = Checked {
-        compared: 0,
-        different: 0,
-    };
-    check_lines(alloc, all, script.as_slice(), writer, named, &mut checked)?;
-    Ok(checked)
+    let mut why = None;
+    check_script_explained(alloc, reader, writer, limits, all, &mut why)
 }

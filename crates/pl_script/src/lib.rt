@@ -7,6 +7,7 @@
 
 mod checking;
 mod comparing;
+mod explaining;
 mod fault;
 mod header;
 mod live;
@@ -18,16 +19,18 @@ mod streams;
 mod telling;
 mod writing;
 
-pub use checking::check_script;
+pub use checking::{check_script, check_script_explained};
 pub use comparing::Checked;
 pub use fault::ScriptFault;
 pub use header::header_limits;
-pub use live::{MAX_LIVE_READS, run_live};
+pub use live::{MAX_LIVE_READS, run_live, run_live_explained};
 pub use live_lines::MAX_LINE_BYTES;
 pub use peer::{LiveFault, LiveTotals, Peer};
-pub use pl_lines::{LineFault, parse_line, parse_line_2, show, show_2, show_file, show_file_2};
+pub use pl_lines::{
+    Explanation, LineFault, Reason, parse_line, parse_line_2, show, show_2, show_file, show_file_2,
+};
 pub use pl_model::numbers::{MAX_READS, MAX_SCRIPT_BYTES};
 pub use pl_model::{Line, Totals, Version};
-pub use running::run_script;
+pub use running::{run_script, run_script_explained};
 pub use streams::{Reads, Sink, Source, Writes};
 pub use writing::write_whole;

@@ -4,6 +4,7 @@ ghost use Rattle.pl_model.specs.declared.calls.Limits.{Limits};
 ghost use Rattle.pl_model.specs.Numbers.{most_file_bytes};
 ghost use Rattle.pl_script.specs.Talk.{Talk, Side, WasSaid};
 ghost use Rattle.pl_script.specs.Live.{IsLiveRun};
+ghost use Rattle.pl_script.specs.Explaining.{IsWhyOf, HandsOutWhy, IsExplainedLive};
 ghost use Rattle.pl_script.specs.LiveSteps.{IsAmid, IsUnderway, IsEnding, GoesOnOrEnds, WritingComesTo, ReadingComesTo, OtherFault, NoReadFault, ReadingEnds, is_unwritable};
 ghost use Rattle.pl_script.specs.declared.peer.LiveFault.TheVariants.{Write};
 
@@ -12,6 +13,7 @@ use crate::peer::{LiveFault, LiveTotals, Peer};
 use crate::reading::{CHUNK, zeros};
 use crate::running::WAITING;
 use crate::telling::tell;
+use pl_lines::Explanation;
 use pl_model::Limits;
 use pl_words::place_of;
 use std::alloc::Allocator;
@@ -26,7 +28,7 @@ fn tell_waiting<A: Allocator + Copy, P: Peer>(
 ) -> Result<(), LiveFault>
     ensures run { (limits : Limits) (strict : Bool) (first : Side) (t : Talk) (pending : List ℕ) → WasSaid first (P.side peer.old) t →
         IsUnderway limits strict live.old t pending →
-        GoesOnOrEnds A limits strict (string_bytes live.new.out) result first (P.side peer.new) (λ now.
+        GoesOnOrEnds A limits strict (string_bytes live.new.out) live.new.why result first (P.side peer.new) (λ now.
         IsUnderway limits strict live.new now pending × (now.told ≡ now.written) × (string_bytes live.new.out ≡ []) × (now.moments ≡ t.moments)) }
     ensures fault { IfErr result (λ e. e ≡ Write) }
     ensures read { P.cannot_read peer.new ≡ P.cannot_read peer.old }
@@ -39,7 +41,7 @@ fn tell_waiting<A: Allocator + Copy, P: Peer>(
     Ok(())
 }
 
-/// Runs the whole line that is held. A bad one is refused, or ends a strict run.
+/// Runs the whole line that is held. A bad one is refused, with what is wrong with it, or ends a strict run.
 fn run_held<A: Allocator + Copy, P: Peer>(
     alloc: A,
     strict: bool,
@@ -50,7 +52,7 @@ fn run_held<A: Allocator + Copy, P: Peer>(
     requires bad { live.old.bad ≤ live.old.lines }
     ensures run { (limits : Limits) (first : Side) (t : Talk) (ls : List (List ℕ)) (line : List ℕ) (others : List (List ℕ)) → WasSaid first (P.side peer.old) t →
         IsAmid limits strict live.old t ls line (line ∷ others) →
-        GoesOnOrEnds A limits strict (string_bytes live.new.out) result first (P.side peer.new) (λ now.
+        GoesOnOrEnds A limits strict (string_bytes live.new.out) live.new.why result first (P.side peer.new) (λ now.
         IsAmid limits strict live.new now (ls ++ line ∷ []) [] others × (now.heard ≡ t.heard) × (now.is_over ≡ t.is_over) × (now.moments ≡ t.moments)) }
     ensures read { P.cannot_read peer.new ≡ P.cannot_read peer.old }
     ensures write { P.cannot_write peer.new ≡ P.cannot_write peer.old }
@@ -65,7 +67,7 @@ fn run_held<A: Allocator + Copy, P: Peer>(
     if strict {
         return Err(LiveFault::BadLine(live.lines));
     }
-    peer.refuse(live.lines);
+    peer.refuse(live.lines, live.why);
     Ok(())
 }
 
@@ -80,7 +82,7 @@ fn take_in<A: Allocator + Copy, P: Peer>(
     requires lines { live.old.lines + length bytes.now < 2 ^ 64 }
     requires bad { live.old.bad ≤ live.old.lines }
     ensures run { (limits : Limits) (first : Side) (t : Talk) → WasSaid first (P.side peer.old) t → IsUnderway limits strict live.old t bytes.now →
-        GoesOnOrEnds A limits strict (string_bytes live.new.out) result first (P.side peer.new) (λ now.
+        GoesOnOrEnds A limits strict (string_bytes live.new.out) live.new.why result first (P.side peer.new) (λ now.
         IsUnderway limits strict live.new now [] × (now.moments ≡ t.moments)) }
     ensures read { P.cannot_read peer.new ≡ P.cannot_read peer.old }
     ensures write { WritingComesTo (P.cannot_write peer.old) (P.cannot_write peer.new) result }
@@ -111,7 +113,8 @@ fn finish<A: Allocator + Copy, P: Peer>(
     requires lines { live.old.lines + 1 < 2 ^ 64 }
     requires bad { live.old.bad ≤ live.old.lines }
     ensures run { (limits : Limits) (first : Side) (t : Talk) → WasSaid first (P.side peer.old) t → t.is_over ≡ true → IsUnderway limits strict live.old t [] →
-        (now : Talk) × WasSaid first (P.side peer.new) now × IsEnding A limits strict (string_bytes live.new.out) now result }
+        (now : Talk) × WasSaid first (P.side peer.new) now × IsEnding A limits strict (string_bytes live.new.out) now result
+        × IsWhyOf now result live.new.why }
     ensures read { P.cannot_read peer.new ≡ P.cannot_read peer.old }
     ensures write { P.cannot_write peer.new ≡ P.cannot_write peer.old }
     ensures fault { OtherFault result }
@@ -139,7 +142,8 @@ fn converse<A: Allocator + Copy, P: Peer>(
     requires lines { live.old.lines ≡ 0 }
     requires bad { live.old.bad ≡ 0 }
     ensures run { (limits : Limits) (first : Side) (t : Talk) → WasSaid first (P.side peer.old) t → t.moments ≡ [] → IsUnderway limits strict live.old t [] →
-        (now : Talk) × WasSaid first (P.side peer.new) now × IsEnding A limits strict (string_bytes live.new.out) now result }
+        (now : Talk) × WasSaid first (P.side peer.new) now × IsEnding A limits strict (string_bytes live.new.out) now result
+        × IsWhyOf now result live.new.why }
     ensures read { ReadingComesTo (P.cannot_read peer.old) (P.cannot_read peer.new) result }
     ensures write { WritingComesTo (P.cannot_write peer.old) (P.cannot_write peer.new) result }
 {
@@ -162,6 +166,52 @@ fn is_unwritable(ended: &Result<LiveTotals, LiveFault>) -> bool
     ensures { result ≡ is_unwritable ended.now }
 {
     matches!(ended, Err(LiveFault::Write))
+}
+
+/// Hands out what was found to be wrong, where the run ended at a bad line. Else what was told stays.
+fn hand_out(
+    ended: &Result<LiveTotals, LiveFault>,
+    found: Option<Explanation>,
+    why: &mut Option<Explanation>,
+)
+    ensures { HandsOutWhy ended.now found why.old why.new }
+{
+    if let Err(LiveFault::BadLine(_)) = ended {
+        *why = found;
+    }
+}
+
+/// Does what `run_live` does. Where a strict run ends at a bad line, it also tells what is wrong with it, in `why`, or nothing of one that
+/// is too long; else what `why` holds stays.
+///
+/// # Errors
+///
+/// Those of `run_live`.
+pub fn run_live_explained<A: Allocator + Copy, P: Peer>(
+    alloc: A,
+    peer: &mut P,
+    limits: Limits,
+    strict: bool,
+    why: &mut Option<Explanation>,
+) -> Result<LiveTotals, LiveFault>
+    requires most { limits.file_max ≤ most_file_bytes }
+
+    // The talk is as for `run_live`, and tells why the line is bad at which the run ended, if it did.
+    ensures run { (t : Talk) × WasSaid (P.side peer.old) (P.side peer.new) t × IsLiveRun A limits strict result t
+        × IsExplainedLive t result why.old why.new }
+
+    // Of failures, whatever is known.
+    ensures read { ReadingEnds (P.cannot_read peer.old) (P.cannot_read peer.new) result }
+    ensures write { WritingComesTo (P.cannot_write peer.old) (P.cannot_write peer.new) result }
+{
+    let mut live = new_live(alloc, limits);
+    let ended = converse(alloc, strict, &mut live, peer);
+    if is_unwritable(&ended) {
+        return ended;
+    }
+    tell(peer, live.out.as_bytes())?;
+    hand_out(&ended, live.why, why);
+    ended
 }
 
 /// Runs the lines that the far end says, on a new kernel, and answers each as it comes: before each read all answers to the lines
@@ -196,11 +246,6 @@ pub fn run_live<A: Allocator + Copy, P: Peer>(
     ensures read { ReadingEnds (P.cannot_read peer.old) (P.cannot_read peer.new) result }
     ensures write { WritingComesTo (P.cannot_write peer.old) (P.cannot_write peer.new) result }
 {
-    let mut live = new_live(alloc, limits);
-    let ended = converse(alloc, strict, &mut live, peer);
-    if is_unwritable(&ended) {
-        return ended;
-    }
-    tell(peer, live.out.as_bytes())?;
-    ended
+    let mut why = None;
+    run_live_explained(alloc, peer, limits, strict, &mut why)
 }

@@ -7,11 +7,14 @@ ghost use Rattle.pl_state.specs.Makes.{Stands};
 ghost use Rattle.pl_model.specs.Numbers.{most_file_bytes};
 ghost use Rattle.pl_script.specs.Live.{number_unless};
 ghost use Rattle.pl_script.specs.LiveText.{IsRunLine, IsNotRun};
+ghost use Rattle.pl_script.specs.Explaining.{why_of_held};
 ghost use Rattle.pl_script.specs.LiveSteps.{IsHeld, IsBehind, IsJudged, IsNewLive};
 
 use crate::running::{answer_line, refusal_of_line};
 use pl_kernel::Kernel;
-use pl_lines::{LineFault, names_version_2, parse_line_of, push_line};
+use pl_lines::{
+    Explanation, LineFault, explain_line, names_version_2, parse_line_of, push_line,
+};
 use pl_model::{Limits, Outcome, Version};
 use std::alloc::{AllocError, Allocator};
 
@@ -32,6 +35,8 @@ pub(crate) struct Live<A: Allocator> {
     /// How many lines were read, and how many of them were bad.
     pub(crate) lines: u64,
     pub(crate) bad: u64,
+    /// What is wrong with the last of these, if that is known.
+    pub(crate) why: Option<Explanation>,
 }
 
 /// A live run before its first line. It takes no memory.
@@ -47,6 +52,7 @@ pub(crate) fn new_live<A: Allocator + Copy>(alloc: A, limits: Limits) -> Live<A>
         version: Version::One,
         lines: 0,
         bad: 0,
+        why: None,
     }
 }
 
@@ -108,7 +114,7 @@ fn is_header<A: Allocator>(live: &Live<A>) -> bool
     live.lines == 0 && names_version_2(live.line.as_slice())
 }
 
-/// Runs the whole line that is held, and tells whether it is good. A bad one changes nothing.
+/// Runs the whole line that is held, and tells whether it is good. Of a bad one it keeps what is wrong with it, and changes nothing else.
 fn judge<A: Allocator + Copy>(alloc: A, live: &mut Live<A>) -> Result<bool, AllocError>
     ensures judged { (limits : Limits) (front refused : List ℕ) (ls : List (List ℕ)) (line : List ℕ) →
         IsBehind limits live.old (front ++ string_bytes live.old.out) refused ls line → MatchResult result
@@ -117,8 +123,10 @@ fn judge<A: Allocator + Copy>(alloc: A, live: &mut Live<A>) -> Result<bool, Allo
     ensures silent { IfOk result (λ good. good ≡ false → string_bytes live.new.out ≡ string_bytes live.old.out) }
     ensures lines { live.new.lines ≡ live.old.lines }
     ensures bad { live.new.bad ≡ live.old.bad }
+    ensures why { IfOk result (λ good. good ≡ false → live.new.why ≡ why_of_held live.new.version live.old.is_too_long live.old.line.items) }
 {
     if live.is_too_long {
+        live.why = None;
         return Ok(false);
     }
     if is_header(live) {
@@ -128,7 +136,10 @@ fn judge<A: Allocator + Copy>(alloc: A, live: &mut Live<A>) -> Result<bool, Allo
     let line = live.line.as_slice();
     match answer(alloc, live.version, &mut live.kernel, &mut live.out, line) {
         Ok(()) => Ok(true),
-        Err(LineFault::Bad) => Ok(false),
+        Err(LineFault::Bad) => {
+            live.why = explain_line(live.version, line);
+            Ok(false)
+        }
         Err(LineFault::NoMemory) => Err(AllocError),
     }
 }
@@ -149,6 +160,7 @@ pub(crate) fn take_line<A: Allocator + Copy>(
     ensures lines { OnOk result (live.new.lines ≡ live.old.lines + 1) }
     ensures bad { OnOk result (live.new.bad ≤ live.new.lines) }
     ensures good { IfOk result (λ good. good ≡ true → live.new.bad ≡ live.old.bad) }
+    ensures why { IfOk result (λ good. good ≡ false → live.new.why ≡ why_of_held live.new.version live.old.is_too_long live.old.line.items) }
 {
     let is_good = judge(alloc, live)?;
     live.line.clear();

@@ -4,6 +4,7 @@ ghost use Rattle.pl_script.specs.Streams.{took_nothing};
 ghost use Rattle.pl_script.specs.Talk.{Side, Hears, Takes, Flushes, Refuses};
 ghost use Rattle.pl_script.specs.declared.peer.LiveFault.TheVariants.{NoMemory};
 
+use pl_lines::Explanation;
 use std::alloc::AllocError;
 use std::io;
 use thiserror::Error;
@@ -88,8 +89,9 @@ pub trait Peer {
         ensures read { cannot_read self.new ≡ cannot_read self.old }
         ensures write { cannot_write self.new ≡ (is_err result || cannot_write self.old) };
 
-    /// Is told that the line of this number, counted from 1, is a bad one, and was passed over.
-    fn refuse(&mut self, number: u64)
+    /// Is told that the line of this number, counted from 1, is a bad one, and was passed over; and what is wrong with it, or nothing of one
+    /// that is too long.
+    fn refuse(&mut self, number: u64, why: Option<Explanation>)
         ensures side { Refuses (side self.old) (side self.new) number }
         ensures read { cannot_read self.new ≡ cannot_read self.old }
         ensures write { cannot_write self.new ≡ cannot_write self.old };

@@ -6,16 +6,18 @@ ghost use Rattle.pl_model.specs.Numbered.{opening};
 ghost use Rattle.pl_model.specs.Script.{header_lines, version_of, is_step};
 ghost use Rattle.pl_model.specs.Numbers.{most_file_bytes, most_script_bytes, most_reads};
 ghost use Rattle.pl_state.specs.Makes.{Stands};
+ghost use Rattle.pl_script.specs.Explaining.{IsExplained};
 ghost use Rattle.pl_script.specs.LineByLine.{none_counted, IsAnswered, IsRefused, IsAt, Stops};
 ghost use Rattle.pl_script.specs.Running.{IsRun, IsCountedRun, IsReadToEnd, WritingEnds};
 
+use crate::explaining::explain;
 use crate::fault::ScriptFault;
 use crate::reading::read_script;
 use crate::streams::{Sink, Source};
 use crate::writing::write_whole;
 use pl_kernel::{Kernel, NoMemory};
 use pl_lines::{
-    LineFault, next_line, parse_line_of, push_file_line, push_line, repeated_write, split_version,
+    Explanation, LineFault, next_line, parse_line_of, push_file_line, push_line, repeated_write, split_version,
 };
 use pl_model::{Limits, Line, Name, Outcome, Reply, Step, Totals, Version};
 use std::alloc::{AllocError, Allocator};
@@ -225,6 +227,70 @@ fn run_lines<A: Allocator + Copy, T: Sink>(
     run_each(alloc, &mut kernel, &mut out, totals, script, writer)
 }
 
+/// Runs a script that was read, on a new kernel. Where it ends at a line, the output of just the lines before was written.
+fn run_whole<A: Allocator + Copy, T: Sink>(
+    alloc: A,
+    script: &[u8],
+    writer: &mut T,
+    limits: Limits,
+) -> Result<Totals, ScriptFault>
+    requires short { length script.now ≤ most_script_bytes }
+    requires most { limits.file_max ≤ most_file_bytes }
+    ensures run { (written : List ℕ) × Appends (T.contents writer.old) (T.contents writer.new) written
+        × IsRun A script.now limits result written }
+    ensures ends { WritingEnds (T.has_stopped writer.old) (T.has_stopped writer.new) result }
+{
+    let mut totals = Totals {
+        lines: 0,
+        steps: 0,
+        nomem: 0,
+    };
+    run_lines(alloc, script, writer, limits, &mut totals)?;
+    Ok(totals)
+}
+
+/// Does what `run_script` does. Where it ends at a bad line, it also tells what is wrong with it, in `why`, if that is known; else what
+/// `why` holds stays.
+///
+/// # Errors
+///
+/// Those of `run_script`.
+pub fn run_script_explained<A: Allocator + Copy, S: Source, T: Sink>(
+    alloc: A,
+    reader: &mut S,
+    writer: &mut T,
+    limits: Limits,
+    why: &mut Option<Explanation>,
+) -> Result<Totals, ScriptFault>
+    requires reads { most_reads ≤ S.reads_left reader.old }
+    requires most { limits.file_max ≤ most_file_bytes }
+
+    // Where the reader tells its bytes: what was written is the script's output, or as much of it as the fault says.
+    ensures run { IfSome (S.remaining reader.old) (λ script.
+        (written : List ℕ) × Appends (T.contents writer.old) (T.contents writer.new) written
+        × IsRun A script limits result written) }
+    ensures end { IsReadToEnd result (S.remaining reader.new) }
+    ensures reads { S.reads_left reader.old ≤ S.reads_left reader.new + most_reads }
+
+    // Where no read had failed, and the writer hadn't stopped, before.
+    ensures read { S.has_failed reader.old ≡ false →
+        (IsErrOf result ScriptFault.Read ↔ (S.has_failed reader.new ≡ true)) }
+    ensures write { T.has_stopped writer.old ≡ false →
+        (IsErrOf result ScriptFault.Write ↔ (T.has_stopped writer.new ≡ true)) }
+
+    // Also where the writer doesn't tell what it holds.
+    ensures untouched { IsErrOf result ScriptFault.Read ⊎ IsErrOf result ScriptFault.TooLong →
+        writer.new ≡ writer.old }
+
+    // Where the reader tells its bytes.
+    ensures why { IfSome (S.remaining reader.old) (λ script. IsExplained script result why.old why.new) }
+{
+    let script = read_script(alloc, reader)?;
+    let ran = run_whole(alloc, script.as_slice(), writer, limits);
+    explain(script.as_slice(), &ran, why);
+    ran
+}
+
 /// Reads a script to its end, runs it on a new kernel, and writes a line for each step and each line `file` before the first bad
 /// one. Answers what it counted.
 ///
@@ -267,12 +333,6 @@ pub fn run_script<A: Allocator + Copy, S: Source, T: Sink>(
     ensures untouched { IsErrOf result ScriptFault.Read ⊎ IsErrOf result ScriptFault.TooLong →
         writer.new ≡ writer.old }
 {
-    let script = read_script(alloc, reader)?;
-    let mut totals = Totals {
-        lines: 0,
-        steps: 0,
-        nomem: 0,
-    };
-    run_lines(alloc, script.as_slice(), writer, limits, &mut totals)?;
-    Ok(totals)
+    let mut why = None;
+    run_script_explained(alloc, reader, writer, limits, &mut why)
 }

@@ -13,7 +13,7 @@ use Rattle.pl_script.proofs.live.converse.Goals as goal
 pub returns-in_err-chunk-clause-run : goal.returns-in_err-chunk-clause-run
 returns-in_err-chunk-clause-run g c = λ limits first t known silent at.
     let p = err_from_is_err_and c.from_residual.result c.from_residual.ensures.1 in
-    rw (p.1, p.2) (t, known, wants_to_hold limits c.args.strict c.args.live.now c.args.live.now t [] refl at)
+    rw (p.1, p.2) (t, known, wants_to_hold limits c.args.strict c.args.live.now c.args.live.now t [] refl at, tt)
 
 pub returns-in_err-tell_waiting-clause-run : goal.returns-in_err-tell_waiting-clause-run
 returns-in_err-tell_waiting-clause-run g c = λ limits first t known silent at.
@@ -28,6 +28,7 @@ returns-in_default-clause-run g c = λ limits first t known silent at.
       record said.0 { moments = said.0.moments ++ now said.0 ∷ [] },
       heard_so first _ _ said.0 said.1 (Err tt) c.read.new.buf c.in_default.ensures.side,
       ends_unread limits c.args.strict c.tell_waiting.new.live (record said.0 { moments = said.0.moments ++ now said.0 ∷ [] }) (hears_nothing limits c.args.strict c.tell_waiting.new.live said.0 said.2.0 said.0.is_over said.2.1 said.2.2),
+      tt,
     )
 
 pub returns-then-count-eq0-clause-run : goal.returns-then-count-eq0-clause-run
@@ -75,4 +76,4 @@ pub returns-clause-run : goal.returns-clause-run
 returns-clause-run g c = λ limits first t known silent at.
     let way = c.loop-i.invariant.underway limits first t known silent at in
     let all : c.loop-i._i ≡ most_live_reads = search rules in
-    (way.0, way.1, ends_endless limits c.args.strict c.loop-i.live way.0 way.2 (way.3 ∙ all))
+    (way.0, way.1, ends_endless limits c.args.strict c.loop-i.live way.0 way.2 (way.3 ∙ all), tt)

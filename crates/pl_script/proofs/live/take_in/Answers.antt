@@ -18,7 +18,7 @@ pub returns-in_err-gather-clause-run : goal.returns-in_err-gather-clause-run
 returns-in_err-gather-clause-run g c = λ limits first t known at.
     let way = c.loop-end.invariant.underway limits first t known at in
     let p = err_from_is_err_and c.from_residual.result c.from_residual.ensures.1 in
-    rw (p.1, p.2) (way.0, way.1, wants_to_hold limits c.args.strict c.loop-end.live c.loop-end.live way.0 c.loop-end.rest.now refl way.2)
+    rw (p.1, p.2) (way.0, way.1, wants_to_hold limits c.args.strict c.loop-end.live c.loop-end.live way.0 c.loop-end.rest.now refl way.2, tt)
 
 pub returns-in_err-run_held-clause-run : goal.returns-in_err-run_held-clause-run
 returns-in_err-run_held-clause-run g c = λ limits first t known at.
@@ -71,7 +71,7 @@ pub returns-in_err-gather-2-clause-run : goal.returns-in_err-gather-2-clause-run
 returns-in_err-gather-2-clause-run g c = λ limits first t known at.
     let way = c.loop-end.invariant.underway limits first t known at in
     let p = err_from_is_err_and c.from_residual-in_err-gather-2.result c.from_residual-in_err-gather-2.ensures.1 in
-    rw (p.1, p.2) (way.0, way.1, wants_to_hold limits c.args.strict c.loop-end.live c.loop-end.live way.0 c.loop-end.rest.now refl way.2)
+    rw (p.1, p.2) (way.0, way.1, wants_to_hold limits c.args.strict c.loop-end.live c.loop-end.live way.0 c.loop-end.rest.now refl way.2, tt)
 
 pub returns-clause-run : goal.returns-clause-run
 returns-clause-run g c = λ limits first t known at.

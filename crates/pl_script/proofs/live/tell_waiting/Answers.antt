@@ -10,7 +10,7 @@ returns-in_err-tell-clause-run g c = λ limits strict first t pending known at.
     let p = err_from_is_err_and c.from_residual.result c.from_residual.ensures.1 in
     let part = c.in_err-tell.ensures.talk first t known in
     rw (p.1, p.2, part.0)
-    (_, part.1.3, told_part limits strict c.args.live.now c.args.live.now t pending part.1.0 part.1.1 (string_bytes c.args.live.now.out) (sym c.as_bytes.ensures.value ∙ part.1.2) at)
+    (_, part.1.3, told_part limits strict c.args.live.now c.args.live.now t pending part.1.0 part.1.1 (string_bytes c.args.live.now.out) (sym c.as_bytes.ensures.value ∙ part.1.2) at, tt)
 
 pub returns-clause-run : goal.returns-clause-run
 returns-clause-run g c = λ limits strict first t pending known at. (
