@@ -37,9 +37,13 @@ with_flags app = with_rule (with_rule app (flag_rule (codes "check"))) (flag_rul
 abbrev pub with_live_flags : App → App
 with_live_flags app = with_rule (with_rule app (flag_rule (codes "live"))) (flag_rule (codes "strict"))
 
+-- `--explain`
+abbrev pub with_explain : App → App
+with_explain app = with_rule app (flag_rule (codes "explain"))
+
 -- the command `piperun [OPTION ..] [FILE]`, with all of these options
 abbrev pub piperun : App
-piperun = with_rule (with_live_flags (with_flags (with_limits with_numbers))) (new_rule (codes "file"))
+piperun = with_rule (with_explain (with_live_flags (with_flags (with_limits with_numbers)))) (new_rule (codes "file"))
 
 -- what words tell of each option, and of FILE
 pub record Told : Type 0 where
@@ -47,6 +51,7 @@ pub record Told : Type 0 where
   pub all : Option Text
   pub live : Option Text
   pub strict : Option Text
+  pub explain : Option Text
   pub first_call : Option Text
   pub file_max : Option Text
   pub names_max : Option Text
@@ -62,6 +67,7 @@ told_of value first = record {
   all = value (codes "all");
   live = value (codes "live");
   strict = value (codes "strict");
+  explain = value (codes "explain");
   first_call = value (codes "first-call");
   file_max = value (codes "file-max");
   names_max = value (codes "names-max");
@@ -127,7 +133,7 @@ abbrev pub AreAtOdds : Told → Type 0
 AreAtOdds told = (IsGiven told.check false × IsGiven told.all true)
     ⊎ ((IsGiven told.live false × IsGiven told.strict true) ⊎ (IsGiven told.check true × IsGiven told.live true))
 
--- what the options that have no value come to
+-- what the options come to that have no value and choose what is done
 abbrev pub AreGiven : Told → (check all live strict : Bool) → Type 0
 AreGiven told check all live strict = IsGiven told.check check × IsGiven told.all all × IsGiven told.live live × IsGiven told.strict strict
 
@@ -137,9 +143,12 @@ GiveValues told limits bytes file = AreLimits told limits × IsMemory told.memor
 
 -- what all of them come to
 abbrev pub HoldsMatches : Told → Result Choice Fault → Type 0
-HoldsMatches told (Ok (Run limits bytes file)) = AreGiven told false false false false × GiveValues told limits bytes (option_map string_bytes file)
-HoldsMatches told (Ok (Check every limits bytes file)) = AreGiven told true every false false × GiveValues told limits bytes (option_map string_bytes file)
-HoldsMatches told (Ok (Live asked)) = AreGiven told false false true asked.strict × GiveValues told asked.limits asked.memory (option_map string_bytes asked.file)
+HoldsMatches told (Ok (Run explain limits bytes file)) =
+    AreGiven told false false false false × GiveValues told limits bytes (option_map string_bytes file) × IsGiven told.explain explain
+HoldsMatches told (Ok (Check every explain limits bytes file)) =
+    AreGiven told true every false false × GiveValues told limits bytes (option_map string_bytes file) × IsGiven told.explain explain
+HoldsMatches told (Ok (Live asked)) = AreGiven told false false true asked.strict
+    × GiveValues told asked.limits asked.memory (option_map string_bytes asked.file) × IsGiven told.explain asked.explain
 HoldsMatches told (Ok Help) = ⊥
 HoldsMatches told (Ok Version) = ⊥
 HoldsMatches told (Err CommandLine) = AreAtOdds told ⊎ (AreNoLimits told ⊎ IsNoNumber told.memory)
@@ -174,8 +183,8 @@ AreBad words = ((kind : ErrorKind) × IsAmong kind (faults words) × (kind ≢ D
 
 -- what the words ask for
 abbrev pub Chooses : List Text → Result Choice Fault → Type 0
-Chooses words (Ok (Run limits bytes file)) = (faults words ≡ []) × HoldsMatches (told_by words) (Ok (Run limits bytes file))
-Chooses words (Ok (Check every limits bytes file)) = (faults words ≡ []) × HoldsMatches (told_by words) (Ok (Check every limits bytes file))
+Chooses words (Ok (Run explain limits bytes file)) = (faults words ≡ []) × HoldsMatches (told_by words) (Ok (Run explain limits bytes file))
+Chooses words (Ok (Check every explain limits bytes file)) = (faults words ≡ []) × HoldsMatches (told_by words) (Ok (Check every explain limits bytes file))
 Chooses words (Ok (Live asked)) = (faults words ≡ []) × HoldsMatches (told_by words) (Ok (Live asked))
 Chooses words (Ok Help) = IsAmong DisplayHelp (faults words)
 Chooses words (Ok Version) = IsAmong DisplayVersion (faults words)
@@ -192,14 +201,18 @@ abbrev pub AskWith : List Text → (check all live strict : Bool) → Type 0
 AskWith words check all live strict = IsSet (told_by words).check check × IsSet (told_by words).all all
     × IsSet (told_by words).live live × IsSet (told_by words).strict strict
 
+-- they tell whether it is told what is wrong with a bad line
+abbrev pub AskToExplain : List Text → Bool → Type 0
+AskToExplain words explain = IsSet (told_by words).explain explain
+
 -- the words ask for a run of the script of the input within these limits, and this one on its memory, if any
-abbrev pub AskForInput : List Text → Limits → Option ℕ → Type 0
-AskForInput words limits bytes = AskOfInput words limits bytes × AskWith words false false false false
+abbrev pub AskForInput : List Text → (explain : Bool) → Limits → Option ℕ → Type 0
+AskForInput words explain limits bytes = AskOfInput words limits bytes × AskWith words false false false false × AskToExplain words explain
 
 -- the words ask for a check of the record of the input, of which all differences are told, or the first
-abbrev pub AskForCheck : List Text → Bool → Limits → Option ℕ → Type 0
-AskForCheck words every limits bytes = AskOfInput words limits bytes × AskWith words true every false false
+abbrev pub AskForCheck : List Text → (every explain : Bool) → Limits → Option ℕ → Type 0
+AskForCheck words every explain limits bytes = AskOfInput words limits bytes × AskWith words true every false false × AskToExplain words explain
 
 -- the words ask for a live run of the lines of the input, which ends at its first bad line if it is a strict one
-abbrev pub AskForLive : List Text → Bool → Limits → Option ℕ → Type 0
-AskForLive words strict limits bytes = AskOfInput words limits bytes × AskWith words false false true strict
+abbrev pub AskForLive : List Text → (strict explain : Bool) → Limits → Option ℕ → Type 0
+AskForLive words strict explain limits bytes = AskOfInput words limits bytes × AskWith words false false true strict × AskToExplain words explain

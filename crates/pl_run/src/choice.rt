@@ -3,7 +3,7 @@ ghost use Rattle.std.specs.Prelude.{◌≡◌, Ok, Err, if◌then◌else◌, IfO
 ghost use Rattle.clap.specs.Words.{with_rule, app_of, found_of, first_value, one_text, kind_of};
 ghost use Rattle.pl_run.specs.declared.choice.Choice.TheVariants.{Run, Check, Live};
 ghost use Rattle.pl_run.specs.declared.fault.Fault.TheVariants.{CommandLine, NoMemory};
-ghost use Rattle.pl_run.specs.Words.{with_flags, with_limits, with_live_flags, with_numbers, valued_rule, piperun, are_at_odds, told_of, HoldsMatches, Refuses, Chooses};
+ghost use Rattle.pl_run.specs.Words.{with_flags, with_limits, with_live_flags, with_explain, with_numbers, valued_rule, piperun, are_at_odds, told_of, HoldsMatches, Refuses, Chooses};
 
 use crate::fault::Fault;
 use crate::limits::{limits_of, memory_of};
@@ -18,6 +18,8 @@ use std::alloc::{AllocError, Global};
 pub enum Choice {
     /// A run of a script.
     Run {
+        /// Whether it tells what is wrong with a bad line.
+        explain: bool,
         /// The number of the first call that waits, and the limits of the kernel.
         limits: Limits,
         /// The most bytes that the run may hold; without it there is no such limit.
@@ -29,6 +31,8 @@ pub enum Choice {
     Check {
         /// Whether all differences are told, and not the first alone.
         all: bool,
+        /// Whether it tells what is wrong with a bad line.
+        explain: bool,
         /// The number of the first call that waits, and the limits of the kernel, where the record names no others.
         limits: Limits,
         /// The most bytes that the check may hold; without it there is no such limit.
@@ -49,6 +53,8 @@ pub enum Choice {
 pub struct LiveChoice {
     /// Whether it ends at its first bad line.
     pub strict: bool,
+    /// Whether it tells what is wrong with bad lines.
+    pub explain: bool,
     /// The number of the first call that waits, and the limits of the kernel.
     pub limits: Limits,
     /// The most bytes that the run may hold; without it there is no such limit.
@@ -81,6 +87,16 @@ fn with_live_flags<'a>(alloc: Global, command: Command<'a>) -> Result<Command<'a
         .long("strict")
         .action(ArgAction::SetTrue);
     command.arg(live)?.arg(strict)
+}
+
+/// The command with the option `--explain`, which has no value.
+fn with_explain<'a>(alloc: Global, command: Command<'a>) -> Result<Command<'a>, AllocError>
+    ensures { IfOk result (λ made. app_of made ≡ with_explain (app_of command.entry)) }
+{
+    let explain = Arg::new(alloc, "explain")
+        .long("explain")
+        .action(ArgAction::SetTrue);
+    command.arg(explain)
 }
 
 /// The command with the options `--first-call N` and `--memory BYTES`, and with its version.
@@ -123,7 +139,8 @@ fn command<'a>(alloc: Global) -> Result<Command<'a>, AllocError>
     let file = Arg::new(alloc, "file");
     let command = with_limits(alloc, with_numbers(alloc)?)?;
     let command = with_flags(alloc, command)?;
-    with_live_flags(alloc, command)?.arg(file)
+    let command = with_live_flags(alloc, command)?;
+    with_explain(alloc, command)?.arg(file)
 }
 
 /// What the options and FILE ask for.
@@ -132,29 +149,33 @@ fn chosen(
     all: bool,
     live: bool,
     strict: bool,
+    explain: bool,
     limits: Limits,
     memory: Option<u64>,
     file: Option<String>,
 ) -> Result<Choice, Fault>
     ensures { result ≡ (if are_at_odds check all live strict then Err CommandLine
-        else if check then Ok (Check all limits memory file)
-        else if live then Ok (Live (record { strict = strict; limits = limits; memory = memory; file = file }))
-        else Ok (Run limits memory file)) }
+        else if check then Ok (Check all explain limits memory file)
+        else if live then Ok (Live (record { strict = strict; explain = explain; limits = limits; memory = memory; file = file }))
+        else Ok (Run explain limits memory file)) }
 {
     match (check, all, live, strict) {
         (true, all, false, false) => Ok(Choice::Check {
             all,
+            explain,
             limits,
             memory,
             file,
         }),
         (false, false, true, strict) => Ok(Choice::Live(LiveChoice {
             strict,
+            explain,
             limits,
             memory,
             file,
         })),
         (false, false, false, false) => Ok(Choice::Run {
+            explain,
             limits,
             memory,
             file,
@@ -185,7 +206,8 @@ fn run_of(alloc: Global, matches: &ArgMatches) -> Result<Choice, Fault>
     let all = matches.get_flag("all");
     let live = matches.get_flag("live");
     let strict = matches.get_flag("strict");
-    chosen(check, all, live, strict, limits, memory, file)
+    let explain = matches.get_flag("explain");
+    chosen(check, all, live, strict, explain, limits, memory, file)
 }
 
 /// What the words that the command didn't take ask for.
@@ -202,7 +224,7 @@ fn refusal(error: &Error) -> Result<Choice, Fault>
 
 /// What the words of the command line ask for, without the program's own name: `--help` or `-h` for the help text, `--version` or
 /// `-V` for the version, else each option at most once, and at most one FILE. The options are `--check`, `--all` beside it, `--live`,
-/// `--strict` beside that, and, each with a number below 2^64, `--first-call`, `--file-max`, `--names-max`, `--waiting-max`,
+/// `--strict` beside that, `--explain`, and, each with a number below 2^64, `--first-call`, `--file-max`, `--names-max`, `--waiting-max`,
 /// `--capacity-max` and `--memory`. What stands behind `--` is FILE, whatever it looks like.
 ///
 /// # Errors

@@ -1,11 +1,11 @@
 //! The program: what the words of its command line ask for, from one stream to another, and its fault to a third.
-ghost use Rattle.std.specs.Prelude.{◌≡◌, ◌<◌, ◌≤◌, ◌↔◌, ◌⊎◌, ℕ, List, Bool, Option, map, string_bytes, true, false, not, Ok, Some, OnOk, IfOk, IfSome, IfErr, IsErrOf};
+ghost use Rattle.std.specs.Prelude.{◌≡◌, ◌<◌, ◌≤◌, ◌↔◌, ◌⊎◌, ℕ, List, Bool, Option, map, string_bytes, true, false, not, if◌then◌else◌, Ok, Some, None, OnOk, IfOk, IfSome, IfErr, IsErrOf};
 ghost use Rattle.std.specs.Io.KnownBytes.{Appends};
 ghost use Rattle.pl_model.specs.declared.calls.Limits.{Limits};
 ghost use Rattle.pl_model.specs.Numbers.{most_reads, most_file_bytes};
 ghost use Rattle.pl_script.specs.Streams.{WritesFront};
 ghost use Rattle.pl_script.specs.Talk.{Talk, WasSaid};
-ghost use Rattle.pl_run.specs.Fault.{status_of, line_of, WritesLine};
+ghost use Rattle.pl_run.specs.Fault.{status_of, line_of, explained_by, WritesLine};
 ghost use Rattle.pl_run.specs.Program.{IsRunWithin, IsCheckedWithin, IsLiveWithin, IsLeft, as_done, line_of_same, version_line, ends_with};
 ghost use Rattle.pl_run.specs.Words.{AskOfInput, AskForInput, AskForCheck, AskForLive, Chooses};
 ghost use Rattle.pl_run.specs.declared.choice.Choice.TheVariants.{Live};
@@ -20,17 +20,26 @@ use itoa::Buffer;
 use pl_budget::Budget;
 use pl_model::Limits;
 use pl_script::{
-    Peer, Reads, ScriptFault, Sink, Source, Writes, check_script, run_live, run_script, write_whole,
+    Explanation, Peer, Reads, ScriptFault, Sink, Source, Writes, check_script_explained, run_live_explained,
+    run_script_explained, write_whole,
 };
 use std::alloc::Global;
 use std::env::{self, Env};
 use std::fs::{File, Files};
 use std::io::{ErrorKind, Read, Write};
 
+/// The fault, and what is wrong with a bad line if that is to be told.
+fn explained(explain: bool, fault: Fault, why: Option<Explanation>) -> Fault
+    ensures { result ≡ explained_by (if explain then why else None) fault }
+{
+    fault.explained_by(if explain { why } else { None })
+}
+
 /// Runs the script that the reader gives, within the limits and so many bytes of memory. All that the run holds counts: the script, the
-/// kernel, and the output that isn't written yet.
+/// kernel, and the output that isn't written yet. With `explain` the fault of a bad line tells what is wrong with it.
 fn run_from<S: Source, T: Sink>(
     alloc: Global,
+    explain: bool,
     limits: Limits,
     memory: Option<u64>,
     reader: &mut S,
@@ -40,7 +49,7 @@ fn run_from<S: Source, T: Sink>(
     requires most { limits.file_max ≤ most_file_bytes }
     ensures run { IfSome (S.remaining reader.old) (λ script.
         (written : List ℕ) × Appends (T.contents writer.old) (T.contents writer.new) written
-        × IsRunWithin limits script result written) }
+        × IsRunWithin explain limits script result written) }
     ensures known { IsErrOf result CommandLine → ⊥ }
     ensures read { S.has_failed reader.old ≡ false →
         (IsErrOf result CannotRead ↔ (S.has_failed reader.new ≡ true)) }
@@ -48,8 +57,11 @@ fn run_from<S: Source, T: Sink>(
         (IsErrOf result CannotWrite ↔ (T.has_stopped writer.new ≡ true)) }
 {
     let budget = Budget::new(alloc, memory.unwrap_or(u64::MAX));
-    run_script(&budget, reader, writer, limits)?;
-    Ok(())
+    let mut why = None;
+    match run_script_explained(&budget, reader, writer, limits, &mut why) {
+        Ok(_) => Ok(()),
+        Err(fault) => Err(explained(explain, fault.into(), why)),
+    }
 }
 
 /// Writes the line that of so many replies none differs, as far as the writer takes it.
@@ -63,10 +75,11 @@ fn write_same<T: Sink>(writer: &mut T, compared: u32) -> Result<(), ScriptFault>
 }
 
 /// Checks the record that the reader gives, within the limits, where its header names no others, and so many bytes of memory. Writes the
-/// differences that are to be told, or the line that there is none.
+/// differences that are to be told, or the line that there is none. With `explain` the fault of a bad line tells what is wrong with it.
 fn check_from<S: Source, T: Sink>(
     alloc: Global,
     all: bool,
+    explain: bool,
     limits: Limits,
     memory: Option<u64>,
     reader: &mut S,
@@ -76,7 +89,7 @@ fn check_from<S: Source, T: Sink>(
     requires most { limits.file_max ≤ most_file_bytes }
     ensures check { IfSome (S.remaining reader.old) (λ script.
         (written : List ℕ) × Appends (T.contents writer.old) (T.contents writer.new) written
-        × IsCheckedWithin all limits script result written) }
+        × IsCheckedWithin all explain limits script result written) }
     ensures known { IsErrOf result CommandLine → ⊥ }
     ensures read { S.has_failed reader.old ≡ false →
         (IsErrOf result CannotRead ↔ (S.has_failed reader.new ≡ true)) }
@@ -84,7 +97,11 @@ fn check_from<S: Source, T: Sink>(
         (IsErrOf result CannotWrite ↔ (T.has_stopped writer.new ≡ true)) }
 {
     let budget = Budget::new(alloc, memory.unwrap_or(u64::MAX));
-    let checked = check_script(&budget, reader, writer, limits, all)?;
+    let mut why = None;
+    let checked = match check_script_explained(&budget, reader, writer, limits, all, &mut why) {
+        Ok(checked) => checked,
+        Err(fault) => return Err(explained(explain, fault.into(), why)),
+    };
     if checked.different > 0 {
         return Err(Fault::Differs(checked.different, checked.compared));
     }
@@ -102,7 +119,8 @@ fn check_from<S: Source, T: Sink>(
 ///
 /// - `CannotRead` where a read failed.
 /// - `CannotWrite` exactly where a write failed or took no byte, or a flush failed.
-/// - `BadLine(n)` where the run is strict, and line `n`, counted from 1, is the first bad one.
+/// - `BadLine(n, why)` where the run is strict, and line `n`, counted from 1, is the first bad one. With `explain` it tells what is wrong
+///   with it.
 /// - `BadLines(n)` where the run isn't strict, came to the end of the lines, and refused `n` of them, which isn't 0.
 /// - `Endless` where 2^47 reads all gave bytes.
 /// - `NoMemory` where there was none for a line or its answer.
@@ -111,17 +129,22 @@ pub fn live_from<P: Peer>(
     limits: Limits,
     memory: Option<u64>,
     strict: bool,
+    explain: bool,
     peer: &mut P,
 ) -> Result<(), Fault>
     requires { limits.file_max ≤ most_file_bytes }
-    ensures run { (t : Talk) × WasSaid (P.side peer.old) (P.side peer.new) t × IsLiveWithin strict limits result t }
+    ensures run { (t : Talk) × WasSaid (P.side peer.old) (P.side peer.new) t × IsLiveWithin strict explain limits result t }
     ensures known { IsErrOf result CommandLine → ⊥ }
     ensures read { P.cannot_read peer.old ≡ false → IsErrOf result CannotRead → P.cannot_read peer.new ≡ true }
     ensures write { P.cannot_write peer.old ≡ false →
         (IsErrOf result CannotWrite ↔ (P.cannot_write peer.new ≡ true)) }
 {
     let budget = Budget::new(alloc, memory.unwrap_or(u64::MAX));
-    let counted = run_live(&budget, peer, limits, strict)?;
+    let mut why = None;
+    let counted = match run_live_explained(&budget, peer, limits, strict, &mut why) {
+        Ok(counted) => counted,
+        Err(fault) => return Err(explained(explain, fault.into(), why)),
+    };
     if counted.bad > 0 {
         return Err(Fault::BadLines(counted.bad));
     }
@@ -166,17 +189,18 @@ pub fn run<R: Files + AllocGlobal, S: Source, T: Sink>(
     requires reads { most_reads ≤ S.reads_left input.old }
 
     // Where the words ask for a run of the script of the input, within these limits.
-    ensures run { (limits : Limits) → (bytes : Option ℕ) → AskForInput (map string_bytes given.now) limits bytes → IfSome (S.remaining input.old) (λ script.
+    ensures run { (explain : Bool) → (limits : Limits) → (bytes : Option ℕ) → AskForInput (map string_bytes given.now) explain limits bytes → IfSome (S.remaining input.old) (λ script.
         (written : List ℕ) × Appends (T.contents output.old) (T.contents output.new) written
-        × IsRunWithin limits script (as_done result) written) }
+        × IsRunWithin explain limits script (as_done result) written) }
 
     // Where they ask for a check of the record of the input.
-    ensures check { (all : Bool) → (limits : Limits) → (bytes : Option ℕ) → AskForCheck (map string_bytes given.now) all limits bytes → IfSome (S.remaining input.old) (λ script.
+    ensures check { (all explain : Bool) → (limits : Limits) → (bytes : Option ℕ) → AskForCheck (map string_bytes given.now) all explain limits bytes → IfSome (S.remaining input.old) (λ script.
         (written : List ℕ) × Appends (T.contents output.old) (T.contents output.new) written
-        × IsCheckedWithin all limits script (as_done result) written) }
+        × IsCheckedWithin all explain limits script (as_done result) written) }
 
     // Where they ask for a live run of the input.
-    ensures live { (strict : Bool) → (limits : Limits) → (bytes : Option ℕ) → AskForLive (map string_bytes given.now) strict limits bytes → IsLeft strict limits bytes result }
+    ensures live { (strict explain : Bool) → (limits : Limits) → (bytes : Option ℕ) → AskForLive (map string_bytes given.now) strict explain limits bytes →
+        IsLeft strict explain limits bytes result }
 
     // Where a live run is left to do.
     ensures left { IfOk result (λ left. IfSome left (λ asked.
@@ -202,39 +226,43 @@ pub fn run<R: Files + AllocGlobal, S: Source, T: Sink>(
             Ok(None)
         }
         Choice::Run {
+            explain,
             limits,
             memory,
             file: None,
         } => {
-            run_from(rt.alloc(), limits, memory, input, output)?;
+            run_from(rt.alloc(), explain, limits, memory, input, output)?;
             Ok(None)
         }
         Choice::Run {
+            explain,
             limits,
             memory,
             file: Some(path),
         } => {
             let mut reader = Reads::of_script(open(rt, path.as_str())?);
-            run_from(rt.alloc(), limits, memory, &mut reader, output)?;
+            run_from(rt.alloc(), explain, limits, memory, &mut reader, output)?;
             Ok(None)
         }
         Choice::Check {
             all,
+            explain,
             limits,
             memory,
             file: None,
         } => {
-            check_from(rt.alloc(), all, limits, memory, input, output)?;
+            check_from(rt.alloc(), all, explain, limits, memory, input, output)?;
             Ok(None)
         }
         Choice::Check {
             all,
+            explain,
             limits,
             memory,
             file: Some(path),
         } => {
             let mut reader = Reads::of_script(open(rt, path.as_str())?);
-            check_from(rt.alloc(), all, limits, memory, &mut reader, output)?;
+            check_from(rt.alloc(), all, explain, limits, memory, &mut reader, output)?;
             Ok(None)
         }
     }
@@ -280,16 +308,17 @@ fn run_left<R: Files + AllocGlobal, I: Read + Drop, O: Write + Drop, E: Write + 
 {
     let LiveChoice {
         strict,
+        explain,
         limits,
         memory,
         file,
     } = asked;
     let Some(path) = file else {
-        let mut peer = Terminal::new(input, output, errors);
-        return live_from(rt.alloc(), limits, memory, strict, &mut peer);
+        let mut peer = Terminal::new(input, output, errors, explain);
+        return live_from(rt.alloc(), limits, memory, strict, explain, &mut peer);
     };
-    let mut peer = Terminal::new(open(rt, path.as_str())?, output, errors);
-    live_from(rt.alloc(), limits, memory, strict, &mut peer)
+    let mut peer = Terminal::new(open(rt, path.as_str())?, output, errors, explain);
+    live_from(rt.alloc(), limits, memory, strict, explain, &mut peer)
 }
 
 /// Does what the words of the command line ask for.

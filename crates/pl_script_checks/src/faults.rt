@@ -2,21 +2,41 @@
 use super::equal::is;
 use super::trickling::{Drip, Failure};
 use pl_run::{Fault, status, write_fault};
-use pl_script::{ScriptFault, Writes};
+use pl_script::{Explanation, Reason, ScriptFault, Writes};
 use std::alloc::Allocator;
 use std::io::ErrorKind;
 use std::process::Abort;
 
-/// Each fault, its line and its status.
+const ODD_DIGITS: Explanation = Explanation {
+    word: 4,
+    reason: Reason::OddDigits,
+};
+
+const TOO_MANY: Explanation = Explanation {
+    word: u64::MAX,
+    reason: Reason::Surplus,
+};
+
+/// Each fault, its lines and its status.
 const FAULTS: &[(Fault, &str, u8)] = &[
     (Fault::CannotRead, "piperun: cannot read\n", 1),
     (Fault::CannotWrite, "piperun: cannot write\n", 1),
     (Fault::CommandLine, "piperun: bad command line\n", 2),
-    (Fault::BadLine(7), "piperun: line 7: not a command\n", 3),
-    (Fault::BadLine(2), "piperun: line 2: not a command\n", 3),
+    (Fault::BadLine(7, None), "piperun: line 7: not a command\n", 3),
+    (Fault::BadLine(2, None), "piperun: line 2: not a command\n", 3),
     (
-        Fault::BadLine(16_777_216),
+        Fault::BadLine(16_777_216, None),
         "piperun: line 16777216: not a command\n",
+        3,
+    ),
+    (
+        Fault::BadLine(2, Some(ODD_DIGITS)),
+        "piperun: line 2: not a command\nline 2, word 4: an odd number of digits\n",
+        3,
+    ),
+    (
+        Fault::BadLine(7, Some(TOO_MANY)),
+        "piperun: line 7: not a command\nline 7, word 18446744073709551615: a word too many\n",
         3,
     ),
     (

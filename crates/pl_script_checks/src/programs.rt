@@ -96,6 +96,29 @@ const PROGRAMS: &[Program] = &[
         line: "piperun: line 2: not a command\n",
         status: 3,
     },
+    // What is wrong with the first bad line, by the number of the word.
+    Program {
+        words: &["--explain"],
+        input: "1 write 4 abc",
+        output: "",
+        line: "piperun: line 1: not a command\nline 1, word 4: an odd number of digits\n",
+        status: 3,
+    },
+    Program {
+        words: &["--check", "--explain"],
+        input: "piperun 2\nstart\n# => pid 1\n1 fork now\n",
+        output: "",
+        line: "piperun: line 4: not a command\nline 4, word 3: a word too many\n",
+        status: 3,
+    },
+    // A header that names limits wrongly is a comment, of which no word is at fault.
+    Program {
+        words: &["--check", "--explain"],
+        input: "# piperun --none\nstart\n",
+        output: "",
+        line: "piperun: line 1: not a command\n",
+        status: 3,
+    },
     Program {
         words: &["--first-call", "x"],
         input: "start\n",
@@ -190,6 +213,21 @@ const PROGRAMS: &[Program] = &[
         line: "piperun: line 2: not a command\n",
         status: 3,
     },
+    // It is told of each bad line, or of the one at which a strict run ends.
+    Program {
+        words: &["--live", "--explain"],
+        input: "start\n1 fork now\n1 pipe\n1 write 1 abc\n",
+        output: "pid 1\nfds 0 1\n",
+        line: "piperun: line 2: not a command\nline 2, word 3: a word too many\npiperun: line 4: not a command\nline 4, word 4: an odd number of digits\npiperun: 2 bad lines\n",
+        status: 3,
+    },
+    Program {
+        words: &["--live", "--strict", "--explain"],
+        input: "start\n1 fork now\n1 pipe\n",
+        output: "pid 1\n",
+        line: "piperun: line 2: not a command\nline 2, word 3: a word too many\n",
+        status: 3,
+    },
     Program {
         words: &["--live", "--strict", "--first-call", "7"],
         input: "piperun 2\nstart\n1 pipe\n1 write 1 5*00\n1 read 0 9\n1 read 0 9",
@@ -227,8 +265,15 @@ fn run_between<R: Files + AllocGlobal, I: Read + Drop, O: Write + Drop, E: Write
     let Some(live) = run(rt, words, &mut source, &mut sink)? else {
         return Ok(());
     };
-    let mut peer = Terminal::new(input, output, told);
-    live_from(rt.alloc(), live.limits, live.memory, live.strict, &mut peer)
+    let mut peer = Terminal::new(input, output, told, live.explain);
+    live_from(
+        rt.alloc(),
+        live.limits,
+        live.memory,
+        live.strict,
+        live.explain,
+        &mut peer,
+    )
 }
 
 /// Writes the line of a fault, and answers the status.

@@ -1,7 +1,7 @@
 //! What the words of the command line ask for.
 use self::Asked::{
-    Checks, ChecksFile, ChecksIn, Fails, Helps, LivesIn, LivesOn, LivesOnFile, Runs, RunsFile,
-    RunsIn, RunsWithin, Tells,
+    Checks, ChecksExplained, ChecksFile, ChecksIn, Fails, Helps, LivesExplained, LivesIn, LivesOn,
+    LivesOnFile, Runs, RunsExplained, RunsFile, RunsIn, RunsWithin, Tells,
 };
 use super::equal::is;
 use pl_model::Limits;
@@ -33,6 +33,11 @@ enum Asked {
     LivesOnFile(bool, u64, &'static str),
     /// A live run of the input that isn't strict, within these limits.
     LivesIn(Limits),
+    /// A run, a check of the first difference and a live run that isn't strict, of the input, each of which tells what is wrong with a bad
+    /// line.
+    RunsExplained,
+    ChecksExplained,
+    LivesExplained,
     Helps,
     /// The version.
     Tells,
@@ -128,6 +133,14 @@ const WORDS: &[(&[&str], Asked)] = &[
     (&["--live", "--live"], BAD),
     (&["--live", "--first-call", "x"], BAD),
     (&["--live", "--help"], Helps),
+    // what is wrong with a bad line
+    (&["--explain"], RunsExplained),
+    (&["--explain", "--check"], ChecksExplained),
+    (&["--live", "--explain"], LivesExplained),
+    (&["--explain", "--explain"], BAD),
+    (&["--explain=true"], BAD),
+    (&["--explain", "--all"], BAD),
+    (&["--explain", "--help"], Helps),
     // what isn't the option
     (&["--first-cal", "7"], BAD),
     (&["--First-call", "7"], BAD),
@@ -201,6 +214,7 @@ fn is_live(live: &LiveChoice, asked: Asked) -> bool {
     match asked {
         LivesOn(strict, n, memory) => {
             live.strict == strict
+                && !live.explain
                 && live.limits == from_call(n)
                 && live.memory == memory
                 && live.file.is_none()
@@ -212,6 +226,7 @@ fn is_live(live: &LiveChoice, asked: Asked) -> bool {
                 && live.file.as_deref() == Some(name)
         }
         LivesIn(limits) => !live.strict && live.limits == limits,
+        LivesExplained => live.explain && !live.strict && live.limits == LIMITS,
         _ => false,
     }
 }
@@ -221,6 +236,7 @@ fn is_so(choice: &Result<Choice, Fault>, asked: Asked) -> bool {
         (
             Ok(
                 Choice::Run {
+                    explain,
                     limits,
                     memory,
                     file,
@@ -228,7 +244,10 @@ fn is_so(choice: &Result<Choice, Fault>, asked: Asked) -> bool {
             ),
             wanted,
         ) => match wanted {
-            Runs(n) => *limits == from_call(n) && memory.is_none() && file.is_none(),
+            RunsExplained => *explain && *limits == LIMITS && file.is_none(),
+            Runs(n) => {
+                !*explain && *limits == from_call(n) && memory.is_none() && file.is_none()
+            }
             RunsFile(n, name) => {
                 *limits == from_call(n) && memory.is_none() && file.as_deref() == Some(name)
             }
@@ -242,6 +261,7 @@ fn is_so(choice: &Result<Choice, Fault>, asked: Asked) -> bool {
             Ok(
                 Choice::Check {
                     all,
+                    explain,
                     limits,
                     memory: None,
                     file,
@@ -249,7 +269,10 @@ fn is_so(choice: &Result<Choice, Fault>, asked: Asked) -> bool {
             ),
             wanted,
         ) => match wanted {
-            Checks(every, n) => *all == every && *limits == from_call(n) && file.is_none(),
+            ChecksExplained => *explain && !*all && *limits == LIMITS && file.is_none(),
+            Checks(every, n) => {
+                !*explain && *all == every && *limits == from_call(n) && file.is_none()
+            }
             ChecksFile(every, n, name) => {
                 *all == every && *limits == from_call(n) && file.as_deref() == Some(name)
             }
