@@ -1,5 +1,5 @@
 -- From a check of a record to the end of the program.
-use Rattle.std.proofs.Common.{◌≡◌, inl, inr, ℕ, ◌<◌, List, [], ◌++◌, take, drop, Bool, Option, Some, None, Ok, Err, refl, sym}
+use Rattle.std.proofs.Common.{◌≡◌, inl, inr, ℕ, ◌<◌, List, [], ◌++◌, take, drop, Bool, cond, Option, Some, None, Ok, Err, refl, sym, ap}
 use Rattle.std.specs.Prelude.{IfSome}
 use Rattle.std.specs.Io.KnownBytes.{Appends}
 use Rattle.std.proofs.KnownBytes.{Appends-nil, Appends-trans}
@@ -9,47 +9,52 @@ use Rattle.pl_script.specs.Header.{limits_of_header, IsCheckWithin}
 use Rattle.pl_script.specs.declared.comparing.Checked.{Checked}
 use Rattle.pl_script.specs.declared.fault.ScriptFault.{ScriptFault}
 use Rattle.pl_script.specs.declared.fault.ScriptFault.TheVariants as script
-use Rattle.pl_run.specs.Fault.{fault_of}
+use Rattle.pl_lines.specs.declared.explain.Explanation.{Explanation}
+use Rattle.pl_script.specs.Explaining.{IsExplained}
+use Rattle.pl_run.specs.Fault.{fault_of, nothing_more, explained_by}
 use Rattle.pl_run.specs.Program.{InBudget, IsCheckedWithin, line_of_same}
 use Rattle.pl_run.specs.declared.fault.Fault.TheVariants.{CannotWrite, NoMemory, Differs}
 use Rattle.pl_run.proofs.Fronts.{WritesSome}
+use Rattle.pl_run.proofs.Told.{told_so}
 
-module _ (all : Bool) (limits : Limits) where
+module _ (all explain : Bool) (limits : Limits) where
   -- the check failed
-  pub fails : (input old new : Option (List ℕ)) (fault : ScriptFault)
+  pub fails : (input old new : Option (List ℕ)) (fault : ScriptFault) (why : Option Explanation)
       → IfSome input (λ record_of. (text : List ℕ) × Appends old new text × IsCheckWithin InBudget all (limits_of_header limits record_of) record_of (Err fault) text)
-      → IfSome input (λ record_of. (text : List ℕ) × Appends old new text × IsCheckedWithin all limits record_of (Err (fault_of fault)) text)
-  fails None old new fault check = tt
-  fails (Some bytes) old new fault check = (check.0, check.1, (Err fault, check.0, [], sym (append-nil check.0), check.2, (refl, refl)))
+      → IfSome input (λ record_of. IsExplained {X = Checked} record_of (Err fault) None why)
+      → IfSome input (λ record_of. (text : List ℕ) × Appends old new text × IsCheckedWithin all explain limits record_of (Err (explained_by (cond explain why None) (fault_of nothing_more fault))) text)
+  fails None old new fault why check told = tt
+  fails (Some bytes) old new fault why check told =
+      (check.0, check.1, (Err fault, check.0, [], sym (append-nil check.0), check.2, (ap Err (told_so {X = Checked} explain bytes fault why told), refl)))
 
   module _ (input old mid : Option (List ℕ)) (checked : Checked)
       (check : IfSome input (λ record_of. (text : List ℕ) × Appends old mid text × IsCheckWithin InBudget all (limits_of_header limits record_of) record_of (Ok checked) text)) where
     -- replies differ
-    pub differs : 0 < checked.different → IfSome input (λ record_of. (text : List ℕ) × Appends old mid text × IsCheckedWithin all limits record_of (Err (Differs checked.different checked.compared)) text)
+    pub differs : 0 < checked.different → IfSome input (λ record_of. (text : List ℕ) × Appends old mid text × IsCheckedWithin all explain limits record_of (Err (Differs checked.different checked.compared)) text)
     differs some = by input check
       where
         by : (told : Option (List ℕ)) → IfSome told (λ record_of. (text : List ℕ) × Appends old mid text × IsCheckWithin InBudget all (limits_of_header limits record_of) record_of (Ok checked) text)
-            → IfSome told (λ record_of. (text : List ℕ) × Appends old mid text × IsCheckedWithin all limits record_of (Err (Differs checked.different checked.compared)) text)
+            → IfSome told (λ record_of. (text : List ℕ) × Appends old mid text × IsCheckedWithin all explain limits record_of (Err (Differs checked.different checked.compared)) text)
         by None known = tt
         by (Some bytes) known = (known.0, known.1, (Ok checked, known.0, [], sym (append-nil known.0), known.2, inr (some, refl, refl)))
 
     -- none does, and the line that says so was written
     pub as_recorded : (new : Option (List ℕ)) → checked.different ≡ 0 → Appends mid new (line_of_same checked.compared)
-        → IfSome input (λ record_of. (text : List ℕ) × Appends old new text × IsCheckedWithin all limits record_of (Ok tt) text)
+        → IfSome input (λ record_of. (text : List ℕ) × Appends old new text × IsCheckedWithin all explain limits record_of (Ok tt) text)
     as_recorded new none written = by input check
       where
         by : (told : Option (List ℕ)) → IfSome told (λ record_of. (text : List ℕ) × Appends old mid text × IsCheckWithin InBudget all (limits_of_header limits record_of) record_of (Ok checked) text)
-            → IfSome told (λ record_of. (text : List ℕ) × Appends old new text × IsCheckedWithin all limits record_of (Ok tt) text)
+            → IfSome told (λ record_of. (text : List ℕ) × Appends old new text × IsCheckedWithin all explain limits record_of (Ok tt) text)
         by None known = tt
         by (Some bytes) known = (known.0 ++ line_of_same checked.compared, Appends-trans old mid new known.0 (line_of_same checked.compared) known.1 written, (Ok checked, known.0, line_of_same checked.compared, refl, known.2, inl (none, refl)))
 
     -- none does, and a front of that line was written
     pub cut : (new : Option (List ℕ)) → checked.different ≡ 0 → WritesSome mid new (line_of_same checked.compared)
-        → IfSome input (λ record_of. (text : List ℕ) × Appends old new text × IsCheckedWithin all limits record_of (Err CannotWrite) text)
+        → IfSome input (λ record_of. (text : List ℕ) × Appends old new text × IsCheckedWithin all explain limits record_of (Err CannotWrite) text)
     cut new none some = by input check
       where
         by : (told : Option (List ℕ)) → IfSome told (λ record_of. (text : List ℕ) × Appends old mid text × IsCheckWithin InBudget all (limits_of_header limits record_of) record_of (Ok checked) text)
-            → IfSome told (λ record_of. (text : List ℕ) × Appends old new text × IsCheckedWithin all limits record_of (Err CannotWrite) text)
+            → IfSome told (λ record_of. (text : List ℕ) × Appends old new text × IsCheckedWithin all explain limits record_of (Err CannotWrite) text)
         by None known = tt
         by (Some bytes) known = (
           known.0 ++ take some.0 (line_of_same checked.compared),
@@ -58,10 +63,10 @@ module _ (all : Bool) (limits : Limits) where
         )
 
 -- whatever the input gives, nothing was checked and nothing written
-pub not_checked : (all : Bool) (limits : Limits) (input output : Option (List ℕ))
-    → IfSome input (λ bytes. (written : List ℕ) × Appends output output written × IsCheckedWithin all limits bytes (Err NoMemory) written)
-not_checked all limits None output = tt
-not_checked all limits (Some bytes) output = ([], Appends-nil output, (Err script.NoMemory, [], [], refl, unread (limits_of_header limits bytes), (refl, refl)))
+pub not_checked : (all explain : Bool) (limits : Limits) (input output : Option (List ℕ))
+    → IfSome input (λ bytes. (written : List ℕ) × Appends output output written × IsCheckedWithin all explain limits bytes (Err NoMemory) written)
+not_checked all explain limits None output = tt
+not_checked all explain limits (Some bytes) output = ([], Appends-nil output, (Err script.NoMemory, [], [], refl, unread (limits_of_header limits bytes), (refl, refl)))
   where
     unread : (named : Option Limits) → IsCheckWithin InBudget all named bytes (Err script.NoMemory) []
     unread None = refl

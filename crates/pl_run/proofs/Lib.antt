@@ -1,4 +1,5 @@
 pub mod Fronts
 pub mod Rows
 pub mod Unread
+pub mod Told
 pub mod Checks

@@ -45,8 +45,8 @@ of_faults P a words same says = subst (λ b. P (fault_of b words)) same (says (a
 
 -- the words that the command takes
 pub taken : (words : List Text) (told : Told) (r : Result Choice Fault) → told ≡ told_by words → faults words ≡ [] → HoldsMatches told r → Chooses words r
-taken words told (Ok (Run limits bytes file)) same none holds = (none, subst (λ other. HoldsMatches other (Ok (Run limits bytes file))) same holds)
-taken words told (Ok (Check every limits bytes file)) same none holds = (none, subst (λ other. HoldsMatches other (Ok (Check every limits bytes file))) same holds)
+taken words told (Ok (Run explain limits bytes file)) same none holds = (none, subst (λ other. HoldsMatches other (Ok (Run explain limits bytes file))) same holds)
+taken words told (Ok (Check every explain limits bytes file)) same none holds = (none, subst (λ other. HoldsMatches other (Ok (Check every explain limits bytes file))) same holds)
 taken words told (Ok (Live asked)) same none holds = (none, subst (λ other. HoldsMatches other (Ok (Live asked))) same holds)
 taken words told (Ok Help) same none holds = absurd holds
 taken words told (Ok Version) same none holds = absurd holds
@@ -54,7 +54,7 @@ taken words told (Err CommandLine) same none holds = inr (none, subst (λ other.
 taken words told (Err NoMemory) same none holds = tt
 taken words told (Err CannotRead) same none holds = absurd holds
 taken words told (Err CannotWrite) same none holds = absurd holds
-taken words told (Err (BadLine m)) same none holds = absurd holds
+taken words told (Err (BadLine m why)) same none holds = absurd holds
 taken words told (Err (BadLines m)) same none holds = absurd holds
 taken words told (Err TooLong) same none holds = absurd holds
 taken words told (Err Endless) same none holds = absurd holds
@@ -68,6 +68,7 @@ told_alike value one first other same alike =
       same (codes "all"),
       same (codes "live"),
       same (codes "strict"),
+      same (codes "explain"),
       same (codes "first-call"),
       same (codes "file-max"),
       same (codes "names-max"),
@@ -91,32 +92,32 @@ odds_of told false false true false e given = absurd (cc e)
 odds_of told false false false false e given = absurd (cc e)
 
 -- what the options and FILE come to is what their values hold
-pub chosen_holds : (told : Told) (check all live strict : Bool) (limits : Limits) (bytes : Option ℕ) (file : Option (String Global)) (r : Result Choice Fault)
-    → r ≡ cond (are_at_odds check all live strict) (Err CommandLine) (cond check (Ok (Check all limits bytes file))
-    (cond live (Ok (Live (record { strict = strict; limits = limits; memory = bytes; file = file }))) (Ok (Run limits bytes file))))
-    → AreGiven told check all live strict → GiveValues told limits bytes (option_map string_bytes file) → HoldsMatches told r
-chosen_holds told true true true true limits bytes file r e given values = rw e (inl (odds_of told true true true true refl given))
-chosen_holds told true true true false limits bytes file r e given values = rw e (inl (odds_of told true true true false refl given))
-chosen_holds told true true false true limits bytes file r e given values = rw e (inl (odds_of told true true false true refl given))
-chosen_holds told true true false false limits bytes file r e given values = rw e (given, values)
-chosen_holds told true false true true limits bytes file r e given values = rw e (inl (odds_of told true false true true refl given))
-chosen_holds told true false true false limits bytes file r e given values = rw e (inl (odds_of told true false true false refl given))
-chosen_holds told true false false true limits bytes file r e given values = rw e (inl (odds_of told true false false true refl given))
-chosen_holds told true false false false limits bytes file r e given values = rw e (given, values)
-chosen_holds told false true true true limits bytes file r e given values = rw e (inl (odds_of told false true true true refl given))
-chosen_holds told false true true false limits bytes file r e given values = rw e (inl (odds_of told false true true false refl given))
-chosen_holds told false true false true limits bytes file r e given values = rw e (inl (odds_of told false true false true refl given))
-chosen_holds told false true false false limits bytes file r e given values = rw e (inl (odds_of told false true false false refl given))
-chosen_holds told false false true true limits bytes file r e given values = rw e (given, values)
-chosen_holds told false false true false limits bytes file r e given values = rw e (given, values)
-chosen_holds told false false false true limits bytes file r e given values = rw e (inl (odds_of told false false false true refl given))
-chosen_holds told false false false false limits bytes file r e given values = rw e (given, values)
+pub chosen_holds : (told : Told) (check all live strict explain : Bool) (limits : Limits) (bytes : Option ℕ) (file : Option (String Global)) (r : Result Choice Fault)
+    → r ≡ cond (are_at_odds check all live strict) (Err CommandLine) (cond check (Ok (Check all explain limits bytes file))
+    (cond live (Ok (Live (record { strict = strict; explain = explain; limits = limits; memory = bytes; file = file }))) (Ok (Run explain limits bytes file))))
+    → AreGiven told check all live strict → GiveValues told limits bytes (option_map string_bytes file) → IsGiven told.explain explain → HoldsMatches told r
+chosen_holds told true true true true explain limits bytes file r e given values shown = rw e (inl (odds_of told true true true true refl given))
+chosen_holds told true true true false explain limits bytes file r e given values shown = rw e (inl (odds_of told true true true false refl given))
+chosen_holds told true true false true explain limits bytes file r e given values shown = rw e (inl (odds_of told true true false true refl given))
+chosen_holds told true true false false explain limits bytes file r e given values shown = rw e (given, values, shown)
+chosen_holds told true false true true explain limits bytes file r e given values shown = rw e (inl (odds_of told true false true true refl given))
+chosen_holds told true false true false explain limits bytes file r e given values shown = rw e (inl (odds_of told true false true false refl given))
+chosen_holds told true false false true explain limits bytes file r e given values shown = rw e (inl (odds_of told true false false true refl given))
+chosen_holds told true false false false explain limits bytes file r e given values shown = rw e (given, values, shown)
+chosen_holds told false true true true explain limits bytes file r e given values shown = rw e (inl (odds_of told false true true true refl given))
+chosen_holds told false true true false explain limits bytes file r e given values shown = rw e (inl (odds_of told false true true false refl given))
+chosen_holds told false true false true explain limits bytes file r e given values shown = rw e (inl (odds_of told false true false true refl given))
+chosen_holds told false true false false explain limits bytes file r e given values shown = rw e (inl (odds_of told false true false false refl given))
+chosen_holds told false false true true explain limits bytes file r e given values shown = rw e (given, values, shown)
+chosen_holds told false false true false explain limits bytes file r e given values shown = rw e (given, values, shown)
+chosen_holds told false false false true explain limits bytes file r e given values shown = rw e (inl (odds_of told false false false true refl given))
+chosen_holds told false false false false explain limits bytes file r e given values shown = rw e (given, values, shown)
 
 -- the words that it doesn't take
 pub refused : (words : List Text) (kind : ErrorKind) (r : Result Choice Fault) → (kind ≡ OutOfMemory) ⊎ IsAmong kind (faults words)
     → Refuses kind r → Chooses words r
-refused words kind (Ok (Run limits bytes file)) among made = absurd made
-refused words kind (Ok (Check every limits bytes file)) among made = absurd made
+refused words kind (Ok (Run explain limits bytes file)) among made = absurd made
+refused words kind (Ok (Check every explain limits bytes file)) among made = absurd made
 refused words kind (Ok (Live asked)) among made = absurd made
 refused words kind (Ok Help) (inl memory) made = absurd (cc (memory, made))
 refused words kind (Ok Help) (inr among) made = subst (λ k. IsAmong k (faults words)) made among
@@ -127,7 +128,7 @@ refused words kind (Err CommandLine) (inr among) made = inl (kind, among, made.0
 refused words kind (Err NoMemory) among made = tt
 refused words kind (Err CannotRead) among made = absurd made
 refused words kind (Err CannotWrite) among made = absurd made
-refused words kind (Err (BadLine m)) among made = absurd made
+refused words kind (Err (BadLine m why)) among made = absurd made
 refused words kind (Err (BadLines m)) among made = absurd made
 refused words kind (Err TooLong) among made = absurd made
 refused words kind (Err Endless) among made = absurd made
@@ -165,30 +166,30 @@ refused_for_memory words limits bytes CommandLine asked some (inr (none, inr (in
 refused_for_memory words limits bytes NoMemory asked some chosen = refl
 refused_for_memory words limits bytes CannotRead asked some chosen = absurd chosen
 refused_for_memory words limits bytes CannotWrite asked some chosen = absurd chosen
-refused_for_memory words limits bytes (BadLine m) asked some chosen = absurd chosen
+refused_for_memory words limits bytes (BadLine m why) asked some chosen = absurd chosen
 refused_for_memory words limits bytes (BadLines m) asked some chosen = absurd chosen
 refused_for_memory words limits bytes TooLong asked some chosen = absurd chosen
 refused_for_memory words limits bytes Endless asked some chosen = absurd chosen
 refused_for_memory words limits bytes (Differs m k) asked some chosen = absurd chosen
 
-pub run_refused : (words : List Text) (limits : Limits) (bytes : Option ℕ) (fault : Fault) → AskForInput words limits bytes → Chooses words (Err fault) → fault ≡ NoMemory
-run_refused words limits bytes fault asked chosen = refused_for_memory words limits bytes fault asked.0 even chosen
+pub run_refused : (words : List Text) (explain : Bool) (limits : Limits) (bytes : Option ℕ) (fault : Fault) → AskForInput words explain limits bytes → Chooses words (Err fault) → fault ≡ NoMemory
+run_refused words explain limits bytes fault asked chosen = refused_for_memory words limits bytes fault asked.0 even chosen
   where
     even : AreAtOdds (told_by words) → ⊥
     even (inl odd) = absurd (cc (set_so _ false true asked.1.1 odd.1))
     even (inr (inl odd)) = absurd (cc (set_so _ false true asked.1.3 odd.1))
     even (inr (inr odd)) = absurd (cc (set_so _ false true asked.1.0 odd.0))
 
-pub check_refused : (words : List Text) (every : Bool) (limits : Limits) (bytes : Option ℕ) (fault : Fault) → AskForCheck words every limits bytes → Chooses words (Err fault) → fault ≡ NoMemory
-check_refused words every limits bytes fault asked chosen = refused_for_memory words limits bytes fault asked.0 even chosen
+pub check_refused : (words : List Text) (every explain : Bool) (limits : Limits) (bytes : Option ℕ) (fault : Fault) → AskForCheck words every explain limits bytes → Chooses words (Err fault) → fault ≡ NoMemory
+check_refused words every explain limits bytes fault asked chosen = refused_for_memory words limits bytes fault asked.0 even chosen
   where
     even : AreAtOdds (told_by words) → ⊥
     even (inl odd) = absurd (cc (set_so _ true false asked.1.0 odd.0))
     even (inr (inl odd)) = absurd (cc (set_so _ false true asked.1.3 odd.1))
     even (inr (inr odd)) = absurd (cc (set_so _ false true asked.1.2 odd.1))
 
-pub live_refused : (words : List Text) (strict : Bool) (limits : Limits) (bytes : Option ℕ) (fault : Fault) → AskForLive words strict limits bytes → Chooses words (Err fault) → fault ≡ NoMemory
-live_refused words strict limits bytes fault asked chosen = refused_for_memory words limits bytes fault asked.0 even chosen
+pub live_refused : (words : List Text) (strict explain : Bool) (limits : Limits) (bytes : Option ℕ) (fault : Fault) → AskForLive words strict explain limits bytes → Chooses words (Err fault) → fault ≡ NoMemory
+live_refused words strict explain limits bytes fault asked chosen = refused_for_memory words limits bytes fault asked.0 even chosen
   where
     even : AreAtOdds (told_by words) → ⊥
     even (inl odd) = absurd (cc (set_so _ false true asked.1.1 odd.1))
@@ -214,23 +215,29 @@ same_limits told a b are be =
     same_fields a b (same_limit _ _ told.first_call _ _ are.0 be.0) (same_limit _ _ told.file_max _ _ are.1 be.1) (same_limit _ _ told.names_max _ _ are.2 be.2)
     (same_limit _ _ told.waiting_max _ _ are.3 be.3) (same_limit _ _ told.capacity_max _ _ are.4 be.4)
 
-pub run_asked : (words : List Text) (limits given : Limits) (bytes most : Option ℕ) (file : Option (String Global)) → AskForInput words limits bytes → Chooses words (Ok (Run given most file))
-    → (given ≡ limits) × (option_map string_bytes file ≡ None)
-run_asked words limits given bytes most file asked chosen = (same_limits (told_by words) given limits chosen.1.1.0 asked.0.1.0, chosen.1.1.2 ∙ sym asked.0.1.2)
+pub run_asked : (words : List Text) (explain shown : Bool) (limits given : Limits) (bytes most : Option ℕ) (file : Option (String Global)) → AskForInput words explain limits bytes
+    → Chooses words (Ok (Run shown given most file)) → (shown ≡ explain) × (given ≡ limits) × (option_map string_bytes file ≡ None)
+run_asked words explain shown limits given bytes most file asked chosen =
+    (set_so _ explain shown asked.2 chosen.1.2, same_limits (told_by words) given limits chosen.1.1.0 asked.0.1.0, chosen.1.1.2 ∙ sym asked.0.1.2)
 
-pub check_asked : (words : List Text) (every all : Bool) (limits given : Limits) (bytes most : Option ℕ) (file : Option (String Global)) → AskForCheck words every limits bytes → Chooses words (Ok (Check all given most file))
-    → (all ≡ every) × (given ≡ limits) × (option_map string_bytes file ≡ None)
-check_asked words every all limits given bytes most file asked chosen =
-    (set_so _ every all asked.1.1 chosen.1.0.1, same_limits (told_by words) given limits chosen.1.1.0 asked.0.1.0, chosen.1.1.2 ∙ sym asked.0.1.2)
+pub check_asked : (words : List Text) (every all explain shown : Bool) (limits given : Limits) (bytes most : Option ℕ) (file : Option (String Global)) → AskForCheck words every explain limits bytes
+    → Chooses words (Ok (Check all shown given most file)) → (all ≡ every) × (shown ≡ explain) × (given ≡ limits) × (option_map string_bytes file ≡ None)
+check_asked words every all explain shown limits given bytes most file asked chosen = (
+  set_so _ every all asked.1.1 chosen.1.0.1,
+  set_so _ explain shown asked.2 chosen.1.2,
+  same_limits (told_by words) given limits chosen.1.1.0 asked.0.1.0,
+  chosen.1.1.2 ∙ sym asked.0.1.2,
+)
 
 same_memory : (told : Option Text) (n m : Option ℕ) → IsMemory told n → IsMemory told m → n ≡ m
 same_memory None n m a b = a ∙ sym b
 same_memory (Some text) n m a b = a.1 ∙ sym b.1
 
-pub live_asked : (words : List Text) (strict : Bool) (limits : Limits) (bytes : Option ℕ) (left : LiveChoice) → AskForLive words strict limits bytes → Chooses words (Ok (Live left))
-    → (left.strict ≡ strict) × (left.limits ≡ limits) × (left.memory ≡ bytes) × (option_map string_bytes left.file ≡ None)
-live_asked words strict limits bytes left asked chosen = (
+pub live_asked : (words : List Text) (strict explain : Bool) (limits : Limits) (bytes : Option ℕ) (left : LiveChoice) → AskForLive words strict explain limits bytes → Chooses words (Ok (Live left))
+    → (left.strict ≡ strict) × (left.explain ≡ explain) × (left.limits ≡ limits) × (left.memory ≡ bytes) × (option_map string_bytes left.file ≡ None)
+live_asked words strict explain limits bytes left asked chosen = (
   set_so _ strict left.strict asked.1.3 chosen.1.0.3,
+  set_so _ explain left.explain asked.2 chosen.1.2,
   same_limits (told_by words) left.limits limits chosen.1.1.0 asked.0.1.0,
   same_memory _ left.memory bytes chosen.1.1.1 asked.0.1.1,
   chosen.1.1.2 ∙ sym asked.0.1.2,

@@ -2,9 +2,9 @@
 
 /// The text of `--help`: the commands, each line of a script, an example with what it prints, and the statuses.
 pub const HELP: &str = "\
-Usage: piperun [LIMIT ..] [--memory BYTES] [FILE]
-       piperun --check [--all] [LIMIT ..] [--memory BYTES] [FILE]
-       piperun --live [--strict] [LIMIT ..] [--memory BYTES] [FILE]
+Usage: piperun [--explain] [LIMIT ..] [--memory BYTES] [FILE]
+       piperun --check [--all] [--explain] [LIMIT ..] [--memory BYTES] [FILE]
+       piperun --live [--strict] [--explain] [LIMIT ..] [--memory BYTES] [FILE]
 
 Runs a script of pipe calls and prints a line for each reply. The script is
 FILE, or standard input where there is none. LIMIT is one of these:
@@ -28,6 +28,8 @@ FILE, or standard input where there is none. LIMIT is one of these:
                       while it waits for more; a bad line is told and passed
                       over, and the end tells how many there were
       --strict        ends a live run at its first bad line
+      --explain       tells of a bad line, on a second line, which word is wrong
+                      and why: `line 2, word 3: an odd number of digits`
   -h, --help          this text
   -V, --version       the version
 

@@ -8,9 +8,9 @@ returns-in_err-write_same-clause-check g c =
     let p = err_from_is_err_and c.from_residual-in_err-write_same.result c.from_residual-in_err-write_same.ensures.1 in
     let none : c.in_ok-checked.checked.different ≡ 0 = omega arith in
     rw (p.1, p.2, c.in_err-write_same.ensures.stopped.0)
-    (cut c.args.all c.args.limits _ _ _ c.in_ok-checked.checked c.in_ok-checked.ensures.run _ none c.in_err-write_same.ensures.front)
+    (cut c.args.all c.args.explain c.args.limits _ _ _ c.in_ok-checked.checked c.in_ok-checked.ensures.run _ none c.in_err-write_same.ensures.front)
 
 pub returns-clause-check : goal.returns-clause-check
 returns-clause-check g c =
     let none : c.in_ok-checked.checked.different ≡ 0 = omega arith in
-    as_recorded c.args.all c.args.limits _ _ _ c.in_ok-checked.checked c.in_ok-checked.ensures.run _ none c.in_ok-write_same.ensures.front
+    as_recorded c.args.all c.args.explain c.args.limits _ _ _ c.in_ok-checked.checked c.in_ok-checked.ensures.run _ none c.in_ok-write_same.ensures.front
