@@ -120,10 +120,10 @@ fn write_reason<T: Sink>(writer: &mut T, reason: &Reason) -> Result<(), ScriptFa
 /// Writes the line that tells what is wrong with the line of this number, if that is told, as far as the writer takes it.
 fn write_why<T: Sink>(
     writer: &mut T,
-    number: u64,
+    line: u64,
     why: &Option<Explanation>,
 ) -> Result<(), ScriptFault>
-    ensures front { WritesFront (T.contents writer.old) (T.contents writer.new) result (line_of_why number why.now) }
+    ensures front { WritesFront (T.contents writer.old) (T.contents writer.new) result (line_of_why line why.now) }
     ensures kept { OnOk result (T.has_stopped writer.new ≡ T.has_stopped writer.old) }
     ensures stopped { OnErr result (T.has_stopped writer.new ≡ true) }
 {
@@ -131,7 +131,7 @@ fn write_why<T: Sink>(
         return Ok(());
     };
     write_whole(writer, b"line ")?;
-    write_whole(writer, Buffer::new().format(number).as_bytes())?;
+    write_whole(writer, Buffer::new().format(line).as_bytes())?;
     write_whole(writer, b", word ")?;
     write_whole(writer, Buffer::new().format(why.word).as_bytes())?;
     write_whole(writer, b": ")?;
