@@ -6,5 +6,6 @@ pub mod Stars
 pub mod PieceLemmas
 pub mod FlagLemmas
 pub mod Behind
+pub mod ReasonLemmas
 pub mod NameLemmas
 pub mod EntryLemmas

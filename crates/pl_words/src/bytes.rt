@@ -29,7 +29,7 @@ fn is_hex_digit(c: u8) -> bool
     c.is_ascii_hexdigit()
 }
 
-fn are_hex_digits(word: &[u8]) -> bool
+pub(crate) fn are_hex_digits(word: &[u8]) -> bool
     ensures { result ≡ list_all (λ c. is_some (hex_digit c)) word.now }
 {
     word.iter().all(|c| is_hex_digit(*c))

@@ -1,4 +1,5 @@
 //! The flags in words, and the masks of polls.
+ghost use Rattle.std.specs.Prelude.{◌≡◌, is_some};
 ghost use Rattle.std.specs.List.{slice_split};
 ghost use Rattle.pl_model.specs.Words.{is_comma, open_flag, pipe_flag, splice_flag, with_flags, flags_of, flags_if_any, open_flags_if_any, pipe_flags_if_any, splice_flags_if_any, flags_or_none, poll_flag, poll_mask_of, words};
 ghost use Rattle.pl_words.specs.Parsed.{Gives};
@@ -112,6 +113,27 @@ fn parse_flags(named: Named, names: &[u8]) -> Result<u8, LineFault>
     }
     bits |= parse_flag(named, rest)?;
     Ok(bits)
+}
+
+/// Whether the word is names of flags of an open, joined by commas.
+pub fn are_open_flags(word: &[u8]) -> bool
+    ensures { result ≡ is_some (flags_of open_flag word.now) }
+{
+    parse_flags(Named::Open, word).is_ok()
+}
+
+/// Whether the word is names of flags of a pipe, joined by commas.
+pub fn are_pipe_flags(word: &[u8]) -> bool
+    ensures { result ≡ is_some (flags_of pipe_flag word.now) }
+{
+    parse_flags(Named::Pipe, word).is_ok()
+}
+
+/// Whether the word is names of flags of a splice, joined by commas.
+pub fn are_splice_flags(word: &[u8]) -> bool
+    ensures { result ≡ is_some (flags_of splice_flag word.now) }
+{
+    parse_flags(Named::Splice, word).is_ok()
 }
 
 /// The bits of the flags of the word that may stand there; none where there is no word.

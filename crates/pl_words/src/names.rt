@@ -37,7 +37,7 @@ fn first_of_name(word: &[u8]) -> Result<(u8, &[u8]), LineFault>
 }
 
 /// Whether these say the bytes of a name.
-fn is_name(word: &[u8]) -> bool
+fn is_name_bytes(word: &[u8]) -> bool
     ensures { result ≡ is_some (name_bytes word.now) }
 {
     let mut rest = word;
@@ -61,7 +61,7 @@ fn name_bytes<A: Allocator + Copy>(alloc: A, word: &[u8]) -> Result<Name<A>, Lin
         rest = behind;
         if bytes.push(byte).is_err() {
             // Whether the rest is good is still to be seen.
-            return Err(if is_name(rest) {
+            return Err(if is_name_bytes(rest) {
                 LineFault::NoMemory
             } else {
                 LineFault::Bad
@@ -86,4 +86,12 @@ pub fn parse_name<A: Allocator + Copy>(alloc: A, word: &[u8]) -> Result<Name<A>,
     } else {
         name_bytes(alloc, word)
     }
+}
+
+/// Whether the word says a name, as `parse_name` reads it. It takes no memory.
+#[tactic(auto, unfolding(pl_model::specs::Words::name_of))]
+pub fn is_name(word: &[u8]) -> bool
+    ensures { result ≡ is_some (name_of word.now) }
+{
+    word == b"-".as_slice() || is_name_bytes(word)
 }

@@ -25,7 +25,7 @@ fn repeated_len(times: &[u8], digits: &[u8]) -> Option<usize>
 }
 
 /// How many bytes a piece says.
-fn piece_len(piece: &[u8]) -> Option<usize>
+pub(crate) fn piece_len(piece: &[u8]) -> Option<usize>
     ensures { result ≡ option_map length (one_write (digits_or_repeated piece.now)) }
 {
     if let Some(star) = star_of(piece) {

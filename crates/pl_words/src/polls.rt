@@ -1,4 +1,5 @@
 //! What words ask of descriptors.
+ghost use Rattle.std.specs.Prelude.{◌≡◌, is_some};
 ghost use Rattle.pl_model.specs.Words.{entry_of, entries_of, words};
 ghost use Rattle.pl_words.specs.Parsed.{Gives, GivesTaking, EntriesTake};
 
@@ -18,6 +19,13 @@ fn parse_entry(word: &[u8]) -> Result<(i32, PollMask), LineFault>
     let fd = parse_i32(word.split_at(colon).0)?;
     let asked = parse_poll_mask(word.split_at(colon + 1).1)?;
     Ok((fd, asked))
+}
+
+/// Whether the word says a descriptor and what is asked of it, `FD:MASK`.
+pub fn is_entry(word: &[u8]) -> bool
+    ensures { result ≡ is_some (entry_of word.now) }
+{
+    parse_entry(word).is_ok()
 }
 
 /// The entries of a poll, each a descriptor and what is asked of it: all the words that are left, `FD:MASK`, of which there may be

@@ -1,6 +1,6 @@
 use Rattle.std.proofs.Common.{◌≡◌, ◌<◌, length, is_some, sym, ap, ◌∙◌, rules, tests}
 use Rattle.pl_words.proofs.NameLemmas.{name_bytes-nil, is_name_more, is_no_name}
-use Rattle.pl_words.proofs.names.is_name.Goals as goal
+use Rattle.pl_words.proofs.names.is_name_bytes.Goals as goal
 
 pub loop-rest-preserved : goal.loop-rest-preserved
 loop-rest-preserved c =
