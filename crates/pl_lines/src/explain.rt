@@ -1,9 +1,10 @@
 //! What is wrong with a bad line.
 ghost use Rattle.std.specs.Prelude.{◌≡◌};
 ghost use Rattle.pl_model.specs.Words.{words, without_return};
-ghost use Rattle.pl_lines.specs.Explained.{explained, reason_text};
+ghost use Rattle.pl_lines.specs.Explained.{explained};
 
 use pl_model::Version;
+use pl_words::Reason;
 
 /// What is wrong with a bad line.
 #[derive(Clone, Copy, Debug, PartialEq, Eq)]
@@ -12,28 +13,6 @@ pub struct Explanation {
     pub word: u64,
     /// What is wrong with it.
     pub reason: Reason,
-}
-
-/// What is wrong with a word.
-#[derive(Clone, Copy, Debug, PartialEq, Eq)]
-pub enum Reason {
-    /// No word may be there.
-    Surplus,
-    /// It has an odd number of digits.
-    OddDigits,
-}
-
-impl Reason {
-    /// The two pieces of its text.
-    pub fn text(&self) -> (&'static str, &'static str)
-        ensures first { result.0.now ≡ (reason_text self.now).0 }
-        ensures second { result.1.now ≡ (reason_text self.now).1 }
-    {
-        match self {
-            Reason::Surplus => ("a word too many", ""),
-            Reason::OddDigits => ("an odd number of digits", ""),
-        }
-    }
 }
 
 /// What is wrong with a line of a script of this version, given without its line feed. It takes no memory.

@@ -28,10 +28,10 @@ mod sayable;
 mod saying;
 mod text;
 
-pub use explain::{Explanation, Reason, explain_line};
+pub use explain::{Explanation, explain_line};
 pub use lines::{names_version_2, next_line, split_version};
 pub use parse::{RepeatedWrite, parse_line, parse_line_2, parse_line_of, repeated_write};
-pub use pl_words::LineFault;
+pub use pl_words::{LineFault, Reason, Wanted};
 pub use sayable::is_sayable;
 pub use saying::{push_read, push_step, push_write};
 pub use text::{

@@ -3,8 +3,8 @@ use Rattle.std.specs.Prelude.{ℕ, ◌≤◌, List, [], ◌∷◌, ◌++◌, len
 use Rattle.std.specs.Fmt.{decimal}
 use Rattle.std.specs.Io.KnownBytes.{Appends}
 use Rattle.pl_lines.specs.declared.explain.Explanation.{Explanation}
-use Rattle.pl_lines.specs.declared.explain.Reason.{Reason}
-use Rattle.pl_lines.specs.Explained.{reason_text}
+use Rattle.pl_words.specs.declared.reasons.Reason.{Reason}
+use Rattle.pl_words.specs.Reasons.{reason_text}
 use Rattle.pl_script.specs.Explaining.{why_bad, why_live}
 use Rattle.pl_script.specs.declared.fault.ScriptFault.{ScriptFault}
 use Rattle.pl_script.specs.declared.fault.ScriptFault.TheVariants as script
