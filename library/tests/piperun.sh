@@ -413,6 +413,50 @@ piperun: 1 bad lines' --live "$work/live.script" || return 1
     piperun_answers 0 "$work/live.out" '' --live --strict "$work/good.script"
 }
 
+# tells_why FIRST BOTH: whether piperun prints nothing of $work/explained.script, and complains by the lines BOTH with --explain, and by the line
+# FIRST without it; in a run, a check and a live run.
+tells_why() {
+    piperun_answers 3 /dev/null "$1" "$work/explained.script" || return 1
+    piperun_answers 3 /dev/null "$2" --explain "$work/explained.script" || return 1
+    piperun_answers 3 /dev/null "$2" --check --explain "$work/explained.script" || return 1
+    piperun_answers 3 /dev/null "$2" --live --strict --explain "$work/explained.script" || return 1
+    piperun_answers 3 /dev/null "$2
+piperun: 1 bad lines" --live --explain "$work/explained.script"
+}
+
+# explains ROW..: whether piperun tells of the script of each row SCRIPT => WORD: REASON that this word of its last line is wrong, and why. \n and
+# \t stand for bytes, and no other line prints anything.
+explains() {
+    for row in "$@"; do
+        printf '%b' "${row%% => *}" > "$work/explained.script"
+        number=$(awk 'END { print NR }' "$work/explained.script")
+        first="piperun: line $number: not a command"
+        both="$first
+line $number, word ${row##* => }"
+        tells_why "$first" "$both" || { echo "that was: $row"; return 1; }
+    done
+}
+
+# Whether piperun tells what is wrong with bad lines: with the first, or in a live run with each. Where no word is at fault, as in a header that
+# names limits wrongly and in a line that is too long, there is no second line.
+piperun_explains() {
+    explains '1 write 4 abc => 4: an odd number of digits' '1 read x 5 => 3: not a descriptor' '1 read 3 => 4: missing: a number of bytes' \
+        '1 fork now => 3: a word too many' '1 frob => 2: not a call' 'piperun 2\n# no call\n\t1  write 4 00+abc => 4: an odd number of digits' ||
+        return 1
+    printf 'start\n1 fork now\n1 pipe\n1 write 1 abc\n' > "$work/explained.script"
+    printf 'pid 1\nfds 0 1\n' > "$work/explained.out"
+    piperun_answers 3 "$work/explained.out" 'piperun: line 2: not a command
+line 2, word 3: a word too many
+piperun: line 4: not a command
+line 4, word 4: an odd number of digits
+piperun: 2 bad lines' --live --explain "$work/explained.script" || return 1
+    printf '# piperun --none\n' > "$work/explained.script"
+    piperun_answers 3 /dev/null 'piperun: line 1: not a command' --check --explain "$work/explained.script" || return 1
+    { printf '1 '; head -c 33554500 /dev/zero | tr '\0' x; } > "$work/explained.script"
+    piperun_answers 3 /dev/null 'piperun: line 1: not a command' --live --strict --explain "$work/explained.script" || return 1
+    piperun_answers 0 "$examples/session.out" '' --explain "$examples/session.script"
+}
+
 # Whether a live run answers each line before the next is said.
 piperun_answers_at_once() {
     mkfifo "$work/asked" "$work/answered" || return 1
@@ -463,6 +507,9 @@ try_piperun() {
     check "piperun on a live run" piperun_runs_live
     check "piperun that answers at once" piperun_answers_at_once
     check "piperun on a live run of the examples" piperun_answers 0 "$examples/session.out" '' --live "$examples/session.script"
+    check "piperun that tells what is wrong" piperun_explains
+    check "piperun that is to explain twice" piperun_answers 2 /dev/null 'piperun: bad command line' --explain --explain
+    check "piperun that is to explain and to help" piperun_answers 0 "$work/help" '' --explain --help
     check "piperun that is to be strict in no live run" piperun_answers 2 /dev/null 'piperun: bad command line' --strict "$examples/session.script"
     check "piperun on a live check" piperun_answers 2 /dev/null 'piperun: bad command line' --live --check "$examples/session.script"
     check "the help text of piperun" piperun_answers 0 "$work/help" '' --help
