@@ -3,7 +3,7 @@ use Rattle.std.proofs.Common.{◌≡◌, ℕ, zero, suc, ◌+◌, ◌-◌, ◌<�
 use Rattle.std.specs.Prelude.{IfSome, nat_le}
 use Rattle.std.specs.List.{slice_get}
 use Rattle.pl_model.specs.declared.script.Version.{Version}
-use Rattle.pl_model.specs.Script.{lines, version_of_lines}
+use Rattle.pl_model.specs.Script.{lines, version_of_lines, version_of}
 use Rattle.pl_lines.specs.declared.explain.Explanation.{Explanation}
 use Rattle.pl_script.specs.Streams.{WasNotRead}
 use Rattle.pl_script.specs.Talk.{Talk}
@@ -70,7 +70,8 @@ pub why_heard : (heard : List ℕ) (ls : List (List ℕ)) (l : List ℕ) (others
     → lines heard ≡ ls ++ (l ∷ others) → v ≡ version_of_lines (ls ++ l ∷ []) → n ≡ length ls + 1 → IsHeld b items l → why ≡ why_of_held v b items → why ≡ why_live heard n
 why_heard heard ls l others v n b items why parts version number held is =
     let k : n - 1 ≡ length ls = omega (arith, number) in
-    let there : why_live heard n ≡ why_if_short (version_of_lines (ls ++ l ∷ [])) l = rw (parts, k, get_at ls l others, same_version ls l others) refl in
+    let named : version_of heard ≡ version_of_lines (ls ++ l ∷ []) = ap version_of_lines parts ∙ same_version ls l others in
+    let there : why_live heard n ≡ why_if_short (version_of_lines (ls ++ l ∷ [])) l = rw (parts, k, get_at ls l others) (ap (λ w. why_if_short w l) named) in
     is ∙ why_held v b items l held ∙ ap (λ w. why_if_short w l) version ∙ sym there
 
 -- what was found is handed out

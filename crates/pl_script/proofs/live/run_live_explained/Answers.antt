@@ -26,5 +26,5 @@ returns-clause-run g c =
       telling (string_bytes c.converse-ended.new.live.out) ran.0,
       rw c.as_bytes.ensures.value at (c.in_ok-tell.ensures.talk _ ran.0 ran.1),
       parts_well _ c.args.limits c.args.strict ran.0 (string_bytes c.converse-ended.new.live.out) c.converse-ended.result (sym c.is_unwritable.ensures ∙ c.if-is_unwritable.false) ran.2,
-      handed_out _ c.converse-ended.result c.converse-ended.new.live.why _ _ ran.3 c.hand_out.ensures,
+      handed_out (telling (string_bytes c.converse-ended.new.live.out) ran.0) c.converse-ended.result c.converse-ended.new.live.why _ _ ran.3 c.hand_out.ensures,
     )

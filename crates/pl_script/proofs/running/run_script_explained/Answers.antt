@@ -1,10 +1,7 @@
-use Rattle.std.proofs.Common.{List, ℕ}
 use Rattle.std.proofs.lemmas.Result.{err_from_is_err_and}
-use Rattle.std.specs.Io.KnownBytes.{Appends}
-use Rattle.pl_script.specs.Running.{IsRun}
-use Rattle.pl_script.specs.Explaining.{IsExplained}
+use Rattle.pl_model.specs.declared.script.Totals.{Totals}
 use Rattle.pl_script.proofs.Unread.{unread}
-use Rattle.pl_script.proofs.WhyBad.{of_known, unexplained}
+use Rattle.pl_script.proofs.WhyBad.{unexplained}
 use Rattle.pl_script.proofs.running.run_script_explained.Goals as goal
 
 pub returns-in_err-script-clause-run : goal.returns-in_err-script-clause-run
@@ -15,4 +12,4 @@ returns-in_err-script-clause-run g c =
 pub returns-in_err-script-clause-why : goal.returns-in_err-script-clause-why
 returns-in_err-script-clause-why g c =
     let p = err_from_is_err_and c.from_residual.result c.from_residual.ensures.1 in
-    rw (p.1, p.2) (unexplained _ _ _ _ c.in_err-script.field-0.0 c.args.why.now c.in_err-script.ensures.fault)
+    rw (p.1, p.2) (unexplained Totals _ _ _ c.in_err-script.field-0.0 c.args.why.now c.in_err-script.ensures.fault)
