@@ -6,3 +6,6 @@ pub mod Masks
 pub mod Repeating
 pub mod Pieces
 pub mod Shapes
+pub mod Explaining
+pub mod Fitting
+pub mod ExplainLaw

@@ -3,3 +3,4 @@ pub mod Pushed
 pub mod Runs
 pub mod Blanks
 pub mod Explained
+pub mod ExplainLaw

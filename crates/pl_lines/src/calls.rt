@@ -67,7 +67,7 @@ fn mkfifo_call<A: Allocator + Copy>(alloc: A, rest: &[u8]) -> Result<Call<A>, Li
 
 /// What a file is opened for.
 #[tactic(auto, unfolding(pl_model::specs::Words::mode_of))]
-fn parse_mode(word: &[u8]) -> Result<Mode, LineFault>
+pub(crate) fn parse_mode(word: &[u8]) -> Result<Mode, LineFault>
     ensures { Gives result (mode_of word.now) }
 {
     if word == b"r".as_slice() {
@@ -179,7 +179,7 @@ fn tee_call<A: Allocator + Copy>(rest: &[u8]) -> Result<Call<A>, LineFault>
 
 /// Whether a poll waits.
 #[tactic(auto, unfolding(pl_model::specs::Words::wait_of))]
-fn parse_wait(word: &[u8]) -> Result<bool, LineFault>
+pub(crate) fn parse_wait(word: &[u8]) -> Result<bool, LineFault>
     ensures { Gives result (wait_of word.now) }
 {
     if word == b"now".as_slice() {
@@ -245,7 +245,7 @@ fn close_call<A: Allocator + Copy>(rest: &[u8]) -> Result<Call<A>, LineFault>
 
 /// Where an offset is counted from.
 #[tactic(auto, unfolding(pl_model::specs::Words::whence_of))]
-fn parse_whence(word: &[u8]) -> Result<Whence, LineFault>
+pub(crate) fn parse_whence(word: &[u8]) -> Result<Whence, LineFault>
     ensures { Gives result (whence_of word.now) }
 {
     if word == b"set".as_slice() {

@@ -81,7 +81,7 @@ fn words_line<A: Allocator + Copy>(
     }
 }
 
-fn is_comment(word: &[u8]) -> bool
+pub(crate) fn is_comment(word: &[u8]) -> bool
     ensures { result ≡ is_comment word.now }
 {
     !word.is_empty() && word[0] == b'#'

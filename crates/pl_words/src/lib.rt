@@ -3,10 +3,11 @@
 //! `next_word`, `word`, `only_word` and `end` part the words of a line. `parse_u32`, `parse_u64`, `parse_i32`, `parse_i64`, `parse_offset`,
 //! `parse_name`, `parse_flags_or_none` and `parse_bytes` read one, and `only_u64`, `only_i32`, `fd_and_word`, `open_flags_if_any`,
 //! `pipe_flags_if_any`, `splice_flags_if_any` and `parse_entries` all the words that are left. `bytes_len` tells how many bytes a word
-//! says, and makes none. `is_name`, `is_entry`, `are_open_flags`, `are_pipe_flags` and `are_splice_flags` tell whether a word says such
-//! a thing. `Reason` is why a word is at fault, and `bytes_reason` why one says no bytes (`specs/Reasons.antt`). `place_of` finds a byte, as the line feed that ends a line, and `without_return` leaves out a carriage
-//! return there. `is_plain` tells whether a byte stands for itself in a name. What words say is defined in `pl_model`, in `specs/Words.antt`; what a reader of them answers, and where it may
-//! find no memory, in `specs/Parsed.antt`.
+//! says, and makes none. `is_name`, `is_entry`, `are_open_flags`, `are_pipe_flags` and `are_splice_flags` tell whether a word says such a
+//! thing. `Reason` is why a word is at fault, and `bytes_reason` why one says no bytes (`specs/Reasons.antt`). `place_of` finds a byte, as
+//! the line feed that ends a line, and `without_return` leaves out a carriage return there. `is_plain` tells whether a byte stands for
+//! itself in a name. What words say is defined in `pl_model`, in `specs/Words.antt`; what a reader of them answers, and where it may find
+//! no memory, in `specs/Parsed.antt`.
 #![tactic(auto)]
 
 mod bytes;
