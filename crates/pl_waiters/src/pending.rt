@@ -1,7 +1,8 @@
 //! Calls that may get on.
 ghost use Rattle.pl_parked.specs.Standing.{SaysMore};
+ghost use Rattle.pl_parked.specs.InGroups.{has_call, is_call_in};
 
-use pl_parked::Groups;
+use pl_parked::{GroupedCall, Groups};
 use std::alloc::Allocator;
 
 // All calls that may get on stand in one group.
@@ -53,6 +54,7 @@ impl<A: Allocator> Pending<A> {
     ghost use Rattle.pl_waiters.specs.Held.{is_in};
 
     /// A call can't get on. It takes no memory.
+    #[inline(always)]
     pub(crate) fn remove(&mut self, number: u64)
         ensures { (call : ℕ) → is_in self.new call ≡ (not (nat_eq number call) && is_in self.old call) }
     {
@@ -60,9 +62,18 @@ impl<A: Allocator> Pending<A> {
             self.first = None;
         }
         if self.more {
-            self.rest.remove(PENDING, number);
-            self.more = self.rest.first_from(PENDING, 0).is_some();
+            self.remove_further(number);
         }
+    }
+
+    // Takes a call out of the further ones. Out of line, since mostly there are none.
+    #[inline(never)]
+    fn remove_further(&mut self, number: u64)
+        ensures first { self.new.first ≡ self.old.first }
+        ensures rest { (key : GroupedCall) → has_call self.new.rest.set key ≡ (not (is_call_in 0 number key) && has_call self.old.rest.set key) }
+    {
+        self.rest.remove(PENDING, number);
+        self.more = self.rest.first_from(PENDING, 0).is_some();
     }
 
     /// The least number, `from` or above.
