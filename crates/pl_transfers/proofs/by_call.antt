@@ -28,3 +28,5 @@ pub mod Again
 pub mod Measuring
 -- Whether a call that waits can get on.
 pub mod Progress
+-- A parked read that gives bytes is tried again, and ends.
+pub mod GivesAgain

@@ -3,3 +3,4 @@ pub mod Capacities
 pub mod Waits
 pub mod ReadInto
 pub mod Readable
+pub mod Again

@@ -1,5 +1,5 @@
 //! Whether a call that waits can get on. Nothing here takes memory.
-ghost use Rattle.std.specs.Prelude.{◌≡◌, nat_eq, IfSome};
+ghost use Rattle.std.specs.Prelude.{◌≡◌, ℕ, nat_eq, IsSome, IfSome, IfNone};
 ghost use Rattle.pl_model.specs.Map.{get};
 ghost use Rattle.pl_model.specs.Waking.{can_progress};
 ghost use Rattle.pl_state.specs.Contents.{core_of};
@@ -7,7 +7,7 @@ ghost use Rattle.pl_state.specs.Sound.{KeepsOne};
 ghost use Rattle.pl_state.specs.Parking.{ReadWaits, WriteWaits};
 
 use crate::transfers::{case_of_read, case_of_write};
-use crate::waiting::pipe_of;
+use crate::waiting::{pipe_of, waiting_read};
 use pl_model::{Call, ReadCase, WriteCase};
 use pl_state::KernelState;
 use std::alloc::Allocator;
@@ -52,6 +52,16 @@ fn write_can_progress<A: Allocator + Copy>(
         WriteCase::Ends { .. } => true,
         WriteCase::Waits { to, .. } => to != taken as usize,
     }
+}
+
+/// Whether the parked call of a number can get on, where it is a read.
+#[inline(always)]
+pub fn read_gets_on<A: Allocator + Copy>(kernel: &KernelState<A>, number: u64) -> Option<bool>
+    ensures some { IfSome result (λ can. (can ≡ can_progress (core_of {A = A} kernel.now) number) × IsSome (get nat_eq kernel.now.calls.calls number)) }
+    ensures none { IfNone result ((key n : ℕ) → ¬ ReadWaits {A = A} kernel.now number key n) }
+{
+    let read = waiting_read(kernel, number)?;
+    Some(read_can_progress(kernel, number, read.key, read.n))
 }
 
 /// Whether the parked call of a number, a read, a write or an open, can get on where it is tried again now: it is answered, or more of

@@ -1,10 +1,12 @@
 //! How many bytes a read gives, told before it is made. Nothing here takes memory.
-ghost use Rattle.std.specs.Prelude.{◌≡◌, ◌≤◌, min, IsSome, IfSome};
+ghost use Rattle.std.specs.Prelude.{◌≡◌, ◌≤◌, ℕ, min, IsSome, IfSome, IfNone};
 ghost use Rattle.pl_model.specs.Numbers.{most_capacity};
 ghost use Rattle.pl_model.specs.Begin.{open_for};
 ghost use Rattle.pl_model.specs.Modes.{reads};
 ghost use Rattle.pl_desc.specs.Rows.{at};
 ghost use Rattle.pl_state.specs.Contents.{core_of, description_of, node_of, waiting_of};
+ghost use Rattle.pl_state.specs.Parking.{ReadWaits};
+ghost use Rattle.pl_transfers.specs.Again.{FindsAgain};
 ghost use Rattle.pl_transfers.specs.Readable.{readable as machine_readable, readable_on, gives_again};
 
 use crate::transfers::open_for;
@@ -43,6 +45,37 @@ pub fn bytes_to_read<A: Allocator + Copy>(
     }
 }
 
+/// What the next try of a read that waits finds.
+#[derive(Clone, Copy)]
+pub struct ReadAgain {
+    /// The key of the description.
+    pub key: usize,
+    /// The key of the pipe that it is open on.
+    pub pipe: usize,
+    /// How many bytes it asks for.
+    pub n: u32,
+    /// How many bytes it gives: none where it waits on, or comes to the end of file.
+    pub count: usize,
+}
+
+/// What the next try of the parked call of a number finds, where it is a read.
+#[inline(always)]
+pub fn read_again<A: Allocator + Copy>(kernel: &KernelState<A>, number: u64) -> Option<ReadAgain>
+    ensures some { IfSome result (FindsAgain kernel.now number) }
+    ensures none { IfNone result ((key n : ℕ) → ¬ ReadWaits {A = A} kernel.now number key n) }
+{
+    // A proof learns here what holds of the kernel.
+    let _ = &kernel.descs;
+    let read = waiting_read(kernel, number)?;
+    let pipe = pipe_of(kernel, read.key);
+    Some(ReadAgain {
+        key: read.key,
+        pipe,
+        n: read.n,
+        count: (read.n as usize).min(kernel.nodes.front(pipe)),
+    })
+}
+
 /// How many bytes the parked call of a number gives where it is tried again now: none where it waits on, or is no read, or isn't
 /// there.
 pub fn bytes_to_resume<A: Allocator + Copy>(kernel: &KernelState<A>, number: u64) -> usize
@@ -51,11 +84,8 @@ pub fn bytes_to_resume<A: Allocator + Copy>(kernel: &KernelState<A>, number: u64
 {
     // A proof learns here what holds of the kernel.
     let _ = &kernel.descs;
-    match waiting_read(kernel, number) {
-        Some(read) => {
-            let pipe = pipe_of(kernel, read.key);
-            (read.n as usize).min(kernel.nodes.front(pipe))
-        }
+    match read_again(kernel, number) {
+        Some(read) => read.count,
         None => 0,
     }
 }

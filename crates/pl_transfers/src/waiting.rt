@@ -1,18 +1,20 @@
 //! Calls that wait: how they are parked, tried again, interrupted, and end.
-ghost use Rattle.std.specs.Prelude.{◌≡◌, ◌≤◌, ℕ, true, nat_eq, length, take, drop, IfOk, OnOk, OnErr, IsSome, IfSome, IfNone};
+ghost use Rattle.std.specs.Prelude.{◌≡◌, ◌≤◌, ◌<◌, ℕ, None, true, nat_eq, length, take, drop, IfOk, OnOk, OnErr, IsSome, IfSome, IfNone};
 ghost use Rattle.pl_model.specs.Numbers.{last_call, most_bytes};
 ghost use Rattle.pl_model.specs.Map.{get};
 ghost use Rattle.pl_model.specs.Transfer.{room};
 ghost use Rattle.pl_desc.specs.Rows.{at};
-ghost use Rattle.pl_state.specs.Contents.{IsProcess};
+ghost use Rattle.pl_state.specs.Contents.{IsProcess, core_of};
 ghost use Rattle.pl_state.specs.Opens.{OpenOn};
 ghost use Rattle.pl_state.specs.Sound.{IsPipe, KeepsOne, MayKeep, MayWait, OnNode};
 ghost use Rattle.pl_state.specs.Parking.{written, refusal_in, call_on, with_call, Adds, OpenWaits, ReadWaits, WriteWaits};
 ghost use Rattle.pl_state.specs.Makes.{MakesAtKeys, MayWantAtKeys};
+ghost use Rattle.pl_transfers.specs.Again.{FindsAgain};
 ghost use Rattle.pl_transfers.specs.ReadInto.{read_count, told};
 ghost use Rattle.pl_transfers.specs.Readable.{gives_again};
 
 use crate::parking::park_call;
+use crate::readable::ReadAgain;
 use crate::reading::ReadReply;
 use crate::transfers::{case_of_read, case_of_write, no_bytes};
 use pl_model::{Bytes8, Call, Errno, Node, ReadCase, Reply, Step, WriteCase};
@@ -176,6 +178,7 @@ pub struct WaitingRead {
 }
 
 /// The parked call of a number, where it is a read.
+#[inline(always)]
 pub fn waiting_read<A: Allocator + Copy>(
     kernel: &KernelState<A>,
     number: u64,
@@ -220,6 +223,24 @@ pub fn resume_read_into<A: Allocator + Copy>(
         }
         ReadCase::Waits => ReadReply::Parked(number),
     }
+}
+
+/// Tries a parked read again that gives bytes, into as many of the caller's. It ends, and takes no memory.
+#[inline(always)]
+pub fn give_again<A: Allocator + Copy>(
+    kernel: &mut KernelState<A>,
+    number: u64,
+    read: ReadAgain,
+    into: &mut [u8],
+)
+    requires found { FindsAgain kernel.old number read }
+    requires some { 0 < read.count }
+    requires room { length into.old ≡ read.count }
+    ensures done { MakesAtKeys {A = A} kernel.old (Step.Resume number) (Reply.Bytes into.new) kernel.new }
+    ensures ended { get nat_eq (core_of kernel.new).parked number ≡ None }
+{
+    kernel.nodes.read_pipe_into(read.pipe, into);
+    end_call(kernel, number);
 }
 
 fn resume_write<A: Allocator + Copy>(
