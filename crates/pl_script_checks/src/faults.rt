@@ -88,7 +88,7 @@ const ENDS: &[(ScriptFault, Fault)] = &[
     (ScriptFault::Read, Fault::CannotRead),
     (ScriptFault::Write, Fault::CannotWrite),
     (ScriptFault::TooLong, Fault::TooLong),
-    (ScriptFault::BadLine(2), Fault::BadLine(2)),
+    (ScriptFault::BadLine(2), Fault::BadLine(2, None)),
     (ScriptFault::NoMemory, Fault::NoMemory),
 ];
 
