@@ -76,7 +76,7 @@ const CALLS: &[Steps] = &[
             (2, &[Count(2), NoCall, A, NoCall, NoCall]),
             (3, &[Parked(1), Parked(2), INTERRUPTED, INTERRUPTED]),
             (4, &[A, NoCall, INTERRUPTED]),
-            (5, &[NoCall, NoCall]),
+            // The second read that waits finds its place in the list of calls.
         ],
         names: &[],
     },

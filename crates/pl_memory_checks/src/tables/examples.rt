@@ -117,7 +117,6 @@ const TRANSFERS: &[Steps] = &[
             (6, &[Parked(1), A, Count(2), NoCall, NoCall]),
             (7, &[A, Count(2), NoCall, NoCall]),
             (8, &[Parked(2), INTERRUPTED, NoCall]),
-            (9, &[NoCall, NoCall]),
         ],
         names: &[],
     },
