@@ -14,13 +14,13 @@ use Rattle.pl_model.specs.declared.script.Version.{Version}
 use Rattle.pl_model.specs.declared.script.Version.TheVariants.{One, Two}
 use Rattle.pl_model.specs.Flags.{has, nonblock, direct}
 use Rattle.pl_model.specs.Words.{◌>>=◌, words, without_return, number, signed, signed_long, bytes_of, name_of, mode_of, whence_of, flags_if_any, flags_of, open_flag, pipe_flag, splice_flag, as_open_flags, as_splice_flags, flags_or_none, offset_of, entry_of, entries_of, wait_of}
-use Rattle.pl_model.specs.Lines.{is_comment, side_of, len_and_flags, pipe_of, mkfifo_of, open_name_of, read_of, write_of, splice_of, tee_of, poll_of, dup_of, dup2_of, dup_fd_of, close_of, lseek_of, get_fl_of, set_fl_of, get_pipe_sz_of, set_pipe_sz_of, unlink_of, fork_of, exit_of, call_of, start_of, resume_of, interrupt_of, file_of, begin_of, words_line, line_of_words, line}
+use Rattle.pl_model.specs.Lines.{is_comment, len_and_flags, pipe_of, mkfifo_of, open_name_of, read_of, write_of, splice_of, tee_of, poll_of, dup_of, dup2_of, dup_fd_of, close_of, lseek_of, get_fl_of, set_fl_of, get_pipe_sz_of, set_pipe_sz_of, unlink_of, fork_of, exit_of, call_of, start_of, resume_of, interrupt_of, file_of, begin_of, words_line, line_of_words, line}
 use Rattle.pl_words.specs.declared.reasons.Wanted.TheVariants as kind
 use Rattle.pl_words.specs.declared.reasons.Reason.TheVariants.{Missing, Not}
 use Rattle.pl_lines.specs.declared.kinds.Expected.{Expected}
 use Rattle.pl_lines.specs.declared.kinds.Expected.TheVariants.{Needed, Optional, Repeated}
-use Rattle.pl_lines.specs.Explained.{pipe_kinds, later_call_kinds, call_kinds, says, why, first_fault, call_fault, begin_fault, words_fault, explained}
-use Rattle.pl_lines.proofs.Fitting.{fits, faultless, or_rest, no1, no2, no3, no4, no6, and_true, one, two, three, flag, fitting, named_faultless, Judges, judged, choose, Alike, alike}
+use Rattle.pl_lines.specs.Explained.{pipe_kinds, later_call_kinds, call_kinds, first_fault, call_fault, begin_fault, words_fault, explained}
+use Rattle.pl_lines.proofs.Fitting.{fits, faultless, or_rest, no1, no2, no3, and_true, one, two, three, flag, named_faultless, Judges, judged, choose, Alike, alike}
 
 -- one side of a splice
 abbrev pair : Option ℤ → Option (Option ℕ) → Option (ℤ × Option ℕ)

@@ -4,11 +4,10 @@ use Rattle.std.specs.Prelude.{is_some}
 use Rattle.std.specs.Option.{is_none, option_or}
 use Rattle.pl_model.specs.declared.script.Version.{Version}
 use Rattle.pl_model.specs.Words.{◌>>=◌}
-use Rattle.pl_words.specs.declared.reasons.Wanted.{Wanted}
 use Rattle.pl_lines.specs.declared.kinds.Expected.{Expected}
 use Rattle.pl_lines.specs.declared.kinds.Expected.TheVariants.{Needed, Optional, Repeated}
 use Rattle.pl_lines.specs.declared.explain.Explanation.{Explanation}
-use Rattle.pl_lines.specs.Explained.{says, next_expected, end_fault, word_fault, first_fault, why, at_fault, named_fault}
+use Rattle.pl_lines.specs.Explained.{says, next_expected, end_fault, first_fault, why, named_fault}
 
 -- whether the line may end here
 abbrev pub may_end : List Expected → Bool
