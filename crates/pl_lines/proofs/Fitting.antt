@@ -63,15 +63,6 @@ pub no3 : (a b c : Bool) → false ≡ (a && (b && (c && false)))
 no3 true b c = no2 b c
 no3 false b c = refl
 
-pub no4 : (a b c d : Bool) → false ≡ (a && (b && (c && (d && false))))
-no4 true b c d = no3 b c d
-no4 false b c d = refl
-
-pub no6 : (a b c d e f : Bool) → false ≡ (a && (b && (c && (d && (e && (f && false))))))
-no6 true true c d e f = no4 c d e f
-no6 true false c d e f = refl
-no6 false b c d e f = refl
-
 pub and_true : (b : Bool) → (b && true) ≡ b
 and_true true = refl
 and_true false = refl
