@@ -1,5 +1,5 @@
 -- What is told of a parked call, whatever keys the machine has for what it keeps.
-use Rattle.std.proofs.Common.{◌≡◌, ℕ, Option, Some, None, refl, sym, ◌∙◌, ap, nat_eq}
+use Rattle.std.proofs.Common.{◌≡◌, ℕ, Option, Some, None, IfSome, refl, sym, ◌∙◌, ap, subst, nat_eq}
 use Rattle.std.specs.Prelude.{option_map}
 use Rattle.pl_model.specs.Map.{get}
 use Rattle.pl_model.specs.Numbered.{State, numbers}
@@ -8,7 +8,8 @@ use Rattle.pl_model.specs.Renaming.{rename_waiting}
 use Rattle.pl_parked.specs.declared.call.ParkedCall.{ParkedCall}
 use Rattle.pl_state.specs.Contents.{Contents, core_of, waiting_of}
 use Rattle.pl_state.specs.Makes.{Stands}
-use Rattle.pl_state.specs.Sound.{IsSound}
+use Rattle.pl_state.specs.Parking.{ReadWaits}
+use Rattle.pl_state.specs.Sound.{IsSound, IsWaiting, MayWait}
 use Rattle.pl_state.proofs.by_call.Resumed.{parked-is}
 use Rattle.pl_state.proofs.waiting.Calls.{get-each}
 use Rattle.pl_kernel.specs.Taken.{TellsTaken, TellsOwner}
@@ -42,3 +43,10 @@ module _ {A : Type 0} (k : Contents A) (sound : IsSound A k) (number : ℕ) (cal
 
   pub tells_owner : TellsOwner k number (option_map (λ w. w.pid) call)
   tells_owner = λ s. λ stands. field-told (λ w. w.pid) (λ w. w.pid) (λ w. refl) s stands (λ w. refl)
+
+-- a read that waits took nothing
+pub read_took_none : {A : Type 0} (k : Contents A) (sound : IsSound A k) (number key n : ℕ) → ReadWaits k number key n → TellsTaken k number (Some 0)
+read_took_none {A} k sound number key n read =
+    let waiting : IsWaiting A read.call = subst (λ o. IfSome o (IsWaiting A)) read.here (sound.waiting number) in
+    let none : read.call.taken ≡ 0 = subst (λ z. MayWait z read.call.taken) read.asked waiting.may in
+    subst (λ m. TellsTaken k number (Some m)) none (tells_taken k sound number (Some read.call) read.here)

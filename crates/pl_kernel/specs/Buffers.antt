@@ -5,6 +5,7 @@ use Rattle.pl_model.specs.declared.calls.Step.TheVariants.{Resume}
 use Rattle.pl_model.specs.Numbered.{State, step}
 use Rattle.pl_state.specs.Contents.{Contents}
 use Rattle.pl_state.specs.Makes.{Stands, Makes, LeavesByReply, is_parked}
+use Rattle.pl_state.specs.Parking.{ReadWaits}
 use Rattle.pl_transfers.specs.ReadInto.{told, read_count}
 use Rattle.pl_kernel.specs.declared.kernel.buffers.Resumed.{Resumed}
 use Rattle.pl_kernel.specs.declared.kernel.buffers.Resumed.TheVariants.{Read, Short, Other}
@@ -34,6 +35,10 @@ module _ {A : Type 0} where
   abbrev pub IsOfOther : Resumed A → Type 0
   IsOfOther (Other reply) = ⊤
   IsOfOther of_read = ⊥
+
+  -- the call of the number is a read
+  abbrev pub IsWaitingRead : Contents A → ℕ → Type 0
+  IsWaitingRead k number = (key n : ℕ) × ReadWaits k number key n
 
   -- The resumption of a call came to this, with so much room for bytes: it is the step, or a read that gives more.
   abbrev pub Resumes : Contents A → ℕ → (room : ℕ) → Resumed A → List ℕ → Contents A → Type 0

@@ -4,10 +4,9 @@ ghost use Rattle.pl_model.specs.Numbers.{most_bytes};
 ghost use Rattle.pl_model.specs.Memory.{is_frugal};
 ghost use Rattle.pl_state.specs.Contents.{core_of};
 ghost use Rattle.pl_state.specs.Makes.{MakesAtKeys, MayWantAtKeys, ParksAtKeys};
-ghost use Rattle.pl_state.specs.Parking.{ReadWaits};
 ghost use Rattle.pl_splices.specs.Shares.{SharesByStep};
 ghost use Rattle.pl_transfers.specs.ReadInto.{told, read_count};
-ghost use Rattle.pl_transfers.specs.Readable.{gives_again};
+ghost use Rattle.pl_transfers.specs.Again.{FindsAgain};
 ghost use Rattle.pl_transfers.specs.Waits.{reply_of};
 ghost use Rattle.pl_polls.specs.Entries.{asked, entries_after};
 ghost use Rattle.pl_polls.specs.Into.{told as poll_told};
@@ -21,7 +20,7 @@ use crate::watch::{
 use pl_model::{Call, Reply, Step};
 use pl_polls::{PollEntry, PollReply};
 use pl_state::{KernelState, NoMemory};
-use pl_transfers::{ReadReply, WriteReply};
+use pl_transfers::{ReadAgain, ReadReply, WriteReply, give_again};
 use pl_waiters::Waiters;
 use std::alloc::Allocator;
 
@@ -154,25 +153,50 @@ pub(crate) fn try_again<A: Allocator + Copy>(
     steps::try_again(kernel, number)
 }
 
-/// Tries a parked read again, into the caller's bytes, which are as many as it gives, or more. `count` is how many it gives: if it is 0, it is
-/// asked whether the read can get on.
-pub(crate) fn resume_read_into<A: Allocator + Copy>(
+// Tries a parked read again that gives no bytes. Out of line, so that one that gives bytes stays short.
+#[inline(never)]
+fn resume_empty<A: Allocator + Copy>(
     kernel: &mut KernelState<A>,
     waiters: &mut Waiters<A>,
     number: u64,
-    key: usize,
-    n: u32,
-    count: usize,
+    read: ReadAgain,
     into: &mut [u8],
 ) -> ReadReply
-    requires waits { ReadWaits kernel.old number key n }
-    requires room { gives_again {A = A} kernel.old number ≤ length into.old }
+    requires found { FindsAgain kernel.old number read }
+    requires none { read.count ≡ 0 }
     requires knows { Knows (core_of {A = A} kernel.old) waiters.old }
     ensures done { MakesAtKeys {A = A} kernel.old (Step.Resume number) (told result into.new) kernel.new }
     ensures within { read_count result ≤ length into.new }
     ensures rest { drop (read_count result) into.new ≡ drop (read_count result) into.old }
     ensures knows { Knows (core_of {A = A} kernel.new) waiters.new }
 {
-    let _nothing = expect_read_again(kernel, waiters, number, key, count);
-    pl_transfers::resume_read_into(kernel, number, key, n, into)
+    let _nothing = expect_again(kernel, waiters, number);
+    pl_transfers::resume_read_into(kernel, number, read.key, read.n, into)
+}
+
+/// Tries a parked read again, into the caller's bytes, which are as many as it gives, or more. If it gives bytes it ends, and the index
+/// has it no more among those that may get on.
+#[inline(always)]
+pub(crate) fn resume_read_into<A: Allocator + Copy>(
+    kernel: &mut KernelState<A>,
+    waiters: &mut Waiters<A>,
+    number: u64,
+    read: ReadAgain,
+    into: &mut [u8],
+) -> ReadReply
+    requires found { FindsAgain kernel.old number read }
+    requires room { read.count ≤ length into.old }
+    requires knows { Knows (core_of {A = A} kernel.old) waiters.old }
+    ensures done { MakesAtKeys {A = A} kernel.old (Step.Resume number) (told result into.new) kernel.new }
+    ensures within { read_count result ≤ length into.new }
+    ensures rest { drop (read_count result) into.new ≡ drop (read_count result) into.old }
+    ensures knows { Knows (core_of {A = A} kernel.new) waiters.new }
+{
+    if read.count == 0 {
+        return resume_empty(kernel, waiters, number, read, into);
+    }
+    let _nothing = expect_read_again(kernel, waiters, number, read);
+    give_again(kernel, number, read, &mut into[..read.count]);
+    waiters.take_out(number);
+    ReadReply::Read(read.count)
 }

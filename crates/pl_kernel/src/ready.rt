@@ -14,12 +14,12 @@ ghost use Rattle.pl_kernel.specs.Progress.{is_ready, IsLeastFrom};
 ghost use Rattle.pl_kernel.specs.ToldNodes.{key_of};
 ghost use Rattle.pl_kernel.specs.Index.{Knows, IsNoLess};
 
-use crate::steps::{can_progress, is_read};
+use crate::steps::can_progress;
 use crate::watch::key_of_node;
 use pl_model::Node;
 use pl_parked::Parked;
 use pl_state::KernelState;
-use pl_transfers::one_can_progress;
+use pl_transfers::read_gets_on;
 use pl_waiters::Waiters;
 use std::alloc::Allocator;
 
@@ -29,13 +29,15 @@ fn is_ready<A: Allocator + Copy>(state: &KernelState<A>, number: u64) -> bool
 {
     // A proof learns here what holds of the kernel.
     let _ = &state.descs;
-    if is_read(state, number) {
-        return one_can_progress(state, number);
+    if let Some(can) = read_gets_on(state, number) {
+        return can;
     }
     state.parked.get(number).is_some() && can_progress(state, number)
 }
 
-// The least number, `from` or above, of a parked call that can get on. It asks all that wait, one after another.
+// The least number, `from` or above, of a parked call that can get on. It asks all that wait, one after another. Out of line, so
+// that `next_ready` stays short.
+#[inline(never)]
 fn ask_all<A: Allocator + Copy>(state: &KernelState<A>, from: u64) -> Option<u64>
     ensures { IsLeastFrom (is_ready (core_of {A = A} state.now)) from result }
 {
@@ -127,7 +129,9 @@ fn place_kept<A: Allocator + Copy>(
     }
 }
 
-// The call of a number can't get on, or is gone: it is asked again once a node is touched at which it waits.
+// The call of a number can't get on, or is gone: it is asked again once a node is touched at which it waits. Out of line,
+// as few calls are asked in vain.
+#[inline(never)]
 fn put_aside<A: Allocator + Copy>(state: &KernelState<A>, waiters: &mut Waiters<A>, number: u64)
     requires knows { Knows (core_of {A = A} state.now) waiters.old }
     requires stuck { is_ready (core_of {A = A} state.now) number ≡ false }

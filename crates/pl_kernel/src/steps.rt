@@ -1,11 +1,11 @@
 //! One step of the kernel, by the calls.
-ghost use Rattle.std.specs.Prelude.{◌≡◌, ◌≢◌, ◌≤◌, ◌<◌, ◌^◌, ℕ, List, true, false, nat_eq, length, drop, IfOk, OnErr, IsOk, IfSome, IfNone, IsSomeAnd};
+ghost use Rattle.std.specs.Prelude.{◌≡◌, ◌≢◌, ◌≤◌, ◌<◌, ◌^◌, ℕ, List, true, false, nat_eq, length, drop, IfOk, OnErr, IsOk, IfSome, IfNone};
 ghost use Rattle.pl_model.specs.Numbers.{most_bytes};
 ghost use Rattle.pl_model.specs.Memory.{is_frugal, is_frugal_call};
 ghost use Rattle.pl_model.specs.Map.{get};
 ghost use Rattle.pl_model.specs.Waking.{can_progress};
 ghost use Rattle.pl_state.specs.Contents.{IsProcess, core_of};
-ghost use Rattle.pl_state.specs.Sound.{IsPoll, KeepsOne};
+ghost use Rattle.pl_state.specs.Sound.{IsPoll};
 ghost use Rattle.pl_state.specs.Makes.{MakesAtKeys, MayWantAtKeys, ParksAtKeys};
 ghost use Rattle.pl_splices.specs.Shares.{SharesByStep};
 ghost use Rattle.pl_transfers.specs.ReadInto.{told, read_count};
@@ -159,16 +159,6 @@ fn is_poll<A: Allocator + Copy>(kernel: &KernelState<A>, number: u64) -> bool
 {
     match kernel.parked.get(number) {
         Some(parked) => matches!(parked.call, Call::Poll { .. }),
-        None => false,
-    }
-}
-
-/// Whether the call of a number is a read.
-pub(crate) fn is_read<A: Allocator + Copy>(kernel: &KernelState<A>, number: u64) -> bool
-    ensures { result ≡ true → IsSomeAnd (get nat_eq kernel.now.calls.calls number) (λ w. KeepsOne w.call) }
-{
-    match kernel.parked.get(number) {
-        Some(parked) => matches!(parked.call, Call::Read { .. }),
         None => false,
     }
 }

@@ -14,7 +14,7 @@ ghost use Rattle.pl_model.specs.Touching.{stands_at, names_at, waits_at, has_at,
 ghost use Rattle.pl_model.specs.TouchingLaw.{opens_name};
 ghost use Rattle.pl_desc.specs.Rows.{at};
 ghost use Rattle.pl_state.specs.Contents.{core_of, node_of};
-ghost use Rattle.pl_state.specs.Parking.{ReadWaits};
+ghost use Rattle.pl_transfers.specs.Again.{FindsAgain};
 ghost use Rattle.pl_kernel.specs.ToldNodes.{key_of};
 ghost use Rattle.pl_kernel.specs.Index.{Knows, IsNoLess, IsTouched, IsTouchedAt, TouchesAll, Expects, WaitsWithNothing, IsNoted, TriesWell};
 
@@ -23,7 +23,7 @@ use crate::told_nodes::{node_of_fd, node_of_name};
 use pl_model::numbers::OPEN_MAX;
 use pl_model::{Call, Node, Reply, Step};
 use pl_state::KernelState;
-use pl_transfers::{ReadReply, WriteReply};
+use pl_transfers::{ReadAgain, ReadReply, WriteReply};
 use pl_waiters::Waiters;
 use std::alloc::Allocator;
 
@@ -231,25 +231,22 @@ pub(crate) fn expect_again<A: Allocator + Copy>(
     Touched::Nothing
 }
 
-/// The same of a read that waits on the description of this key, and gives so many bytes now.
+/// The same of a read that waits.
+#[inline(always)]
 pub(crate) fn expect_read_again<A: Allocator + Copy>(
     state: &KernelState<A>,
     waiters: &mut Waiters<A>,
     number: u64,
-    key: usize,
-    count: usize,
+    read: ReadAgain,
 ) -> Touched
     requires knows { Knows (core_of {A = A} state.now) waiters.old }
-    requires waits { (n : ℕ) × ReadWaits {A = A} state.now number key n }
+    requires found { FindsAgain {A = A} state.now number read }
     ensures nothing { result ≡ Touched.Nothing }
     ensures expects { Expects (core_of {A = A} state.now) (Step.Resume number) waiters.new result }
 {
     // A proof learns here what holds of the kernel.
     let _ = &state.descs;
-    if count == 0 || waiters.is_idle() {
-        return expect_again(state, waiters, number);
-    }
-    touch_node(waiters, state.descs.node(key));
+    touch_node(waiters, Node::Pipe(read.pipe));
     Touched::Nothing
 }
 

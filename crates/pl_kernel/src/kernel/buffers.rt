@@ -1,5 +1,5 @@
 //! Steps on the caller's own bytes and entries.
-ghost use Rattle.std.specs.Prelude.{◌≡◌, ◌≢◌, ◌≤◌, ◌<◌, ◌^◌, ℕ, List, length, drop, IfOk, OnErr, IsOk, IfSome, IfNone, Ok};
+ghost use Rattle.std.specs.Prelude.{◌≡◌, ◌≢◌, ◌≤◌, ◌<◌, ◌^◌, ℕ, List, length, drop, IfOk, OnErr, IsOk, IfSome, IfNone, Ok, Some};
 ghost use Rattle.pl_model.specs.Numbers.{most_bytes, most_capacity};
 ghost use Rattle.pl_state.specs.Makes.{Makes, LeavesByReply, WantsMemory};
 ghost use Rattle.pl_state.specs.Parking.{ReadWaits};
@@ -8,7 +8,8 @@ ghost use Rattle.pl_transfers.specs.Readable.{gives_again};
 ghost use Rattle.pl_transfers.specs.Waits.{reply_of};
 ghost use Rattle.pl_polls.specs.Entries.{asked, entries_after};
 ghost use Rattle.pl_polls.specs.Into.{told as poll_told};
-ghost use Rattle.pl_kernel.specs.Buffers.{Parks, resumed_count, IsRead, IsOfRead, IsOfOther, Resumes, ResumesByReply};
+ghost use Rattle.pl_kernel.specs.Taken.{TellsTaken};
+ghost use Rattle.pl_kernel.specs.Buffers.{Parks, resumed_count, IsRead, IsOfRead, IsOfOther, IsWaitingRead, Resumes, ResumesByReply};
 
 use super::Kernel;
 use crate::noted::{
@@ -18,7 +19,7 @@ use crate::steps::refusal_of_write;
 use pl_model::{Call, Reply, Step};
 use pl_polls::{PollEntry, PollReply};
 use pl_state::NoMemory;
-use pl_transfers::{ReadReply, WriteReply, bytes_to_resume, waiting_read};
+use pl_transfers::{ReadReply, WriteReply, read_again};
 use std::alloc::{Allocator, Global};
 
 /// What the resumption of a call answers, where a read gives its bytes into the caller's.
@@ -136,23 +137,45 @@ impl<A: Allocator + Copy> Kernel<A> {
         ensures wanted { OnErr result (WantsMemory {A = A} self.old (Step.Resume number)) }
         ensures frugal { (key n : ℕ) → ReadWaits {A = A} self.old number key n → IsOk result }
     {
+        let Some(resumed) = self.resume_read(number, into) else {
+            // A proof learns here that nothing was left to settle, so that a refused step leaves the very state.
+            let state = &self.state;
+            let _ = &state.descs;
+            return Ok(Resumed::Other(try_again(&mut self.state, &mut self.waiters, number)?));
+        };
+        Ok(resumed)
+    }
+
+    /// Makes the step that tries the parked call of a number again, if it is a read, as `resume_into` does. It takes no memory. `None` where it
+    /// is another call, or there is none of the number: then nothing changes.
+    // In place in its caller, where the answer is looked at next.
+    #[inline(always)]
+    pub fn resume_read(&mut self, number: u64, into: &mut [u8]) -> Option<Resumed<A>>
+        ensures made { IfSome result (λ resumed. Resumes {A = A} self.old number (length into.old) resumed into.new self.new) }
+        ensures refused { IfSome result (λ resumed. ResumesByReply {A = A} self.old number resumed into.new self.new) }
+        ensures reads { IfSome result (λ resumed. IsOfRead resumed × IsWaitingRead {A = A} self.old number) }
+        ensures short { (key n : ℕ) → ReadWaits {A = A} self.old number key n → length into.old < gives_again {A = A} self.old number → result ≡ Some (Resumed.Short (gives_again {A = A} self.old number)) }
+        ensures fits { (key n : ℕ) → ReadWaits {A = A} self.old number key n → gives_again {A = A} self.old number ≤ length into.old → IfSome result IsRead }
+        ensures enough { (key n : ℕ) → ReadWaits {A = A} self.old number key n → most_capacity ≤ length into.old → IfSome result IsRead }
+        ensures within { IfSome result (λ resumed. resumed_count resumed ≤ length into.new) }
+        ensures rest { IfSome result (λ resumed. drop (resumed_count resumed) into.new ≡ drop (resumed_count resumed) into.old) }
+        ensures untaken { IfSome result (λ resumed. TellsTaken {A = A} self.old number (Some 0)) }
+        ensures others { IfNone result ((key n : ℕ) → ¬ ReadWaits {A = A} self.old number key n) }
+        ensures same { IfNone result (self.new ≡ self.old) }
+        ensures unread { IfNone result (into.new ≡ into.old) }
+    {
         // A proof learns here that nothing was left to settle, so that a refused step leaves the very state.
         let state = &self.state;
         let _ = &state.descs;
-        let Some(read) = waiting_read(state, number) else {
-            return Ok(Resumed::Other(try_again(&mut self.state, &mut self.waiters, number)?));
-        };
-        let count = bytes_to_resume(state, number);
-        if into.len() < count {
-            return Ok(Resumed::Short(count as u32));
+        let read = read_again(state, number)?;
+        if into.len() < read.count {
+            return Some(Resumed::Short(read.count as u32));
         }
-        Ok(Resumed::Read(resume_read_into(
+        Some(Resumed::Read(resume_read_into(
             &mut self.state,
             &mut self.waiters,
             number,
-            read.key,
-            read.n,
-            count,
+            read,
             into,
         )))
     }

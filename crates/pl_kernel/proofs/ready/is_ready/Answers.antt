@@ -1,5 +1,5 @@
 use Rattle.std.proofs.Common.{◌≡◌, Bool, true, Bor, Option, None, Some, refl, sym, ◌∙◌, ap, nat_eq}
-use Rattle.std.specs.Prelude.{◌&&◌, is_some, IfSome, IsSomeAnd}
+use Rattle.std.specs.Prelude.{◌&&◌, is_some, IsSome}
 use Rattle.pl_model.specs.Map.{get}
 use Rattle.pl_model.specs.Waking.{can_progress}
 use Rattle.pl_parked.specs.declared.call.ParkedCall.{ParkedCall}
@@ -29,20 +29,13 @@ returns-else-is_some g c =
     let w = (goal.at.returns-else-is_some g c).After-is_some in
     c.if-is_some.false ∙ sym (ap (λ (b : Bool). b && can_progress (core_of c.args.state.now) c.args.number) (parked g w ∙ c.if-is_some.false))
 
--- a read keeps one description
+-- a read is parked
+there : {X : Type 0} (o : Option X) → IsSome o → is_some o ≡ true
+there None h = absurd (cc)
+there (Some x) h = refl
 
-there : {X : Type 0} (P : X → Type 0) (o : Option X) → IsSomeAnd o P → is_some o ≡ true
-there P None h = absurd h
-there P (Some x) h = refl
-
-if_there : {X : Type 0} (P : X → Type 0) (o : Option X) → IsSomeAnd o P → IfSome o P
-if_there P None h = absurd h
-if_there P (Some x) h = h
-
-pub one_can_progress-requires : goal.one_can_progress-requires
-one_can_progress-requires g c = if_there _ (get nat_eq c.args.state.now.calls.calls c.args.number) (c.is_read.ensures c.if-is_read.true)
-
-pub returns-then-is_read : goal.returns-then-is_read
-returns-then-is_read g c =
-    c.one_can_progress.ensures
-    ∙ sym (ap (λ (b : Bool). b && can_progress (core_of c.args.state.now) c.args.number) (parked-some c.args.state.now c.args.number ∙ there _ (get nat_eq c.args.state.now.calls.calls c.args.number) (c.is_read.ensures c.if-is_read.true)))
+pub returns-in-Some : goal.returns-in-Some
+returns-in-Some g c =
+    let k = c.args.state.now in
+    let e = c.in-Some.ensures.some in
+    e.0 ∙ sym (ap (λ (b : Bool). b && can_progress (core_of k) c.args.number) (parked-some k c.args.number ∙ there (get nat_eq k.calls.calls c.args.number) e.1))

@@ -2,7 +2,6 @@ use Rattle.std.proofs.Common.{refl, subst}
 use Rattle.pl_model.specs.declared.calls.Step.{Step}
 use Rattle.pl_model.specs.declared.calls.Step.TheVariants.{Resume}
 use Rattle.pl_state.specs.Sound.{IsSound}
-use Rattle.pl_transfers.specs.ReadInto.{told}
 use Rattle.pl_kernel.proofs.Stepping.{makes, leaves, wants}
 use Rattle.pl_kernel.proofs.Buffering.{on_err}
 use Rattle.pl_kernel.proofs.kernel.Kernel.resume_into.Goals as goal
@@ -10,18 +9,18 @@ use Rattle.pl_kernel.proofs.kernel.Kernel.resume_into.Goals as goal
 -- the call is no read: it is tried again as by a step
 
 pub returns-in_err-try_again-clause-short : goal.returns-in_err-try_again-clause-short
-returns-in_err-try_again-clause-short g c = rw (← c.self.view_is) (λ key n waits short. absurd (c.in_default.ensures.none key n waits))
+returns-in_err-try_again-clause-short g c = λ key n waits short. absurd (c.in_default.ensures.others key n waits)
 
 pub returns-in_err-try_again-clause-wanted : goal.returns-in_err-try_again-clause-wanted
 returns-in_err-try_again-clause-wanted g c =
-    rw (← c.self.view_is) (on_err c.from_residual.result (wants c.self.inside.state (Resume c.args.number) c.in_err-try_again.ensures.wanted refl))
+    rw (← c.in_default.ensures.same) (rw (← c.self.view_is) (on_err c.from_residual.result (wants c.self.inside.state (Resume c.args.number) c.in_err-try_again.ensures.wanted refl)))
 
 pub returns-in_err-try_again-clause-frugal : goal.returns-in_err-try_again-clause-frugal
-returns-in_err-try_again-clause-frugal g c = rw (← c.self.view_is) (λ key n waits. absurd (c.in_default.ensures.none key n waits))
+returns-in_err-try_again-clause-frugal g c = λ key n waits. absurd (c.in_default.ensures.others key n waits)
 
 pub returns-in_default-clause-made : goal.returns-in_default-clause-made
 returns-in_default-clause-made g c =
-    rw (← c.self.view_is) (makes c.self.inside.state c.try_again.new.kernel (Resume c.args.number) c.in_ok-try_again.field-0 c.in_ok-try_again.ensures.done)
+    rw (← c.in_default.ensures.same) (rw (← c.self.view_is) (makes c.self.inside.state c.try_again.new.kernel (Resume c.args.number) c.in_ok-try_again.field-0 c.in_ok-try_again.ensures.done))
 
 pub returns-in_default-clause-refused : goal.returns-in_default-clause-refused
 returns-in_default-clause-refused g c =
@@ -30,32 +29,27 @@ returns-in_default-clause-refused g c =
     let x : Step g.row.A.Denot = Resume c.args.number in
     let reply = c.in_ok-try_again.field-0 in
     let sound = subst (IsSound g.row.A.Denot) c.state.view_is c.state.invariant.0 in
-    rw (← c.self.view_is) (leaves old new sound x reply (makes old new x reply c.in_ok-try_again.ensures.done))
+    rw (← c.in_default.ensures.same) (rw (← c.self.view_is) (leaves old new sound x reply (makes old new x reply c.in_ok-try_again.ensures.done)))
 
 pub returns-in_default-clause-fits : goal.returns-in_default-clause-fits
-returns-in_default-clause-fits g c = rw (← c.self.view_is) (λ key n waits few. absurd (c.in_default.ensures.none key n waits))
+returns-in_default-clause-fits g c = λ key n waits few. absurd (c.in_default.ensures.others key n waits)
 
 pub returns-in_default-clause-enough : goal.returns-in_default-clause-enough
-returns-in_default-clause-enough g c = rw (← c.self.view_is) (λ key n waits few. absurd (c.in_default.ensures.none key n waits))
+returns-in_default-clause-enough g c = λ key n waits few. absurd (c.in_default.ensures.others key n waits)
 
 pub returns-in_default-clause-reads : goal.returns-in_default-clause-reads
-returns-in_default-clause-reads g c = rw (← c.self.view_is) (λ key n waits. c.in_default.ensures.none key n waits)
+returns-in_default-clause-reads g c = λ key n waits. c.in_default.ensures.others key n waits
 
 pub returns-in_default-clause-short : goal.returns-in_default-clause-short
-returns-in_default-clause-short g c = rw (← c.self.view_is) (λ key n waits short. absurd (c.in_default.ensures.none key n waits))
+returns-in_default-clause-short g c = λ key n waits short. absurd (c.in_default.ensures.others key n waits)
 
--- it is a read that fits
+-- it is a read
 
-pub returns-clause-made : goal.returns-clause-made
-returns-clause-made g c =
-    let x : Step g.row.A.Denot = Resume c.args.number in
-    rw (← c.self.view_is) (makes c.self.inside.state c.resume_read_into.new.kernel x (told c.resume_read_into.result c.resume_read_into.new.into) c.resume_read_into.ensures.done)
+pub returns-clause-short : goal.returns-clause-short
+returns-clause-short g c = λ key n waits less. (let is = c.in-Some.ensures.short key n waits less in cc)
 
-pub returns-clause-refused : goal.returns-clause-refused
-returns-clause-refused g c =
-    let old = c.self.inside.state in
-    let new = c.resume_read_into.new.kernel in
-    let x : Step g.row.A.Denot = Resume c.args.number in
-    let reply = told c.resume_read_into.result c.resume_read_into.new.into in
-    let sound = subst (IsSound g.row.A.Denot) c.state.view_is c.state.invariant.0 in
-    rw (← c.self.view_is) (leaves old new sound x reply (makes old new x reply c.resume_read_into.ensures.done))
+pub returns-clause-reads : goal.returns-clause-reads
+returns-clause-reads g c = λ key n waits. c.in-Some.ensures.reads.0
+
+pub returns-clause-others : goal.returns-clause-others
+returns-clause-others g c = λ none. (let r = c.in-Some.ensures.reads.1 in absurd (none r.0 r.1 r.2))
