@@ -6,3 +6,4 @@ pub mod Telling
 pub mod OnRecord
 pub mod Named
 pub mod Cut
+pub mod ReadAgain

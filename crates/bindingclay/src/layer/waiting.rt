@@ -1,5 +1,5 @@
 //! Parked calls, tried again.
-ghost use Rattle.std.specs.Prelude.{◌≡◌, None, length};
+ghost use Rattle.std.specs.Prelude.{◌≡◌, ⊤, None, Ok, length};
 ghost use Rattle.pl_kernel.specs.Progress.{TellsProgress, OrWaitsInVain};
 ghost use Rattle.bindingclay.specs.Heap.{InBudget};
 ghost use Rattle.bindingclay.specs.Made.{Gathers, Moves, Notes, Owns, Resumes, Takes, TellsNext, TriesAgain, Wants, number_answer, resumed_answer, resumed_entries, IsFrugal};
@@ -9,7 +9,7 @@ ghost use Rattle.bindingclay.specs.Recorded.{RecordsTry};
 use super::moved::{taken_so_far, tell_moved};
 use super::transfers::answer_of_read;
 use super::{Heap, Layer, no_memory, recorded};
-use pl_kernel::{NoMemory, Resumed};
+use pl_kernel::{NoMemory, ReadReply, Resumed};
 use pl_model::Step;
 use pl_numbers::{Answer, answer_of, kind};
 use pl_polls::{PollEntry, mark_entries};
@@ -23,6 +23,19 @@ pub(super) fn answer_of_resumed(resumed: &Result<Resumed<Heap>, NoMemory>) -> An
         Ok(Resumed::Short(wanted)) => Answer::of_kind(kind::SHORT, *wanted as u64),
         Ok(Resumed::Other(reply)) => answer_of(reply),
         Err(NoMemory) => no_memory(),
+    }
+}
+
+// The answer of a read that was tried again.
+#[inline(always)]
+fn answer_of_read_again(resumed: &Resumed<Heap>) -> Answer
+    ensures { result ≡ resumed_answer {E = ⊤} (Ok resumed.now) }
+{
+    match resumed {
+        Resumed::Read(ReadReply::Read(count)) => Answer::done(*count as u64),
+        Resumed::Read(reply) => answer_of_read(reply),
+        Resumed::Short(wanted) => Answer::of_kind(kind::SHORT, *wanted as u64),
+        Resumed::Other(reply) => answer_of(reply),
     }
 }
 
@@ -92,6 +105,25 @@ impl Layer {
     /// these, the answer says how many, and nothing changed. So it says of a poll that can get on how many entries it has: bytes have no
     /// room for what it found.
     pub fn resume(&mut self, number: u64, into: &mut [u8]) -> Answer
+        ensures tries { TriesAgain self.old.kernel number into.old result into.new self.new.kernel }
+        ensures moved { Moves self.old.kernel (Step.Resume number) result }
+        ensures wants { self.old.recorder ≡ None → Wants self.old.kernel (Step.Resume number) result }
+        ensures frugal { self.old.recorder ≡ None → IsFrugal self.old.kernel number result }
+        ensures records { RecordsTry self.old.kernel self.old.recorder number result self.new.recorder }
+        ensures opened { StaysAsOpened self.old self.new }
+    {
+        if self.recorder.is_some() {
+            return self.resume_any(number, into);
+        }
+        let Some(resumed) = self.kernel.resume_read(number, into) else {
+            return self.resume_any(number, into);
+        };
+        tell_moved(&self.kernel, 0, answer_of_read_again(&resumed))
+    }
+
+    // The same of any call, and while steps are recorded. Out of line, so that a read that isn't recorded stays short.
+    #[inline(never)]
+    fn resume_any(&mut self, number: u64, into: &mut [u8]) -> Answer
         ensures tries { TriesAgain self.old.kernel number into.old result into.new self.new.kernel }
         ensures moved { Moves self.old.kernel (Step.Resume number) result }
         ensures wants { self.old.recorder ≡ None → Wants self.old.kernel (Step.Resume number) result }
