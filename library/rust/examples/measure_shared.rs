@@ -1,13 +1,15 @@
 //! What pipes of a shared kernel cost beside `std::io::pipe`, in one run: the least of many rounds, in nanoseconds.
 //!
-//! The rows are a write and a read of 64 bytes in one thread, a ping-pong of two threads, a stream of 64 KiB pieces from thread to thread, and
-//! messages of 100 bytes among 160 threads in four groups.
+//! The rows are a write and a read of 64 bytes in one thread, a ping-pong of two threads, a stream of 64 KiB pieces from thread to thread,
+//! messages of 100 bytes among 160 threads in four groups, and a ping-pong beside 1,000 threads that wait, beside one without these. A word
+//! as an argument chooses the rows whose names have it.
 
-use bindingclay::shared::Shared;
+use bindingclay::shared::{PipeReader, Shared};
+use std::env;
 use std::hint::black_box;
 use std::io::{Read, Result, Write};
 use std::thread;
-use std::time::Instant;
+use std::time::{Duration, Instant};
 
 const PIECE: usize = 65_536;
 
@@ -100,21 +102,74 @@ where
     Ok(told)
 }
 
-fn tell(what: &str, host: f64, here: f64) {
-    println!("{what:<34} host's pipe {host:>9.1}   here {here:>9.1}   ratio {:.3}", here / host);
+/// A ping-pong alone, and then beside 1,000 threads that wait, each at a pipe of its own.
+fn beside_sleepers(kernel: &Shared) -> Result<(f64, f64)> {
+    const PROCESSES: usize = 10;
+    const PIPES: usize = 100;
+    let process = kernel.start()?;
+    let talk = || ping_pong(process.pipe()?, process.pipe()?);
+    let alone = talk()?;
+    let places = (0..PROCESSES).map(|_| kernel.start()).collect::<Result<Vec<_>>>()?;
+    let pipes = (0..PROCESSES * PIPES).map(|at| places[at / PIPES].pipe()).collect::<Result<Vec<_>>>()?;
+    let among = thread::scope(|scope| {
+        for (reader, _) in &pipes {
+            let sleep = |mut reader: &PipeReader| reader.read(&mut [0]).expect_err("an interrupt");
+            thread::Builder::new().stack_size(65_536).spawn_scoped(scope, move || sleep(reader))?;
+        }
+        while kernel.waiting() < pipes.len() {
+            thread::sleep(Duration::from_millis(1));
+        }
+        let among = talk();
+        places.iter().try_for_each(|place| place.interrupt())?;
+        among
+    })?;
+    Ok((alone, among))
 }
 
-fn main() -> Result<()> {
+/// A row: what it is beside, with its time, and the time here.
+type Row = (&'static str, f64, f64);
+
+const OF_HOST: &str = "host's pipe";
+
+fn row_of_pairs() -> Result<Row> {
+    let (host, here) = (std::io::pipe()?, Shared::new()?.start()?.pipe()?);
+    Ok((OF_HOST, pair(host.0, host.1)?, pair(here.0, here.1)?))
+}
+
+fn row_of_ping_pongs() -> Result<Row> {
     let process = Shared::new()?.start()?;
-    let host = std::io::pipe()?;
-    let here = process.pipe()?;
-    tell("write and read of 64 bytes", pair(host.0, host.1)?, pair(here.0, here.1)?);
     let host = ping_pong(std::io::pipe()?, std::io::pipe()?)?;
-    tell("ping-pong of two threads", host, ping_pong(process.pipe()?, process.pipe()?)?);
-    let host = std::io::pipe()?;
-    let here = process.pipe()?;
-    tell("64 KiB from thread to thread", stream(host.0, host.1, 30)?, stream(here.0, here.1, 30)?);
-    let host = messages(std::io::pipe, 20)?;
-    tell("100 bytes among 160 threads", host, messages(|| process.pipe(), 20)?);
+    Ok((OF_HOST, host, ping_pong(process.pipe()?, process.pipe()?)?))
+}
+
+fn row_of_streams() -> Result<Row> {
+    let (host, here) = (std::io::pipe()?, Shared::new()?.start()?.pipe()?);
+    Ok((OF_HOST, stream(host.0, host.1, 30)?, stream(here.0, here.1, 30)?))
+}
+
+fn row_of_messages() -> Result<Row> {
+    let process = Shared::new()?.start()?;
+    Ok((OF_HOST, messages(std::io::pipe, 20)?, messages(|| process.pipe(), 20)?))
+}
+
+fn row_of_sleepers() -> Result<Row> {
+    let (alone, among) = beside_sleepers(&Shared::new()?)?;
+    Ok(("without them", alone, among))
+}
+
+const ROWS: [(&str, fn() -> Result<Row>); 5] = [
+    ("write and read of 64 bytes", row_of_pairs),
+    ("ping-pong of two threads", row_of_ping_pongs),
+    ("64 KiB from thread to thread", row_of_streams),
+    ("100 bytes among 160 threads", row_of_messages),
+    ("ping-pong beside 1,000 that wait", row_of_sleepers),
+];
+
+fn main() -> Result<()> {
+    let word = env::args().nth(1).unwrap_or_default();
+    for (what, measure) in ROWS.iter().filter(|(what, _)| what.contains(&word)) {
+        let (beside, other, here) = measure()?;
+        println!("{what:<34} {beside:<12} {other:>9.1}   here {here:>9.1}   ratio {:.3}", here / other);
+    }
     Ok(())
 }
