@@ -320,10 +320,6 @@ impl Clay {
         entry.revents.cast_signed()
     }
 
-    pub(crate) fn can_progress(&mut self, call: &ParkedCall) -> bool {
-        self.kernel().can_progress(call)
-    }
-
     #[inline]
     pub(crate) fn next_ready(&mut self, from: u64) -> Option<u64> {
         self.kernel().next_ready(from)

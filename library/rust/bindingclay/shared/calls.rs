@@ -5,9 +5,10 @@ use super::front::Locked;
 use super::polling::POLLOUT;
 use super::process::Owner;
 use super::recording::interrupt;
-use super::sleeping::Sleeper;
-use super::waiters::Stand;
+use super::sleeping::{Sleeper, Slot};
+use super::waiters::Who;
 use std::io;
+use std::sync::Arc;
 use std::time::Instant;
 
 /// The most bytes of one read or write (`MAX_BYTES` of the layer). More are cut, which is a short count (POSIX.1-2017, write).
@@ -55,6 +56,37 @@ fn begin_to_poll(clay: &mut Clay, pid: u32, fd: i32, count: usize) -> Result<Opt
     }
 }
 
+#[inline(always)]
+fn begin_write(
+    clay: &mut Clay,
+    pid: u32,
+    fd: i32,
+    bytes: &[u8],
+    waits_at: &mut Option<NodeFacts>,
+) -> Result<Answer<usize>, NotDone> {
+    if let Some(call) = begin_to_poll(clay, pid, fd, bytes.len())? {
+        *waits_at = clay.fd_facts(pid, fd).ok();
+        return Ok(Answer::Parked(call));
+    }
+    clay.write(pid, fd, &bytes[..cut(bytes.len())])
+}
+
+/// Begins a large write again that waited for room, if its descriptor still names the same.
+fn write_again(
+    clay: &mut Clay,
+    pid: u32,
+    fd: i32,
+    bytes: &[u8],
+    waits_at: &mut Option<NodeFacts>,
+) -> Result<Answer<usize>, NotDone> {
+    // somebody may have closed it by its number, and it may name another pipe by now
+    let node = |facts: NodeFacts| (facts.kind, facts.key);
+    if waits_at.take().map(node) != clay.fd_facts(pid, fd).ok().map(node) {
+        return clay.write(pid, -1, &bytes[..1]); // EBADF
+    }
+    begin_write(clay, pid, fd, bytes, waits_at)
+}
+
 /// The bytes that a read or a write looks at.
 fn cut(len: usize) -> usize {
     len.min(MOST_BYTES)
@@ -68,13 +100,7 @@ impl Call<'_> {
                 let most = cut(into.len());
                 clay.read(pid, *fd, &mut into[..most])
             }
-            Call::Write { fd, bytes, waits_at } => {
-                if let Some(call) = begin_to_poll(clay, pid, *fd, bytes.len())? {
-                    *waits_at = clay.fd_facts(pid, *fd).ok();
-                    return Ok(Answer::Parked(call));
-                }
-                clay.write(pid, *fd, &bytes[..cut(bytes.len())])
-            }
+            Call::Write { fd, bytes, waits_at } => begin_write(clay, pid, *fd, bytes, waits_at),
             Call::Open { name, flags } => Ok(clay.open_name(pid, name, *flags)?.map(|fd| fd as usize)),
             Call::Splice { from, to, len, flags } => clay.splice(pid, *from, *to, *len, *flags),
             Call::Tee { from, to, len, flags } => clay.tee(pid, *from, *to, *len, *flags),
@@ -82,104 +108,83 @@ impl Call<'_> {
         }
     }
 
-    fn resume(&mut self, clay: &mut Clay, pid: u32, call: ParkedCall) -> Result<Answer<usize>, NotDone> {
+    /// Makes a slot ready for the answer of this call, which waits.
+    fn expect(&self, slot: &mut Slot) -> io::Result<()> {
         match self {
-            Call::Write { fd, bytes, waits_at: waits_at @ Some(_) } => {
-                if let Answer::Parked(call) = clay.resume_poll(call, &mut [Clay::entry(*fd, POLLOUT)])? {
-                    return Ok(Answer::Parked(call));
-                }
-                // somebody may have closed the descriptor by its number, and it may name another pipe by now
-                let node = |facts: NodeFacts| (facts.kind, facts.key);
-                if waits_at.take().map(node) != clay.fd_facts(pid, *fd).ok().map(node) {
-                    return clay.write(pid, -1, &bytes[..1]); // EBADF
-                }
-                clay.write(pid, *fd, &bytes[..cut(bytes.len())])
-            }
-            Call::Read { into, .. } => {
-                let most = cut(into.len());
-                clay.resume_read(call, &mut into[..most])
-            }
-            Call::Poll { entries, .. } => clay.resume_poll(call, entries),
-            _ => clay.resume_read(call, &mut []),
+            Call::Poll { entries, .. } => slot.expect(entries),
+            Call::Write { fd, waits_at: Some(_), .. } => slot.expect(&[Clay::entry(*fd, POLLOUT)]),
+            _ => slot.expect(&[]),
         }
     }
-}
 
-/// What a try of a waiting call came to.
-enum Tried {
-    Ended(io::Result<usize>),
-    /// It waits under this number: a large write that found room goes on as a write, which may wait too.
-    Waits(u64),
+    /// Gives the caller what the call gave that waited.
+    fn give(&mut self, slot: &mut Slot, count: usize) {
+        match self {
+            Call::Read { into, .. } => into[..count].copy_from_slice(&slot.bytes[..count]),
+            Call::Poll { entries, .. } => entries.copy_from_slice(&slot.entries),
+            _ => {}
+        }
+        slot.forget();
+    }
 }
 
 /// Makes a call of a process, and waits for its end.
 #[inline(always)]
 pub(super) fn run(owner: &Owner, mut call: Call<'_>, deadline: Option<Instant>) -> io::Result<usize> {
-    let mut locked = owner.lock()?;
-    locked.waiters().make_room()?;
-    match call.begin(locked.clay(), owner.pid) {
-        Ok(Answer::Done(value)) => Ok(value),
-        Ok(Answer::Parked(parked)) => wait(owner, locked, parked.into_number(), call, deadline),
+    let front = &*owner.front;
+    let mut held = front.hold();
+    if owner.is_gone() {
+        return Err(NotDone::NoProcess.into());
+    }
+    held.waiters.make_room()?;
+    match call.begin(&mut held.clay, owner.pid) {
+        Ok(Answer::Done(value)) => {
+            front.leave(held);
+            Ok(value)
+        }
+        Ok(Answer::Parked(parked)) => wait(owner, front.locked(held), parked, call, deadline),
+        // who fails has helped nobody
         Err(fault) => Err(fault.into()),
     }
 }
 
-/// Sleeps until the call can get on, tries it, and so on to its end.
+/// Sleeps until the call is answered.
 #[cold]
 fn wait<'a>(
     owner: &'a Owner,
     mut locked: Locked<'a>,
-    mut number: u64,
+    mut parked: ParkedCall,
     mut call: Call<'_>,
     deadline: Option<Instant>,
 ) -> io::Result<usize> {
     let sleeper = Sleeper::of_this_thread();
-    locked.waiters().add(number, owner.pid, sleeper.waker());
     loop {
-        // a write may have put in bytes that help others, who are woken here
-        drop(locked);
-        sleeper.sleep(deadline);
-        locked = owner.front.lock();
-        let tried = match locked.waiters().look(number) {
-            Stand::Ended(ended) => return ended,
-            Stand::Named => resume(&mut locked, owner.pid, number, &mut call),
-            Stand::Waits => Tried::Waits(number),
-        };
-        // the wakers are of this thread, and no task goes with one
-        match tried {
-            Tried::Ended(ended) => {
-                drop(locked.waiters().remove(number));
-                return ended;
-            }
-            Tried::Waits(next) if is_over(deadline) => {
-                drop(locked.waiters().remove(number));
-                return give_up(&mut locked, next);
-            }
-            Tried::Waits(next) if next != number => {
-                // there is room, as the other one goes
-                drop(locked.waiters().remove(number));
-                locked.waiters().add(next, owner.pid, sleeper.waker());
-                number = next;
-            }
-            Tried::Waits(_) => drop(locked.waiters().wait_again(number, sleeper.waker())),
+        let has_helped = parked.moved() || matches!(call, Call::Open { .. });
+        let number = parked.into_number();
+        if call.expect(&mut sleeper.slot()).is_err() {
+            return end_without_memory(locked.clay(), number);
         }
+        locked.waiters().add(number, owner.pid, Who::Thread(Arc::clone(&sleeper)));
+        if has_helped {
+            drop(locked);
+        } else {
+            locked.helped_none();
+        }
+        let count = sleeper.sleep(&owner.front, deadline).unwrap_or_else(|| give_up(owner, &sleeper, number))?;
+        let Call::Write { fd, bytes, waits_at: waits_at @ Some(_) } = &mut call else {
+            call.give(&mut sleeper.slot(), count);
+            return Ok(count);
+        };
+        locked = owner.lock()?;
+        locked.waiters().make_room()?;
+        parked = match write_again(locked.clay(), owner.pid, *fd, bytes, waits_at)? {
+            Answer::Done(count) => return Ok(count),
+            Answer::Parked(parked) => parked,
+        };
     }
 }
 
-fn is_over(deadline: Option<Instant>) -> bool {
-    deadline.is_some_and(|deadline| deadline <= Instant::now())
-}
-
-fn resume(locked: &mut Locked<'_>, pid: u32, number: u64, call: &mut Call<'_>) -> Tried {
-    match call.resume(locked.clay(), pid, ParkedCall::from_number(number)) {
-        Ok(Answer::Done(value)) => Tried::Ended(Ok(value)),
-        Ok(Answer::Parked(parked)) => Tried::Waits(parked.into_number()),
-        Err(NotDone::NoMemory | NotDone::NoMemoryToResume(_)) => Tried::Ended(end_without_memory(locked.clay(), number)),
-        Err(fault) => Tried::Ended(Err(fault.into())),
-    }
-}
-
-/// Ends a call for whose next try there is no memory: it would be named for ever. A write that put in some bytes tells how many.
+/// Ends a call whose next try finds no memory: it would be named for ever. A write that put in some bytes tells how many.
 pub(super) fn end_without_memory(clay: &mut Clay, number: u64) -> io::Result<usize> {
     match interrupt(clay, number) {
         Ok(count) => Ok(count),
@@ -187,8 +192,13 @@ pub(super) fn end_without_memory(clay: &mut Clay, number: u64) -> io::Result<usi
     }
 }
 
-/// Ends a call whose deadline is over: a write that put in some bytes tells how many.
-fn give_up(locked: &mut Locked<'_>, number: u64) -> io::Result<usize> {
+/// Ends a call whose deadline is over, unless it is answered: a write that put in some bytes tells how many.
+fn give_up(owner: &Owner, sleeper: &Sleeper, number: u64) -> io::Result<usize> {
+    let mut locked = owner.front.lock();
+    if locked.waiters().remove(number).is_none() {
+        locked.helped_none();
+        return sleeper.take().expect("a call that is in the list no more is answered");
+    }
     match interrupt(locked.clay(), number) {
         Err(fault) if fault.kind() == io::ErrorKind::Interrupted => Err(io::ErrorKind::TimedOut.into()),
         ended => ended,

@@ -1,78 +1,92 @@
-//! The lock, and what is done as it is let go: whoever can get on is woken.
+//! The lock, and what is done before it is let go: whoever can get on is answered, and woken behind it.
 
 use super::super::Clay;
+use super::lock::{Held, Lock};
 use super::recording::{at_last, interrupt};
-use super::waiters::{Batch, Waiters};
+use super::waiters::{Batch, Waiters, Who};
+use super::yields::{Begun, Yields};
 use std::io;
-use std::sync::{Mutex, MutexGuard, PoisonError};
 
-/// A kernel with those who wait, behind a lock.
+/// A kernel with those who wait.
+pub(super) struct Inner {
+    pub(super) clay: Clay,
+    pub(super) waiters: Waiters,
+}
+
+/// The same behind a lock.
 pub(super) struct Front {
-    inner: Mutex<Inner>,
+    lock: Lock<Inner>,
+    yields: Yields,
 }
 
-struct Inner {
-    clay: Clay,
-    waiters: Waiters,
-}
-
-/// The kernel, while its lock is held. As it is dropped, those are woken whose calls can get on.
+/// The kernel, while its lock is held. As it is dropped, the calls that can get on are answered, and those who wait for them are woken.
 pub(super) struct Locked<'a> {
     front: &'a Front,
     /// There until it is dropped.
-    inner: Option<MutexGuard<'a, Inner>>,
+    held: Option<Held<'a, Inner>>,
 }
 
 impl Front {
     pub(super) fn new(clay: Clay) -> Front {
         let waiters = Waiters::default();
-        Front { inner: Mutex::new(Inner { clay, waiters }) }
-    }
-
-    /// A thread that panicked under the lock leaves a kernel that others go on with: each of its calls was made whole, or not at all.
-    #[inline(always)]
-    fn guard(&self) -> MutexGuard<'_, Inner> {
-        self.inner.lock().unwrap_or_else(PoisonError::into_inner)
+        Front { lock: Lock::new(Inner { clay, waiters }), yields: Yields::new() }
     }
 
     #[inline(always)]
     pub(super) fn lock(&self) -> Locked<'_> {
-        Locked { front: self, inner: Some(self.guard()) }
+        self.locked(self.hold())
     }
 
-    /// Wakes those whose calls can get on, or were ended. Nobody is woken under the lock, as a waker may run anything.
+    /// Takes the lock, for a call that is quick: what it gives isn't moved about, and is let go of by `leave`.
+    #[inline(always)]
+    pub(super) fn hold(&self) -> Held<'_, Inner> {
+        self.lock.lock()
+    }
+
+    #[inline(always)]
+    pub(super) fn leave<'a>(&'a self, held: Held<'a, Inner>) {
+        if held.waiters.are_any() {
+            self.answer_and_wake(held);
+        }
+    }
+
+    pub(super) fn locked<'a>(&'a self, held: Held<'a, Inner>) -> Locked<'a> {
+        Locked { front: self, held: Some(held) }
+    }
+
+    /// Answers the calls that can get on, and wakes those who wait for them. Nobody is woken under the lock: a thread would at once wait for
+    /// it, and a waker may run anything.
     #[cold]
-    fn wake<'a>(&'a self, mut inner: MutexGuard<'a, Inner>) {
+    fn answer_and_wake<'a>(&'a self, mut held: Held<'a, Inner>) {
+        let Inner { clay, waiters } = &mut *held;
+        waiters.answer_ready(clay);
         loop {
             let mut batch = Batch::default();
-            let Inner { clay, waiters } = &mut *inner;
-            let all = waiters.name_ready(clay, &mut batch);
-            drop(inner);
-            batch.into_iter().flatten().for_each(|waker| waker.wake());
-            if all {
+            let are_all = held.waiters.take_answered(&mut batch);
+            drop(held);
+            batch.into_iter().flatten().for_each(Who::wake);
+            if are_all {
                 return;
             }
-            inner = self.guard();
+            held = self.lock.lock();
         }
     }
 
-    /// Wakes those whose calls somebody ended.
-    pub(super) fn wake_ended(&self) {
-        loop {
-            let mut batch = Batch::default();
-            let all = self.guard().waiters.take_ended(&mut batch);
-            batch.into_iter().flatten().for_each(|waker| waker.wake());
-            if all {
-                return;
-            }
-        }
+    /// Begins to yield, if a thread may now.
+    pub(super) fn may_yield(&self) -> Option<Begun> {
+        self.yields.begin(self.lock.steps())
+    }
+
+    /// Yields once, without the lock. Tells whether the thread may yield again.
+    pub(super) fn yield_once(&self, begun: &Begun) -> bool {
+        self.yields.go_on(begun, || self.lock.steps())
     }
 }
 
 impl Locked<'_> {
     #[inline(always)]
     fn inner(&mut self) -> &mut Inner {
-        self.inner.as_mut().expect("the lock is held")
+        self.held.as_mut().expect("the lock is held")
     }
 
     #[inline(always)]
@@ -83,6 +97,11 @@ impl Locked<'_> {
     #[inline(always)]
     pub(super) fn waiters(&mut self) -> &mut Waiters {
         &mut self.inner().waiters
+    }
+
+    /// Lets go of the lock after a call that can have helped no other.
+    pub(super) fn helped_none(mut self) {
+        drop(self.held.take());
     }
 
     /// Ends the calls of a process that wait, as a signal does.
@@ -101,11 +120,9 @@ impl Locked<'_> {
 }
 
 impl Drop for Locked<'_> {
-    #[inline(always)]
     fn drop(&mut self) {
-        match self.inner.take() {
-            Some(inner) if inner.waiters.sleeps() => self.front.wake(inner),
-            _ => {}
+        if let Some(held) = self.held.take() {
+            self.front.leave(held);
         }
     }
 }

@@ -46,6 +46,7 @@ mod calls;
 mod descriptor;
 mod file;
 mod front;
+mod lock;
 mod moving;
 mod pipes;
 mod polling;
@@ -54,6 +55,7 @@ mod recording;
 mod sleeping;
 mod tasks;
 mod waiters;
+mod yields;
 
 pub use self::descriptor::Handle;
 pub use self::file::{File, OpenOptions};

@@ -43,8 +43,6 @@ impl Owner {
         let mut locked = self.lock()?;
         locked.exit(self.pid)?;
         self.gone.store(true, Ordering::Relaxed);
-        drop(locked);
-        self.front.wake_ended();
         Ok(())
     }
 }
@@ -189,7 +187,6 @@ impl Process {
     /// That it has exited: "no such process".
     pub fn interrupt(&self) -> io::Result<()> {
         self.owner.lock()?.interrupt_all_of(self.id());
-        self.owner.front.wake_ended();
         Ok(())
     }
 

@@ -3,13 +3,13 @@
 //! A call of a task is tried once. If it would wait, a poll of its descriptor waits in its place, which takes and gives no bytes: so the
 //! next try may bring other bytes or another buffer, and a task that never comes again has lost nothing.
 
-use super::super::{Answer, Clay, NotDone, ParkedCall, PollEntry};
+use super::super::{Answer, Clay, NotDone, PollEntry};
 use super::calls::Call;
 use super::descriptor::Descriptor;
 use super::front::Locked;
 use super::polling::{POLLIN, POLLOUT};
 use super::recording::interrupt;
-use super::waiters::Stand;
+use super::waiters::{Stand, Who};
 use std::io;
 use std::task::{Context, Poll, Waker};
 
@@ -40,7 +40,7 @@ fn wait_for(locked: &mut Locked<'_>, pid: u32, entry: PollEntry, waker: Waker) -
     match locked.clay().poll(pid, &mut [entry], true)? {
         Answer::Parked(parked) => {
             let number = parked.into_number();
-            locked.waiters().add(number, pid, waker);
+            locked.waiters().add(number, pid, Who::Task(waker));
             Ok(number)
         }
         // a large write, for which there is some room: it would put in a part and wait, and no further call may
@@ -48,13 +48,13 @@ fn wait_for(locked: &mut Locked<'_>, pid: u32, entry: PollEntry, waker: Waker) -
     }
 }
 
-/// Ends a poll that waits. Its waker is dropped by the caller without the lock.
+/// Ends a poll, if it waits. Its waker is dropped by the caller without the lock.
 #[must_use]
-fn end_poll(locked: &mut Locked<'_>, number: u64) -> Option<Waker> {
-    let waker = locked.waiters().remove(number);
+fn end_poll(locked: &mut Locked<'_>, number: u64) -> Option<Who> {
+    let who = locked.waiters().remove(number)?;
     // it had taken nothing, and nobody wants to know
     let _ended = interrupt(locked.clay(), number);
-    waker
+    Some(who)
 }
 
 impl Descriptor {
@@ -77,12 +77,12 @@ impl Descriptor {
         if let Some(number) = tasks[way].take() {
             match locked.waiters().look(number) {
                 Stand::Ended(ended) => return Poll::Ready(ended),
-                Stand::Waits if !locked.clay().can_progress(&ParkedCall::from_number(number)) => {
+                Stand::Waits => {
                     _former = locked.waiters().wait_again(number, waker);
                     tasks[way] = Some(number);
                     return Poll::Pending;
                 }
-                _ => _former = end_poll(&mut locked, number),
+                Stand::Named => {}
             }
         }
         if owner.is_gone() {

@@ -1,151 +1,186 @@
-//! The calls that wait, each with who is to be woken once it can get on.
+//! The calls that wait, each with who is to be told once it gets on.
 
 use super::super::Clay;
+use super::recording::interrupt;
+use super::sleeping::Sleeper;
+use std::collections::HashMap;
+use std::hash::{BuildHasherDefault, Hasher};
 use std::io;
+use std::sync::Arc;
 use std::task::Waker;
+
+/// Who waits.
+#[derive(Debug)]
+pub(super) enum Who {
+    /// A thread, whose call is answered into its slot.
+    Thread(Arc<Sleeper>),
+    /// A task, for which a poll waits. It is told that it is to come again.
+    Task(Waker),
+}
+
+impl Who {
+    pub(super) fn wake(self) {
+        match self {
+            Who::Thread(sleeper) => sleeper.wake(),
+            Who::Task(waker) => waker.wake(),
+        }
+    }
+}
 
 /// A call that waits.
 #[derive(Debug)]
-pub(super) struct Waiter {
-    number: u64,
+struct Waiter {
     pid: u32,
-    /// Who is to be woken; none from when it was woken until it waits again.
-    waker: Option<Waker>,
-    /// Whether the kernel named it as one that can get on, since it was tried last.
-    named: bool,
-    /// What became of it, if somebody else ended it.
+    /// None if it is a task's, which somebody ended.
+    who: Option<Who>,
+    /// What became of it then, until the task comes.
     ended: Option<io::Result<usize>>,
 }
 
-/// How a waiting call stands, for who waits for it.
+/// How the poll of a task stands.
 pub(super) enum Stand {
-    /// Nobody said that it can get on.
+    /// It waits.
     Waits,
-    /// The kernel named it: it is to be tried.
+    /// It has ended, as the task's call can get on.
     Named,
-    /// Somebody else ended it, and it is in the list no more.
+    /// Somebody ended the task's call.
     Ended(io::Result<usize>),
 }
 
-/// The calls that wait, by rising numbers: a kernel numbers them one after another, so a new one is the last.
+/// A kernel numbers its calls one after another, and a product spreads them.
+#[derive(Default)]
+struct Product(u64);
+
+impl Hasher for Product {
+    fn finish(&self) -> u64 {
+        self.0
+    }
+
+    fn write(&mut self, bytes: &[u8]) {
+        bytes.iter().for_each(|byte| self.write_u64(self.0 ^ u64::from(*byte)));
+    }
+
+    fn write_u64(&mut self, number: u64) {
+        self.0 = number.wrapping_mul(0x9e37_79b9_7f4a_7c15);
+    }
+}
+
+/// The calls that wait, by their numbers, and those who are to be woken as their calls are answered.
 #[derive(Debug, Default)]
 pub(super) struct Waiters {
-    list: Vec<Waiter>,
-    /// How many have a waker, so that a step of a program in which all are awake asks the kernel nothing.
-    asleep: usize,
+    calls: HashMap<u64, Waiter, BuildHasherDefault<Product>>,
+    /// How many of these somebody ended.
+    ended: usize,
+    /// It has room for all who wait.
+    answered: Vec<Who>,
 }
 
 /// How many are woken at once without the lock in between: a list of any length would want memory.
-pub(super) const BATCH: usize = 8;
+const BATCH: usize = 16;
 
 /// Those who are to be woken once the lock is free.
-pub(super) type Batch = [Option<Waker>; BATCH];
+pub(super) type Batch = [Option<Who>; BATCH];
 
 impl Waiters {
     pub(super) fn count(&self) -> usize {
-        self.list.len()
+        self.calls.len() - self.ended
     }
 
-    pub(super) fn sleeps(&self) -> bool {
-        self.asleep != 0
+    /// Whether anybody waits, or is to be woken.
+    #[inline(always)]
+    pub(super) fn are_any(&self) -> bool {
+        self.count() != 0 || !self.answered.is_empty()
     }
 
-    /// Makes room for one more, so that `add` takes no memory.
+    /// Makes room for one more, so that `add` takes no memory, and neither does an answer.
     #[inline]
     pub(super) fn make_room(&mut self) -> io::Result<()> {
-        if self.list.len() == self.list.capacity() {
-            self.list.try_reserve(1).map_err(|_| io::ErrorKind::OutOfMemory)?;
+        let waiting = self.calls.len() + 1;
+        if waiting > self.calls.capacity() || waiting > self.answered.capacity() - self.answered.len() {
+            self.calls.try_reserve(1).map_err(|_| io::ErrorKind::OutOfMemory)?;
+            self.answered.try_reserve(waiting).map_err(|_| io::ErrorKind::OutOfMemory)?;
         }
         Ok(())
     }
 
     /// Adds a call that was parked just now.
-    pub(super) fn add(&mut self, number: u64, pid: u32, waker: Waker) {
-        self.asleep += 1;
-        self.list.push(Waiter { number, pid, waker: Some(waker), named: false, ended: None });
+    pub(super) fn add(&mut self, number: u64, pid: u32, who: Who) {
+        self.calls.insert(number, Waiter { pid, who: Some(who), ended: None });
     }
 
-    fn place(&self, number: u64) -> Option<usize> {
-        // a call that began last is often the first to be looked for
-        match self.list.last() {
-            Some(last) if last.number == number => Some(self.list.len() - 1),
-            _ => self.list.binary_search_by_key(&number, |waiter| waiter.number).ok(),
-        }
-    }
-
-    /// Takes a call out, whose waker is dropped by the caller without the lock: a task may go with it, and its handles.
+    /// Takes a call out, if it waits. Who waited is dropped by the caller without the lock: a task may go with its waker, and its handles.
     #[must_use]
-    pub(super) fn remove(&mut self, number: u64) -> Option<Waker> {
-        let place = self.place(number)?;
-        let waker = self.list.remove(place).waker;
-        self.asleep -= usize::from(waker.is_some());
-        waker
+    pub(super) fn remove(&mut self, number: u64) -> Option<Who> {
+        let waiter = self.calls.remove(&number)?;
+        self.ended -= usize::from(waiter.ended.is_some());
+        waiter.who
     }
 
-    /// How a call stands. One that somebody ended is taken out, and one that was named is to be tried from here on.
+    /// How the poll of a task stands. If somebody ended it, it is taken out.
     pub(super) fn look(&mut self, number: u64) -> Stand {
-        let Some(place) = self.place(number) else { return Stand::Waits };
-        let waiter = &mut self.list[place];
-        if let Some(ended) = waiter.ended.take() {
-            // who ended it took its waker
-            drop(self.remove(number));
-            return Stand::Ended(ended);
-        }
-        if std::mem::take(&mut waiter.named) { Stand::Named } else { Stand::Waits }
+        let Some(waiter) = self.calls.get_mut(&number) else { return Stand::Named };
+        let Some(ended) = waiter.ended.take() else { return Stand::Waits };
+        self.ended -= 1;
+        self.calls.remove(&number);
+        Stand::Ended(ended)
     }
 
-    /// Whom to wake from here on; the former one is dropped by the caller without the lock.
+    /// Whom to wake from here on for the poll of a task that waits; the former one is dropped by the caller without the lock.
     #[must_use]
-    pub(super) fn wait_again(&mut self, number: u64, waker: Waker) -> Option<Waker> {
-        let place = self.place(number)?;
-        let before = self.list[place].waker.replace(waker);
-        self.asleep += usize::from(before.is_none());
-        before
+    pub(super) fn wait_again(&mut self, number: u64, waker: Waker) -> Option<Who> {
+        self.calls.get_mut(&number)?.who.replace(Who::Task(waker))
     }
 
-    /// Takes the wakers of the calls that the kernel names, until none is left or the batch is full; whether none is left.
-    pub(super) fn name_ready(&mut self, clay: &mut Clay, batch: &mut Batch) -> bool {
-        let mut taken = 0;
-        let mut from = 0;
-        while self.asleep != 0 {
-            let Some(number) = clay.next_ready(from) else { return true };
-            if let Some(place) = self.place(number) {
-                let waiter = &mut self.list[place];
-                if let Some(waker) = waiter.waker.take() {
-                    waiter.named = true;
-                    self.asleep -= 1;
-                    batch[taken] = Some(waker);
-                    taken += 1;
-                    if taken == BATCH {
-                        return false;
-                    }
-                }
-            }
-            let Some(next) = number.checked_add(1) else { return true };
-            from = next;
+    /// Answers the calls that can get on, until none is left.
+    pub(super) fn answer_ready(&mut self, clay: &mut Clay) {
+        while self.count() != 0 {
+            let Some(number) = clay.next_ready(0) else { return };
+            self.try_again(clay, number);
         }
-        true
+    }
+
+    /// Tries a call that can get on.
+    fn try_again(&mut self, clay: &mut Clay, number: u64) {
+        let waits_on = match self.calls.get(&number).and_then(|waiter| waiter.who.as_ref()) {
+            Some(Who::Thread(sleeper)) => !sleeper.try_again(clay, number),
+            Some(Who::Task(_)) | None => {
+                // a poll, which has taken nothing
+                let _ended = interrupt(clay, number);
+                false
+            }
+        };
+        if !waits_on {
+            let who = self.remove(number);
+            self.answered.extend(who);
+        }
     }
 
     /// Ends the calls of a process that wait, each by `end`.
     pub(super) fn end_all_of(&mut self, pid: u32, mut end: impl FnMut(u64) -> io::Result<usize>) {
-        for waiter in &mut self.list {
-            if waiter.pid == pid && waiter.ended.is_none() {
-                waiter.ended = Some(end(waiter.number));
+        let Waiters { calls, ended, answered } = self;
+        calls.retain(|number, waiter| {
+            if waiter.pid != pid {
+                return true;
             }
-        }
+            let Some(who) = waiter.who.take() else { return true };
+            let result = end(*number);
+            let is_task = matches!(who, Who::Task(_));
+            match &who {
+                Who::Thread(sleeper) => sleeper.answer(result),
+                Who::Task(_) => {
+                    waiter.ended = Some(result);
+                    *ended += 1;
+                }
+            }
+            answered.push(who);
+            is_task
+        });
     }
 
-    /// Takes the wakers of the calls that somebody ended, until none is left or the batch is full; whether none is left.
-    pub(super) fn take_ended(&mut self, batch: &mut Batch) -> bool {
-        let ended = self.list.iter_mut().filter(|waiter| waiter.ended.is_some());
-        let mut wakers = ended.filter_map(|waiter| waiter.waker.take());
-        let mut taken = 0;
-        for (place, waker) in batch.iter_mut().zip(&mut wakers) {
-            *place = Some(waker);
-            taken += 1;
-        }
-        self.asleep -= taken;
-        taken < BATCH
+    /// Takes those who are to be woken, until none is left or the batch is full. Tells whether none is left.
+    pub(super) fn take_answered(&mut self, batch: &mut Batch) -> bool {
+        let first = self.answered.len().saturating_sub(BATCH);
+        batch.iter_mut().zip(self.answered.drain(first..)).for_each(|(place, who)| *place = Some(who));
+        self.answered.is_empty()
     }
 }
