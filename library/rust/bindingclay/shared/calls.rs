@@ -1,12 +1,15 @@
 //! A call that may wait, from its begin to its end, in a thread.
 
-use super::super::{Answer, Clay, NodeFacts, NotDone, ParkedCall, PollEntry};
-use super::front::Locked;
+use super::super::{Answer, Clay, NodeFacts, NodeKind, NotDone, ParkedCall, PollEntry};
+use super::front::{Inner, Locked};
+use super::lock::Held;
 use super::polling::POLLOUT;
 use super::process::Owner;
 use super::recording::interrupt;
 use super::sleeping::{Sleeper, Slot};
 use super::waiters::Who;
+use super::ways::{Place, Way};
+use std::cell::Cell;
 use std::io;
 use std::sync::Arc;
 use std::time::Instant;
@@ -108,6 +111,16 @@ impl Call<'_> {
         }
     }
 
+    /// Of a read or a write its descriptor. A large write that waits for room is a poll.
+    #[inline(always)]
+    fn way(&self) -> Option<(Way, i32)> {
+        match self {
+            Call::Read { fd, .. } => Some((Way::Read, *fd)),
+            Call::Write { fd, waits_at: None, .. } => Some((Way::Write, *fd)),
+            _ => None,
+        }
+    }
+
     /// Makes a slot ready for the answer of this call, which waits.
     fn expect(&self, slot: &mut Slot) -> io::Result<()> {
         match self {
@@ -128,18 +141,44 @@ impl Call<'_> {
     }
 }
 
+thread_local! {
+    /// Whether the last read of this thread waited, or had nothing to read at first.
+    static HAD_NOTHING: Cell<bool> = const { Cell::new(false) };
+}
+
+/// In a thread whose last read had nothing to read: yields once if this read has nothing either. So two threads that answer each other park no
+/// call in the kernel, whose cost grows with the calls that wait.
+#[cold]
+fn yielded_for<'a>(owner: &'a Owner, mut held: Held<'a, Inner>, fd: i32) -> Held<'a, Inner> {
+    // a poll would be a step, which stands in a record
+    let facts = held.clay.fd_facts(owner.pid, fd);
+    let has_nothing = facts.is_ok_and(|facts| facts.kind != NodeKind::File && facts.size == 0);
+    HAD_NOTHING.set(has_nothing);
+    if !has_nothing {
+        return held;
+    }
+    let Some(begun) = owner.front.may_yield() else { return held };
+    drop(held);
+    owner.front.yield_once(&begun);
+    owner.front.hold()
+}
+
 /// Makes a call of a process, and waits for its end.
 #[inline(always)]
 pub(super) fn run(owner: &Owner, mut call: Call<'_>, deadline: Option<Instant>) -> io::Result<usize> {
     let front = &*owner.front;
     let mut held = front.hold();
+    match call {
+        Call::Read { fd, .. } if HAD_NOTHING.get() => held = yielded_for(owner, held, fd),
+        _ => {}
+    }
     if owner.is_gone() {
         return Err(NotDone::NoProcess.into());
     }
     held.waiters.make_room()?;
     match call.begin(&mut held.clay, owner.pid) {
         Ok(Answer::Done(value)) => {
-            front.leave(held);
+            front.leave_behind(held, owner.pid, call.way());
             Ok(value)
         }
         Ok(Answer::Parked(parked)) => wait(owner, front.locked(held), parked, call, deadline),
@@ -158,13 +197,17 @@ fn wait<'a>(
     deadline: Option<Instant>,
 ) -> io::Result<usize> {
     let sleeper = Sleeper::of_this_thread();
+    if let Call::Read { .. } = call {
+        HAD_NOTHING.set(true);
+    }
     loop {
         let has_helped = parked.moved() || matches!(call, Call::Open { .. });
         let number = parked.into_number();
         if call.expect(&mut sleeper.slot()).is_err() {
             return end_without_memory(locked.clay(), number);
         }
-        locked.waiters().add(number, owner.pid, Who::Thread(Arc::clone(&sleeper)));
+        let place = call.way().map(|(way, fd)| Place::of(locked.clay(), owner.pid, fd, way));
+        locked.waiters().add(number, owner.pid, Who::Thread(Arc::clone(&sleeper)), place);
         if has_helped {
             drop(locked);
         } else {

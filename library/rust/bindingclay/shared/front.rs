@@ -3,7 +3,8 @@
 use super::super::Clay;
 use super::lock::{Held, Lock};
 use super::recording::{at_last, interrupt};
-use super::waiters::{Batch, Waiters, Who};
+use super::waiters::{Waiters, Who};
+use super::ways::Way;
 use super::yields::{Begun, Yields};
 use std::io;
 
@@ -28,7 +29,7 @@ pub(super) struct Locked<'a> {
 
 impl Front {
     pub(super) fn new(clay: Clay) -> Front {
-        let waiters = Waiters::default();
+        let waiters = Waiters::new();
         Front { lock: Lock::new(Inner { clay, waiters }), yields: Yields::new() }
     }
 
@@ -50,6 +51,15 @@ impl Front {
         }
     }
 
+    /// The same behind a call of a process on a descriptor. Nothing stands for a way that is neither to read nor to write.
+    #[inline(always)]
+    pub(super) fn leave_behind<'a>(&'a self, mut held: Held<'a, Inner>, pid: u32, way: Option<(Way, i32)>) {
+        let Inner { clay, waiters } = &mut *held;
+        if waiters.are_any() && waiters.are_any_helped(clay, pid, way) {
+            self.answer_and_wake(held);
+        }
+    }
+
     pub(super) fn locked<'a>(&'a self, held: Held<'a, Inner>) -> Locked<'a> {
         Locked { front: self, held: Some(held) }
     }
@@ -60,14 +70,14 @@ impl Front {
     fn answer_and_wake<'a>(&'a self, mut held: Held<'a, Inner>) {
         let Inner { clay, waiters } = &mut *held;
         waiters.answer_ready(clay);
-        loop {
-            let mut batch = Batch::default();
-            let are_all = held.waiters.take_answered(&mut batch);
+        if let Some(who) = waiters.take_the_one() {
+            drop(held);
+            return who.wake();
+        }
+        while !held.waiters.are_all_woken() {
+            let batch = held.waiters.take_some();
             drop(held);
             batch.into_iter().flatten().for_each(Who::wake);
-            if are_all {
-                return;
-            }
             held = self.lock.lock();
         }
     }

@@ -55,6 +55,7 @@ mod recording;
 mod sleeping;
 mod tasks;
 mod waiters;
+mod ways;
 mod yields;
 
 pub use self::descriptor::Handle;

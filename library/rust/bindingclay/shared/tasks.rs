@@ -40,7 +40,7 @@ fn wait_for(locked: &mut Locked<'_>, pid: u32, entry: PollEntry, waker: Waker) -
     match locked.clay().poll(pid, &mut [entry], true)? {
         Answer::Parked(parked) => {
             let number = parked.into_number();
-            locked.waiters().add(number, pid, Who::Task(waker));
+            locked.waiters().add(number, pid, Who::Task(waker), None);
             Ok(number)
         }
         // a large write, for which there is some room: it would put in a part and wait, and no further call may

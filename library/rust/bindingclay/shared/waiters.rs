@@ -3,6 +3,7 @@
 use super::super::Clay;
 use super::recording::interrupt;
 use super::sleeping::Sleeper;
+use super::ways::{Counts, Place, Way};
 use std::collections::HashMap;
 use std::hash::{BuildHasherDefault, Hasher};
 use std::io;
@@ -31,6 +32,8 @@ impl Who {
 #[derive(Debug)]
 struct Waiter {
     pid: u32,
+    /// Of a read or a write.
+    place: Option<Place>,
     /// None if it is a task's, which somebody ended.
     who: Option<Who>,
     /// What became of it then, until the task comes.
@@ -66,11 +69,12 @@ impl Hasher for Product {
 }
 
 /// The calls that wait, by their numbers, and those who are to be woken as their calls are answered.
-#[derive(Debug, Default)]
+#[derive(Debug)]
 pub(super) struct Waiters {
     calls: HashMap<u64, Waiter, BuildHasherDefault<Product>>,
     /// How many of these somebody ended.
     ended: usize,
+    counts: Counts,
     /// It has room for all who wait.
     answered: Vec<Who>,
 }
@@ -82,6 +86,10 @@ const BATCH: usize = 16;
 pub(super) type Batch = [Option<Who>; BATCH];
 
 impl Waiters {
+    pub(super) fn new() -> Waiters {
+        Waiters { calls: HashMap::default(), ended: 0, counts: Counts::new(), answered: Vec::new() }
+    }
+
     pub(super) fn count(&self) -> usize {
         self.calls.len() - self.ended
     }
@@ -90,6 +98,13 @@ impl Waiters {
     #[inline(always)]
     pub(super) fn are_any(&self) -> bool {
         self.count() != 0 || !self.answered.is_empty()
+    }
+
+    /// Whether a call of a process may have helped one that waits, or anybody is to be woken. Of a read or a write its descriptor is told.
+    #[inline]
+    pub(super) fn are_any_helped(&self, clay: &mut Clay, pid: u32, way: Option<(Way, i32)>) -> bool {
+        let Some((way, fd)) = way else { return true };
+        !self.answered.is_empty() || self.counts.may_help(self.count(), way, || Place::of(clay, pid, fd, way))
     }
 
     /// Makes room for one more, so that `add` takes no memory, and neither does an answer.
@@ -103,9 +118,12 @@ impl Waiters {
         Ok(())
     }
 
-    /// Adds a call that was parked just now.
-    pub(super) fn add(&mut self, number: u64, pid: u32, who: Who) {
-        self.calls.insert(number, Waiter { pid, who: Some(who), ended: None });
+    /// Adds a call that was parked just now. If it is a read or a write, it has a place.
+    pub(super) fn add(&mut self, number: u64, pid: u32, who: Who, place: Option<Place>) {
+        self.calls.insert(number, Waiter { pid, place, who: Some(who), ended: None });
+        if let Some(place) = place {
+            self.counts.add(place);
+        }
     }
 
     /// Takes a call out, if it waits. Who waited is dropped by the caller without the lock: a task may go with its waker, and its handles.
@@ -113,6 +131,9 @@ impl Waiters {
     pub(super) fn remove(&mut self, number: u64) -> Option<Who> {
         let waiter = self.calls.remove(&number)?;
         self.ended -= usize::from(waiter.ended.is_some());
+        if let Some(place) = waiter.place {
+            self.counts.remove(place);
+        }
         waiter.who
     }
 
@@ -157,7 +178,7 @@ impl Waiters {
 
     /// Ends the calls of a process that wait, each by `end`.
     pub(super) fn end_all_of(&mut self, pid: u32, mut end: impl FnMut(u64) -> io::Result<usize>) {
-        let Waiters { calls, ended, answered } = self;
+        let Waiters { calls, ended, counts, answered } = self;
         calls.retain(|number, waiter| {
             if waiter.pid != pid {
                 return true;
@@ -165,6 +186,8 @@ impl Waiters {
             let Some(who) = waiter.who.take() else { return true };
             let result = end(*number);
             let is_task = matches!(who, Who::Task(_));
+            // a task has none, and a thread's call goes
+            waiter.place.take().into_iter().for_each(|place| counts.remove(place));
             match &who {
                 Who::Thread(sleeper) => sleeper.answer(result),
                 Who::Task(_) => {
@@ -177,10 +200,21 @@ impl Waiters {
         });
     }
 
-    /// Takes those who are to be woken, until none is left or the batch is full. Tells whether none is left.
-    pub(super) fn take_answered(&mut self, batch: &mut Batch) -> bool {
+    /// Whether nobody is to be woken.
+    pub(super) fn are_all_woken(&self) -> bool {
+        self.answered.is_empty()
+    }
+
+    /// Takes the one who is to be woken, if there is just one.
+    pub(super) fn take_the_one(&mut self) -> Option<Who> {
+        if self.answered.len() == 1 { self.answered.pop() } else { None }
+    }
+
+    /// Takes those who are to be woken, until none is left or the batch is full.
+    pub(super) fn take_some(&mut self) -> Batch {
+        let mut batch = Batch::default();
         let first = self.answered.len().saturating_sub(BATCH);
         batch.iter_mut().zip(self.answered.drain(first..)).for_each(|(place, who)| *place = Some(who));
-        self.answered.is_empty()
+        batch
     }
 }
