@@ -129,6 +129,8 @@ fn beside_sleepers(kernel: &Shared) -> Result<(f64, f64)> {
 /// A row: what it is beside, with its time, and the time here.
 type Row = (&'static str, f64, f64);
 
+type Measure = fn() -> Result<Row>;
+
 const OF_HOST: &str = "host's pipe";
 
 fn row_of_pairs() -> Result<Row> {
@@ -157,7 +159,7 @@ fn row_of_sleepers() -> Result<Row> {
     Ok(("without them", alone, among))
 }
 
-const ROWS: [(&str, fn() -> Result<Row>); 5] = [
+const ROWS: [(&str, Measure); 5] = [
     ("write and read of 64 bytes", row_of_pairs),
     ("ping-pong of two threads", row_of_ping_pongs),
     ("64 KiB from thread to thread", row_of_streams),

@@ -201,18 +201,7 @@ fn wait<'a>(
         HAD_NOTHING.set(true);
     }
     loop {
-        let has_helped = parked.moved() || matches!(call, Call::Open { .. });
-        let number = parked.into_number();
-        if call.expect(&mut sleeper.slot()).is_err() {
-            return end_without_memory(locked.clay(), number);
-        }
-        let place = call.way().map(|(way, fd)| Place::of(locked.clay(), owner.pid, fd, way));
-        locked.waiters().add(number, owner.pid, Who::Thread(Arc::clone(&sleeper)), place);
-        if has_helped {
-            drop(locked);
-        } else {
-            locked.helped_none();
-        }
+        let number = enlist(owner, locked, parked, &call, &sleeper)?;
         let count = sleeper.sleep(&owner.front, deadline).unwrap_or_else(|| give_up(owner, &sleeper, number))?;
         let Call::Write { fd, bytes, waits_at: waits_at @ Some(_) } = &mut call else {
             call.give(&mut sleeper.slot(), count);
@@ -225,6 +214,24 @@ fn wait<'a>(
             Answer::Parked(parked) => parked,
         };
     }
+}
+
+/// Adds a call to those that wait, lets go of the lock, and tells the number of the call.
+fn enlist(owner: &Owner, mut locked: Locked<'_>, parked: ParkedCall, call: &Call<'_>, sleeper: &Arc<Sleeper>) -> io::Result<u64> {
+    // an open that waits is seen by another open, and a write may have put in some bytes
+    let has_helped = parked.moved() || matches!(call, Call::Open { .. });
+    let number = parked.into_number();
+    if let Err(fault) = call.expect(&mut sleeper.slot()) {
+        // only a poll takes memory for its slot, and it has taken nothing
+        let _ended = interrupt(locked.clay(), number);
+        return Err(fault);
+    }
+    let place = call.way().map(|(way, fd)| Place::of(locked.clay(), owner.pid, fd, way));
+    locked.waiters().add(number, owner.pid, Who::Thread(Arc::clone(sleeper)), place);
+    if !has_helped {
+        locked.helped_none();
+    }
+    Ok(number)
 }
 
 /// Ends a call whose next try finds no memory: it would be named for ever. A write that put in some bytes tells how many.
