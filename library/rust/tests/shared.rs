@@ -273,12 +273,11 @@ fn the_last_writer_that_another_thread_drops_ends_a_read() -> Result<()> {
 }
 
 #[test]
-fn readers_that_come_too_late_are_woken_again() -> Result<()> {
+fn each_byte_ends_one_of_the_reads_that_wait() -> Result<()> {
     let kernel = Shared::new()?;
     let (reader, mut writer) = kernel.start()?.pipe()?;
     thread::scope(|scope| {
         let readers: Vec<_> = (0..12).map(|_| scope.spawn(|| (&reader).read(&mut [0]))).collect();
-        // each byte is for one of them, and wakes all that wait
         for left in (0..12).rev() {
             until_waiting(&kernel, left + 1);
             writer.write_all(b"a")?;
@@ -288,6 +287,33 @@ fn readers_that_come_too_late_are_woken_again() -> Result<()> {
             assert_eq!(reader.join().expect("no panic")?, 1);
         }
         Ok(())
+    })
+}
+
+#[test]
+fn a_read_that_waits_gives_as_much_as_a_write_puts_in() -> Result<()> {
+    const LARGE: usize = 200_000;
+    let kernel = Shared::new()?;
+    let (mut reader, mut writer) = kernel.start()?.pipe()?;
+    writer.set_capacity(LARGE)?;
+    thread::scope(|scope| {
+        let reads = scope.spawn(move || {
+            let mut into = vec![0; 2 * LARGE];
+            // a small one between two large ones
+            [LARGE, 3, LARGE].into_iter().try_for_each(|size| {
+                into.fill(0);
+                assert_eq!(reader.read(&mut into)?, size);
+                assert!(into[..size].iter().enumerate().all(|(at, byte)| *byte == (at + size) as u8));
+                assert!(into[size..].iter().all(|byte| *byte == 0));
+                Ok(())
+            })
+        });
+        for size in [LARGE, 3, LARGE] {
+            until_waiting(&kernel, 1);
+            let bytes: Vec<u8> = (0..size).map(|at| (at + size) as u8).collect();
+            assert_eq!(writer.write(&bytes)?, size);
+        }
+        reads.join().expect("no panic")
     })
 }
 

@@ -1,4 +1,5 @@
-//! The shared kernel under eight threads, in ping-pongs, and with little memory: nothing waits for ever, and nothing is left.
+//! The shared kernel under many threads, in ping-pongs, and with little memory: nothing waits for ever, nothing is left, and no byte comes
+//! elsewhere.
 //!
 //! `BINDINGCLAY_STORM` says how many seconds the storm takes, and `BINDINGCLAY_ROUNDS` how many ping-pongs are made; without them 3 and 20,000.
 
@@ -142,6 +143,48 @@ fn no_wake_up_of_a_ping_pong_is_lost() -> Result<()> {
     let rounds = number_of("BINDINGCLAY_ROUNDS", 20_000);
     let process = Shared::new()?.start()?;
     assert_eq!(ping_pong(&process, rounds, &AtomicBool::new(false))?, rounds);
+    Ok(())
+}
+
+/// The bytes of a message: who sends it, and how many it sent before to the same pipe.
+fn message(sender: u64, before: u64) -> [u8; 16] {
+    let mut bytes = [0; 16];
+    bytes[..8].copy_from_slice(&sender.to_le_bytes());
+    bytes[8..].copy_from_slice(&before.to_le_bytes());
+    bytes
+}
+
+#[test]
+fn messages_of_many_threads_come_whole_and_in_order() -> Result<()> {
+    const MEMBERS: usize = 12;
+    const EACH: u64 = 200;
+    let kernel = Shared::new()?;
+    let process = kernel.start()?;
+    let pipes = (0..MEMBERS).map(|_| process.pipe()).collect::<Result<Vec<_>>>()?;
+    let (readers, writers): (Vec<_>, Vec<_>) = pipes.into_iter().unzip();
+    // full pipes, so that writes wait too
+    writers.iter().try_for_each(|writer| writer.set_capacity(4_096).map(|_| ()))?;
+    thread::scope(|scope| {
+        for mut reader in readers {
+            scope.spawn(move || {
+                let mut met = [0; MEMBERS];
+                for _ in 0..MEMBERS as u64 * EACH {
+                    let mut bytes = [0; 16];
+                    reader.read_exact(&mut bytes).expect("a message");
+                    let sender = usize::from(bytes[0]);
+                    assert_eq!(bytes, message(sender as u64, met[sender]));
+                    met[sender] += 1;
+                }
+                assert_eq!(met, [EACH; MEMBERS]);
+            });
+        }
+        for sender in 0..MEMBERS as u64 {
+            let writers = &writers;
+            let send = move |before| writers.iter().try_for_each(|mut to: &PipeWriter| to.write_all(&message(sender, before)));
+            scope.spawn(move || (0..EACH).try_for_each(send).expect("readers"));
+        }
+    });
+    assert_eq!(kernel.waiting(), 0);
     Ok(())
 }
 

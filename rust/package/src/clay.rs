@@ -279,9 +279,9 @@ impl Clay {
         held.ok_or(NotDone::Fault(Errno::EBADF))
     }
 
-    pub(crate) fn fd_facts(&mut self, pid: u32, fd: i32) -> Result<NodeFacts> {
-        let facts = self.kernel().fd_facts(pid, fd);
-        facts.ok_or(NotDone::Fault(Errno::EBADF))
+    pub(crate) fn fd_facts(&self, pid: u32, fd: i32) -> Result<NodeFacts> {
+        let kernel = self.kernel.as_ref().expect("it isn't dropped");
+        kernel.fd_facts(pid, fd).ok_or(NotDone::Fault(Errno::EBADF))
     }
 
     pub(crate) fn resume_read(

@@ -149,7 +149,7 @@ thread_local! {
 /// In a thread whose last read had nothing to read: yields once if this read has nothing either. So two threads that answer each other park no
 /// call in the kernel, whose cost grows with the calls that wait.
 #[cold]
-fn yielded_for<'a>(owner: &'a Owner, mut held: Held<'a, Inner>, fd: i32) -> Held<'a, Inner> {
+fn yielded_for<'a>(owner: &'a Owner, held: Held<'a, Inner>, fd: i32) -> Held<'a, Inner> {
     // a poll would be a step, which stands in a record
     let facts = held.clay.fd_facts(owner.pid, fd);
     let has_nothing = facts.is_ok_and(|facts| facts.kind != NodeKind::File && facts.size == 0);

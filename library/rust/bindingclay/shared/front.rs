@@ -53,8 +53,8 @@ impl Front {
 
     /// The same behind a call of a process on a descriptor. Nothing stands for a way that is neither to read nor to write.
     #[inline(always)]
-    pub(super) fn leave_behind<'a>(&'a self, mut held: Held<'a, Inner>, pid: u32, way: Option<(Way, i32)>) {
-        let Inner { clay, waiters } = &mut *held;
+    pub(super) fn leave_behind<'a>(&'a self, held: Held<'a, Inner>, pid: u32, way: Option<(Way, i32)>) {
+        let Inner { clay, waiters } = &*held;
         if waiters.are_any() && waiters.are_any_helped(clay, pid, way) {
             self.answer_and_wake(held);
         }

@@ -1,8 +1,8 @@
 //! A kernel that threads and tasks share, with pipes and files shaped as those of `std`.
 //!
 //! [`Shared`] has a kernel behind a lock. A [`Process`] of it makes pipes, whose ends are a [`PipeReader`] and a [`PipeWriter`] as those of
-//! `std::io::pipe`, and opens a [`File`] as `std::fs` does. A call that would wait puts its thread to sleep, without the lock. After each
-//! step just those threads and tasks are woken whose calls the kernel names as the next ones that can get on.
+//! `std::io::pipe`, and opens a [`File`] as `std::fs` does. A call that would wait puts its thread to sleep, without the lock. Whoever
+//! makes a step answers the calls of other threads that can get on by now. It wakes these threads, the tasks that can get on, and no others.
 //!
 //! ```
 //! use bindingclay::shared::Shared;

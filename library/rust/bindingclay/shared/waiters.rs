@@ -102,7 +102,7 @@ impl Waiters {
 
     /// Whether a call of a process may have helped one that waits, or anybody is to be woken. Of a read or a write its descriptor is told.
     #[inline]
-    pub(super) fn are_any_helped(&self, clay: &mut Clay, pid: u32, way: Option<(Way, i32)>) -> bool {
+    pub(super) fn are_any_helped(&self, clay: &Clay, pid: u32, way: Option<(Way, i32)>) -> bool {
         let Some((way, fd)) = way else { return true };
         !self.answered.is_empty() || self.counts.may_help(self.count(), way, || Place::of(clay, pid, fd, way))
     }

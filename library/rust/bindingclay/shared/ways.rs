@@ -19,7 +19,7 @@ pub(super) struct Place {
 const GROUPS: usize = 256;
 
 impl Place {
-    pub(super) fn of(clay: &mut Clay, pid: u32, fd: i32, way: Way) -> Place {
+    pub(super) fn of(clay: &Clay, pid: u32, fd: i32, way: Way) -> Place {
         let key = clay.fd_facts(pid, fd).map_or(0, |facts| facts.key);
         Place { way, group: (key % GROUPS as u64) as usize }
     }
