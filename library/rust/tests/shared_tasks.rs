@@ -5,6 +5,7 @@ use std::io::{ErrorKind, Read, Result, Write};
 use std::sync::atomic::{AtomicUsize, Ordering};
 use std::sync::{Arc, Mutex};
 use std::task::{Context, Poll, Wake, Waker};
+use std::thread;
 
 /// The bytes of a new pipe (pipe(7), Pipe capacity).
 const PIPE_BYTES: usize = 65_536;
@@ -249,4 +250,35 @@ fn wakers_run_and_go_without_the_lock() -> Result<()> {
     }
     assert_eq!(kernel.waiting(), 0);
     Ok(())
+}
+
+/// Waits for a byte as it is woken.
+struct Waits(Mutex<PipeReader>);
+
+impl Wake for Waits {
+    fn wake(self: Arc<Self>) {
+        let read = self.0.lock().expect("no panic").read(&mut [0]);
+        assert_eq!(read.expect("a byte"), 1);
+    }
+}
+
+#[test]
+fn a_waker_may_wait_while_a_write_waits_that_ran_it() -> Result<()> {
+    let (kernel, process) = process();
+    let ((mut one, mut to_one), (other, mut to_other)) = (process.pipe()?, process.pipe()?);
+    let mut reader = one.try_clone()?;
+    let waker = Waker::from(Arc::new(Waits(Mutex::new(other))));
+    assert!(one.poll_read(&mut Context::from_waker(&waker), &mut [0]).is_pending());
+    thread::scope(|scope| {
+        let writes = scope.spawn(move || to_one.write(&[7; PIPE_BYTES + 9]));
+        // the write, and the read of the waker; the poll has ended
+        while kernel.waiting() != 2 || reader.held()? == 0 {
+            thread::yield_now();
+        }
+        // the write is answered before the read
+        reader.read_exact(&mut [0; PIPE_BYTES + 9])?;
+        to_other.write_all(b"a")?;
+        assert_eq!(writes.join().expect("no panic")?, PIPE_BYTES + 9);
+        Ok(())
+    })
 }

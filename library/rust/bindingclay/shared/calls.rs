@@ -189,20 +189,24 @@ pub(super) fn run(owner: &Owner, mut call: Call<'_>, deadline: Option<Instant>) 
 
 /// Sleeps until the call is answered.
 #[cold]
-fn wait<'a>(
+fn wait(owner: &Owner, locked: Locked<'_>, parked: ParkedCall, call: Call<'_>, deadline: Option<Instant>) -> io::Result<usize> {
+    if let Call::Read { .. } = call {
+        HAD_NOTHING.set(true);
+    }
+    Sleeper::with(|sleeper| wait_by(sleeper, owner, locked, parked, call, deadline))
+}
+
+fn wait_by<'a>(
+    sleeper: &Arc<Sleeper>,
     owner: &'a Owner,
     mut locked: Locked<'a>,
     mut parked: ParkedCall,
     mut call: Call<'_>,
     deadline: Option<Instant>,
 ) -> io::Result<usize> {
-    let sleeper = Sleeper::of_this_thread();
-    if let Call::Read { .. } = call {
-        HAD_NOTHING.set(true);
-    }
     loop {
-        let number = enlist(owner, locked, parked, &call, &sleeper)?;
-        let count = sleeper.sleep(&owner.front, deadline).unwrap_or_else(|| give_up(owner, &sleeper, number))?;
+        let number = enlist(owner, locked, parked, &call, sleeper)?;
+        let count = sleeper.sleep(&owner.front, deadline).unwrap_or_else(|| give_up(owner, sleeper, number))?;
         let Call::Write { fd, bytes, waits_at: waits_at @ Some(_) } = &mut call else {
             call.give(&mut sleeper.slot(), count);
             return Ok(count);

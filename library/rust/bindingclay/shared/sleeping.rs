@@ -3,7 +3,7 @@
 use super::super::{Answer, Clay, NotDone, ParkedCall, PollEntry};
 use super::calls::end_without_memory;
 use super::front::Front;
-use std::cell::OnceCell;
+use std::cell::Cell;
 use std::io;
 use std::sync::atomic::{AtomicBool, Ordering};
 use std::sync::{Arc, Mutex, MutexGuard, PoisonError};
@@ -71,7 +71,7 @@ impl Slot {
 }
 
 thread_local! {
-    static SLEEPER: OnceCell<Arc<Sleeper>> = const { OnceCell::new() };
+    static SPARE: Cell<Option<Arc<Sleeper>>> = const { Cell::new(None) };
 }
 
 impl Sleeper {
@@ -80,10 +80,14 @@ impl Sleeper {
         Arc::new(Sleeper { thread, woken: AtomicBool::new(false), slot })
     }
 
-    /// That of this thread. A thread that ends, whose own values are gone, has a new one each time.
-    pub(super) fn of_this_thread() -> Arc<Sleeper> {
-        let found = SLEEPER.try_with(|sleeper| Arc::clone(sleeper.get_or_init(Sleeper::new)));
-        found.unwrap_or_else(|_| Sleeper::new())
+    /// Lets a call of this thread have a sleeper for itself: that of the call before, or else a new one. A waker that runs while a call begins
+    /// to wait may make another call that waits, and a thread that ends has no spare one any more.
+    pub(super) fn with<T>(call: impl FnOnce(&Arc<Sleeper>) -> T) -> T {
+        let spare = SPARE.try_with(Cell::take).unwrap_or_default();
+        let sleeper = spare.unwrap_or_else(Sleeper::new);
+        let done = call(&sleeper);
+        let _gone = SPARE.try_with(|spare| spare.set(Some(sleeper)));
+        done
     }
 
     pub(super) fn slot(&self) -> MutexGuard<'_, Slot> {
