@@ -80,8 +80,8 @@ impl Sleeper {
         Arc::new(Sleeper { thread, woken: AtomicBool::new(false), slot })
     }
 
-    /// Lets a call of this thread have a sleeper for itself: that of the call before, or else a new one. A waker that runs while a call begins
-    /// to wait may make another call that waits, and a thread that ends has no spare one any more.
+    /// Lets a call of this thread have a sleeper for itself: that of the call before, or else a new one. A call that begins to wait may run a
+    /// waker, and that may make another call that waits. A thread that ends has no spare one any more.
     pub(super) fn with<T>(call: impl FnOnce(&Arc<Sleeper>) -> T) -> T {
         let spare = SPARE.try_with(Cell::take).unwrap_or_default();
         let sleeper = spare.unwrap_or_else(Sleeper::new);

@@ -6,7 +6,7 @@ use std::sync::atomic::{AtomicU64, Ordering};
 use std::thread;
 use std::time::Instant;
 
-/// In nanoseconds, from when on a yield is slow, for itself and for each step that was made meanwhile; and for how long no thread yields then.
+/// From how many nanoseconds on a yield is slow, for itself and for each step that was made meanwhile. No thread yields for so long then.
 const SLOW_YIELD: u64 = 50_000;
 const SLOW_STEP: u64 = 5_000;
 const PAUSE: u64 = 20_000_000;
