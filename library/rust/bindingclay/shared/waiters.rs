@@ -107,7 +107,7 @@ impl Waiters {
         !self.answered.is_empty() || self.counts.may_help(self.count(), way, || Place::of(clay, pid, fd, way))
     }
 
-    /// Makes room for one more, so that `add` takes no memory, and neither does an answer.
+    /// Makes room for one more. Then neither `add` takes memory, nor what ends a call. An answer takes only that for the bytes of a read.
     #[inline]
     pub(super) fn make_room(&mut self) -> io::Result<()> {
         let waiting = self.calls.len() + 1;
