@@ -20,8 +20,8 @@ use itoa::Buffer;
 use pl_budget::Budget;
 use pl_model::Limits;
 use pl_script::{
-    Explanation, Peer, Reads, ScriptFault, Sink, Source, Writes, check_script_explained, run_live_explained,
-    run_script_explained, write_whole,
+    Explanation, Peer, Reads, ScriptFault, Sink, Source, Writes, check_script_explained,
+    run_live_explained, run_script_explained, write_whole,
 };
 use std::alloc::Global;
 use std::env::{self, Env};
@@ -262,7 +262,15 @@ pub fn run<R: Files + AllocGlobal, S: Source, T: Sink>(
             file: Some(path),
         } => {
             let mut reader = Reads::of_script(open(rt, path.as_str())?);
-            check_from(rt.alloc(), all, explain, limits, memory, &mut reader, output)?;
+            check_from(
+                rt.alloc(),
+                all,
+                explain,
+                limits,
+                memory,
+                &mut reader,
+                output,
+            )?;
             Ok(None)
         }
     }

@@ -27,7 +27,8 @@ pub use live::{MAX_LIVE_READS, run_live, run_live_explained};
 pub use live_lines::MAX_LINE_BYTES;
 pub use peer::{LiveFault, LiveTotals, Peer};
 pub use pl_lines::{
-    Explanation, LineFault, Reason, Wanted, parse_line, parse_line_2, show, show_2, show_file, show_file_2,
+    Explanation, LineFault, Reason, Wanted, parse_line, parse_line_2, show, show_2, show_file,
+    show_file_2,
 };
 pub use pl_model::numbers::{MAX_READS, MAX_SCRIPT_BYTES};
 pub use pl_model::{Line, Totals, Version};

@@ -12,9 +12,7 @@ ghost use Rattle.pl_script.specs.LiveSteps.{IsHeld, IsBehind, IsJudged, IsNewLiv
 
 use crate::running::{answer_line, refusal_of_line};
 use pl_kernel::Kernel;
-use pl_lines::{
-    Explanation, LineFault, explain_line, names_version_2, parse_line_of, push_line,
-};
+use pl_lines::{Explanation, LineFault, explain_line, names_version_2, parse_line_of, push_line};
 use pl_model::{Limits, Outcome, Version};
 use std::alloc::{AllocError, Allocator};
 

@@ -17,7 +17,8 @@ use crate::streams::{Sink, Source};
 use crate::writing::write_whole;
 use pl_kernel::{Kernel, NoMemory};
 use pl_lines::{
-    Explanation, LineFault, next_line, parse_line_of, push_file_line, push_line, repeated_write, split_version,
+    Explanation, LineFault, next_line, parse_line_of, push_file_line, push_line, repeated_write,
+    split_version,
 };
 use pl_model::{Limits, Line, Name, Outcome, Reply, Step, Totals, Version};
 use std::alloc::{AllocError, Allocator};

@@ -22,8 +22,16 @@ const FAULTS: &[(Fault, &str, u8)] = &[
     (Fault::CannotRead, "piperun: cannot read\n", 1),
     (Fault::CannotWrite, "piperun: cannot write\n", 1),
     (Fault::CommandLine, "piperun: bad command line\n", 2),
-    (Fault::BadLine(7, None), "piperun: line 7: not a command\n", 3),
-    (Fault::BadLine(2, None), "piperun: line 2: not a command\n", 3),
+    (
+        Fault::BadLine(7, None),
+        "piperun: line 7: not a command\n",
+        3,
+    ),
+    (
+        Fault::BadLine(2, None),
+        "piperun: line 2: not a command\n",
+        3,
+    ),
     (
         Fault::BadLine(16_777_216, None),
         "piperun: line 16777216: not a command\n",
