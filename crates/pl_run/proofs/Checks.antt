@@ -1,5 +1,5 @@
 -- From a check of a record to the end of the program.
-use Rattle.std.proofs.Common.{◌≡◌, inl, inr, ℕ, ◌<◌, List, [], ◌++◌, take, drop, Bool, cond, Option, Some, None, Ok, Err, refl, sym, ap}
+use Rattle.std.proofs.Common.{◌≡◌, inl, inr, ℕ, ◌<◌, List, [], ◌++◌, take, drop, Bool, Option, Some, None, Ok, Err, refl, sym}
 use Rattle.std.specs.Prelude.{IfSome}
 use Rattle.std.specs.Io.KnownBytes.{Appends}
 use Rattle.std.proofs.KnownBytes.{Appends-nil, Appends-trans}
@@ -7,26 +7,12 @@ use Rattle.std.proofs.lemmas.List.{append-nil, take-append-drop}
 use Rattle.pl_model.specs.declared.calls.Limits.{Limits}
 use Rattle.pl_script.specs.Header.{limits_of_header, IsCheckWithin}
 use Rattle.pl_script.specs.declared.comparing.Checked.{Checked}
-use Rattle.pl_script.specs.declared.fault.ScriptFault.{ScriptFault}
 use Rattle.pl_script.specs.declared.fault.ScriptFault.TheVariants as script
-use Rattle.pl_lines.specs.declared.explain.Explanation.{Explanation}
-use Rattle.pl_script.specs.Explaining.{IsExplained}
-use Rattle.pl_run.specs.Fault.{fault_of, nothing_more, explained_by}
 use Rattle.pl_run.specs.Program.{InBudget, IsCheckedWithin, line_of_same}
 use Rattle.pl_run.specs.declared.fault.Fault.TheVariants.{CannotWrite, NoMemory, Differs}
 use Rattle.pl_run.proofs.Fronts.{WritesSome}
-use Rattle.pl_run.proofs.Told.{told_so}
 
 module _ (all explain : Bool) (limits : Limits) where
-  -- the check failed
-  pub fails : (input old new : Option (List ℕ)) (fault : ScriptFault) (why : Option Explanation)
-      → IfSome input (λ record_of. (text : List ℕ) × Appends old new text × IsCheckWithin InBudget all (limits_of_header limits record_of) record_of (Err fault) text)
-      → IfSome input (λ record_of. IsExplained {X = Checked} record_of (Err fault) None why)
-      → IfSome input (λ record_of. (text : List ℕ) × Appends old new text × IsCheckedWithin all explain limits record_of (Err (explained_by (cond explain why None) (fault_of nothing_more fault))) text)
-  fails None old new fault why check told = tt
-  fails (Some bytes) old new fault why check told =
-      (check.0, check.1, (Err fault, check.0, [], sym (append-nil check.0), check.2, (ap Err (told_so {X = Checked} explain bytes fault why told), refl)))
-
   module _ (input old mid : Option (List ℕ)) (checked : Checked)
       (check : IfSome input (λ record_of. (text : List ℕ) × Appends old mid text × IsCheckWithin InBudget all (limits_of_header limits record_of) record_of (Ok checked) text)) where
     -- replies differ

@@ -8,6 +8,13 @@ use crate::fault::{Fault, write_fault};
 use pl_script::{Explanation, Peer, Sink, Writes};
 use std::io::{self, Read, Write};
 
+/// What is told of a bad line.
+fn if_asked(explain: bool, why: Option<Explanation>) -> Option<Explanation>
+    ensures { result ≡ (if explain then why else None) }
+{
+    if explain { why } else { None }
+}
+
 /// A far end that says what the input gives, is told on the output, and of its bad lines on the errors, with what is wrong with them or
 /// without it.
 #[derive(Drop)]
@@ -86,7 +93,7 @@ impl<I: Read, O: Write, E: Write> Peer for Terminal<I, O, E> {
         ensures write { self.new.cannot_write ≡ self.old.cannot_write }
     {
         // Where the line can't be written, the count of bad lines at the end tells.
-        let why = if self.explain { why } else { None };
+        let why = if_asked(self.explain, why);
         let _told = write_fault(&mut self.errors, &Fault::BadLine(number, why));
     }
 }

@@ -5,12 +5,12 @@ use Rattle.pl_run.proofs.program.check_from.Goals as goal
 
 pub returns-in_err-write_same-clause-check : goal.returns-in_err-write_same-clause-check
 returns-in_err-write_same-clause-check g c =
-    let p = err_from_is_err_and c.from_residual-in_err-write_same.result c.from_residual-in_err-write_same.ensures.1 in
-    let none : c.in_ok-checked.checked.different ≡ 0 = omega arith in
+    let p = err_from_is_err_and c.from_residual.result c.from_residual.ensures.1 in
+    let none : c.in-Ok.checked.different ≡ 0 = omega arith in
     rw (p.1, p.2, c.in_err-write_same.ensures.stopped.0)
-    (cut c.args.all c.args.explain c.args.limits _ _ _ c.in_ok-checked.checked c.in_ok-checked.ensures.run _ none c.in_err-write_same.ensures.front)
+    (cut c.args.all c.args.explain c.args.limits _ _ _ c.in-Ok.checked c.in-Ok.ensures.run _ none c.in_err-write_same.ensures.front)
 
 pub returns-clause-check : goal.returns-clause-check
 returns-clause-check g c =
-    let none : c.in_ok-checked.checked.different ≡ 0 = omega arith in
-    as_recorded c.args.all c.args.explain c.args.limits _ _ _ c.in_ok-checked.checked c.in_ok-checked.ensures.run _ none c.in_ok-write_same.ensures.front
+    let none : c.in-Ok.checked.different ≡ 0 = omega arith in
+    as_recorded c.args.all c.args.explain c.args.limits _ _ _ c.in-Ok.checked c.in-Ok.ensures.run _ none c.in_ok-write_same.ensures.front
