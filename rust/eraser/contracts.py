@@ -75,8 +75,30 @@ def erase_attributes(source: Tokens) -> None:
             source.drop(at, end)
         elif text.startswith("#[derive("):
             _erase_derive(source, at, end, text)
+        elif text == "#[inline(never)]":
+            # hardly any call goes out of line: told so, rustc keeps the way of the others short
+            source.texts[at] = "#[cold]\n#"
         elif not ATTRIBUTES.match(text) and not MESSAGE.match(text):
             source.fail(at, f"an attribute that is not known: {text}")
+
+
+def check_unchecked(source: Tokens) -> None:
+    """Has bytes that a proof knows for text looked through: the edition has no proof."""
+    for at in source.code():
+        if not source.is_word(at, "from_utf8_unchecked"):
+            continue
+        opening = source.previous(at)
+        while source.text(opening) not in ("{", ";"):
+            opening = source.previous(opening)
+        keyword, behind = source.previous(opening), source.close(source.next(at))
+        if not source.is_word(keyword, "unsafe") or source.text(source.next(behind)) != "}":
+            source.fail(at, "a from_utf8_unchecked that is not alone in an unsafe block")
+        source.count("`unsafe`")
+        source.texts[at] = "from_utf8"
+        source.added[behind] = ".unwrap()"
+        source.drop(source.next(behind), source.next(behind))
+        source.kinds[keyword], source.texts[keyword] = None, ""
+        source.drop(opening, opening)
 
 
 def _erase_derive(source: Tokens, at: int, end: int, text: str) -> None:

@@ -44,6 +44,7 @@ def read_source(path: pathlib.PurePath, text: str, crate: str, counts: collectio
     source = Tokens(path, text, counts)
     contracts.erase_clauses(source, crate)
     contracts.erase_attributes(source)
+    contracts.check_unchecked(source)
     contracts.erase_derived_imports(source)
     contracts.erase_bounds(source)
     contracts.erase_models(source)

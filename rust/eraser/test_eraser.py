@@ -37,6 +37,7 @@ REFUSED = {
     "a letter that is no code": ("fn f() -> u8 { λ }", "left"),
     "a comment of another form": ("/* a */ fn f() {}", "comment"),
     "a raw text": ('const T: &str = r"a";', "text"),
+    "more than text in an unsafe block": ("fn f(a: &[u8]) -> usize { unsafe { str::from_utf8_unchecked(a).len() } }", "from_utf8_unchecked"),
     "a main of more": ("fn main(rt: HostRuntime, n: u8) {}", "main"),
     "a test of another result": ("#[test]\nfn t(rt: HostRuntime) -> io::Result<()> { Ok(()) }", "result"),
     "a clause that isn't closed": ("fn f() requires { a { b } {}", "bracket"),
@@ -87,6 +88,11 @@ ERASED = {
     ),
     "atomics": ("use std::sync::atomic::AtomicU64;", "use core::sync::atomic::AtomicU64;"),
     "assertions": ("fn f() { assert_eq!(&rt; 1, 2); }", "fn f() { assert_eq!( 1, 2); }"),
+    "bytes that a proof knows for text": (
+        "fn f(t: &mut T, b: &[u8]) { t.push_str(unsafe { str::from_utf8_unchecked(&b[g(1)..]) }) }",
+        "fn f(t: &mut T, b: &[u8]) { t.push_str(str::from_utf8(&b[g(1)..]).unwrap()) }",
+    ),
+    "a function out of line": ("#[inline(never)]\nfn f() -> u8 { g() }", "#[cold]\n#[inline(never)]\nfn f() -> u8 { g() }"),
     "a method that is given an allocator": (
         'fn f() { g("a".repeat(alloc, h(2, 3))?, "b".repeat(h(2, 3))) }',
         'use crate::std_shim::string::RepeatIn;\nfn f() { g("a".repeat_in(alloc, h(2, 3))?, "b".repeat(h(2, 3))) }',

@@ -90,7 +90,9 @@ pub fn encode<A: Allocator + Copy>(alloc: A, bytes: &[u8]) -> Result<String<A>, 
     Ok(String::from_ascii(digits, alloc))
 }
 
+// Without a table, as rustc makes many digits at once of this.
 #[inline(always)]
 fn digit(value: u8) -> u8 {
-    b"0123456789abcdef"[usize::from(value)]
+    let first = if value < 10 { b'0' } else { b'a' - 10 };
+    first + value
 }

@@ -1,7 +1,6 @@
 -- What `hex` encodes is the text of the bytes.
-use Rattle.std.proofs.Common.{◌≡◌, ℕ, ◌<◌, Bool, true, false, List, [], ◌∷◌, length, slice_index, Result, Ok, Err, refl, arith}
-use Rattle.std.specs.Prelude.{codes, nat_lt, MatchResult, OnOk}
-use Rattle.std.specs.Result.{IsOk}
+use Rattle.std.proofs.Common.{◌≡◌, ℕ, ◌<◌, Bool, true, false, List, [], ◌∷◌, length, slice_index, refl, arith}
+use Rattle.std.specs.Prelude.{codes, nat_lt}
 use Rattle.std.specs.List.{list_all}
 use Rattle.std.proofs.lemmas.Bool.{ltb-true}
 use Rattle.std.proofs.lemmas.List.Folds.{list_all_at}
@@ -49,13 +48,3 @@ digit_ascii n lt = by (nat_lt (slice_index lower_digits n) 128) refl
 pub encoded_is_text : (bytes : List ℕ) → IsUtf8 (encode_lower bytes)
 encoded_is_text bytes =
     IsUtf8-from_ascii (encode_lower bytes) (IsAscii-encode_with lower_digits bytes (IsAscii-from_reads lower_digits 16 (omega arith) digit_ascii))
-
--- so it is read as text
-pub is_read : {X E : Type 0} (r : Result X E) (bytes : List ℕ) (P : X → Type 0) (Q : E → Type 0) → MatchResult r (λ s. P s × IsUtf8 bytes) (λ e. ¬ (IsUtf8 bytes) × Q e) → IsUtf8 bytes → IsOk r
-is_read (Ok x) bytes P Q cases text = refl
-is_read (Err e) bytes P Q cases text = absurd (cases.0 text)
-
--- what holds of a result that is `Ok`
-pub of_ok : {X E P : Type 0} (r : Result X E) → IsOk r → OnOk r P → P
-of_ok (Ok x) is holds = holds
-of_ok (Err e) is holds = absurd cc

@@ -13,13 +13,13 @@ fn digits_len(bytes: &[u8]) -> usize
     ensures { IsBeforeFour bytes.now result }
 {
     let mut len = 0;
-    while let [first, second, third, last, ..] = &bytes[len..] {
+    while len + 3 < bytes.len() {
         // The last two bytes that differ tell how many places can be passed over.
-        if third != last {
+        if bytes[len + 2] != bytes[len + 3] {
             len += 3;
-        } else if second != last {
+        } else if bytes[len + 1] != bytes[len + 3] {
             len += 2;
-        } else if first != last {
+        } else if bytes[len] != bytes[len + 3] {
             len += 1;
         } else {
             return len;
