@@ -1,6 +1,7 @@
 -- What a caller is told of the steps that it made.
-use Rattle.std.proofs.Common.{◌≡◌, ℕ, ◌+◌, ◌≤◌, List, [], ◌∷◌, ◌++◌, length, None, refl, sym, ap, ◌∙◌, subst, ⊎_elim, append_assoc, length-append, arith}
-use Rattle.std.proofs.lemmas.List.Elements.{All-push}
+use Rattle.std.proofs.Common.{◌≡◌, ℕ, ◌+◌, ◌≤◌, List, [], ◌∷◌, ◌++◌, length, None, refl, sym, ap, ◌∙◌, subst, ⊎_elim, append_assoc, append-nil, length-append, arith}
+use Rattle.std.proofs.lemmas.List.{same_from_push}
+use Rattle.std.proofs.lemmas.List.Elements.{All-push, All-append}
 use mathlib.Core.List.{IsPrefix}
 use Rattle.pl_model.specs.declared.calls.Call.{Call}
 use Rattle.pl_model.specs.declared.calls.Limits.{Limits}
@@ -11,7 +12,7 @@ use Rattle.pl_model.specs.declared.replies.Reply.TheVariants.{Parked}
 use Rattle.pl_model.specs.declared.history.Entry.{Entry}
 use Rattle.pl_model.specs.History.{entry, of, IsLegal}
 use Rattle.pl_history.proofs.Prefixes.{prefix_trans}
-use Rattle.pl_locked.specs.Views.{CallerView, Gains, Glanced, IsLastOf, Knows, Sees, Waits, WaitsIn, WaitsOn}
+use Rattle.pl_locked.specs.Views.{CallerView, CouldGetOn, Gains, Glanced, IsBehind, IsLastOf, IsNotInVain, Knows, NoneInVain, Sees, Waits, WaitsIn, WaitsOn}
 
 module _ {A : Type 0} where
   -- a step that was put behind a history
@@ -87,3 +88,39 @@ module _ {A : Type 0} where
       let long : length (w.0.turns ++ e ∷ []) ≡ length w.0.turns + 1 = length-append w.0.turns (e ∷ []) in
       (waits_more limits most pid call c old mid new w.0 m, omega arith))
       g
+
+  -- nothing was made, and so nothing in vain
+  pub none_made : (limits : Limits) (old new : CallerView A) → new.made ≡ old.made → NoneInVain limits old new
+  none_made limits old new same = record { more = []; made = same ∙ sym (append-nil old.made); none = λ k d lt. absurd (omega arith) }
+
+  -- what begins a call is no try
+  pub none_begun : (limits : Limits) (most pid : ℕ) (call : Call A) (r : Reply A) (old new : CallerView A) → Gains limits most old new (Begin pid call) r → NoneInVain limits old new
+  none_begun limits most pid call r old new g =
+      let e : Entry A = entry old.number (length (of old.number g.before)) (Begin pid call) r in
+      record { more = e ∷ []; made = g.made; none = All-push (IsNotInVain limits) [] e (λ k d lt. absurd (omega arith)) (λ c is. absurd cc) }
+
+  -- a try behind a history in which the call could get on
+  pub none_tried : (limits : Limits) (most c : ℕ) (r : Reply A) (history : List (Entry A)) (old new : CallerView A)
+      → Gains limits most old new (Resume c) r → IsBehind history new → CouldGetOn limits history c → NoneInVain limits old new
+  none_tried limits most c r history old new g behind could =
+      let e : Entry A = entry old.number (length (of old.number g.before)) (Resume c) r in
+      let same : g.before ≡ history = (same_from_push g.before history e behind.0 (sym g.seen ∙ behind.1)).0 in
+      let legal : IsLegal limits (g.before ++ e ∷ []) = subst (IsLegal limits) g.seen g.knows.legal in
+      let before : CouldGetOn limits g.before c = subst (λ (h : List (Entry A)). CouldGetOn limits h c) (sym same) could in
+      record {
+        more = e ∷ [];
+        made = g.made;
+        none = All-push (IsNotInVain limits) [] e (λ k d lt. absurd (omega arith)) (λ d is. let number : c ≡ d = cc is in (g.before, legal, subst (CouldGetOn limits g.before) number before));
+      }
+
+  -- and none later
+  pub none_later : (limits : Limits) (old mid new : CallerView A) → NoneInVain limits old mid → NoneInVain limits mid new → NoneInVain limits old new
+  none_later limits old mid new first then_ = record {
+    more = first.more ++ then_.more;
+    made = then_.made ∙ (ap (λ (h : List (Entry A)). h ++ then_.more) first.made ∙ append_assoc old.made first.more then_.more);
+    none = All-append (IsNotInVain limits) first.more then_.more first.none then_.none;
+  }
+
+  -- where the caller has only looked before
+  pub none_seen : (limits : Limits) (old mid new : CallerView A) → mid.made ≡ old.made → NoneInVain limits mid new → NoneInVain limits old new
+  none_seen limits old mid new same later = record { more = later.more; made = later.made ∙ ap (λ (h : List (Entry A)). h ++ later.more) same; none = later.none }

@@ -10,7 +10,9 @@ use Rattle.pl_model.specs.declared.calls.Step.TheVariants.{Begin, Resume}
 use Rattle.pl_model.specs.declared.replies.Reply.{Reply}
 use Rattle.pl_model.specs.declared.replies.Reply.TheVariants.{Parked}
 use Rattle.pl_model.specs.declared.history.Entry.{Entry}
-use Rattle.pl_model.specs.History.{entry, of, IsLegal}
+use Rattle.pl_model.specs.History.{entry, of, IsLegal, state_of_history}
+use Rattle.pl_model.specs.Waking.{can_progress}
+use Rattle.pl_locked.specs.declared.desk.Waiting.{Waiting}
 
 -- What a layer is made on: the name of its ledger, into how many parts that is cut, and its history word.
 pub record GroundId : Type 0 where
@@ -24,10 +26,10 @@ pub record CallerView (A : Type 0) : Type 0 where
   pub seen : List (Entry A)
   pub made : List (Entry A)
 
--- What lies under the lock: the journal, and for each caller the number of the call that it waits for, if for one.
+-- What lies under the lock: the journal, and for which call each caller waits.
 pub record Held (A : Type 0) : Type 0 where
   pub journal : List (Entry A)
-  pub waiting : List (Option ℕ)
+  pub waiting : List Waiting
 
 module _ {A : Type 0} where
   -- a caller that has seen and made nothing
@@ -97,6 +99,10 @@ module _ {A : Type 0} where
     pub number : new.number ≡ old.number
     pub knows : Knows limits most new
 
+  -- The caller has seen one entry behind the history.
+  abbrev pub IsBehind : List (Entry A) → CallerView A → Type 0
+  IsBehind history c = (e : Entry A) × (c.seen ≡ history ++ e ∷ [])
+
   -- the reply answers a call
   abbrev pub IsAnswer : Reply A → Type 0
   IsAnswer (Parked c) = ⊥
@@ -149,3 +155,17 @@ module _ {A : Type 0} where
   abbrev pub Glanced : Limits → ℕ → CallerView A → CallerView A → ℕ → Option (Reply A) → Type 0
   Glanced limits most old new c None = Sees old new ⊎ Gains limits most old new (Resume c) (Parked c)
   Glanced limits most old new c (Some r) = IsAnswer r × Gains limits most old new (Resume c) r
+
+  -- The call could get on where the history stood so.
+  abbrev pub CouldGetOn : Limits → List (Entry A) → ℕ → Type 0
+  CouldGetOn limits history c = can_progress (state_of_history limits history).core c ≡ true
+
+  -- If the entry tries a call again, that could get on.
+  abbrev pub IsNotInVain : Limits → Entry A → Type 0
+  IsNotInVain limits e = (c : ℕ) → e.step ≡ Resume c → (before : List (Entry A)) × IsLegal limits (before ++ e ∷ []) × CouldGetOn limits before c
+
+  -- No try in what the caller made since was in vain.
+  pub record NoneInVain (limits : Limits) (old new : CallerView A) : Type 0 where
+    pub more : List (Entry A)
+    pub made : new.made ≡ old.made ++ more
+    pub none : All (IsNotInVain limits) more

@@ -1,11 +1,12 @@
 //! What lies under the lock.
-ghost use Rattle.std.specs.Prelude.{◌≡◌, ℕ, ◌<◌, ◌≤◌, [], ◌∷◌, ◌++◌, ◌+◌, length, IfOk, OnErr, IsErrOf, None, ◌↔◌, replicate, slice_index_or, slice_set};
-ghost use Rattle.std.specs.List.{All};
+ghost use Rattle.std.specs.Prelude.{◌≡◌, ℕ, ◌<◌, ◌≤◌, [], ◌∷◌, ◌++◌, ◌+◌, length, IfOk, IfSome, OnErr, IsErrOf, ◌↔◌, replicate, slice_set};
+ghost use Rattle.std.specs.List.{All, list_any, position};
 ghost use Rattle.pl_model.specs.History.{entry, of, IsLegal, state_of_history};
 ghost use Rattle.pl_state.specs.Makes.{Stands};
 ghost use Rattle.pl_locked.specs.Views.{Full, Gains, HasCaller, IsDone, Shown, total_made};
 ghost use Rattle.pl_locked.specs.Journals.{Owes, KeepsItsNumber};
-ghost use Rattle.pl_locked.specs.Waking.{is_helped};
+ghost use Rattle.pl_locked.specs.declared.desk.Waiting.TheVariants.{Nothing as Idle};
+ghost use Rattle.pl_locked.specs.Waking.{is_helped_awake, is_helped_asleep, to_wake};
 ghost use Rattle.pl_model.specs.Waking.{can_progress};
 
 use crate::caller::{Caller, gather};
@@ -19,6 +20,17 @@ use std::alloc::{Allocator, Global};
 use std::marker::Model;
 use std::sync::ledger::{Book, Share};
 
+/// For which call a caller waits, by its number, and whether it looks itself when the call can get on.
+#[derive(Drop, Clone, Copy, Debug, PartialEq, Eq)]
+pub(crate) enum Waiting {
+    /// It waits for none.
+    Nothing,
+    /// It is awake, and looks once more before it sleeps.
+    Awake(u64),
+    /// It sleeps until it is woken.
+    Asleep(u64),
+}
+
 /// What lies under the lock of a layer. Contracts see the journal, and for which calls the callers wait.
 #[derive(Drop)]
 pub(crate) struct Desk<N: Layer, A: Allocator = Global> {
@@ -30,8 +42,8 @@ pub(crate) struct Desk<N: Layer, A: Allocator = Global> {
     rest: Share<N>,
     /// How many steps the journal takes.
     most: u32,
-    /// For which call each caller waits, by its number.
-    waiting: Vec<Option<u64>, A>,
+    /// For which call each caller waits, by the caller's number.
+    waiting: Vec<Waiting, A>,
 }
 
 impl<N: Layer, A: Allocator> Model for Desk<N, A> {
@@ -54,15 +66,15 @@ impl<N: Layer, A: Allocator + Copy> Desk<N, A> {
         book: Book<N>,
         rest: Share<N>,
         most: u32,
-        waiting: Vec<Option<u64>, A>,
+        waiting: Vec<Waiting, A>,
     ) -> Desk<N, A>
         requires recorded { recorded ≡ [] }
         requires counts { counts.items ≡ replicate N.callers 0 }
         requires shares { Owes N.callers 0 book.total rest.parts rest.amount }
         requires most { (most ≡ N.max_steps) × (N.parts ≡ 64) }
-        requires waiting { waiting.items ≡ replicate N.callers None }
+        requires waiting { waiting.items ≡ replicate N.callers Idle }
         ensures journal { result.journal ≡ [] }
-        ensures waiting { result.waiting ≡ replicate N.callers None }
+        ensures waiting { result.waiting ≡ replicate N.callers Idle }
     {
         Desk {
             recorded,
@@ -81,13 +93,13 @@ impl<N: Layer, A: Allocator + Copy> Desk<N, A> {
         self.recorded.len()
     }
 
-    /// Notes for which call a caller waits, if for one.
-    pub(crate) fn wait_for(&mut self, caller: u32, call: Option<u64>)
+    /// Notes for which call a caller waits.
+    pub(crate) fn wait_for(&mut self, caller: u32, waiting: Waiting)
         requires { caller < N.callers }
         ensures journal { self.new.journal ≡ self.old.journal }
-        ensures waiting { self.new.waiting ≡ slice_set self.old.waiting caller call }
+        ensures waiting { self.new.waiting ≡ slice_set self.old.waiting caller waiting }
     {
-        self.waiting[caller as usize] = call;
+        self.waiting[caller as usize] = waiting;
     }
 
     /// Whether the parked call of a number can get on.
@@ -97,23 +109,55 @@ impl<N: Layer, A: Allocator + Copy> Desk<N, A> {
         self.recorded.can_progress(call)
     }
 
-    /// How many callers there are.
-    pub(crate) fn callers(&self) -> usize
-        ensures value { result ≡ length self.now.waiting }
-        ensures all { result ≡ N.callers }
+    // Whether a caller waits awake for a call that can get on.
+    fn is_helped_awake(&self, waiting: &Waiting) -> bool
+        ensures { result ≡ is_helped_awake (state_of_history {A = A} N.limits self.now.journal) waiting.now }
     {
-        self.waiting.len()
+        match waiting {
+            Waiting::Awake(call) => self.can_progress(*call),
+            _ => false,
+        }
     }
 
-    /// Whether a caller waits for a call that can get on.
-    pub(crate) fn is_helped(&self, caller: usize) -> bool
-        requires { caller < N.callers }
-        ensures { result ≡ is_helped (state_of_history {A = A} N.limits self.now.journal) (slice_index_or self.now.waiting caller None) }
+    // Whether a caller sleeps until a call can get on that now can.
+    fn is_helped_asleep(&self, waiting: &Waiting) -> bool
+        ensures { result ≡ is_helped_asleep (state_of_history {A = A} N.limits self.now.journal) waiting.now }
     {
-        match self.waiting[caller] {
-            Some(call) => self.can_progress(call),
-            None => false,
+        match waiting {
+            Waiting::Asleep(call) => self.can_progress(*call),
+            _ => false,
         }
+    }
+
+    // Whether some caller waits awake for a call that can get on.
+    fn helps_one_awake(&self) -> bool
+        ensures { result ≡ list_any (is_helped_awake (state_of_history {A = A} N.limits self.now.journal)) self.now.waiting }
+    {
+        self.waiting
+            .iter()
+            .any(|waiting| self.is_helped_awake(waiting))
+    }
+
+    // The first caller that sleeps though its call can get on.
+    fn first_asleep(&self) -> Option<usize>
+        ensures first { result ≡ position (is_helped_asleep (state_of_history {A = A} N.limits self.now.journal)) self.now.waiting }
+        ensures caller { IfSome result (λ caller. caller < N.callers) }
+    {
+        self.waiting
+            .iter()
+            .position(|waiting| self.is_helped_asleep(waiting))
+    }
+
+    /// Whom to wake: the first caller that sleeps though its call can get on. It is nobody while a caller that is awake can get on: that one
+    /// looks itself, and its step wakes the next.
+    pub(crate) fn whom_to_wake(&self) -> Option<usize>
+        ensures whom { result ≡ to_wake (state_of_history {A = A} N.limits self.now.journal) self.now.waiting }
+        ensures caller { IfSome result (λ caller. caller < N.callers) }
+    {
+        if self.helps_one_awake() {
+            return None;
+        }
+        self.first_asleep()
     }
 
     /// Lets a caller see the whole journal.
@@ -127,6 +171,7 @@ impl<N: Layer, A: Allocator + Copy> Desk<N, A> {
 
     /// Makes one step of a caller, who has then seen the whole journal. The journal is tried for room first, and all memory is taken
     /// before anything changes.
+    #[inline(always)]
     pub(crate) fn step(
         &mut self,
         word: &Word<N, A>,
@@ -136,6 +181,7 @@ impl<N: Layer, A: Allocator + Copy> Desk<N, A> {
         ensures journal { IfOk result (λ reply. self.new.journal ≡ self.old.journal ++ entry me.old.number (length (of me.old.number self.old.journal)) step reply ∷ []) }
         ensures made { IfOk result (λ reply. Gains N.limits N.max_steps me.old me.new step reply) }
         ensures full { IsErrOf result StepFault.JournalFull ↔ (length self.old.journal ≡ N.max_steps) }
+        ensures shown { IfOk result (λ reply. me.new.seen ≡ self.new.journal) }
         ensures seen { IsErrOf result StepFault.JournalFull → Full N.max_steps me.new }
         ensures wanted { IsErrOf result StepFault.NoMemory → ¬ Full N.max_steps me.new }
         ensures unmade { OnErr result ((self.new ≡ self.old) × Shown N.limits N.max_steps me.old me.new) }

@@ -1,17 +1,18 @@
 //! The layer: one lock, and the steps of its callers.
-ghost use Rattle.std.specs.Prelude.{◌≡◌, ℕ, ◌<◌, ◌≤◌, length, IfOk, IfErr, OnOk, OnErr, IsErrOf, None, ◌↔◌, ◌⊎◌, replicate};
-ghost use Rattle.std.specs.List.{All, count_by};
+ghost use Rattle.std.specs.Prelude.{◌≡◌, ℕ, ◌<◌, ◌≤◌, length, IfOk, IfErr, OnOk, OnErr, IsErrOf, ◌↔◌, ◌⊎◌, replicate};
+ghost use Rattle.std.specs.List.{All};
+ghost use Rattle.pl_locked.specs.declared.desk.Waiting.TheVariants.{Nothing as Idle};
 ghost use Rattle.pl_model.specs.Numbers.{most_file_bytes};
 ghost use Rattle.pl_model.specs.History.{IsLegal, state_of_history};
 ghost use Rattle.pl_state.specs.Makes.{Stands};
-ghost use Rattle.pl_locked.specs.Views.{Full, Gains, IsDone, Sees, Shown, newcomers, HasCaller, IsLeastMissing, total_made};
+ghost use Rattle.std.specs.Sync.Mutex.{mutex_guard_value};
+ghost use Rattle.pl_locked.specs.Views.{Full, Gains, IsBehind, IsDone, Sees, Shown, newcomers, HasCaller, IsLeastMissing, total_made};
 ghost use Rattle.pl_locked.specs.Journals.{KeepsItsNumber};
-ghost use Rattle.pl_locked.specs.Waking.{is_helped};
 
 mod calls;
 
 use crate::caller::{Caller, deal, missing};
-use crate::desk::Desk;
+use crate::desk::{Desk, Waiting};
 use crate::fault::{OpenFault, StepFault};
 use crate::ground::Ground;
 use crate::journal::Journal;
@@ -20,7 +21,11 @@ use pl_history::{Layer, Word};
 use pl_kernel::{Kernel, NoMemory};
 use pl_model::{Limits, Reply, Step};
 use std::alloc::{Allocator, Global};
-use std::sync::{Condvar, Mutex, Wait};
+use std::sync::{Condvar, Mutex, MutexGuard, Wait};
+use std::thread;
+
+/// How often a caller tries to lock the desk before it sleeps.
+const TRIES: u32 = 16;
 
 /// A caller of the layer was not handed in: all that was is handed back.
 #[derive(Drop)]
@@ -35,12 +40,12 @@ pub struct CallerMissing<N: Layer, A: Allocator = Global> {
 }
 
 // For which calls so many callers wait at first: for none.
-fn no_calls<A: Allocator + Copy>(alloc: A, callers: u32) -> Result<Vec<Option<u64>, A>, NoMemory>
-    ensures { IfOk result (λ calls. calls.items ≡ replicate callers None) }
+fn no_calls<A: Allocator + Copy>(alloc: A, callers: u32) -> Result<Vec<Waiting, A>, NoMemory>
+    ensures { IfOk result (λ calls. calls.items ≡ replicate callers Idle) }
 {
     let mut calls = Vec::with_capacity(alloc, callers as usize)?;
     for _ in 0..callers {
-        calls.push_reserved(None);
+        calls.push_reserved(Waiting::Nothing);
     }
     Ok(calls)
 }
@@ -181,43 +186,49 @@ impl<N: Layer, A: Allocator + Copy> Locked<N, A> {
         self.word.look(&mut me.eye)
     }
 
-    // Wakes each caller that waits for a call which can get on. It answers how many these are.
-    fn wake(&self, desk: &Desk<N, A>) -> usize
-        ensures { result ≡ count_by (is_helped (state_of_history {A = A} N.limits desk.now.journal)) desk.now.waiting }
-    {
-        let mut woken = 0;
-        for caller in 0..desk.callers() {
-            if desk.is_helped(caller) {
-                self.turns[caller].notify_one();
-                woken += 1;
+    // Locks the desk. It tries a few times before it sleeps: a step under the lock takes less time than to sleep and to be woken.
+    fn lock<R: Wait>(&self, rt: &R) -> MutexGuard<'_, Desk<N, A>> {
+        for _ in 0..TRIES {
+            if let Some(desk) = self.desk.try_lock() {
+                return desk;
             }
+            thread::yield_now();
         }
-        woken
+        self.desk.lock(rt)
     }
 
-    // One step on the desk, which is locked: the reply, and how many steps there are then. It wakes the callers that it helps.
+    // One step on the desk, which is unlocked then: the reply, and how many steps there are. It wakes whom it helps behind the lock, so that
+    // nobody wakes to a lock that is held.
+    #[inline(always)]
     fn make(
         &self,
-        desk: &mut Desk<N, A>,
+        mut desk: MutexGuard<'_, Desk<N, A>>,
         me: &mut Caller<N, A>,
         step: Step<A>,
     ) -> Result<(Reply<A>, u64), StepFault>
         ensures made { IfOk result (λ r. Gains N.limits N.max_steps me.old me.new step r.0) }
+        ensures behind { IfOk result (λ r. IsBehind (mutex_guard_value desk.entry).journal me.new) }
         ensures number { IfOk result (λ r. KeepsItsNumber step r.0) }
         ensures full { IsErrOf result StepFault.JournalFull → Full N.max_steps me.new }
         ensures wanted { IsErrOf result StepFault.NoMemory → ¬ Full N.max_steps me.new }
         ensures unmade { OnErr result (Shown N.limits N.max_steps me.old me.new) }
     {
-        match desk.step(&self.word, me, step) {
-            Ok(reply) => {
-                self.wake(desk);
-                Ok((reply, desk.len() as u64))
-            }
+        let made = desk.step(&self.word, me, step);
+        let steps = desk.len() as u64;
+        // Also where the step failed: whom an earlier step woke may be the caller that gives up now.
+        let sleeper = desk.whom_to_wake();
+        drop(desk);
+        if let Some(caller) = sleeper {
+            self.turns[caller].notify_one();
+        }
+        match made {
+            Ok(reply) => Ok((reply, steps)),
             Err(fault) => Err(fault),
         }
     }
 
     // One step under the lock.
+    #[inline(always)]
     fn step<R: Wait>(
         &self,
         rt: &R,
@@ -230,8 +241,7 @@ impl<N: Layer, A: Allocator + Copy> Locked<N, A> {
         ensures wanted { IsErrOf result StepFault.NoMemory → ¬ Full N.max_steps me.new }
         ensures unmade { OnErr result (Shown N.limits N.max_steps me.old me.new) }
     {
-        let mut desk = self.desk.lock(rt);
-        self.make(&mut *desk, me, step)
+        self.make(self.lock(rt), me, step)
     }
 
     /// Makes one step under the lock. The caller has then seen all that had happened, and what it made last.

@@ -83,6 +83,7 @@ impl<N: Layer, A: Allocator + Copy> Recorded<N, A> {
     }
 
     /// Makes a step of a caller, who made as many before it as `number` says, and notes it in what the caller made and has seen too.
+    #[inline(always)]
     pub(crate) fn step(
         &mut self,
         word: &Word<N, A>,

@@ -1,18 +1,24 @@
 //! Whole calls: begun, and tried again until they are answered.
-ghost use Rattle.std.specs.Prelude.{◌≡◌, IfOk, IfErr, OnErr, IsErrOf};
-ghost use Rattle.pl_locked.specs.Views.{Called, CalledIn, Failed, Full, Glanced, Shown, Turned};
+ghost use Rattle.std.specs.Prelude.{◌≡◌, IfOk, IfErr, IfSome, OnErr, IsErrOf};
+ghost use Rattle.std.specs.Sync.Mutex.{mutex_guard_value};
+ghost use Rattle.pl_locked.specs.Views.{Called, CalledIn, CouldGetOn, Failed, Full, Glanced, NoneInVain, Sees, Shown, Turned};
 
 use super::Locked;
 use crate::caller::Caller;
+use crate::desk::{Desk, Waiting};
 use crate::fault::{CallFault, StepFault};
 use pl_history::Layer;
 use pl_model::{Call, Reply, Step};
 use std::alloc::Allocator;
-use std::sync::Wait;
+use std::sync::{MutexGuard, Wait};
+use std::thread;
+
+/// How often a caller looks before it sleeps.
+const LOOKS: u32 = 32;
 
 impl<N: Layer, A: Allocator + Copy> Locked<N, A> {
     /// Begins a call of a process. Where it is parked it waits, without the lock, until the call can get on, and tries it again, until it is
-    /// answered. So no try is in vain. Where another caller interrupts the call or ends its process, the answer is `NoCall`.
+    /// answered. So no try is in vain. It looks a few times before it sleeps. Where another caller interrupts the call or ends its process, the answer is `NoCall`.
     ///
     /// # Errors
     ///
@@ -28,6 +34,7 @@ impl<N: Layer, A: Allocator + Copy> Locked<N, A> {
         ensures full { IfErr result (λ fault. fault.cause ≡ StepFault.JournalFull → Full N.max_steps me.new) }
         ensures wanted { IfErr result (λ fault. fault.cause ≡ StepFault.NoMemory → ¬ Full N.max_steps me.new) }
         ensures fault { IfErr result (λ fault. Failed N.limits N.max_steps me.old me.new pid call fault.parked) }
+        ensures helped { NoneInVain N.limits me.old me.new }
     {
         let (reply, _) = match self.step(rt, me, Step::Begin(pid, call)) {
             Ok(begun) => begun,
@@ -67,21 +74,63 @@ impl<N: Layer, A: Allocator + Copy> Locked<N, A> {
         ensures full { IsErrOf result StepFault.JournalFull → Full N.max_steps me.new }
         ensures wanted { IsErrOf result StepFault.NoMemory → ¬ Full N.max_steps me.new }
         ensures unmade { OnErr result (Shown N.limits N.max_steps me.old me.new) }
+        ensures helped { NoneInVain N.limits me.old me.new }
+    {
+        let desk = match self.look(me, number) {
+            Some(desk) => desk,
+            None => self.sleep(rt, me, number),
+        };
+        match self.make(desk, me, Step::Resume(number)) {
+            Ok((Reply::Parked(_), _)) => Ok(None),
+            Ok((reply, _)) => Ok(Some(reply)),
+            Err(fault) => Err(fault),
+        }
+    }
+
+    // Looks for a short time whether the call can get on, and lets other threads run meanwhile. Where it can, the desk is locked: a partner
+    // that answers soon then costs no sleep.
+    fn look<'a>(&'a self, me: &mut Caller<N, A>, number: u64) -> Option<MutexGuard<'a, Desk<N, A>>>
+        ensures sees { Sees me.old me.new }
+        ensures helped { IfSome result (λ desk. CouldGetOn {A = A} N.limits (mutex_guard_value desk).journal number) }
+    {
+        let mut seen = 0;
+        for _ in 0..LOOKS {
+            // Without a new step the call can't have got on.
+            let steps = self.glance(me);
+            if steps > seen
+                && let Some(mut desk) = self.desk.try_lock()
+            {
+                if desk.can_progress(number) {
+                    desk.wait_for(me.number(), Waiting::Nothing);
+                    return Some(desk);
+                }
+                desk.wait_for(me.number(), Waiting::Awake(number));
+                seen = steps;
+            }
+            thread::yield_now();
+        }
+        None
+    }
+
+    // Sleeps until the call can get on. The desk is locked then.
+    fn sleep<'a, R: Wait>(
+        &'a self,
+        rt: &R,
+        me: &Caller<N, A>,
+        number: u64,
+    ) -> MutexGuard<'a, Desk<N, A>>
+        ensures { CouldGetOn {A = A} N.limits (mutex_guard_value result).journal number }
     {
         let caller = me.number();
-        let mut desk = self.desk.lock(rt);
-        desk.wait_for(caller, Some(number));
+        let mut desk = self.lock(rt);
+        desk.wait_for(caller, Waiting::Asleep(number));
         let mut desk = self.turns[caller as usize].wait_while(
             rt,
             desk,
             |desk| !desk.can_progress(number),
         );
-        desk.wait_for(caller, None);
-        match self.make(&mut *desk, me, Step::Resume(number)) {
-            Ok((Reply::Parked(_), _)) => Ok(None),
-            Ok((reply, _)) => Ok(Some(reply)),
-            Err(fault) => Err(fault),
-        }
+        desk.wait_for(caller, Waiting::Nothing);
+        desk
     }
 
     /// Begins a call of a process, and then takes at most so many turns: a turn is a glance, and where there are more steps than after
