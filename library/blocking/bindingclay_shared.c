@@ -117,22 +117,6 @@ bindingclay_memory_use bc_memory(bc_shared *shared)
     return memory;
 }
 
-/* ---- Records ---- */
-
-int bc_record(bc_shared *shared, bool on)
-{
-    const bc_process nobody = { .shared = shared };
-    bc_lock(shared);
-    return (int)bc_done(&nobody, bindingclay_record(shared->clay, on));
-}
-
-ssize_t bc_recorded(bc_shared *shared, void *into, size_t size)
-{
-    const bc_process nobody = { .shared = shared };
-    bc_lock(shared);
-    return (ssize_t)bc_done(&nobody, bindingclay_recorded(shared->clay, into, size));
-}
-
 /* ---- The lists of calls that wait ---- */
 
 static struct bc_waiter **list_of(bc_shared *shared, uint64_t number)

@@ -1,4 +1,4 @@
-/* The front for threads: processes, pipes, names, descriptors, and what is told of them. */
+/* The front for threads: records, processes, pipes, names, descriptors, and what is told of them. */
 #define _GNU_SOURCE
 #include "bindingclay_shared_inside.h"
 
@@ -10,6 +10,22 @@
 #include <sys/ioctl.h>
 
 _Static_assert(O_DIRECT == BINDINGCLAY_O_DIRECT, "the library has the numbers of x86-64");
+
+/* ---- Records ---- */
+
+int bc_record(bc_shared *shared, bool on)
+{
+    const bc_process nobody = { .shared = shared };
+    bc_lock(shared);
+    return (int)bc_done(&nobody, bindingclay_record(shared->clay, on));
+}
+
+ssize_t bc_recorded(bc_shared *shared, void *into, size_t size)
+{
+    const bc_process nobody = { .shared = shared };
+    bc_lock(shared);
+    return (ssize_t)bc_done(&nobody, bindingclay_recorded(shared->clay, into, size));
+}
 
 /* ---- Processes ---- */
 
