@@ -163,7 +163,8 @@ int bc_poll(const bc_process *process, struct pollfd *entries, nfds_t count, int
 
 /* ---- Descriptors ---- */
 
-/* Closes a descriptor (close). A call of another thread that waits on it goes on with what it named. Returns 0, or -1. */
+/* Closes a descriptor (close). A call of another thread that waits on it goes on with what it named. But a large write puts in at most 8,193 bytes
+ * more, and answers how many went in. Returns 0, or -1. */
 int bc_close(const bc_process *process, int fd);
 
 /* Makes the least free descriptor name what fd names (dup). Returns it, or -1. */

@@ -88,21 +88,58 @@ static bindingclay_answer begun(const bc_process *process, int fd, const uint8_t
     }
 }
 
+/* Takes the lock for the next pieces of a write. If the process is gone, or the descriptor may name something else, gives it back and returns
+ * false. */
+static bool in_for(const bc_process *process, const struct bc_pieces *pieces)
+{
+    if (!bc_in(process))
+        return false;
+    bool goes_on = !pieces->is_cut_off;
+    if (!goes_on)
+        bc_unlock(process->shared);
+    return goes_on;
+}
+
+/* Under the lock: a piece of a write waits, and another one is to follow. */
+static void list_pieces(bc_shared *shared, struct bc_pieces *pieces)
+{
+    if (pieces->is_listed)
+        return;
+    pieces->is_listed = true;
+    pieces->next = shared->pieces;
+    shared->pieces = pieces;
+}
+
+static void unlist_pieces(bc_shared *shared, const struct bc_pieces *pieces)
+{
+    bc_lock(shared);
+    struct bc_pieces **place = &shared->pieces;
+    while (*place != pieces)
+        place = &(*place)->next;
+    *place = pieces->next;
+    bc_unlock(shared);
+}
+
 ssize_t bc_write(const bc_process *process, int fd, const void *bytes, size_t size)
 {
     const struct bc_room room = { .kind = BC_WRITES, .fd = fd };
-    bindingclay_answer answer;
+    struct bc_pieces pieces = { .pid = process->pid, .fd = fd };
+    bindingclay_answer answer = { .kind = BINDINGCLAY_NO_PROCESS };
     size_t written = 0, last;
     if (size > BINDINGCLAY_MOST_BYTES)
         size = BINDINGCLAY_MOST_BYTES;
     do {
-        if (!bc_in(process))
-            return written > 0 ? (ssize_t)written : -1;
+        if (!in_for(process, &pieces))
+            break;
         answer = begun(process, fd, bytes, size, &written, &last);
+        if (answer.kind == BINDINGCLAY_PARKED && written + last < size)
+            list_pieces(process->shared, &pieces);
         answer = bc_awaited(process, answer, &room, bc_deadline(process));
         if (answer.kind == BINDINGCLAY_DONE)
             written += answer.value;
     } while (answer.kind == BINDINGCLAY_DONE && answer.value == last && !answer.sigpipe && written < size);
+    if (pieces.is_listed)
+        unlist_pieces(process->shared, &pieces);
     if (written > 0)
         answer.kind = BINDINGCLAY_DONE;
     if (answer.kind == BINDINGCLAY_DONE)

@@ -129,11 +129,22 @@ int bc_unlink(const bc_process *process, const char *name)
 
 /* ---- Descriptors ---- */
 
+/* Under the lock: a descriptor names what it named no longer. Writes of which pieces are to follow by its number end behind the piece that waits. */
+static void cut_off(const bc_process *process, int fd)
+{
+    for (struct bc_pieces *pieces = process->shared->pieces; pieces != NULL; pieces = pieces->next)
+        if (pieces->pid == process->pid && pieces->fd == fd)
+            pieces->is_cut_off = true;
+}
+
 int bc_close(const bc_process *process, int fd)
 {
     if (!bc_in(process))
         return -1;
-    return (int)bc_done(process, bindingclay_close(process->shared->clay, process->pid, fd));
+    bindingclay_answer answer = bindingclay_close(process->shared->clay, process->pid, fd);
+    if (answer.kind == BINDINGCLAY_DONE)
+        cut_off(process, fd);
+    return (int)bc_done(process, answer);
 }
 
 int bc_dup(const bc_process *process, int fd)
@@ -147,7 +158,10 @@ int bc_dup2(const bc_process *process, int fd, int target)
 {
     if (!bc_in(process))
         return -1;
-    return (int)bc_done(process, bindingclay_dup2(process->shared->clay, process->pid, fd, target));
+    bindingclay_answer answer = bindingclay_dup2(process->shared->clay, process->pid, fd, target);
+    if (answer.kind == BINDINGCLAY_DONE && fd != target)
+        cut_off(process, target);
+    return (int)bc_done(process, answer);
 }
 
 int bc_dup3(const bc_process *process, int fd, int target, int flags)

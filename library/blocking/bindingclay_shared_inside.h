@@ -46,6 +46,17 @@ struct bc_waiter {
     pthread_cond_t wakes;
 };
 
+/* A write whose next piece is to follow the one that waits, on the stack of its thread. By then only the number of its descriptor tells where that
+ * goes. */
+struct bc_pieces {
+    uint32_t pid;
+    int fd;
+    bool is_listed;
+    /* Whether the descriptor was closed, or made to name something else. */
+    bool is_cut_off;
+    struct bc_pieces *next;
+};
+
 /* A lock that is held for less time than a thread takes to fall asleep and wake. Of the threads that find it taken, one looks again and again,
  * and the others sleep in the queue behind it. So a thread that makes many calls wakes nobody between them. */
 struct bc_lock {
@@ -77,6 +88,8 @@ struct bc_shared {
     uint32_t waiting_at[BC_KINDS][BC_LISTS];
     /* The calls that are answered, and whose threads aren't woken yet. */
     struct bc_waiter *answered;
+    /* The writes of which pieces are to follow. */
+    struct bc_pieces *pieces;
     /* How many processes were made, and which of them has each pid; 0 is none. */
     uint64_t born;
     uint64_t births[BC_MOST_PID + 1];

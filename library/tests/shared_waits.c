@@ -118,6 +118,8 @@ static void large_writes(int flags)
     begin(&job, &process, a_write, ends[1]);
     /* the pipe holds 65,536 bytes in segments, and what waits has a copy of at most 8,193 */
     HOLDS(bc_memory(shared).held < 65536 + 65536);
+    /* neither makes its descriptor name something else */
+    HOLDS(bc_close(&process, bc_dup(&process, ends[1])) == 0 && bc_dup2(&process, ends[1], ends[1]) == ends[1]);
     size_t got = 0;
     while (got < LARGE) {
         ssize_t count = bc_read(&process, ends[0], into, 1 + got % 30000);
@@ -126,6 +128,34 @@ static void large_writes(int flags)
         got += (flags & O_DIRECT) == 0 ? (size_t)count : 4096;
     }
     HOLDS(ends_so(&job, LARGE, 0));
+    HOLDS(bc_exit(&process) == 0);
+}
+
+/* The descriptor of a large write names another pipe before all bytes went in: the others go nowhere, and the write tells how many did. */
+static void cut_off(bool by_a_new_pipe)
+{
+    bc_process process = new_process(shared);
+    int ends[2], others[2], held = -1;
+    static char into[LARGE];
+    struct job job = { .size = LARGE };
+    /* if it went on at the other pipe, it would wait there */
+    const struct timespec late = in_milliseconds(10000);
+    const bc_process timed = bc_until(&process, &late);
+    HOLDS(bc_pipe2(&process, ends, 0) == 0 && bc_pipe2(&process, others, 0) == 0);
+    begin(&job, &timed, a_write, ends[1]);
+    if (by_a_new_pipe) {
+        /* it may get the key and the descriptors of the one that goes */
+        HOLDS(bc_read(&process, ends[0], into, LARGE) == 65536);
+        HOLDS(bc_close(&process, ends[1]) == 0 && bc_close(&process, ends[0]) == 0);
+        HOLDS(bc_pipe2(&process, others, 0) == 0 && others[1] == ends[1]);
+    } else {
+        HOLDS(bc_dup2(&process, others[1], ends[1]) == ends[1]);
+        while (bc_read(&process, ends[0], into, LARGE) > 0)
+            ;
+    }
+    pthread_join(job.thread, NULL);
+    HOLDS(job.answer >= 65536 && job.answer < LARGE);
+    HOLDS(bc_ioctl(&process, others[0], FIONREAD, &held) == 0 && held == 0);
     HOLDS(bc_exit(&process) == 0);
 }
 
@@ -296,6 +326,8 @@ int main(void)
     answered();
     large_writes(0);
     large_writes(O_DIRECT);
+    cut_off(false);
+    cut_off(true);
     ended();
     deadlines();
     slept_by_hook();
