@@ -378,6 +378,13 @@ bindingclay_answer bc_wait(
 
 /* ---- What ends calls that wait ---- */
 
+/* What a call that waits answers if its process goes, by the kernel that still has it: the count of a write that put in bytes. */
+static bindingclay_answer abandoned(const bc_shared *shared, uint64_t number)
+{
+    bindingclay_answer taken = bindingclay_taken(shared->clay, number);
+    return taken.value > 0 ? taken : failed(ESRCH);
+}
+
 void bc_abandon(bc_shared *shared, uint32_t pid)
 {
     for (int i = 0; i < BC_LISTS && shared->waiting_of[pid] > 0; i++) {
@@ -385,7 +392,7 @@ void bc_abandon(bc_shared *shared, uint32_t pid)
         for (struct bc_waiter *waiter = shared->lists[i]; waiter != NULL; waiter = next) {
             next = waiter->next;
             if (waiter->pid == pid)
-                answer_waiter(shared, waiter, failed(ESRCH));
+                answer_waiter(shared, waiter, abandoned(shared, waiter->number));
         }
     }
 }

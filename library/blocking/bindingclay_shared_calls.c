@@ -61,13 +61,12 @@ int bc_exit(const bc_process *process)
     bc_shared *shared = process->shared;
     if (!bc_in(process))
         return -1;
+    /* as the process is there, nothing keeps it from its exit */
+    bc_abandon(shared, process->pid);
     bindingclay_answer answer = bindingclay_exit(shared->clay, process->pid);
     if (bc_unrecorded(shared, answer))
         answer = bindingclay_exit(shared->clay, process->pid);
-    if (answer.kind == BINDINGCLAY_DONE) {
-        shared->births[process->pid] = 0;
-        bc_abandon(shared, process->pid);
-    }
+    shared->births[process->pid] = 0;
     return (int)bc_done(process, answer);
 }
 

@@ -239,7 +239,7 @@ static inline const struct timespec *bc_deadline(const bc_process *process)
     return process->has_deadline ? &process->deadline : NULL;
 }
 
-/* Under the lock: ends all calls of a process that wait, of which the kernel knows no more. */
+/* Under the lock: ends all calls of a process that wait, before it exits. The kernel drops them by that. */
 void bc_abandon(bc_shared *shared, uint32_t pid);
 
 /* Under the lock: whether a call that asks for no memory found none to be recorded. Then the recording has ended, and the call is to be made again. */

@@ -199,6 +199,25 @@ static void ended(void)
     HOLDS(ends_so(&second, -1, ESRCH));
 }
 
+/* A write that put in a part of its bytes answers their count if its process exits, as it does if it is interrupted. */
+static void ended_behind_a_part(bool by_exit)
+{
+    bc_process process = new_process(shared), child;
+    int ends[2];
+    static char bytes[65536];
+    struct job job = { .size = 5000 };
+    HOLDS(bc_pipe2(&process, ends, 0) == 0 && bc_fork(&process, &child) > 0);
+    HOLDS(bc_write(&process, ends[1], bytes, sizeof bytes) == sizeof bytes);
+    begin(&job, &child, a_write, ends[1]);
+    HOLDS(bc_read(&process, ends[0], bytes, 100) == 100);
+    if (by_exit)
+        HOLDS(bc_exit(&child) == 0);
+    else
+        HOLDS(bc_interrupt(&child) == 1 && bc_exit(&child) == 0);
+    HOLDS(ends_so(&job, 100, 0));
+    HOLDS(bc_exit(&process) == 0);
+}
+
 static void deadlines(void)
 {
     bc_process process = new_process(shared), late;
@@ -329,6 +348,8 @@ int main(void)
     cut_off(false);
     cut_off(true);
     ended();
+    ended_behind_a_part(false);
+    ended_behind_a_part(true);
     deadlines();
     slept_by_hook();
     ping_pongs();
