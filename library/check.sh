@@ -278,6 +278,7 @@ if is_there "$rustc"; then
     leaks=definite,indirect
     build_in_rust shared && run shared
     build_in_rust shared_tasks && run shared_tasks
+    build_in_rust shared_writes && run shared_writes
     build_in_rust shared_storm && plainly shared_storm
     if build_in_rust shared_record; then
         BINDINGCLAY_RECORD=$work/rust.record && export BINDINGCLAY_RECORD

@@ -300,6 +300,11 @@ impl Clay {
         self.kernel().resume_poll(call, entries)
     }
 
+    pub(crate) fn taken(&self, call: &ParkedCall) -> Result<u32> {
+        let kernel = self.kernel.as_ref().expect("it isn't dropped");
+        kernel.taken(call).ok_or(NotDone::NoCall)
+    }
+
     /// Ends the call of a number, and tells what it had taken.
     pub(crate) fn interrupt_number(&mut self, call: u64) -> Result<usize> {
         let reply = self.kernel().interrupt(ParkedCall::from_number(call))?;

@@ -1,6 +1,6 @@
 //! A call that may wait, from its begin to its end, in a thread.
 
-use super::super::{Answer, Clay, NodeFacts, NodeKind, NotDone, ParkedCall, PollEntry};
+use super::super::{Answer, Clay, NodeKind, NotDone, ParkedCall, PollEntry};
 use super::front::{Inner, Locked};
 use super::lock::Held;
 use super::polling::POLLOUT;
@@ -23,8 +23,8 @@ pub(super) type Side = (i32, Option<u64>);
 /// A call that may wait.
 pub(super) enum Call<'a> {
     Read { fd: i32, into: &'a mut [u8] },
-    /// A large write waits for room by a poll, which has no copy of its bytes as a parked write has.
-    Write { fd: i32, bytes: &'a [u8], waits_at: Option<NodeFacts> },
+    /// A large write waits for room by a poll, which has no copy of its bytes as a parked write has. It notes how often its descriptor was closed.
+    Write { fd: i32, bytes: &'a [u8], waits_at: Option<u32> },
     Open { name: &'a [u8], flags: u32 },
     Splice { from: Side, to: Side, len: u32, flags: u32 },
     Tee { from: i32, to: i32, len: u32, flags: u32 },
@@ -62,32 +62,31 @@ fn begin_to_poll(clay: &mut Clay, pid: u32, fd: i32, count: usize) -> Result<Opt
 #[inline(always)]
 fn begin_write(
     clay: &mut Clay,
-    pid: u32,
+    owner: &Owner,
     fd: i32,
     bytes: &[u8],
-    waits_at: &mut Option<NodeFacts>,
+    waits_at: &mut Option<u32>,
 ) -> Result<Answer<usize>, NotDone> {
-    if let Some(call) = begin_to_poll(clay, pid, fd, bytes.len())? {
-        *waits_at = clay.fd_facts(pid, fd).ok();
+    if let Some(call) = begin_to_poll(clay, owner.pid, fd, bytes.len())? {
+        *waits_at = Some(owner.closes(fd));
         return Ok(Answer::Parked(call));
     }
-    clay.write(pid, fd, &bytes[..cut(bytes.len())])
+    clay.write(owner.pid, fd, &bytes[..cut(bytes.len())])
 }
 
 /// Begins a large write again that waited for room, if its descriptor still names the same.
 fn write_again(
     clay: &mut Clay,
-    pid: u32,
+    owner: &Owner,
     fd: i32,
     bytes: &[u8],
-    waits_at: &mut Option<NodeFacts>,
+    waits_at: &mut Option<u32>,
 ) -> Result<Answer<usize>, NotDone> {
-    // somebody may have closed it by its number, and it may name another pipe by now
-    let node = |facts: NodeFacts| (facts.kind, facts.key);
-    if waits_at.take().map(node) != clay.fd_facts(pid, fd).ok().map(node) {
-        return clay.write(pid, -1, &bytes[..1]); // EBADF
+    // somebody may have closed it by its number, and it may name another pipe by now, which may have the key of the one before
+    if waits_at.take() != Some(owner.closes(fd)) {
+        return clay.write(owner.pid, -1, &bytes[..1]); // EBADF
     }
-    begin_write(clay, pid, fd, bytes, waits_at)
+    begin_write(clay, owner, fd, bytes, waits_at)
 }
 
 /// The bytes that a read or a write looks at.
@@ -97,13 +96,14 @@ fn cut(len: usize) -> usize {
 
 impl Call<'_> {
     #[inline(always)]
-    pub(super) fn begin(&mut self, clay: &mut Clay, pid: u32) -> Result<Answer<usize>, NotDone> {
+    pub(super) fn begin(&mut self, clay: &mut Clay, owner: &Owner) -> Result<Answer<usize>, NotDone> {
+        let pid = owner.pid;
         match self {
             Call::Read { fd, into } => {
                 let most = cut(into.len());
                 clay.read(pid, *fd, &mut into[..most])
             }
-            Call::Write { fd, bytes, waits_at } => begin_write(clay, pid, *fd, bytes, waits_at),
+            Call::Write { fd, bytes, waits_at } => begin_write(clay, owner, *fd, bytes, waits_at),
             Call::Open { name, flags } => Ok(clay.open_name(pid, name, *flags)?.map(|fd| fd as usize)),
             Call::Splice { from, to, len, flags } => clay.splice(pid, *from, *to, *len, *flags),
             Call::Tee { from, to, len, flags } => clay.tee(pid, *from, *to, *len, *flags),
@@ -176,7 +176,7 @@ pub(super) fn run(owner: &Owner, mut call: Call<'_>, deadline: Option<Instant>) 
         return Err(NotDone::NoProcess.into());
     }
     held.waiters.make_room()?;
-    match call.begin(&mut held.clay, owner.pid) {
+    match call.begin(&mut held.clay, owner) {
         Ok(Answer::Done(value)) => {
             front.leave_behind(held, owner.pid, call.way());
             Ok(value)
@@ -213,7 +213,7 @@ fn wait_by<'a>(
         };
         locked = owner.lock()?;
         locked.waiters().make_room()?;
-        parked = match write_again(locked.clay(), owner.pid, *fd, bytes, waits_at)? {
+        parked = match write_again(locked.clay(), owner, *fd, bytes, waits_at)? {
             Answer::Done(count) => return Ok(count),
             Answer::Parked(parked) => parked,
         };

@@ -99,7 +99,9 @@ impl Drop for Descriptor {
         }
         if let Ok(mut locked) = self.owner.lock() {
             // the only error is that somebody closed it by its number
-            let _closed = at_last(locked.clay(), |clay| clay.close(self.owner.pid, self.fd));
+            if at_last(locked.clay(), |clay| clay.close(self.owner.pid, self.fd)).is_ok() {
+                self.owner.count_close(self.fd);
+            }
         }
     }
 }

@@ -1,6 +1,6 @@
 //! The lock, and what is done before it is let go: whoever can get on is answered, and woken behind it.
 
-use super::super::Clay;
+use super::super::{Clay, NotDone, ParkedCall};
 use super::lock::{Held, Lock};
 use super::recording::{at_last, interrupt};
 use super::waiters::{Waiters, Who};
@@ -120,12 +120,15 @@ impl Locked<'_> {
         waiters.end_all_of(pid, |number| interrupt(clay, number));
     }
 
-    /// Ends a process, and what waits of it.
+    /// Ends a process that is there, and what waits of it: a write that put in some bytes tells how many.
     pub(super) fn exit(&mut self, pid: u32) -> io::Result<()> {
         let Inner { clay, waiters } = self.inner();
-        at_last(clay, |clay| clay.exit(pid))?;
-        waiters.end_all_of(pid, |_| Err(super::super::NotDone::NoProcess.into()));
-        Ok(())
+        // the kernel drops its calls as it exits, and nothing keeps it from that
+        waiters.end_all_of(pid, |number| match clay.taken(&ParkedCall::from_number(number)) {
+            Ok(count @ 1..) => Ok(count as usize),
+            _ => Err(NotDone::NoProcess.into()),
+        });
+        Ok(at_last(clay, |clay| clay.exit(pid))?)
     }
 }
 

@@ -7,12 +7,15 @@ use super::pipes::{PipeReader, PipeWriter};
 use super::super::NotDone;
 use std::fmt;
 use std::io;
-use std::sync::atomic::{AtomicBool, Ordering};
+use std::sync::atomic::{AtomicBool, AtomicU32, Ordering};
 use std::sync::Arc;
 
 /// The numbers of fcntl.h on Linux (x86-64).
 const O_NONBLOCK: u32 = 0o4000;
 const O_DIRECT: u32 = 0o40000;
+
+/// The most descriptors of a process (`OPEN_MAX` of the layer).
+const DESCRIPTORS: usize = 256;
 
 /// A process, for all who have it or a descriptor of it. It exits as the last of them goes.
 pub(super) struct Owner {
@@ -20,6 +23,8 @@ pub(super) struct Owner {
     pub(super) pid: u32,
     /// Whether it has exited, so that its pid may be another process's. It is written and read under the lock.
     gone: AtomicBool,
+    /// How often each descriptor was closed or made to name something else. It is written and read under the lock.
+    closes: [AtomicU32; DESCRIPTORS],
 }
 
 impl Owner {
@@ -37,6 +42,22 @@ impl Owner {
     #[inline(always)]
     pub(super) fn is_gone(&self) -> bool {
         self.gone.load(Ordering::Relaxed)
+    }
+
+    fn closes_of(&self, fd: i32) -> Option<&AtomicU32> {
+        self.closes.get(usize::try_from(fd).ok()?)
+    }
+
+    /// How often a descriptor was closed, for who has the lock. As long as that stays, it names the same.
+    pub(super) fn closes(&self, fd: i32) -> u32 {
+        self.closes_of(fd).map_or(0, |closes| closes.load(Ordering::Relaxed))
+    }
+
+    /// Counts that a descriptor was closed, for who has the lock.
+    pub(super) fn count_close(&self, fd: i32) {
+        if let Some(closes) = self.closes_of(fd) {
+            closes.store(self.closes(fd).wrapping_add(1), Ordering::Relaxed);
+        }
     }
 
     fn exit(&self) -> io::Result<()> {
@@ -87,7 +108,8 @@ pub struct PipeOptions {
 impl Process {
     pub(super) fn of_pid(front: &Arc<Front>, pid: u32) -> Process {
         let front = Arc::clone(front);
-        Process { owner: Arc::new(Owner { front, pid, gone: AtomicBool::new(false) }) }
+        let closes = [const { AtomicU32::new(0) }; DESCRIPTORS];
+        Process { owner: Arc::new(Owner { front, pid, gone: AtomicBool::new(false), closes }) }
     }
 
     pub(super) fn owner(&self) -> &Arc<Owner> {
@@ -197,7 +219,10 @@ impl Process {
     ///
     /// `EBADF` if it isn't open.
     pub fn close(&self, fd: i32) -> io::Result<()> {
-        Ok(self.owner.lock()?.clay().close(self.id(), fd)?)
+        let mut locked = self.owner.lock()?;
+        locked.clay().close(self.id(), fd)?;
+        self.owner.count_close(fd);
+        Ok(())
     }
 
     /// Lets a number name what a descriptor names, and closes what the number named before (POSIX.1-2017, dup2).
@@ -206,7 +231,11 @@ impl Process {
     ///
     /// `EBADF` if the descriptor isn't open, or the number is below 0 or above 255.
     pub fn dup2(&self, fd: i32, target: i32) -> io::Result<()> {
-        self.owner.lock()?.clay().dup2(self.id(), fd, target)?;
+        let mut locked = self.owner.lock()?;
+        locked.clay().dup2(self.id(), fd, target)?;
+        if fd != target {
+            self.owner.count_close(target);
+        }
         Ok(())
     }
 

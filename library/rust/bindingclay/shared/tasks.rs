@@ -8,6 +8,7 @@ use super::calls::Call;
 use super::descriptor::Descriptor;
 use super::front::Locked;
 use super::polling::{POLLIN, POLLOUT};
+use super::process::Owner;
 use super::recording::interrupt;
 use super::waiters::{Stand, Who};
 use std::io;
@@ -21,8 +22,8 @@ const READING: usize = 0;
 const WRITING: usize = 1;
 
 /// Tries a call once; nothing if it would wait. A write that would wait tells what went in.
-fn try_once(clay: &mut Clay, pid: u32, call: &mut Call<'_>) -> Option<io::Result<usize>> {
-    let tried = match call.begin(clay, pid) {
+fn try_once(clay: &mut Clay, owner: &Owner, call: &mut Call<'_>) -> Option<io::Result<usize>> {
+    let tried = match call.begin(clay, owner) {
         Ok(Answer::Done(count)) => Ok(count),
         Ok(Answer::Parked(parked)) => interrupt(clay, parked.into_number()),
         Err(fault) => Err(fault.into()),
@@ -88,7 +89,7 @@ impl Descriptor {
         if owner.is_gone() {
             return Poll::Ready(Err(NotDone::NoProcess.into()));
         }
-        if let Some(ended) = try_once(locked.clay(), owner.pid, &mut call) {
+        if let Some(ended) = try_once(locked.clay(), owner, &mut call) {
             return Poll::Ready(ended);
         }
         let entry = Clay::entry(*fd, events);
