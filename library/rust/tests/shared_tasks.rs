@@ -3,9 +3,10 @@
 use bindingclay::shared::{File, Limits, PipeReader, PipeWriter, Process, Shared};
 use std::io::{ErrorKind, Read, Result, Write};
 use std::sync::atomic::{AtomicUsize, Ordering};
-use std::sync::{Arc, Mutex};
-use std::task::{Context, Poll, Wake, Waker};
+use std::sync::{mpsc, Arc, Mutex};
+use std::task::{Context, Poll, RawWaker, RawWakerVTable, Wake, Waker};
 use std::thread;
+use std::time::Duration;
 
 /// The bytes of a new pipe (pipe(7), Pipe capacity).
 const PIPE_BYTES: usize = 65_536;
@@ -281,4 +282,96 @@ fn a_waker_may_wait_while_a_write_waits_that_ran_it() -> Result<()> {
         assert_eq!(writes.join().expect("no panic")?, PIPE_BYTES + 9);
         Ok(())
     })
+}
+
+/// The kernel that a waker asks as it is dropped.
+static ASKED: Mutex<Option<Shared>> = Mutex::new(None);
+
+fn ask(_: *const ()) {
+    let kernel = ASKED.lock().expect("no panic").clone();
+    assert_eq!(kernel.expect("a kernel").waiting(), 0);
+}
+
+static ASKS: RawWakerVTable = RawWakerVTable::new(|data| RawWaker::new(data, &ASKS), |_| {}, |_| {}, ask);
+
+#[test]
+fn a_waker_that_nobody_keeps_is_dropped_without_the_lock() -> Result<()> {
+    let kernel = Shared::within(&Limits { waiting_calls: 0, ..Limits::default() })?;
+    *ASKED.lock().expect("no panic") = Some(kernel.clone());
+    let (mut reader, writer) = kernel.start()?.pipe()?;
+    // if the lock were held for ever, a test that ends would wait for it to close this one
+    writer.into_raw_fd();
+    let (told, tells) = mpsc::channel();
+    thread::spawn(move || {
+        // it has no data, so its functions keep what they have to
+        let waker = unsafe { Waker::from_raw(RawWaker::new(std::ptr::null(), &ASKS)) };
+        told.send(ready(reader.poll_read(&mut Context::from_waker(&waker), &mut [0]))).expect("a test that waits");
+    });
+    let read = tells.recv_timeout(Duration::from_secs(20)).expect("an answer");
+    assert_eq!(read.expect_err("EAGAIN").kind(), ErrorKind::WouldBlock);
+    Ok(())
+}
+
+/// Waits until a thread has its answer.
+struct WaitsFor(Mutex<mpsc::Receiver<usize>>);
+
+impl Wake for WaitsFor {
+    fn wake(self: Arc<Self>) {
+        let read = self.0.lock().expect("no panic").recv_timeout(Duration::from_secs(20));
+        assert_eq!(read, Ok(0));
+    }
+}
+
+#[test]
+fn a_waker_may_wait_for_a_thread_that_the_same_step_helped() -> Result<()> {
+    let (kernel, process) = process();
+    let (reader, writer) = process.pipe()?;
+    let (told, tells) = mpsc::channel();
+    let waker = Waker::from(Arc::new(WaitsFor(Mutex::new(tells))));
+    // one before the thread and one behind it
+    let mut tasks = [reader.try_clone()?, reader.try_clone()?];
+    assert!(tasks[0].poll_read(&mut Context::from_waker(&waker), &mut [0]).is_pending());
+    thread::spawn(move || {
+        let read = (&reader).read(&mut [0]).expect("the end");
+        (0..2).for_each(|_| told.send(read).expect("a waker"));
+    });
+    while kernel.waiting() != 2 {
+        thread::yield_now();
+    }
+    assert!(tasks[1].poll_read(&mut Context::from_waker(&waker), &mut [0]).is_pending());
+    drop(writer);
+    Ok(())
+}
+
+/// Panics as it is woken.
+struct Panics;
+
+impl Wake for Panics {
+    fn wake(self: Arc<Self>) {
+        panic!("a waker may do so");
+    }
+}
+
+#[test]
+fn a_waker_that_panics_keeps_nobody_asleep() -> Result<()> {
+    let (kernel, process) = process();
+    let (reader, writer) = process.pipe()?;
+    let (task, waker) = (Task::new(), Waker::from(Arc::new(Panics)));
+    // more than are woken at once, and one among them that panics
+    let mut readers: Vec<_> = (0..40).map(|_| reader.try_clone()).collect::<Result<_>>()?;
+    for (place, each) in readers.iter_mut().enumerate() {
+        let waker = if place == 20 { &waker } else { &task.waker };
+        assert!(each.poll_read(&mut Context::from_waker(waker), &mut [0]).is_pending());
+    }
+    let (told, tells) = mpsc::channel();
+    // it hands its handle on: by a step behind the read it would wake others itself
+    thread::spawn(move || told.send(((&reader).read(&mut [0]), reader)).expect("a test that waits"));
+    while kernel.waiting() != 41 {
+        thread::yield_now();
+    }
+    assert!(thread::spawn(move || drop(writer)).join().is_err());
+    let (read, _reader) = tells.recv_timeout(Duration::from_secs(20)).expect("an answer");
+    assert_eq!(read?, 0);
+    assert_eq!(task.woken(), 39);
+    Ok(())
 }

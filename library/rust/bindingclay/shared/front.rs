@@ -3,10 +3,11 @@
 use super::super::{Clay, NotDone, ParkedCall};
 use super::lock::{Held, Lock};
 use super::recording::{at_last, interrupt};
-use super::waiters::{Waiters, Who};
+use super::waiters::{Batch, Waiters, Who};
 use super::ways::Way;
 use super::yields::{Begun, Yields};
 use std::io;
+use std::thread;
 
 /// A kernel with those who wait.
 pub(super) struct Inner {
@@ -25,6 +26,28 @@ pub(super) struct Locked<'a> {
     front: &'a Front,
     /// There until it is dropped.
     held: Option<Held<'a, Inner>>,
+}
+
+/// Those who are woken now, without the lock. If a waker panics, all others are woken too: nobody else may come for them.
+struct Waking<'a> {
+    front: &'a Front,
+    batch: Batch,
+}
+
+impl Waking<'_> {
+    /// Wakes the last ones first, which are threads: a waker may run anything, and wait for one of these.
+    fn go_on(&mut self) {
+        self.batch.iter_mut().rev().filter_map(Option::take).for_each(Who::wake);
+    }
+}
+
+impl Drop for Waking<'_> {
+    fn drop(&mut self) {
+        if thread::panicking() {
+            self.go_on();
+            drop(self.front.lock());
+        }
+    }
 }
 
 impl Front {
@@ -77,7 +100,7 @@ impl Front {
         while !held.waiters.are_all_woken() {
             let batch = held.waiters.take_some();
             drop(held);
-            batch.into_iter().flatten().for_each(Who::wake);
+            Waking { front: self, batch }.go_on();
             held = self.lock.lock();
         }
     }

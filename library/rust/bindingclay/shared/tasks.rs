@@ -12,7 +12,7 @@ use super::process::Owner;
 use super::recording::interrupt;
 use super::waiters::{Stand, Who};
 use std::io;
-use std::task::{Context, Poll, Waker};
+use std::task::{Context, Poll};
 
 /// The most bytes of one write of a task: one that would wait has a copy of them for a moment.
 const MOST_BYTES: usize = 65_536;
@@ -35,15 +35,11 @@ fn try_once(clay: &mut Clay, owner: &Owner, call: &mut Call<'_>) -> Option<io::R
     }
 }
 
-/// Lets a poll wait in place of a call, and tells its number.
-fn wait_for(locked: &mut Locked<'_>, pid: u32, entry: PollEntry, waker: Waker) -> io::Result<u64> {
+/// Lets a poll wait in place of a call, and tells its number. There is room for who waits.
+fn wait_for(locked: &mut Locked<'_>, pid: u32, entry: PollEntry) -> io::Result<u64> {
     locked.waiters().make_room()?;
     match locked.clay().poll(pid, &mut [entry], true)? {
-        Answer::Parked(parked) => {
-            let number = parked.into_number();
-            locked.waiters().add(number, pid, Who::Task(waker), None);
-            Ok(number)
-        }
+        Answer::Parked(parked) => Ok(parked.into_number()),
         // a large write, for which there is some room: it would put in a part and wait, and no further call may
         Answer::Done(_) => Err(io::ErrorKind::WouldBlock.into()),
     }
@@ -92,8 +88,9 @@ impl Descriptor {
         if let Some(ended) = try_once(locked.clay(), owner, &mut call) {
             return Poll::Ready(ended);
         }
-        let entry = Clay::entry(*fd, events);
-        tasks[way] = Some(wait_for(&mut locked, owner.pid, entry, waker)?);
+        let number = wait_for(&mut locked, owner.pid, Clay::entry(*fd, events))?;
+        locked.waiters().add(number, owner.pid, Who::Task(waker), None);
+        tasks[way] = Some(number);
         Poll::Pending
     }
 

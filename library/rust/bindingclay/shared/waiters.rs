@@ -210,9 +210,10 @@ impl Waiters {
         if self.answered.len() == 1 { self.answered.pop() } else { None }
     }
 
-    /// Takes those who are to be woken, until none is left or the batch is full.
+    /// Takes those who are to be woken, until none is left or the batch is full: threads before tasks, and so they stand behind them.
     pub(super) fn take_some(&mut self) -> Batch {
         let mut batch = Batch::default();
+        self.answered.sort_unstable_by_key(|who| matches!(who, Who::Thread(_)));
         let first = self.answered.len().saturating_sub(BATCH);
         batch.iter_mut().zip(self.answered.drain(first..)).for_each(|(place, who)| *place = Some(who));
         batch
