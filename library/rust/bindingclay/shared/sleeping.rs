@@ -54,7 +54,7 @@ impl Slot {
         match clay.resume_read(call, &mut self.bytes) {
             Err(NotDone::Short { call, wants }) => {
                 let wants = usize::try_from(wants).map_err(|_| NotDone::NoMemory)?;
-                self.bytes.try_reserve(wants.saturating_sub(self.bytes.len())).map_err(|_| NotDone::NoMemory)?;
+                self.bytes.try_reserve_exact(wants.saturating_sub(self.bytes.len())).map_err(|_| NotDone::NoMemory)?;
                 self.bytes.resize(wants, 0);
                 clay.resume_read(call, &mut self.bytes)
             }
@@ -100,7 +100,10 @@ impl Sleeper {
         let answer = match slot.resume(clay, number) {
             Ok(Answer::Done(value)) => Ok(value),
             Ok(Answer::Parked(_)) => return false,
-            Err(NotDone::NoMemory | NotDone::NoMemoryToResume(_) | NotDone::Short { .. }) => end_without_memory(clay, number),
+            Err(NotDone::NoMemory | NotDone::NoMemoryToResume(_) | NotDone::Short { .. }) => {
+                slot.forget();
+                end_without_memory(clay, number)
+            }
             Err(fault) => Err(fault.into()),
         };
         slot.answer = Some(answer);
