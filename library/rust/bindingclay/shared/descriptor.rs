@@ -203,7 +203,7 @@ macro_rules! capacity {
             ///
             /// # Errors
             ///
-            /// `EBUSY` if it holds more, `EPERM` above the limit, `EINVAL` of 0, and `OutOfMemory`.
+            /// `EBUSY` if it holds more, `EPERM` above the limit, and `OutOfMemory`.
             pub fn set_capacity(&self, bytes: usize) -> io::Result<usize> {
                 self.0.set_capacity(bytes)
             }
