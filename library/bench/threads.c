@@ -8,7 +8,7 @@
 #include <stdatomic.h>
 #include <unistd.h>
 
-enum { BYTES = 64, PIECE = 64 * KIB, PIECES = 256 * MIB / PIECE, LONG_PIECES = 4 * PIECES, PAIRS = 20000, TURNS = 5000 };
+enum { BYTES = 64, PIECE = 64 * KIB, PIECES = 256 * MIB / PIECE, LONG_PIECES = 4 * PIECES, TURNS = 5000 };
 /* At once there are more pairs, so that threads that begin on one processor have time to part. */
 enum { MOST_THREADS = 4, PAIRS_AT_ONCE = 50000 };
 enum { MOST_SLEEPERS = 1000, QUICK_SLEEPERS = 100, PIPES_OF_ONE = 100, SPARE_DESCRIPTORS = 64, STACK = 65536, WHILE_OF_HOST = 20000 };
@@ -73,14 +73,6 @@ static void some_pairs(const struct pipes *pipes, int times)
     }
 }
 
-/* A write and a read of 64 bytes, in one thread. */
-static double pair(const void *subject, int times)
-{
-    double begun = now();
-    some_pairs(subject, times);
-    return (now() - begun) / times;
-}
-
 /* Threads that make pairs at once, each at pipes that it alone has, or all at the same ones. */
 struct crowd {
     struct pipes pipes[MOST_THREADS];
@@ -117,7 +109,8 @@ static double from_first_to_last(const struct pairing *pairings, unsigned count)
     return ended - begun;
 }
 
-/* How long each thread takes for a pair, if so many of them make pairs at once. */
+/* How long each thread takes for a pair, if so many of them make pairs at once. One alone isn't the program's only thread either: as long as there is
+ * no other, the C library takes a lock without atomic steps. */
 static double pairs_at_once(const void *subject, int times)
 {
     const struct crowd *crowd = subject;
@@ -143,8 +136,9 @@ static void crowds(void)
         const char *what;
         unsigned threads;
         bool is_one_pipe;
-    } ROWS[] = { { "write and read, two threads at one pipe", 2, true }, { "write and read, two threads at pipes of their own", 2, false },
-        { "write and read, four threads at one pipe", 4, true }, { "write and read, four threads at pipes of their own", 4, false } };
+    } ROWS[] = { { "write and read, one thread", 1, true }, { "write and read, two threads at one pipe", 2, true },
+        { "write and read, two threads at pipes of their own", 2, false }, { "write and read, four threads at one pipe", 4, true },
+        { "write and read, four threads at pipes of their own", 4, false } };
     for (size_t i = 0; i < MOST_THREADS; i++) {
         ours.pipes[i] = new_pipes(FRONT);
         hosts.pipes[i] = new_pipes(HOST);
@@ -385,15 +379,13 @@ int main(int count, char **words)
 {
     begin(count, words);
     need(bc_shared_open(NULL, &shared) == 0, "bc_shared_open");
-    struct pipes ours = new_pipes(FRONT), host = new_pipes(HOST), queue = new_pipes(QUEUE);
-    const struct side pairs[] = { { "bindingclay", pair, &ours }, { "host's pipe", pair, &host }, { "queue under a lock", pair, &queue } };
+    struct pipes ours = new_pipes(FRONT), host = new_pipes(HOST);
     const struct side there_and_back[] = { { "bindingclay", ping_pong, &ours }, { "host's pipe", ping_pong, &host } };
     const struct side streams[] = { { "bindingclay", stream, &ours }, { "host's pipe", stream, &host } };
     const struct side groups[] = { { "bindingclay", messages, &ours }, { "host's pipe", messages, &host } };
     bool is_long = pace == LONG;
     const struct row of_stream = { "threads", is_long ? "64 KiB of a stream of 1 GiB" : "64 KiB of a stream of 256 MiB", PIECE, "ns", 30,
         is_long ? LONG_PIECES : PIECES };
-    compare(&(struct row){ "threads", "write and read, one thread", BYTES, "ns", 30, PAIRS }, pairs, 3);
     crowds();
     compare(&(struct row){ "threads", "a byte there and back", 1, "ns", 30, TURNS }, there_and_back, 2);
     compare(&of_stream, streams, 2);
