@@ -11,7 +11,8 @@
  * bytes before answers their count in each of these cases.
  *
  * Memory. Each call that finds no memory fails with ENOMEM, and has changed nothing. A large write leaves
- * most of its bytes with the caller: at most 8,193 of them are copied while it waits. What the front needs of a thread that waits is on its stack.
+ * most of its bytes with the caller: at most 8,193 of them are copied while it waits. What the front needs of a thread that waits is on its stack,
+ * except that bc_readv and bc_writev of more than 4,096 bytes take a buffer for all of them until they return. No limit of the kernel counts it.
  *
  * Each function names its own errors here. Each can fail with ESRCH if the process exited, and with ENOMEM. A call that may wait can fail with
  * EINTR, ETIMEDOUT, and with EAGAIN if as many calls wait as the limit waiting_calls allows. All other errors are those of the function of
