@@ -23,8 +23,8 @@ pub(super) type Side = (i32, Option<u64>);
 /// A call that may wait.
 pub(super) enum Call<'a> {
     Read { fd: i32, into: &'a mut [u8] },
-    /// A large write waits for room by a poll, which has no copy of its bytes as a parked write has. It notes how often its descriptor was closed.
-    Write { fd: i32, bytes: &'a [u8], waits_at: Option<u32> },
+    /// A large write waits for room by a poll, which has no copy of its bytes as a parked write has.
+    Write { fd: i32, bytes: &'a [u8], waits_for_room: bool },
     Open { name: &'a [u8], flags: u32 },
     Splice { from: Side, to: Side, len: u32, flags: u32 },
     Tee { from: i32, to: i32, len: u32, flags: u32 },
@@ -33,6 +33,9 @@ pub(super) enum Call<'a> {
 
 /// Up to so many bytes a write goes in whole (`PIPE_BUF`; POSIX.1-2017, write).
 const SMALL_WRITE: usize = 4_096;
+
+/// The number of errno.h on Linux.
+const EBADF: i32 = 9;
 
 /// The numbers of fcntl.h on Linux.
 const O_ACCMODE: u32 = 0o3;
@@ -62,31 +65,17 @@ fn begin_to_poll(clay: &mut Clay, pid: u32, fd: i32, count: usize) -> Result<Opt
 #[inline(always)]
 fn begin_write(
     clay: &mut Clay,
-    owner: &Owner,
+    pid: u32,
     fd: i32,
     bytes: &[u8],
-    waits_at: &mut Option<u32>,
+    waits_for_room: &mut bool,
 ) -> Result<Answer<usize>, NotDone> {
-    if let Some(call) = begin_to_poll(clay, owner.pid, fd, bytes.len())? {
-        *waits_at = Some(owner.closes(fd));
+    *waits_for_room = false;
+    if let Some(call) = begin_to_poll(clay, pid, fd, bytes.len())? {
+        *waits_for_room = true;
         return Ok(Answer::Parked(call));
     }
-    clay.write(owner.pid, fd, &bytes[..cut(bytes.len())])
-}
-
-/// Begins a large write again that waited for room, if its descriptor still names the same.
-fn write_again(
-    clay: &mut Clay,
-    owner: &Owner,
-    fd: i32,
-    bytes: &[u8],
-    waits_at: &mut Option<u32>,
-) -> Result<Answer<usize>, NotDone> {
-    // somebody may have closed it by its number, and it may name another pipe by now, which may have the key of the one before
-    if waits_at.take() != Some(owner.closes(fd)) {
-        return clay.write(owner.pid, -1, &bytes[..1]); // EBADF
-    }
-    begin_write(clay, owner, fd, bytes, waits_at)
+    clay.write(pid, fd, &bytes[..cut(bytes.len())])
 }
 
 /// The bytes that a read or a write looks at.
@@ -96,14 +85,13 @@ fn cut(len: usize) -> usize {
 
 impl Call<'_> {
     #[inline(always)]
-    pub(super) fn begin(&mut self, clay: &mut Clay, owner: &Owner) -> Result<Answer<usize>, NotDone> {
-        let pid = owner.pid;
+    pub(super) fn begin(&mut self, clay: &mut Clay, pid: u32) -> Result<Answer<usize>, NotDone> {
         match self {
             Call::Read { fd, into } => {
                 let most = cut(into.len());
                 clay.read(pid, *fd, &mut into[..most])
             }
-            Call::Write { fd, bytes, waits_at } => begin_write(clay, owner, *fd, bytes, waits_at),
+            Call::Write { fd, bytes, waits_for_room } => begin_write(clay, pid, *fd, bytes, waits_for_room),
             Call::Open { name, flags } => Ok(clay.open_name(pid, name, *flags)?.map(|fd| fd as usize)),
             Call::Splice { from, to, len, flags } => clay.splice(pid, *from, *to, *len, *flags),
             Call::Tee { from, to, len, flags } => clay.tee(pid, *from, *to, *len, *flags),
@@ -116,7 +104,15 @@ impl Call<'_> {
     fn way(&self) -> Option<(Way, i32)> {
         match self {
             Call::Read { fd, .. } => Some((Way::Read, *fd)),
-            Call::Write { fd, waits_at: None, .. } => Some((Way::Write, *fd)),
+            Call::Write { fd, waits_for_room: false, .. } => Some((Way::Write, *fd)),
+            _ => None,
+        }
+    }
+
+    /// The descriptor of a large write that waits for room.
+    fn awaits_room_at(&self) -> Option<i32> {
+        match self {
+            Call::Write { fd, waits_for_room: true, .. } => Some(*fd),
             _ => None,
         }
     }
@@ -125,7 +121,7 @@ impl Call<'_> {
     fn expect(&self, slot: &mut Slot) -> io::Result<()> {
         match self {
             Call::Poll { entries, .. } => slot.expect(entries),
-            Call::Write { fd, waits_at: Some(_), .. } => slot.expect(&[Clay::entry(*fd, POLLOUT)]),
+            Call::Write { fd, waits_for_room: true, .. } => slot.expect(&[Clay::entry(*fd, POLLOUT)]),
             _ => slot.expect(&[]),
         }
     }
@@ -176,7 +172,7 @@ pub(super) fn run(owner: &Owner, mut call: Call<'_>, deadline: Option<Instant>) 
         return Err(NotDone::NoProcess.into());
     }
     held.waiters.make_room()?;
-    match call.begin(&mut held.clay, owner) {
+    match call.begin(&mut held.clay, owner.pid) {
         Ok(Answer::Done(value)) => {
             front.leave_behind(held, owner.pid, call.way());
             Ok(value)
@@ -205,15 +201,20 @@ fn wait_by<'a>(
     deadline: Option<Instant>,
 ) -> io::Result<usize> {
     loop {
+        let room_at = call.awaits_room_at().map(|fd| (fd, owner.closes(fd)));
         let number = enlist(owner, locked, parked, &call, sleeper)?;
         let count = sleeper.sleep(&owner.front, deadline).unwrap_or_else(|| give_up(owner, sleeper, number))?;
-        let Call::Write { fd, bytes, waits_at: waits_at @ Some(_) } = &mut call else {
+        let Some((fd, closes)) = room_at else {
             call.give(&mut sleeper.slot(), count);
             return Ok(count);
         };
         locked = owner.lock()?;
+        // somebody closed it by its number, which may name another pipe by now, and that may have the key of the one before
+        if owner.closes(fd) != closes {
+            return Err(io::Error::from_raw_os_error(EBADF));
+        }
         locked.waiters().make_room()?;
-        parked = match write_again(locked.clay(), owner, *fd, bytes, waits_at)? {
+        parked = match call.begin(locked.clay(), owner.pid)? {
             Answer::Done(count) => return Ok(count),
             Answer::Parked(parked) => parked,
         };

@@ -53,7 +53,7 @@ impl Descriptor {
 
     #[inline]
     pub(super) fn write(&self, bytes: &[u8]) -> io::Result<usize> {
-        run(&self.owner, Call::Write { fd: self.fd, bytes, waits_at: None }, self.deadline)
+        run(&self.owner, Call::Write { fd: self.fd, bytes, waits_for_room: false }, self.deadline)
     }
 
     pub(super) fn seek(&self, to: io::SeekFrom) -> io::Result<u64> {

@@ -8,7 +8,6 @@ use super::calls::Call;
 use super::descriptor::Descriptor;
 use super::front::Locked;
 use super::polling::{POLLIN, POLLOUT};
-use super::process::Owner;
 use super::recording::interrupt;
 use super::waiters::{Stand, Who};
 use std::io;
@@ -22,8 +21,8 @@ const READING: usize = 0;
 const WRITING: usize = 1;
 
 /// Tries a call once; nothing if it would wait. A write that would wait tells what went in.
-fn try_once(clay: &mut Clay, owner: &Owner, call: &mut Call<'_>) -> Option<io::Result<usize>> {
-    let tried = match call.begin(clay, owner) {
+fn try_once(clay: &mut Clay, pid: u32, call: &mut Call<'_>) -> Option<io::Result<usize>> {
+    let tried = match call.begin(clay, pid) {
         Ok(Answer::Done(count)) => Ok(count),
         Ok(Answer::Parked(parked)) => interrupt(clay, parked.into_number()),
         Err(fault) => Err(fault.into()),
@@ -62,7 +61,7 @@ impl Descriptor {
 
     pub(super) fn poll_write(&mut self, context: &mut Context<'_>, bytes: &[u8]) -> Poll<io::Result<usize>> {
         let bytes = &bytes[..bytes.len().min(MOST_BYTES)];
-        self.poll_call(context, WRITING, POLLOUT, Call::Write { fd: self.fd, bytes, waits_at: None })
+        self.poll_call(context, WRITING, POLLOUT, Call::Write { fd: self.fd, bytes, waits_for_room: false })
     }
 
     fn poll_call(&mut self, context: &mut Context<'_>, way: usize, events: i16, mut call: Call<'_>) -> Poll<io::Result<usize>> {
@@ -85,7 +84,7 @@ impl Descriptor {
         if owner.is_gone() {
             return Poll::Ready(Err(NotDone::NoProcess.into()));
         }
-        if let Some(ended) = try_once(locked.clay(), owner, &mut call) {
+        if let Some(ended) = try_once(locked.clay(), owner.pid, &mut call) {
             return Poll::Ready(ended);
         }
         let number = wait_for(&mut locked, owner.pid, Clay::entry(*fd, events))?;
