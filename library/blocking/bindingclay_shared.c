@@ -1,19 +1,11 @@
-/* The front for threads: the lock, the calls that wait, and what ends them. */
+/* The front for threads: kernels, the calls that wait, and what ends them. */
 #define _GNU_SOURCE
 #include "bindingclay_shared_inside.h"
 
 #include <errno.h>
-#include <sched.h>
 
-/* How many threads are woken behind the lock. The others, if there are more, are woken under it. */
-enum { MOST_WOKEN = 16 };
-
-/* How long who looks for the lock pauses at first and at most: some 3 and 45 microseconds. Behind that it sleeps. */
-enum { FIRST_TURNS = 64, MOST_TURNS = 1024 };
-
-/* How often a thread yields before it sleeps; from how many nanoseconds on that is slow, for itself and for each step that was made meanwhile; and for
- * how long no thread yields then. */
-enum { YIELDS = 8, SLOW_YIELD = 50000, SLOW_STEP = 5000, PAUSE_OF_YIELDS = 20000000 };
+/* How often a thread yields before it sleeps. */
+enum { YIELDS = 8 };
 
 static bindingclay_answer failed(int error)
 {
@@ -41,29 +33,6 @@ static void forget_locks(bc_shared *shared)
     pthread_mutex_destroy(&shared->lock.queue);
     pthread_mutex_destroy(&shared->lock.mutex);
     pthread_condattr_destroy(&shared->monotonic);
-}
-
-static void pause_for(int turns)
-{
-    for (int i = 0; i < turns; i++)
-#if defined(__x86_64__) || defined(__i386__)
-        __builtin_ia32_pause();
-#else
-        atomic_signal_fence(memory_order_seq_cst);
-#endif
-}
-
-void bc_lock_by_queue(struct bc_lock *lock)
-{
-    bool is_mine = false;
-    pthread_mutex_lock(&lock->queue);
-    for (int turns = FIRST_TURNS; !is_mine && turns <= MOST_TURNS; turns *= 2) {
-        pause_for(turns);
-        is_mine = pthread_mutex_trylock(&lock->mutex) == 0;
-    }
-    if (!is_mine)
-        pthread_mutex_lock(&lock->mutex);
-    lock->is_from_queue = true;
 }
 
 int bc_shared_open(const bindingclay_limits *limits, bc_shared **shared)
@@ -208,29 +177,47 @@ bool bc_out_of_none(bc_shared *shared)
     return false;
 }
 
-void bc_out_and_wake(bc_shared *shared)
+void bc_wake(struct bc_waiter *answered)
 {
-    sem_t *woken[MOST_WOKEN];
-    bindingclay_answer next;
-    int count = 0;
-    while (shared->waiting > 0 && (next = bindingclay_next_ready(shared->clay, 0)).kind == BINDINGCLAY_DONE)
-        try_again(shared, next.value);
-    for (struct bc_waiter *waiter = shared->answered, *next_one; waiter != NULL; waiter = next_one) {
-        /* a thread that is woken may leave at once, and its waiter with it */
-        next_one = waiter->next;
-        if (waiter->has_deadline)
+    for (struct bc_waiter *next; answered != NULL; answered = next) {
+        /* a thread that is woken may leave at once, and its waiter with it. Then what is left of sem_post looks at nothing there any more */
+        next = answered->next;
+        sem_post(&answered->answered);
+    }
+}
+
+/* Under the lock: takes the calls that are answered, and wakes those with a deadline, since they may leave as soon as the lock is free. Puts the
+ * others before a list of calls whose threads are to be woken, and returns that. */
+static struct bc_waiter *answered_before(bc_shared *shared, struct bc_waiter *list)
+{
+    for (struct bc_waiter *waiter = shared->answered, *next; waiter != NULL; waiter = next) {
+        next = waiter->next;
+        if (waiter->has_deadline) {
             pthread_cond_signal(&waiter->wakes);
-        else if (count == MOST_WOKEN || !BC_KNOWS_ATOMICS)
+        } else if (!BC_KNOWS_ATOMICS) {
             sem_post(&waiter->answered);
-        else
-            woken[count++] = &waiter->answered;
+        } else {
+            waiter->next = list;
+            list = waiter;
+        }
     }
     shared->answered = NULL;
+    return list;
+}
+
+void bc_out_and_wake(bc_shared *shared)
+{
+    bindingclay_answer next;
+    struct bc_waiter *woken = NULL;
+    while (shared->waiting > 0 && (next = bindingclay_next_ready(shared->clay, 0)).kind == BINDINGCLAY_DONE)
+        try_again(shared, next.value);
+    if (bc_is_queued(&shared->lock))
+        shared->later = answered_before(shared, shared->later);
+    else
+        woken = answered_before(shared, NULL);
     bc_unlock(shared);
-    /* A thread that is woken under the lock would at once wait for the lock. As it wakes, it may leave, and its semaphore with it: then what is
-     * left of sem_post looks at nothing there any more. */
-    while (count > 0)
-        sem_post(woken[--count]);
+    /* a thread that is woken under the lock would at once wait for the lock */
+    bc_wake(woken);
 }
 
 static int error_of(bindingclay_answer answer)
@@ -276,33 +263,6 @@ static void sleep_until(bc_shared *shared, struct bc_waiter *waiter, const struc
         bc_out_and_wake(shared);
     else
         bc_unlock(shared);
-}
-
-static int64_t now(void)
-{
-    struct timespec time;
-    clock_gettime(CLOCK_MONOTONIC, &time);
-    return (int64_t)time.tv_sec * 1000000000 + time.tv_nsec;
-}
-
-bool bc_may_yield(bc_shared *shared, struct bc_yield *yield)
-{
-    yield->begun = now();
-    yield->steps = BC_KNOWS_ATOMICS ? atomic_load_explicit(&shared->steps, memory_order_relaxed) : 0;
-    /* if there is a hook of sleeps, nobody else gets on and no signal comes until the thread is in it */
-    bool is_useful = BC_KNOWS_ATOMICS && shared->sleep_hook == NULL;
-    return is_useful && yield->begun >= atomic_load_explicit(&shared->yields_from, memory_order_relaxed);
-}
-
-bool bc_yield(bc_shared *shared, const struct bc_yield *yield)
-{
-    sched_yield();
-    int64_t ended = now();
-    int64_t made = (int64_t)(atomic_load_explicit(&shared->steps, memory_order_relaxed) - yield->steps);
-    if (ended - yield->begun <= SLOW_YIELD + made * SLOW_STEP)
-        return true;
-    atomic_store_explicit(&shared->yields_from, ended + PAUSE_OF_YIELDS, memory_order_relaxed);
-    return false;
 }
 
 /* Yields some times, and tells whether the call is answered then. */

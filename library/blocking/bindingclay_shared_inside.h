@@ -58,16 +58,21 @@ struct bc_pieces {
 };
 
 /* A lock that is held for less time than a thread takes to fall asleep and wake. Of the threads that find it taken, one looks again and again,
- * and the others sleep in the queue behind it. So a thread that makes many calls wakes nobody between them. */
+ * and the others sleep in the queue behind it. Who looks lets a thread go on that makes call after call, for a while. So that one wakes nobody
+ * between its calls, and what it needs stays in the cache of its processor. */
 struct bc_lock {
     pthread_mutex_t mutex;
     /* Whether the mutex is locked, for those who look. It may be late. */
     atomic_bool is_taken;
+    /* Whether who looks has waited long enough. Then is_taken isn't taken back, so that nobody goes before. */
+    atomic_bool is_wanted;
     /* Whether who has the mutex has the queue too. */
     bool is_from_queue;
     /* The queue shares no cache line with the others, since those who wait at it would slow down who has the mutex. */
     char before[64];
     pthread_mutex_t queue;
+    /* How many threads wait for the lock by the queue. */
+    atomic_int queued;
     char behind[64];
 };
 
@@ -88,6 +93,8 @@ struct bc_shared {
     uint32_t waiting_at[BC_KINDS][BC_LISTS];
     /* The calls that are answered, and whose threads aren't woken yet. */
     struct bc_waiter *answered;
+    /* Those of them that whoever has the lock from the queue next will wake. There is none unless a thread waits by the queue. */
+    struct bc_waiter *later;
     /* The writes of which pieces are to follow. */
     struct bc_pieces *pieces;
     /* How many processes were made, and which of them has each pid; 0 is none. */
@@ -102,7 +109,13 @@ struct bc_shared {
 /* ---- The lock ---- */
 
 /* Takes the lock if somebody has it. */
-void bc_lock_by_queue(struct bc_lock *lock);
+void bc_lock_by_queue(bc_shared *shared);
+
+/* Gives the lock back that was taken by the queue, and wakes those who are to be woken later. */
+void bc_unlock_by_queue(bc_shared *shared);
+
+/* Without the lock: wakes threads whose calls are answered, and that have no deadline. */
+void bc_wake(struct bc_waiter *answered);
 
 static inline bool bc_is_taken(struct bc_lock *lock)
 {
@@ -115,24 +128,36 @@ static inline void bc_mark(struct bc_lock *lock, bool is_taken)
     atomic_store_explicit(&lock->is_taken, is_taken, memory_order_relaxed);
 }
 
+/* Under the lock: whether another thread is sure to take the lock by the queue. It counts itself before it waits, and off under the lock. While it
+ * is counted it waits for nothing but the lock, so nobody ends it or keeps it for good. */
+static inline bool bc_is_queued(struct bc_lock *lock)
+{
+    return BC_KNOWS_ATOMICS && atomic_load_explicit(&lock->queued, memory_order_relaxed) > 0;
+}
+
 static inline void bc_lock(bc_shared *shared)
 {
     if (bc_is_taken(&shared->lock))
-        bc_lock_by_queue(&shared->lock);
+        bc_lock_by_queue(shared);
     else
         pthread_mutex_lock(&shared->lock.mutex);
     bc_mark(&shared->lock, true);
 }
 
+/* Gives the mutex back. */
+static inline void bc_unlock_mutex(bc_shared *shared)
+{
+    atomic_store_explicit(&shared->steps, atomic_load_explicit(&shared->steps, memory_order_relaxed) + 1, memory_order_relaxed);
+    bc_mark(&shared->lock, atomic_load_explicit(&shared->lock.is_wanted, memory_order_relaxed));
+    pthread_mutex_unlock(&shared->lock.mutex);
+}
+
 static inline void bc_unlock(bc_shared *shared)
 {
-    bool is_from_queue = shared->lock.is_from_queue;
-    shared->lock.is_from_queue = false;
-    atomic_store_explicit(&shared->steps, atomic_load_explicit(&shared->steps, memory_order_relaxed) + 1, memory_order_relaxed);
-    bc_mark(&shared->lock, false);
-    pthread_mutex_unlock(&shared->lock.mutex);
-    if (is_from_queue)
-        pthread_mutex_unlock(&shared->lock.queue);
+    if (shared->lock.is_from_queue)
+        bc_unlock_by_queue(shared);
+    else
+        bc_unlock_mutex(shared);
 }
 
 /* ---- Yields ---- */

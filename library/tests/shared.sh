@@ -79,6 +79,13 @@ try_front() {
         done
     done
     build_front shared_memory "$counted,--wrap=calloc" && run shared_memory
+    if build_front shared_crowd; then
+        plainly shared_crowd 200
+        under_valgrind shared_crowd
+        without_races_of_front shared_crowd
+        sanitized shared_crowd thread 20
+        sanitized shared_crowd address,undefined 20
+    fi
     if build_front shared_storm; then
         plainly shared_storm 5 && sed 's/^/storm: /' "$work/log"
         under_valgrind shared_storm 1
