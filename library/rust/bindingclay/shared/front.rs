@@ -97,6 +97,8 @@ impl Front {
             drop(held);
             return who.wake();
         }
+        // once a step: in each batch it would cost the square of how many are woken
+        held.waiters.put_threads_last();
         while !held.waiters.are_all_woken() {
             let batch = held.waiters.take_some();
             drop(held);

@@ -210,10 +210,14 @@ impl Waiters {
         if self.answered.len() == 1 { self.answered.pop() } else { None }
     }
 
-    /// Takes those who are to be woken, until none is left or the batch is full: threads before tasks, and so they stand behind them.
+    /// Puts the threads of those who are to be woken behind the tasks, so that they are taken first.
+    pub(super) fn put_threads_last(&mut self) {
+        self.answered.sort_unstable_by_key(|who| matches!(who, Who::Thread(_)));
+    }
+
+    /// Takes the last of those who are to be woken, until none is left or the batch is full.
     pub(super) fn take_some(&mut self) -> Batch {
         let mut batch = Batch::default();
-        self.answered.sort_unstable_by_key(|who| matches!(who, Who::Thread(_)));
         let first = self.answered.len().saturating_sub(BATCH);
         batch.iter_mut().zip(self.answered.drain(first..)).for_each(|(place, who)| *place = Some(who));
         batch
