@@ -75,13 +75,15 @@ run() {
     under_valgrind "$@"
 }
 
-# without_races NAME: runs a program with threads, and looks for races between them.
+# without_races NAME ARGUMENT..: runs a program with threads, and looks for races between them.
 without_races() {
+    built=$1
+    shift
     if is_there "$valgrind"; then
-        check "$1 under helgrind" timeout 900 "$valgrind" -q --tool=helgrind --error-exitcode=99 \
-            "--suppressions=$here/tests/helgrind.supp" "$work/$1"
+        check "$built under helgrind" timeout 900 "$valgrind" -q --tool=helgrind --error-exitcode=99 \
+            "--suppressions=$here/tests/helgrind.supp" "$work/$built" "$@"
     else
-        echo "passed over: $1 under helgrind"
+        echo "passed over: $built under helgrind"
     fi
 }
 
@@ -122,6 +124,17 @@ defines_what_is_declared() {
     printf '%s\n' free malloc memcmp memcpy memmove memset realloc | sort -u - "$work/defined" > "$work/may_be_wanted"
     nm -g --undefined-only "$work/prefix/lib/libbindingclay.a" | awk 'NF == 2 { print $2 }' | sort -u > "$work/wanted"
     [ -z "$(comm -13 "$work/may_be_wanted" "$work/wanted" | tee /dev/stderr)" ]
+}
+
+# Whether the archive with an allocator has each function of the library under its name once, and behind it the library's own under another name,
+# except of the two that take no kernel. Without the other name a function wouldn't find the allocator that a kernel keeps.
+# shellcheck disable=SC2317
+finds_each_allocator() {
+    nm -g --defined-only "$work/prefix/lib/libbindingclay_allocator.a" | awk 'NF == 3 { print $3 }' | sort > "$work/with_allocator"
+    [ -z "$(uniq -d "$work/with_allocator" | tee /dev/stderr)" ] || return 1
+    sed -n '/^bindingclay_open_words$/d; /^bindingclay_version$/d; s/^bindingclay_/bindingclay_inner_/p' "$work/defined" > "$work/inner"
+    [ -s "$work/inner" ] || return 1
+    [ -z "$(sort "$work/defined" "$work/inner" | comm -23 - "$work/with_allocator" | tee /dev/stderr)" ]
 }
 
 # Whether the list of scripts names exactly those that are there, and whether no other files are there. Those of programs and of harnesses
@@ -209,8 +222,19 @@ if build budget "$counted"; then
     under_valgrind budget 2000
 fi
 if [ -f "$work/prefix/lib/libbindingclay_allocator.a" ]; then
+    check "the names of the archive with an allocator" finds_each_allocator
+    # helgrind doesn't know the lock of the front
     check "building allocator" "$cc" -Wall -Wextra -Werror -std=c11 -O1 -g "-I$work/prefix/include" -o "$work/allocator" \
-        "$here/tests/allocator.c" "-L$work/prefix/lib" -lbindingclay_allocator -pthread "$counted" && run allocator
+        "$here/tests/allocator.c" "-L$work/prefix/lib" -lbindingclay_allocator -pthread "$counted" && run allocator &&
+        without_races allocator kernels
+    if is_there "$cxx"; then
+        printf '#include <bindingclay_allocator.h>\n#include <bindingclay_shared.h>\n%s\n' \
+            'int main() { bc_shared *shared; return bc_shared_open_with(nullptr, nullptr, &shared); }' > "$work/allocator.cpp"
+        check "the header of an allocator in C++" "$cxx" -Wall -Wextra -Werror -std=c++11 "-I$work/prefix/include" -o "$work/allocator_in_cpp" \
+            "$work/allocator.cpp" "-L$work/prefix/lib" -lbindingclay_allocator -pthread
+    else
+        echo "passed over: the header of an allocator in C++"
+    fi
 else
     echo "passed over: allocator"
 fi

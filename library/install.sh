@@ -62,14 +62,24 @@ else
     echo "passed over: libbindingclay_shared.a, as there is no ${CC:-cc}"
 fi
 
-# Both archives, with other names for the functions that give memory.
+# Both archives, with other names for the functions that give memory. The library's functions with a kernel get other names too, and those of
+# allocator/ have theirs.
 if command -v "${CC:-cc}" > /dev/null 2>&1 && command -v "${OBJCOPY:-objcopy}" > /dev/null 2>&1; then
+    mkdir "$work/allocator"
+    awk -f "$here/allocator/calls.awk" "$here/include/bindingclay.h" > "$work/allocator/bindingclay_allocator_calls.h"
+    sed -n 's/^#undef bindingclay_\(.*\)/bindingclay_\1 bindingclay_inner_\1/p' "$work/allocator/bindingclay_allocator_calls.h" \
+        > "$work/allocator/names"
     cp "$work/libbindingclay.a" "$work/libbindingclay_allocator.a"
+    "${OBJCOPY:-objcopy}" -D "--redefine-syms=$work/allocator/names" "$work/libbindingclay_allocator.a"
     (cd "$work/blocking" && "$ar" qD ../libbindingclay_allocator.a ./*.o)
     "${OBJCOPY:-objcopy}" -D --redefine-sym malloc=bindingclay_malloc --redefine-sym calloc=bindingclay_calloc \
         --redefine-sym realloc=bindingclay_realloc --redefine-sym free=bindingclay_release "$work/libbindingclay_allocator.a"
-    (cd "$here/allocator" && "${CC:-cc}" -std=c11 -O2 -fPIC -Wall -Wextra -I../include -c -o "$work/allocator.o" bindingclay_allocator.c)
-    (cd "$work" && "$ar" qsD libbindingclay_allocator.a allocator.o)
+    for source in "$here"/allocator/*.c; do
+        name=${source##*/}
+        (cd "$here/allocator" && "${CC:-cc}" -std=c11 -O2 -fPIC -Wall -Wextra -I../include -I../blocking "-I$work/allocator" -c \
+            -o "$work/allocator/${name%.c}.o" "$name")
+    done
+    (cd "$work/allocator" && "$ar" qsD ../libbindingclay_allocator.a ./*.o)
     install -m 644 "$work/libbindingclay_allocator.a" "$prefix/lib/libbindingclay_allocator.a"
     install -m 644 "$here/allocator/bindingclay_allocator.h" "$prefix/include"
 else
