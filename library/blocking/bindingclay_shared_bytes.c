@@ -31,14 +31,23 @@ static bool yielded_for(const bc_process *process, int fd)
     return bc_in(process);
 }
 
+/* Under the lock, with the answer of a read or a write that waits: waits to the deadline of the handle, and tells what the call returns. Out of
+ * line, so that a call that is answered at once stores no room. */
+static ssize_t waited(const bc_process *process, bindingclay_answer parked, struct bc_room room)
+{
+    return (ssize_t)bc_concluded(process, bc_wait(process, parked, &room, bc_deadline(process)));
+}
+
 ssize_t bc_read(const bc_process *process, int fd, void *into, size_t size)
 {
-    const struct bc_room room = { .kind = BC_READS, .fd = fd, .into = into, .size = size };
     if (!bc_in(process) || (had_nothing && !yielded_for(process, fd)))
         return -1;
     bindingclay_answer answer = bindingclay_read(process->shared->clay, process->pid, fd, into, size);
     had_nothing = had_nothing || answer.kind == BINDINGCLAY_PARKED;
-    return (ssize_t)bc_concluded(process, bc_awaited(process, answer, &room, bc_deadline(process)));
+    if (answer.kind == BINDINGCLAY_PARKED)
+        return waited(process, answer, (struct bc_room){ .kind = BC_READS, .fd = fd, .into = into, .size = size });
+    bc_out_behind(process->shared, bc_helped(process, BC_READS, fd));
+    return (ssize_t)bc_concluded(process, answer);
 }
 
 /* A call that gives no bytes. */
@@ -120,7 +129,19 @@ static void unlist_pieces(bc_shared *shared, const struct bc_pieces *pieces)
     bc_unlock(shared);
 }
 
-ssize_t bc_write(const bc_process *process, int fd, const void *bytes, size_t size)
+/* A write of one piece. */
+static ssize_t write_whole(const bc_process *process, int fd, const void *bytes, size_t size)
+{
+    if (!bc_in(process))
+        return -1;
+    bindingclay_answer answer = bindingclay_write(process->shared->clay, process->pid, fd, bytes, size);
+    if (answer.kind == BINDINGCLAY_PARKED)
+        return waited(process, answer, (struct bc_room){ .kind = BC_WRITES, .fd = fd });
+    bc_out_behind(process->shared, bc_helped(process, BC_WRITES, fd));
+    return (ssize_t)bc_concluded(process, answer);
+}
+
+static ssize_t write_by_pieces(const bc_process *process, int fd, const void *bytes, size_t size)
 {
     const struct bc_room room = { .kind = BC_WRITES, .fd = fd };
     struct bc_pieces pieces = { .pid = process->pid, .fd = fd };
@@ -145,6 +166,11 @@ ssize_t bc_write(const bc_process *process, int fd, const void *bytes, size_t si
     if (answer.kind == BINDINGCLAY_DONE)
         answer.value = written;
     return (ssize_t)bc_concluded(process, answer);
+}
+
+ssize_t bc_write(const bc_process *process, int fd, const void *bytes, size_t size)
+{
+    return size <= WHOLE ? write_whole(process, fd, bytes, size) : write_by_pieces(process, fd, bytes, size);
 }
 
 /* ---- Several buffers ---- */

@@ -215,16 +215,16 @@ static inline unsigned bc_group_of(const bc_process *process, int fd)
 
 /* How many calls that wait may have been helped by a step that is answered. A read makes room, so it helps the writes of its pipe, and a write helps
  * the reads of its pipe. Of other calls that wait nobody knows, and other steps may help all. */
-static inline uint32_t bc_helped(const bc_process *process, const struct bc_room *room)
+static inline uint32_t bc_helped(const bc_process *process, enum bc_kind kind, int fd)
 {
     const bc_shared *shared = process->shared;
-    uint32_t others = shared->waiting - shared->waiting_alike[room->kind];
-    if (others == 0 || (room->kind != BC_READS && room->kind != BC_WRITES))
+    uint32_t others = shared->waiting - shared->waiting_alike[kind];
+    if (others == 0 || (kind != BC_READS && kind != BC_WRITES))
         return others;
-    enum bc_kind opposite = room->kind == BC_READS ? BC_WRITES : BC_READS;
+    enum bc_kind opposite = kind == BC_READS ? BC_WRITES : BC_READS;
     if (others > shared->waiting_alike[opposite])
         return others;
-    return shared->waiting_at[opposite][bc_group_of(process, room->fd)];
+    return shared->waiting_at[opposite][bc_group_of(process, fd)];
 }
 
 static inline void bc_out(bc_shared *shared)
@@ -254,7 +254,7 @@ static inline bindingclay_answer bc_awaited(
 {
     if (answer.kind == BINDINGCLAY_PARKED)
         return bc_wait(process, answer, room, deadline);
-    bc_out_behind(process->shared, bc_helped(process, room));
+    bc_out_behind(process->shared, bc_helped(process, room->kind, room->fd));
     return answer;
 }
 
