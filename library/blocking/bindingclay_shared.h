@@ -63,7 +63,7 @@ typedef int (*bc_sleep_hook)(void *context, sem_t *answered);
 /* ---- Kernels ---- */
 
 /* Makes a kernel within limits, and writes it to *shared. Null limits are BINDINGCLAY_LIMITS. Returns 0, or -1 with ENOMEM if memory runs out or
- * a limit lets a pipe or a file have more bytes than any may. Close it with bc_shared_close. */
+ * a limit lets a pipe or a file have more bytes than any may, or a process more descriptors. Close it with bc_shared_close. */
 int bc_shared_open(const bindingclay_limits *limits, bc_shared **shared);
 
 /* Frees a kernel and all that it holds. Nothing may use it from then on. Returns 0, or -1 with EBUSY if a call waits: then nothing changed. */

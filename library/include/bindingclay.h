@@ -71,6 +71,9 @@ extern "C" {
 /* The most bytes that a pipe can be made to hold. bindingclay_open_within may limit it further. */
 #define BINDINGCLAY_MOST_CAPACITY 1048576
 
+/* The most descriptors of a process. bindingclay_open_within may limit it further. */
+#define BINDINGCLAY_MOST_DESCRIPTORS 256
+
 /* The most bytes of one read or write. A larger one is cut to this many of its bytes, the first ones, and counts only these. */
 #define BINDINGCLAY_MOST_BYTES 16777216
 
@@ -152,11 +155,15 @@ typedef struct {
     uint32_t capacity;
     /* The most bytes of a regular file. At most BINDINGCLAY_MOST_FILE_BYTES. */
     uint32_t file_max;
+    /* The most descriptors of a process, numbered from 0 (getrlimit, RLIMIT_NOFILE). None from this number on is free: a call that would
+     * give one fails with EMFILE. At most BINDINGCLAY_MOST_DESCRIPTORS. A poll takes up to 256 entries all the same. */
+    uint64_t descriptors_max;
 } bindingclay_limits;
 
 /* The limits if nobody sets any: bindingclay_limits limits = BINDINGCLAY_LIMITS; */
 #define BINDINGCLAY_LIMITS \
-    { sizeof(bindingclay_limits), 1, UINT64_MAX, UINT64_MAX, UINT64_MAX, BINDINGCLAY_MOST_CAPACITY, BINDINGCLAY_MOST_FILE_BYTES }
+    { sizeof(bindingclay_limits), 1, UINT64_MAX, UINT64_MAX, UINT64_MAX, BINDINGCLAY_MOST_CAPACITY, BINDINGCLAY_MOST_FILE_BYTES, \
+        BINDINGCLAY_MOST_DESCRIPTORS }
 
 /* How much memory a kernel takes, in bytes as they were asked of malloc and realloc. The block that holds the kernel itself and the block
  * that holds this count, some hundred bytes, are no part of it. */
@@ -182,14 +189,14 @@ void bindingclay_end(bindingclay clay, void **budget);
 void bindingclay_tell_memory(bindingclay clay, bindingclay_memory_use *memory);
 
 /* Makes a kernel without processes, within limits, and writes its pointer to *kernel. Returns false, and writes nothing, if memory runs
- * out. It does the same if a limit lets a pipe or a file have more bytes than any may. So it does if size isn't the size of such a struct.
- * The kernel is yours: free it with bindingclay_free. */
+ * out. It does the same if a limit lets a pipe or a file have more bytes than any may, or a process more descriptors. So it does if size
+ * isn't the size of such a struct. The kernel is yours: free it with bindingclay_free. */
 static inline bool bindingclay_open_within(const bindingclay_limits *limits, void **kernel)
 {
     void *budget = NULL;
     if (limits->size % sizeof(uint64_t) != 0)
         return false;
-    /* its fields are words, of which the last two share one */
+    /* its fields are words, except that capacity and file_max share one */
     if (bindingclay_open_words((const uint64_t *)(const void *)limits, limits->size / sizeof(uint64_t), kernel, &budget))
         return true;
     BINDINGCLAY_FREE(budget);
@@ -436,11 +443,12 @@ bindingclay_answer bindingclay_poll(
 bindingclay_answer bindingclay_dup(bindingclay clay, uint32_t pid, int32_t fd);
 
 /* Makes target name what fd names too (dup2). What target named is closed. If that is the same description, nothing changes. Value: target.
- * Fails with EBADF if fd isn't open, or target isn't within 0 to 255. Asks for no memory. */
+ * Fails with EBADF if fd isn't open, or target is below 0 or not below the limit descriptors_max. Asks for no memory. */
 bindingclay_answer bindingclay_dup2(bindingclay clay, uint32_t pid, int32_t fd, int32_t target);
 
 /* Makes the least free descriptor from least on name what fd names too (fcntl, F_DUPFD). Value: that descriptor. Fails with EBADF if fd
- * isn't open, with EINVAL if least isn't within 0 to 255, and with EMFILE if none is free. Asks for no memory. */
+ * isn't open, with EINVAL if least is below 0 or not below the limit descriptors_max, and with EMFILE if none is free. Asks for no
+ * memory. */
 bindingclay_answer bindingclay_dup_fd(bindingclay clay, uint32_t pid, int32_t fd, int32_t least);
 
 /* Closes a descriptor (close). Fails with EBADF if it isn't open. Asks for no memory. */

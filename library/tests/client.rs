@@ -14,6 +14,7 @@ const EBADF: i32 = 9;
 const EAGAIN: i32 = 11;
 const EBUSY: i32 = 16;
 const EINVAL: i32 = 22;
+const EMFILE: i32 = 24;
 const ENOSPC: i32 = 28;
 const EPIPE: i32 = 32;
 
@@ -312,7 +313,8 @@ fn kernels(checks: &mut Checks) {
 fn limits(checks: &mut Checks) {
     let default = Limits::default();
     checks.is(Clay::open_within(&Limits { capacity: MOST_CAPACITY + 1, ..default }).is_none(), true);
-    let few = Limits { first_call: 7, names: 1, waiting_calls: 1, capacity: 65_536, file_max: 3, ..default };
+    checks.is(Clay::open_within(&Limits { descriptors_max: MOST_DESCRIPTORS + 1, ..default }).is_none(), true);
+    let few = Limits { first_call: 7, names: 1, waiting_calls: 1, capacity: 65_536, file_max: 3, descriptors_max: 4, ..default };
     let mut clay = Clay::open_within(&few).expect("memory for a kernel");
     checks.is(clay.start(), Ok(1));
     checks.is(clay.open_name(1, b"f", O_RDWR | O_CREAT), done(0));
@@ -322,6 +324,10 @@ fn limits(checks: &mut Checks) {
     checks.is(clay.set_pipe_sz(1, 1, 65_537), Err(NotDone::Fault(EPERM)));
     checks.is(clay.read(1, 1, &mut [0]), parked(7));
     checks.is(clay.read(1, 1, &mut [0]), Err(NotDone::Fault(EAGAIN)));
+    checks.is(clay.pipe(1, false), Err(NotDone::Fault(EMFILE)));
+    checks.is(clay.dup2(1, 0, 4), Err(NotDone::Fault(EBADF)));
+    checks.is(clay.dup_fd(1, 0, 4), Err(NotDone::Fault(EINVAL)));
+    checks.is(clay.dup(1, 0), Ok(3));
 
     let mut clay = Clay::open_within(&Limits { memory: 65_536, ..default }).expect("memory for a kernel");
     checks.is(clay.memory(), Memory { held: 0, peak: 0, most: 65_536, spare: 0 });
@@ -422,7 +428,7 @@ fn records(checks: &mut Checks) {
     checks.is(clay.exit(1), Ok(()));
     let mut record = Vec::new();
     checks.is(clay.write_record(&mut record).ok(), Some(record.len() as u64));
-    checks.is(record.ends_with(b"1048576\nstart\n# => pid 1\n1 exit\n# => ok\n"), true);
+    checks.is(record.ends_with(b"--descriptors-max 256\nstart\n# => pid 1\n1 exit\n# => ok\n"), true);
     checks.is(clay.recorded(&mut piece), Ok(0));
     clay.end_record();
     checks.is(clay.recorded(&mut []), Err(NotDone::Fault(EINVAL)));

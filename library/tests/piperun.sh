@@ -371,12 +371,13 @@ piperun_checks_within_a_header() {
 # before them.
 piperun_keeps_within_limits() {
     printf 'start\n1 pipe\n1 open a w creat\n1 open b w creat\n1 write 2 616263\n1 read 0 1\n1 read 0 1\n1 setsz 1 65537\n' > "$work/limits.script"
-    printf 'pid 1\nfds 0 1\nfd 2\nENOSPC\ncount 2\nparked 7\nEAGAIN\nEPERM\n' > "$work/limits.out"
-    set -- --first-call 7 --file-max 2 --names-max=1 --waiting-max 1 --capacity-max 65536
+    printf '1 dup 0\n1 dup 0\n1 dup2 0 4\n1 dupfd 0 4\n' >> "$work/limits.script"
+    printf 'pid 1\nfds 0 1\nfd 2\nENOSPC\ncount 2\nparked 7\nEAGAIN\nEPERM\nfd 3\nEMFILE\nEBADF\nEINVAL\n' > "$work/limits.out"
+    set -- --first-call 7 --file-max 2 --names-max=1 --waiting-max 1 --capacity-max 65536 --descriptors-max 4
     piperun_answers 0 "$work/limits.out" '' "$@" "$work/limits.script" || return 1
     piperun_answers 0 "$work/limits.out" '' --live "$@" "$work/limits.script" || return 1
     paste -d '\n' "$work/limits.script" "$work/limits.out" | sed 'n;s/^/# => /' > "$work/limits.record"
-    echo '8 replies as recorded' > "$work/as_recorded"
+    echo '12 replies as recorded' > "$work/as_recorded"
     piperun_answers 0 "$work/as_recorded" '' --check "$@" "$work/limits.record" || return 1
     { echo '# piperun --file-max 2'; cat "$work/limits.record"; } > "$work/named.record"
     piperun_answers 0 "$work/as_recorded" '' --check "$@" "$work/named.record" || return 1
@@ -386,11 +387,12 @@ piperun_keeps_within_limits() {
 
 # Whether piperun refuses limits that are out of their range.
 piperun_refuses_limits() {
-    for limit in --file-max=16777217 --capacity-max=1048577 --names-max=18446744073709551616 --waiting-max=-1 --waiting-max=two; do
+    for limit in --file-max=16777217 --capacity-max=1048577 --descriptors-max=257 --names-max=18446744073709551616 --waiting-max=-1 \
+        --waiting-max=two; do
         piperun_answers 2 /dev/null 'piperun: bad command line' "$limit" "$examples/session.script" || return 1
     done
-    piperun_answers 0 "$examples/session.out" '' --file-max 16777216 --capacity-max=1048576 --names-max 18446744073709551615 \
-        "$examples/session.script"
+    piperun_answers 0 "$examples/session.out" '' --file-max 16777216 --capacity-max=1048576 --descriptors-max=256 \
+        --names-max 18446744073709551615 "$examples/session.script"
 }
 
 # Whether piperun tells its version, which is that of the library's header, and reads no script.

@@ -34,7 +34,7 @@ static bool tells(const char *file, int line, bindingclay clay, const char *text
 #define TELLS_NOTHING() TELLS("")
 
 static const char HEADER[] = "piperun 2\n# piperun --first-call 1 --file-max 16777216 --names-max 18446744073709551615 --waiting-max "
-                             "18446744073709551615 --capacity-max 1048576\n";
+                             "18446744073709551615 --capacity-max 1048576 --descriptors-max 256\n";
 
 static void begin_record(void)
 {
@@ -278,20 +278,26 @@ static void limits_are_told(void)
     limits.waiting_calls = 2;
     limits.capacity = 65536;
     limits.file_max = 3;
+    limits.descriptors_max = 3;
     HOLDS(bindingclay_open_within(&limits, &clay.kernel));
     begin_record();
     DONE(bindingclay_record(clay, true), 0);
-    TELLS("piperun 2\n# piperun --first-call 18446744073709551614 --file-max 3 --names-max 1 --waiting-max 2 --capacity-max 65536\n");
+    TELLS("piperun 2\n# piperun --first-call 18446744073709551614 --file-max 3 --names-max 1 --waiting-max 2 --capacity-max 65536 "
+          "--descriptors-max 3\n");
     DONE(bindingclay_start(clay), 1);
     NEW_PIPE(clay, 1, false);
     PARKED(take(clay, 1, 0, 1), UINT64_MAX - 1);
     OTHER(take(clay, 1, 0, 1), BINDINGCLAY_CALLS_SPENT);
     FAULT(bindingclay_set_pipe_sz(clay, 1, 0, 65537), EPERM);
     DONE(open_text(clay, 1, "f", O_WRONLY | O_CREAT), 2);
+    FAULT(open_text(clay, 1, "g", O_WRONLY | O_CREAT), EMFILE);
+    FAULT(bindingclay_dup2(clay, 1, 2, 3), EBADF);
+    DONE(bindingclay_close(clay, 1, 1), 0);
     FAULT(open_text(clay, 1, "g", O_WRONLY | O_CREAT), ENOSPC);
     DONE(put(clay, 1, 2, "abcd"), 3);
     TELLS("start\n# => pid 1\n1 pipe\n# => fds 0 1\n1 read 0 1\n# => parked 18446744073709551614\n1 read 0 1\n# => calls spent\n"
-          "1 setsz 0 65537\n# => EPERM\n1 open f w creat\n# => fd 2\n1 open g w creat\n# => ENOSPC\n1 write 2 61626364\n# => count 3\n");
+          "1 setsz 0 65537\n# => EPERM\n1 open f w creat\n# => fd 2\n1 open g w creat\n# => EMFILE\n1 dup2 2 3\n# => EBADF\n1 close 1\n# => ok\n"
+          "1 open g w creat\n# => ENOSPC\n1 write 2 61626364\n# => count 3\n");
     end_record(clay, "limits");
 }
 

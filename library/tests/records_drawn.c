@@ -289,6 +289,7 @@ static bindingclay drawn_kernel(void)
     limits.waiting_calls = one_in(3) ? drawn(4) : UINT64_MAX;
     limits.capacity = one_in(3) ? 65536 : BINDINGCLAY_MOST_CAPACITY;
     limits.file_max = one_in(3) ? 5000 : BINDINGCLAY_MOST_FILE_BYTES;
+    limits.descriptors_max = one_in(3) ? 3 + drawn(4) : BINDINGCLAY_MOST_DESCRIPTORS;
     limits.memory = one_in(4) ? 5000 + drawn(60000) : UINT64_MAX;
     HOLDS(bindingclay_open_within(&limits, &opened.kernel));
     return opened;

@@ -52,7 +52,7 @@ static void a_call_that_waits(void)
     int ends[2];
     HOLDS(bc_record(shared, true) == 0);
     HOLDS(hands_out(shared, "piperun 2\n# piperun --first-call 1 --file-max 16777216 --names-max 18446744073709551615 --waiting-max "
-                            "18446744073709551615 --capacity-max 1048576\n"));
+                            "18446744073709551615 --capacity-max 1048576 --descriptors-max 256\n"));
     bc_process process = new_process(shared);
     HOLDS(bc_pipe2(&process, ends, 0) == 0);
     pthread_t thread = thread_of(read_five, &process);

@@ -1,11 +1,15 @@
 -- The words of `bindingclay_limits`, and what they ask for. The first one tells how many there are; later ones may be left out.
 use Rattle.std.specs.Prelude.{◌≡◌, ◌<◌, ◌⊎◌, ◌/◌, ◌%◌, ◌*◌, ◌+◌, ◌^◌, ℕ, List, length, get_or}
-use Rattle.pl_model.specs.Numbers.{most_capacity, most_file_bytes, no_limit}
+use Rattle.pl_model.specs.Numbers.{most_capacity, most_file_bytes, no_limit, open_max}
 use Rattle.bindingclay.specs.declared.limits.Asked.{Asked}
 
--- the last word: its lower half is the greatest capacity of a pipe, and its upper half the most bytes of a file
+-- the sixth word: its lower half is the greatest capacity of a pipe, and its upper half the most bytes of a file
 abbrev pub sizes : List ℕ → ℕ
 sizes words = get_or words 5 (most_file_bytes * 2 ^ 32 + most_capacity)
+
+-- the last word: the most descriptors of a process
+abbrev pub descriptors : List ℕ → ℕ
+descriptors words = get_or words 6 open_max
 
 abbrev pub asked_by : List ℕ → Asked
 asked_by words = record {
@@ -15,10 +19,11 @@ asked_by words = record {
     names_max = get_or words 3 no_limit;
     waiting_max = get_or words 4 no_limit;
     capacity_max = sizes words % 2 ^ 32;
+    descriptors_max = descriptors words;
   };
   memory = get_or words 2 no_limit;
 }
 
--- there are none of them, or more than are known, or a pipe or a file might have more bytes than any may
+-- there are none of them, or more than are known, or a pipe or a file might have more bytes than any may, or a process more descriptors
 abbrev pub AreNone : List ℕ → Type 0
-AreNone words = (length words ≡ 0) ⊎ (6 < length words) ⊎ (most_capacity < sizes words % 2 ^ 32) ⊎ (most_file_bytes < sizes words / 2 ^ 32)
+AreNone words = (length words ≡ 0) ⊎ (7 < length words) ⊎ (most_capacity < sizes words % 2 ^ 32) ⊎ (most_file_bytes < sizes words / 2 ^ 32) ⊎ (open_max < descriptors words)

@@ -1,13 +1,13 @@
 //! Limits as C hands them in: words, of which the later ones may be left out.
 ghost use Rattle.std.specs.Prelude.{◌≡◌, ◌≤◌, get_or, IfSome, MatchOption};
-ghost use Rattle.pl_model.specs.Numbers.{most_file_bytes, most_capacity};
+ghost use Rattle.pl_model.specs.Numbers.{most_file_bytes, most_capacity, open_max};
 ghost use Rattle.bindingclay.specs.Asked.{asked_by, AreNone};
 
 use pl_model::Limits;
-use pl_model::numbers::{MAX_CAPACITY, MAX_FILE_BYTES, NO_LIMIT};
+use pl_model::numbers::{MAX_CAPACITY, MAX_FILE_BYTES, NO_LIMIT, OPEN_MAX};
 
-/// The words of `bindingclay_limits`, whose last one holds two fields.
-const WORDS: usize = 6;
+/// The words of `bindingclay_limits`, whose sixth one holds two fields.
+const WORDS: usize = 7;
 
 /// One and the greatest number of 32 bits: how many times the upper half of a word counts.
 const HALF: u64 = 4_294_967_296;
@@ -28,10 +28,10 @@ fn word(words: &[u64], place: usize, default: u64) -> u64
 }
 
 /// What the words ask for; nothing where there are none of them, or more than are known, or a pipe or a file might have more
-/// bytes than any may.
+/// bytes than any may, or a process more descriptors.
 pub fn asked_by(words: &[u64]) -> Option<Asked>
     ensures asked { MatchOption result (AreNone words.now) (λ asked. (asked ≡ asked_by words.now) × (AreNone words.now → ⊥)) }
-    ensures most { IfSome result (λ asked. (asked.limits.file_max ≤ most_file_bytes) × (asked.limits.capacity_max ≤ most_capacity)) }
+    ensures most { IfSome result (λ asked. (asked.limits.file_max ≤ most_file_bytes) × (asked.limits.capacity_max ≤ most_capacity) × (asked.limits.descriptors_max ≤ open_max)) }
 {
     if words.is_empty() || words.len() > WORDS {
         return None;
@@ -39,7 +39,11 @@ pub fn asked_by(words: &[u64]) -> Option<Asked>
     let sizes = word(words, 5, MAX_FILE_BYTES as u64 * HALF + MAX_CAPACITY as u64);
     let capacity_max = (sizes % HALF) as u32;
     let file_max = (sizes / HALF) as u32;
-    if capacity_max > MAX_CAPACITY || file_max > MAX_FILE_BYTES {
+    let descriptors_max = word(words, 6, OPEN_MAX as u64);
+    if capacity_max > MAX_CAPACITY
+        || file_max > MAX_FILE_BYTES
+        || descriptors_max > OPEN_MAX as u64
+    {
         return None;
     }
     Some(Asked {
@@ -49,6 +53,7 @@ pub fn asked_by(words: &[u64]) -> Option<Asked>
             names_max: word(words, 3, NO_LIMIT),
             waiting_max: word(words, 4, NO_LIMIT),
             capacity_max,
+            descriptors_max: descriptors_max as u32,
         },
         memory: word(words, 2, NO_LIMIT),
     })

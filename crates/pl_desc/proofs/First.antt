@@ -57,6 +57,17 @@ module _ (test : ℕ → Bool) where
         | inr s ↦ (let apart : k ≢ y = s.1 in rest e y (omega (arith, apart)) (omega arith))
       ]
 
+  -- of fewer numbers the first is the same, if it is one of them,
+  pub first_kept : (n m k x : ℕ) → first_from test n k ≡ Some x → x < k + m → first_from test m k ≡ Some x
+  first_kept n m k x e within = let f = first_found n k x e in first_is m k x f.1 within f.0 f.3
+
+  -- and else there is none
+  pub first_cut : (n m k x : ℕ) → first_from test n k ≡ Some x → k + m ≤ x → first_from test m k ≡ None
+  first_cut n m k x e beyond = let f = first_found n k x e in first_none m k (λ y l h. f.3 y l (omega arith))
+
+  pub none_kept : (n m k : ℕ) → m ≤ n → first_from test n k ≡ None → first_from test m k ≡ None
+  none_kept n m k fewer e = first_none m k (λ y l h. first_fails n k e y l (omega arith))
+
 -- tests that agree on these numbers have the same first of them
 pub first_agree : (p q : ℕ → Bool) (n k : ℕ) → ((y : ℕ) → k ≤ y → y < k + n → p y ≡ q y) → first_from p n k ≡ first_from q n k
 unfolding first_from

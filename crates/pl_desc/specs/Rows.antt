@@ -1,5 +1,5 @@
 -- What tables and lists by key have at a place.
-use Rattle.std.specs.Prelude.{ℕ, ℤ, pos, negsuc, ◌+◌, ◌-◌, nat_lt, nat_eq, Bool, false, not, ◌&&◌, List, [], Option, None, Some, is_none, is_some, if◌then◌else◌, slice_index_or, slice_set, count_by}
+use Rattle.std.specs.Prelude.{ℕ, ℤ, pos, negsuc, ◌+◌, ◌-◌, min, nat_lt, nat_eq, Bool, false, not, ◌&&◌, List, [], Option, None, Some, is_none, is_some, if◌then◌else◌, slice_index_or, slice_set, count_by}
 use Rattle.std.specs.List.{sum_by}
 use Rattle.pl_model.specs.Numbers.{open_max, most_processes, first_from}
 
@@ -46,9 +46,9 @@ row_in table (negsuc n) = None
 abbrev pub row_of : Tables → ℕ → ℤ → Option ℕ
 row_of tables pid fd = row_in (rows_of tables pid) fd
 
--- POSIX.1-2017, File Descriptor Allocation: the least free descriptor of a process, from `least` on
-abbrev pub lowest_of : Tables → ℕ → ℕ → Option ℕ
-lowest_of tables pid least = first_from (λ fd. is_none (row_at tables pid fd)) (open_max - least) least
+-- POSIX.1-2017, File Descriptor Allocation: the least free descriptor of a process, from `least` on, which may have so many
+abbrev pub lowest_of : Tables → (most pid least : ℕ) → Option ℕ
+lowest_of tables most pid least = first_from (λ fd. is_none (row_at tables pid fd)) (min most open_max - least) least
 
 -- the least open descriptor of a process
 abbrev pub first_open : Tables → ℕ → Option ℕ

@@ -180,14 +180,14 @@ impl<A: Allocator + Copy> Descs<A> {
         self.table(pid)?.find(fd)
     }
 
-    /// The least free descriptor of a process, from `least` (0 to 256) on (POSIX.1-2017, File Descriptor Allocation). Where
-    /// there is none, a call that opens one is `EMFILE`.
-    pub fn lowest(&self, pid: u32, least: usize) -> Option<usize>
+    /// The least free descriptor of a process, from `least` (0 to 256) on, where it may have `most` of them (POSIX.1-2017, File
+    /// Descriptor Allocation; getrlimit, RLIMIT_NOFILE). Where there is none, a call that opens one is `EMFILE`.
+    pub fn lowest(&self, pid: u32, least: usize, most: u32) -> Option<usize>
         requires process { IsTrue (is_pid self.now.tables pid) }
         requires least { least ≤ open_max }
-        ensures { result ≡ lowest_of self.now.tables pid least }
+        ensures { result ≡ lowest_of self.now.tables most pid least }
     {
-        self.table(pid)?.lowest(least)
+        self.table(pid)?.lowest(least, most)
     }
 
     /// Lets a free descriptor (0 to 255) of a process name a description, by a loose hold that the caller gives up. It

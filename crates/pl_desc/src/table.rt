@@ -1,5 +1,5 @@
 //! The table of descriptors of one process.
-ghost use Rattle.std.specs.Prelude.{◌≡◌, ◌-◌, ◌<◌, ◌≤◌, length, IfOk, Some, None, nat_eq, replicate, slice_set, is_none, is_some};
+ghost use Rattle.std.specs.Prelude.{◌≡◌, ◌-◌, ◌<◌, ◌≤◌, min, length, IfOk, Some, None, nat_eq, replicate, slice_set, is_none, is_some};
 ghost use Rattle.pl_model.specs.Numbers.{open_max, first_from};
 ghost use Rattle.pl_desc.specs.Rows.{at, row_in, no_key};
 ghost use Rattle.pl_desc.specs.TableView.{bit_of};
@@ -96,12 +96,15 @@ impl<A: Allocator> Table<A> {
         self.free[fd / WIDTH] |= 1 << (fd % WIDTH);
     }
 
-    /// The least free descriptor, from `least` on (POSIX.1-2017, File Descriptor Allocation).
-    pub(crate) fn lowest(&self, least: usize) -> Option<usize>
+    /// The least free descriptor, from `least` on, below `most` (POSIX.1-2017, File Descriptor Allocation).
+    pub(crate) fn lowest(&self, least: usize, most: u32) -> Option<usize>
         requires { least ≤ open_max }
-        ensures { result ≡ first_from (λ fd. is_none (at self.now fd)) (open_max - least) least }
+        ensures { result ≡ first_from (λ fd. is_none (at self.now fd)) (min most open_max - least) least }
     {
-        least_set(&self.free, least)
+        let Some(fd) = least_set(&self.free, least) else {
+            return None;
+        };
+        if fd < most as usize { Some(fd) } else { None }
     }
 
     /// The least open descriptor, from `least` on.

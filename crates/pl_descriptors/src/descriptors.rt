@@ -44,7 +44,7 @@ pub fn dup<A: Allocator + Copy>(kernel: &mut KernelState<A>, pid: u32, fd: i32) 
 
 /// Names what a descriptor names by the target, in place of what that named, which is closed (POSIX.1-2017, dup2). It takes no memory.
 ///
-/// The reply is the target, or `EBADF` where `fd` isn't open or the target is outside 0 to 255; these leave all as it was.
+/// The reply is the target, or `EBADF` where `fd` isn't open, or the target is below 0 or no descriptor within the limit; these leave all as it was.
 pub fn dup2<A: Allocator + Copy>(
     kernel: &mut KernelState<A>,
     pid: u32,
@@ -54,10 +54,11 @@ pub fn dup2<A: Allocator + Copy>(
     requires { IsProcess kernel.old pid }
     ensures { MakesAtKeys kernel.old (Step.Begin pid (Call.Dup2 fd target)) result kernel.new }
 {
+    let most = OPEN_MAX.min(kernel.limits.descriptors_max as usize);
     let Some(key) = kernel.descs.find(pid, fd) else {
         return Reply::Fault(Errno::EBADF);
     };
-    if target < 0 || OPEN_MAX <= target as usize {
+    if target < 0 || most <= target as usize {
         return Reply::Fault(Errno::EBADF);
     }
     if let Some(other) = kernel.descs.find(pid, target) {
@@ -72,8 +73,8 @@ pub fn dup2<A: Allocator + Copy>(
 
 /// Names what a descriptor names by the least free one from `least` on (POSIX.1-2017, fcntl, F_DUPFD). It takes no memory.
 ///
-/// The reply is the new descriptor, or `EBADF` where `fd` isn't open, `EINVAL` where `least` is outside 0 to 255, or `EMFILE` where none
-/// is free; these leave all as it was.
+/// The reply is the new descriptor, or `EBADF` where `fd` isn't open, `EINVAL` where `least` is below 0 or no descriptor within the limit, or
+/// `EMFILE` where none is free; these leave all as it was.
 pub fn dup_fd<A: Allocator + Copy>(
     kernel: &mut KernelState<A>,
     pid: u32,
@@ -83,10 +84,11 @@ pub fn dup_fd<A: Allocator + Copy>(
     requires { IsProcess kernel.old pid }
     ensures { MakesAtKeys kernel.old (Step.Begin pid (Call.DupFd fd least)) result kernel.new }
 {
+    let most = OPEN_MAX.min(kernel.limits.descriptors_max as usize);
     let Some(key) = kernel.descs.find(pid, fd) else {
         return Reply::Fault(Errno::EBADF);
     };
-    if least < 0 || OPEN_MAX <= least as usize {
+    if least < 0 || most <= least as usize {
         return Reply::Fault(Errno::EINVAL);
     }
     duplicate(kernel, pid, key, least as usize)
@@ -164,9 +166,10 @@ fn duplicate<A: Allocator + Copy>(
     requires process { IsProcess kernel.old pid }
     requires least { least ≤ open_max }
     requires here { IsSome (at kernel.old.opened key) }
-    ensures { Duplicates kernel.old pid key (lowest_of kernel.old.tables pid least) result kernel.new }
+    ensures { Duplicates kernel.old pid key (lowest_of kernel.old.tables kernel.old.limits.descriptors_max pid least) result kernel.new }
 {
-    let Some(free) = kernel.descs.lowest(pid, least) else {
+    let most = kernel.limits.descriptors_max;
+    let Some(free) = kernel.descs.lowest(pid, least, most) else {
         return Reply::Fault(Errno::EMFILE);
     };
     assign(kernel, pid, free, key);

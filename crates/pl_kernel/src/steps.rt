@@ -184,6 +184,10 @@ pub(crate) fn try_again<A: Allocator + Copy>(
 pub(crate) fn can_progress<A: Allocator + Copy>(kernel: &KernelState<A>, number: u64) -> bool
     ensures { result ≡ can_progress (core_of {A = A} kernel.now) number }
 {
+    // Most calls that wait are reads.
+    if let Some(can) = pl_transfers::read_gets_on(kernel, number) {
+        return can;
+    }
     if is_poll(kernel, number) {
         return poll_can_progress(kernel, number);
     }

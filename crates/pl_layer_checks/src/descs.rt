@@ -80,7 +80,7 @@ fn fork_with_one<A: Allocator + Copy>(
     is(rt, "the parent", parent, 1);
     let key = descs.open_desc(node, Mode::Read, OpenFlags::NONBLOCK)?;
     is(rt, "readers", descs.readers(node), 1);
-    is(rt, "the lowest", descs.lowest(parent, 0), Some(0));
+    is(rt, "the lowest", descs.lowest(parent, 0, 256), Some(0));
     descs.install(parent, 0, key);
     heap.refuse(n);
     let child = copy_at_last(rt, heap, descs, parent, node)?;

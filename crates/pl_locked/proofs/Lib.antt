@@ -14,3 +14,7 @@ pub mod Subs
 pub mod Totals
 -- What a caller is told of the steps that it made.
 pub mod Waiting
+-- Where no caller waits, nobody is woken.
+pub mod Quiet
+-- What is left of a journal behind the entries that were handed out.
+pub mod Rests

@@ -93,12 +93,6 @@ module _ {A : Type 0} where
   pub none_made : (limits : Limits) (old new : CallerView A) → new.made ≡ old.made → NoneInVain limits old new
   none_made limits old new same = record { more = []; made = same ∙ sym (append-nil old.made); none = λ k d lt. absurd (omega arith) }
 
-  -- what begins a call is no try
-  pub none_begun : (limits : Limits) (most pid : ℕ) (call : Call A) (r : Reply A) (old new : CallerView A) → Gains limits most old new (Begin pid call) r → NoneInVain limits old new
-  none_begun limits most pid call r old new g =
-      let e : Entry A = entry old.number (length (of old.number g.before)) (Begin pid call) r in
-      record { more = e ∷ []; made = g.made; none = All-push (IsNotInVain limits) [] e (λ k d lt. absurd (omega arith)) (λ c is. absurd cc) }
-
   -- a try behind a history in which the call could get on
   pub none_tried : (limits : Limits) (most c : ℕ) (r : Reply A) (history : List (Entry A)) (old new : CallerView A)
       → Gains limits most old new (Resume c) r → IsBehind history new → CouldGetOn limits history c → NoneInVain limits old new

@@ -12,6 +12,8 @@ use Rattle.pl_model.specs.declared.replies.Reply.TheVariants.{Parked}
 use Rattle.pl_model.specs.declared.history.Entry.{Entry}
 use Rattle.pl_model.specs.History.{entry, of, IsLegal, state_of_history}
 use Rattle.pl_model.specs.Waking.{can_progress}
+use Rattle.pl_state.specs.Contents.{Contents}
+use Rattle.pl_state.specs.Makes.{Stands}
 use Rattle.pl_locked.specs.declared.desk.Waiting.{Waiting}
 
 -- What a layer is made on: the name of its ledger, into how many parts that is cut, and its history word.
@@ -26,9 +28,15 @@ pub record CallerView (A : Type 0) : Type 0 where
   pub seen : List (Entry A)
   pub made : List (Entry A)
 
--- What lies under the lock: the journal, and for which call each caller waits.
+-- What is kept of a kernel's steps: the journal of all of them, of which so many first entries were handed out.
+pub record Kept (A : Type 0) : Type 0 where
+  pub journal : List (Entry A)
+  pub first : ℕ
+
+-- What lies under the lock: the journal, how many of its first entries were handed out, and for which call each caller waits.
 pub record Held (A : Type 0) : Type 0 where
   pub journal : List (Entry A)
+  pub first : ℕ
   pub waiting : List Waiting
 
 module _ {A : Type 0} where
@@ -59,9 +67,25 @@ module _ {A : Type 0} where
   IsSub (x ∷ xs) [] = ⊥
   IsSub (x ∷ xs) (y ∷ ys) = ((x ≡ y) × IsSub xs ys) ⊎ IsSub (x ∷ xs) ys
 
+  -- These entries are the rest of the journal behind its first ones, of which there are so many.
+  pub record IsRest (first : ℕ) (journal rest : List (Entry A)) : Type 0 where
+    pub before : List (Entry A)
+    pub count : length before ≡ first
+    pub all : journal ≡ before ++ rest
+
   -- The journal begins with what the caller has seen, and its entries of the caller are just those that the caller made.
   abbrev pub IsDone : List (Entry A) → CallerView A → Type 0
   IsDone journal c = IsPrefix c.seen journal × (of c.number journal ≡ c.made)
+
+  -- A layer ended so: its journal is legal, with as many entries as these callers made. It begins with what each has seen, and has just
+  -- what each made. These entries are its rest behind the first ones, and the kernel stands for the state that it leads to.
+  pub record Ends (limits : Limits) (callers : List (CallerView A)) (first : ℕ) (rest : List (Entry A)) (k : Contents A) : Type 0 where
+    pub journal : List (Entry A)
+    pub part : IsRest first journal rest
+    pub legal : IsLegal limits journal
+    pub count : length journal ≡ total_made callers
+    pub each : All (IsDone journal) callers
+    pub kernel : Stands k (state_of_history limits journal)
 
   -- The caller made nothing. It may have seen more.
   pub record Sees (old new : CallerView A) : Type 0 where

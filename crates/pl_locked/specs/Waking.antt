@@ -1,10 +1,16 @@
 -- Whom a step wakes.
-use Rattle.std.specs.Prelude.{ℕ, Bool, false, List, Option, None, if◌then◌else◌}
+use Rattle.std.specs.Prelude.{ℕ, Bool, true, false, List, Option, None, if◌then◌else◌}
 use Rattle.std.specs.List.{list_any, position}
 use Rattle.pl_model.specs.Numbered.{State}
 use Rattle.pl_model.specs.Waking.{can_progress}
 use Rattle.pl_locked.specs.declared.desk.Waiting.{Waiting}
 use Rattle.pl_locked.specs.declared.desk.Waiting.TheVariants.{Nothing, Awake, Asleep}
+
+-- a caller waits for a call
+abbrev pub waits : Waiting → Bool
+waits Nothing = false
+waits (Awake call) = true
+waits (Asleep call) = true
 
 module _ {A : Type 0} (s : State A) where
   -- a caller waits awake for a call, and that can get on

@@ -131,7 +131,7 @@ pub(crate) fn gather<N: Layer, A: Allocator + Copy>(
     ensures amount { all.new.amount ≡ all.old.amount + total_made callers.items }
     ensures bound { all.new.parts ≤ N.parts }
     ensures recorded { recorded.new ≡ recorded.old }
-    ensures each { All (λ c. IsPrefix c.seen recorded.old × IsSub c.made (of c.number recorded.old)) callers.items }
+    ensures each { All (λ c. IsPrefix c.seen recorded.old.journal × IsSub c.made (of c.number recorded.old.journal)) callers.items }
 {
     while let Some(caller) = callers.pop() {
         let (share, eye) = caller.into_parts();

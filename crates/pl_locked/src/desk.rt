@@ -1,17 +1,16 @@
 //! What lies under the lock.
-ghost use Rattle.std.specs.Prelude.{◌≡◌, ℕ, ◌<◌, ◌≤◌, [], ◌∷◌, ◌++◌, ◌+◌, length, IfOk, IfSome, OnErr, IsErrOf, ◌↔◌, replicate, slice_set};
-ghost use Rattle.std.specs.List.{All, list_any, position};
-ghost use Rattle.pl_model.specs.History.{entry, of, IsLegal, state_of_history};
-ghost use Rattle.pl_state.specs.Makes.{Stands};
-ghost use Rattle.pl_locked.specs.Views.{Full, Gains, HasCaller, IsDone, Shown, total_made};
+ghost use Rattle.std.specs.Prelude.{◌≡◌, ℕ, ◌<◌, ◌≤◌, ◌^◌, [], ◌∷◌, ◌++◌, ◌+◌, length, IfOk, IfSome, OnErr, IsErrOf, ◌↔◌, replicate, slice_set};
+ghost use Rattle.std.specs.List.{list_any, position};
+ghost use Rattle.pl_model.specs.History.{entry, of, state_of_history};
+ghost use Rattle.pl_locked.specs.Views.{Ends, Full, Gains, HasCaller, IsRest, Shown};
 ghost use Rattle.pl_locked.specs.Journals.{Owes, KeepsItsNumber};
 ghost use Rattle.pl_locked.specs.declared.desk.Waiting.TheVariants.{Nothing as Idle};
-ghost use Rattle.pl_locked.specs.Waking.{is_helped_awake, is_helped_asleep, to_wake};
+ghost use Rattle.pl_locked.specs.Waking.{waits, is_helped_awake, is_helped_asleep, to_wake};
 ghost use Rattle.pl_model.specs.Waking.{can_progress};
 
 use crate::caller::{Caller, gather};
 use crate::fault::StepFault;
-use crate::journal::Journal;
+use crate::journal::JournalPart;
 use crate::recorded::Recorded;
 use pl_history::{Layer, Word};
 use pl_kernel::Kernel;
@@ -31,7 +30,21 @@ pub(crate) enum Waiting {
     Asleep(u64),
 }
 
-/// What lies under the lock of a layer. Contracts see the journal, and for which calls the callers wait.
+impl Waiting {
+    // Whether it waits for a call.
+    fn waits(&self) -> bool
+        ensures { result ≡ waits self.now }
+    {
+        match self {
+            Waiting::Nothing => false,
+            Waiting::Awake(_) => true,
+            Waiting::Asleep(_) => true,
+        }
+    }
+}
+
+/// What lies under the lock of a layer. Contracts see the journal, how many of its entries were handed out, and for which calls the callers
+/// wait.
 #[derive(Drop)]
 pub(crate) struct Desk<N: Layer, A: Allocator = Global> {
     recorded: Recorded<N, A>,
@@ -40,22 +53,26 @@ pub(crate) struct Desk<N: Layer, A: Allocator = Global> {
     book: Book<N>,
     /// The parts of the ledger that no caller has.
     rest: Share<N>,
-    /// How many steps the journal takes.
-    most: u32,
+    /// How many steps are made at most.
+    most: u64,
     /// For which call each caller waits, by the caller's number.
     waiting: Vec<Waiting, A>,
+    /// Whether no caller waits. It may be `false` for one step longer.
+    idle: bool,
 }
 
 impl<N: Layer, A: Allocator> Model for Desk<N, A> {
-    ghost use Rattle.std.specs.Prelude.{◌≡◌, length};
+    ghost use Rattle.std.specs.Prelude.{◌≡◌, ◌≤◌, ◌^◌, length, true, false};
+    ghost use Rattle.std.specs.List.{list_any};
     ghost use Rattle.pl_locked.specs.Views.{Held};
     ghost use Rattle.pl_locked.specs.Journals.{Tallies, Owes};
+    ghost use Rattle.pl_locked.specs.Waking.{waits};
 
     ghost Value = { Held A };
 
-    ghost view = { λ d. record { journal = d.recorded; waiting = d.waiting.items } };
+    ghost view = { λ d. record { journal = d.recorded.journal; first = d.recorded.first; waiting = d.waiting.items } };
 
-    ghost invariant = { λ d. Tallies N.callers N.max_steps d.recorded d.counts.items × Owes N.callers (length d.recorded) d.book.total d.rest.parts d.rest.amount × (d.most ≡ N.max_steps) × (N.parts ≡ 64) × (length d.waiting.items ≡ N.callers) };
+    ghost invariant = { λ d. Tallies N.callers N.max_steps d.recorded.journal d.counts.items × Owes N.callers (length d.recorded.journal) d.book.total d.rest.parts d.rest.amount × (d.most ≡ N.max_steps) × (N.parts ≡ 64) × (length d.waiting.items ≡ N.callers) × (N.max_steps ≤ 2 ^ 62) × (d.idle ≡ true → list_any waits d.waiting.items ≡ false) };
 }
 
 impl<N: Layer, A: Allocator + Copy> Desk<N, A> {
@@ -65,16 +82,15 @@ impl<N: Layer, A: Allocator + Copy> Desk<N, A> {
         counts: Vec<u64, A>,
         book: Book<N>,
         rest: Share<N>,
-        most: u32,
+        most: u64,
         waiting: Vec<Waiting, A>,
     ) -> Desk<N, A>
-        requires recorded { recorded ≡ [] }
+        requires recorded { recorded ≡ record { journal = []; first = 0 } }
         requires counts { counts.items ≡ replicate N.callers 0 }
         requires shares { Owes N.callers 0 book.total rest.parts rest.amount }
-        requires most { (most ≡ N.max_steps) × (N.parts ≡ 64) }
+        requires most { (most ≡ N.max_steps) × (N.parts ≡ 64) × (most ≤ 2 ^ 62) }
         requires waiting { waiting.items ≡ replicate N.callers Idle }
-        ensures journal { result.journal ≡ [] }
-        ensures waiting { result.waiting ≡ replicate N.callers Idle }
+        ensures { result ≡ record { journal = []; first = 0; waiting = replicate N.callers Idle } }
     {
         Desk {
             recorded,
@@ -83,11 +99,12 @@ impl<N: Layer, A: Allocator + Copy> Desk<N, A> {
             rest,
             most,
             waiting,
+            idle: true,
         }
     }
 
     /// How many steps were made.
-    pub(crate) fn len(&self) -> usize
+    pub(crate) fn len(&self) -> u64
         ensures { result ≡ length self.now.journal }
     {
         self.recorded.len()
@@ -96,9 +113,9 @@ impl<N: Layer, A: Allocator + Copy> Desk<N, A> {
     /// Notes for which call a caller waits.
     pub(crate) fn wait_for(&mut self, caller: u32, waiting: Waiting)
         requires { caller < N.callers }
-        ensures journal { self.new.journal ≡ self.old.journal }
-        ensures waiting { self.new.waiting ≡ slice_set self.old.waiting caller waiting }
+        ensures { self.new ≡ record self.old { waiting = slice_set self.old.waiting caller waiting } }
     {
+        self.idle = false;
         self.waiting[caller as usize] = waiting;
     }
 
@@ -150,7 +167,29 @@ impl<N: Layer, A: Allocator + Copy> Desk<N, A> {
 
     /// Whom to wake: the first caller that sleeps though its call can get on. It is nobody while a caller that is awake can get on: that one
     /// looks itself, and its step wakes the next.
-    pub(crate) fn whom_to_wake(&self) -> Option<usize>
+    #[inline(always)]
+    pub(crate) fn whom_to_wake(&mut self) -> Option<usize>
+        ensures whom { result ≡ to_wake (state_of_history {A = A} N.limits self.old.journal) self.old.waiting }
+        ensures caller { IfSome result (λ caller. caller < N.callers) }
+        ensures same { self.new ≡ self.old }
+    {
+        if self.idle {
+            return None;
+        }
+        self.idle = !self.has_waiting();
+        self.whom_of_all()
+    }
+
+    // Whether some caller waits.
+    fn has_waiting(&self) -> bool
+        ensures { result ≡ list_any waits self.now.waiting }
+    {
+        self.waiting.iter().any(|waiting| waiting.waits())
+    }
+
+    // Whom to wake, where some caller may wait. Out of line, since in most steps none does.
+    #[inline(never)]
+    fn whom_of_all(&self) -> Option<usize>
         ensures whom { result ≡ to_wake (state_of_history {A = A} N.limits self.now.journal) self.now.waiting }
         ensures caller { IfSome result (λ caller. caller < N.callers) }
     {
@@ -186,10 +225,10 @@ impl<N: Layer, A: Allocator + Copy> Desk<N, A> {
         ensures wanted { IsErrOf result StepFault.NoMemory → ¬ Full N.max_steps me.new }
         ensures unmade { OnErr result ((self.new ≡ self.old) × Shown N.limits N.max_steps me.old me.new) }
         ensures number { IfOk result (KeepsItsNumber step) }
-        ensures waiting { self.new.waiting ≡ self.old.waiting }
+        ensures rest { (self.new.waiting ≡ self.old.waiting) × (self.new.first ≡ self.old.first) }
     {
         self.show(word, me);
-        if self.recorded.len() >= self.most as usize {
+        if self.recorded.len() >= self.most {
             return Err(StepFault::JournalFull);
         }
         let place = me.number as usize;
@@ -202,18 +241,27 @@ impl<N: Layer, A: Allocator + Copy> Desk<N, A> {
         Ok(reply)
     }
 
-    /// The journal and the kernel, where all callers are here. It takes no memory.
+    /// Hands out the entries that weren't handed out yet, to a caller who has then seen the whole journal. It takes no memory.
+    pub(crate) fn hand_out(&mut self, word: &Word<N, A>, me: &mut Caller<N, A>) -> JournalPart<A>
+        ensures first { result.first ≡ self.old.first }
+        ensures part { IsRest result.first self.old.journal result.journal }
+        ensures kept { self.new ≡ record self.old { first = length self.old.journal } }
+        ensures seen { me.new ≡ record me.old { seen = self.old.journal } }
+        ensures shown { Shown N.limits N.max_steps me.old me.new }
+    {
+        self.show(word, me);
+        self.recorded.hand_out()
+    }
+
+    /// What wasn't handed out of the journal, and the kernel, where all callers are here. It takes no memory.
     pub(crate) fn finish(
         self,
         word: &Word<N, A>,
         callers: Vec<Caller<N, A>, A>,
-    ) -> (Journal<A>, Kernel<A>)
+    ) -> (JournalPart<A>, Kernel<A>)
         requires { (k : ℕ) → k < N.callers → HasCaller callers.items k }
-        ensures journal { result.0 ≡ self.journal }
-        ensures legal { IsLegal N.limits result.0 }
-        ensures count { length result.0 ≡ total_made callers.items }
-        ensures each { All (IsDone result.0) callers.items }
-        ensures kernel { Stands result.1 (state_of_history {A = A} N.limits result.0) }
+        ensures first { result.0.first ≡ self.first }
+        ensures ends { Ends N.limits callers.items result.0.first result.0.journal result.1 }
     {
         let Desk {
             mut recorded,
@@ -222,6 +270,7 @@ impl<N: Layer, A: Allocator + Copy> Desk<N, A> {
             rest,
             most: _,
             waiting: _,
+            idle: _,
         } = self;
         let mut all = rest;
         gather(callers, &mut all, word, &mut recorded);

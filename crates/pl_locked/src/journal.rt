@@ -1,5 +1,5 @@
 //! The journal of a layer.
-ghost use Rattle.std.specs.Prelude.{◌≡◌, ◌≤◌, ◌↔◌, ◌++◌, length, slice_get, option_copied, string_bytes, IfOk, OnOk, OnErr, IsTrue};
+ghost use Rattle.std.specs.Prelude.{◌≡◌, ◌≢◌, ◌≤◌, ◌↔◌, [], ◌++◌, length, IfSome, IfNone, slice_get, option_copied, string_bytes, IfOk, OnOk, OnErr, IsTrue};
 ghost use Rattle.std.specs.List.{list_all};
 ghost use Rattle.pl_model.specs.Numbers.{most_file_bytes};
 ghost use Rattle.pl_model.specs.History.{IsLegal};
@@ -16,8 +16,8 @@ use pl_recording::push_record;
 use std::alloc::{AllocError, Allocator, Global};
 use std::marker::Model;
 
-/// All steps of a layer, in the order in which they were made, each with its caller and its reply. Contracts see it as the list of
-/// its entries.
+/// Steps of a layer, in the order in which they were made, each with its caller and its reply. Contracts see it as the list of its
+/// entries.
 #[derive(Drop, Debug)]
 pub struct Journal<A: Allocator = Global> {
     entries: Vec<Entry<A>, A>,
@@ -32,6 +32,29 @@ impl<A: Allocator> Model for Journal<A> {
     ghost view = { λ j. j.entries.items };
 }
 
+/// Entries of a layer's journal that were handed out together. The parts in the order of `first`, with the one from `Locked::close` behind
+/// them, are the journal.
+#[derive(Drop, Debug)]
+pub struct JournalPart<A: Allocator = Global> {
+    /// How many entries stand before these: so many were handed out earlier.
+    pub first: u64,
+    pub journal: Journal<A>,
+}
+
+impl<A: Allocator> JournalPart<A> {
+    /// The whole journal, if nothing was handed out before.
+    pub fn into_whole(self) -> Option<Journal<A>>
+        ensures some { IfSome result (λ journal. (self.first ≡ 0) × (journal ≡ self.journal)) }
+        ensures none { IfNone result (self.first ≢ 0) }
+    {
+        if self.first == 0 {
+            Some(self.journal)
+        } else {
+            None
+        }
+    }
+}
+
 impl<A: Allocator> Journal<A> {
     /// The journal of these entries, whose memory it keeps. They may be any: whether they are what happened `replay` tells. It takes
     /// no memory.
@@ -41,7 +64,7 @@ impl<A: Allocator> Journal<A> {
         Journal { entries }
     }
 
-    /// How many steps were made.
+    /// How many entries there are.
     pub fn len(&self) -> usize
         ensures { result ≡ length self.now }
     {
@@ -64,8 +87,21 @@ impl<A: Allocator> Journal<A> {
 }
 
 impl<A: Allocator + Copy> Journal<A> {
+    /// Moves the entries of another journal behind these, so that the other has none.
+    ///
+    /// # Errors
+    ///
+    /// `AllocError` if there is no memory for it. Both are as they were.
+    pub fn append(&mut self, other: &mut Journal<A>) -> Result<(), AllocError>
+        ensures done { OnOk result ((self.new ≡ self.old ++ other.old) × (other.new ≡ [])) }
+        ensures undone { OnErr result ((self.new ≡ self.old) × (other.new ≡ other.old)) }
+    {
+        self.entries.append(&mut other.entries)
+    }
+
     /// Whether this is what happened on some kernel within these limits: a new one, on which the same steps are made in the same order,
-    /// answers just what stands here, and each entry has as its number how many of the same caller stand before it.
+    /// answers just what stands here, and each entry has as its number how many of the same caller stand before it. A part that was
+    /// handed out after the first one doesn't begin on a new kernel, so ask it of the whole journal.
     ///
     /// # Errors
     ///

@@ -1,12 +1,9 @@
 //! The layer: one lock, and the steps of its callers.
-ghost use Rattle.std.specs.Prelude.{◌≡◌, ℕ, ◌<◌, ◌≤◌, length, IfOk, IfErr, OnOk, OnErr, IsErrOf, ◌↔◌, ◌⊎◌, replicate};
-ghost use Rattle.std.specs.List.{All};
+ghost use Rattle.std.specs.Prelude.{◌≡◌, ℕ, ◌<◌, ◌≤◌, ◌^◌, length, IfOk, IfErr, OnOk, OnErr, IsErrOf, ◌↔◌, ◌⊎◌, replicate};
 ghost use Rattle.pl_locked.specs.declared.desk.Waiting.TheVariants.{Nothing as Idle};
 ghost use Rattle.pl_model.specs.Numbers.{most_file_bytes};
-ghost use Rattle.pl_model.specs.History.{IsLegal, state_of_history};
-ghost use Rattle.pl_state.specs.Makes.{Stands};
 ghost use Rattle.std.specs.Sync.Mutex.{mutex_guard_value};
-ghost use Rattle.pl_locked.specs.Views.{Full, Gains, IsBehind, IsDone, Sees, Shown, newcomers, HasCaller, IsLeastMissing, total_made};
+ghost use Rattle.pl_locked.specs.Views.{Ends, Full, Gains, IsBehind, IsRest, Sees, Shown, newcomers, HasCaller, IsLeastMissing};
 ghost use Rattle.pl_locked.specs.Journals.{KeepsItsNumber};
 
 mod calls;
@@ -15,7 +12,7 @@ use crate::caller::{Caller, deal, missing};
 use crate::desk::{Desk, Waiting};
 use crate::fault::{OpenFault, StepFault};
 use crate::ground::Ground;
-use crate::journal::Journal;
+use crate::journal::JournalPart;
 use crate::recorded::Recorded;
 use pl_history::{Layer, Word};
 use pl_kernel::{Kernel, NoMemory};
@@ -33,8 +30,8 @@ pub struct CallerMissing<N: Layer, A: Allocator = Global> {
     /// The least number that none of the callers has.
     pub number: u32,
     /// The layer, with the journal that it had. No clause can name what lies under its lock, but what `close` says holds of it too: with
-    /// all callers there it gives as many entries as they made, and begins with what each has seen. That is all of them for the caller
-    /// who made the last step.
+    /// all callers there its journal has as many entries as they made, and begins with what each has seen. That is all of them for the
+    /// caller who made the last step.
     pub locked: Locked<N, A>,
     pub callers: Vec<Caller<N, A>, A>,
 }
@@ -73,7 +70,7 @@ pub struct Locked<N: Layer, A: Allocator = Global> {
 }
 
 impl<N: Layer, A: Allocator + Copy> Locked<N, A> {
-    /// A layer over a new kernel within the limits, with so many callers, whose journal takes `max_steps` steps.
+    /// A layer over a new kernel within the limits, with so many callers, which makes at most `max_steps` steps.
     ///
     /// # Errors
     ///
@@ -83,13 +80,13 @@ impl<N: Layer, A: Allocator + Copy> Locked<N, A> {
         ground: Ground<A>,
         limits: Limits,
         callers: u32,
-        max_steps: u32,
+        max_steps: u64,
     ) -> Result<(Locked<N, A>, Vec<Caller<N, A>, A>), OpenFault>
         requires ground { (ground.name ≡ N.name) × (ground.parts ≡ N.parts) × (ground.table ≡ N.table) }
         requires limits { limits ≡ N.limits }
         requires file_max { limits.file_max ≤ most_file_bytes }
         requires callers { callers ≡ N.callers }
-        requires steps { max_steps ≡ N.max_steps }
+        requires steps { (max_steps ≡ N.max_steps) × (max_steps ≤ 2 ^ 62) }
         ensures callers { IfOk result (λ opened. opened.1.items ≡ newcomers {A = A} callers) }
         ensures bad { IsErrOf result OpenFault.BadCallers ↔ ((callers ≡ 0) ⊎ (64 < callers)) }
     {
@@ -106,14 +103,14 @@ impl<N: Layer, A: Allocator + Copy> Locked<N, A> {
         ground: Ground<A>,
         limits: Limits,
         callers: u32,
-        max_steps: u32,
+        max_steps: u64,
     ) -> Result<(Locked<N, A>, Vec<Caller<N, A>, A>), NoMemory>
         requires ground { (ground.name ≡ N.name) × (ground.parts ≡ N.parts) × (ground.table ≡ N.table) }
         requires limits { limits ≡ N.limits }
         requires file_max { limits.file_max ≤ most_file_bytes }
         requires callers { callers ≡ N.callers }
         requires few { callers ≤ 64 }
-        requires steps { max_steps ≡ N.max_steps }
+        requires steps { (max_steps ≡ N.max_steps) × (max_steps ≤ 2 ^ 62) }
         ensures { IfOk result (λ opened. opened.1.items ≡ newcomers {A = A} callers) }
     {
         let Ground {
@@ -144,7 +141,8 @@ impl<N: Layer, A: Allocator + Copy> Locked<N, A> {
         }
     }
 
-    /// Ends the layer, and gives its journal and its kernel. The callers are handed in, in any order. It takes no memory.
+    /// Ends the layer, and gives what wasn't handed out of its journal, and its kernel. The callers are handed in, in any order. It takes no
+    /// memory.
     ///
     /// # Errors
     ///
@@ -152,11 +150,8 @@ impl<N: Layer, A: Allocator + Copy> Locked<N, A> {
     pub fn close(
         self,
         callers: Vec<Caller<N, A>, A>,
-    ) -> Result<(Journal<A>, Kernel<A>), CallerMissing<N, A>>
-        ensures legal { IfOk result (λ closed. IsLegal N.limits closed.0) }
-        ensures count { IfOk result (λ closed. length closed.0 ≡ total_made callers.items) }
-        ensures each { IfOk result (λ closed. All (IsDone closed.0) callers.items) }
-        ensures kernel { IfOk result (λ closed. Stands closed.1 (state_of_history {A = A} N.limits closed.0)) }
+    ) -> Result<(JournalPart<A>, Kernel<A>), CallerMissing<N, A>>
+        ensures ends { IfOk result (λ closed. Ends N.limits callers.items closed.0.first closed.0.journal closed.1) }
         ensures here { OnOk result ((k : ℕ) → k < N.callers → HasCaller callers.items k) }
         ensures missing { IfErr result (λ fault. IsLeastMissing N.callers callers.items fault.number × (fault.callers.items ≡ callers.items)) }
     {
@@ -176,6 +171,25 @@ impl<N: Layer, A: Allocator + Copy> Locked<N, A> {
                 Ok(desk.into_inner().finish(&word, callers))
             }
         }
+    }
+
+    /// Hands out the entries of the journal that weren't handed out yet, in their order. The caller has then seen the whole journal. The layer
+    /// keeps none of these entries, and goes on: so its memory hangs on what isn't handed out, however long it lives. Any caller may ask; the
+    /// part tells how many entries were handed out before it. It waits for the lock, and takes no memory.
+    pub fn hand_out<R: Wait>(&self, rt: &R, me: &mut Caller<N, A>) -> JournalPart<A>
+        ensures part { IsRest result.first me.new.seen result.journal }
+        ensures shown { Shown N.limits N.max_steps me.old me.new }
+    {
+        self.part_of(self.lock(rt), me)
+    }
+
+    // What the desk hands out.
+    fn part_of(&self, mut desk: MutexGuard<'_, Desk<N, A>>, me: &mut Caller<N, A>) -> JournalPart<A>
+        ensures first { result.first ≡ (mutex_guard_value desk.entry).first }
+        ensures part { IsRest result.first me.new.seen result.journal }
+        ensures shown { Shown N.limits N.max_steps me.old me.new }
+    {
+        desk.hand_out(&self.word, me)
     }
 
     /// How many steps there are now; the caller has then seen them. It is one atomic load: it waits for nobody, and takes no memory.
@@ -214,7 +228,7 @@ impl<N: Layer, A: Allocator + Copy> Locked<N, A> {
         ensures unmade { OnErr result (Shown N.limits N.max_steps me.old me.new) }
     {
         let made = desk.step(&self.word, me, step);
-        let steps = desk.len() as u64;
+        let steps = desk.len();
         // Also where the step failed: whom an earlier step woke may be the caller that gives up now.
         let sleeper = desk.whom_to_wake();
         drop(desk);

@@ -65,7 +65,7 @@ fn close_whole<N: Layer>(missing: CallerMissing<N>, last: &mut Vec<Caller<N>>) -
     let handed_back = callers.len();
     let is_whole = move_last(last, &mut callers);
     match locked.close(callers) {
-        Ok((journal, _)) if is_whole => Opened::Closed(number, handed_back, journal.len()),
+        Ok((part, _)) if is_whole => { Opened::Closed(number, handed_back, part.journal.len()) }
         _ => Opened::Other,
     }
 }
@@ -101,7 +101,7 @@ fn open<N: Layer, R: Wait>(
     requires callers { callers ≡ N.callers }
     requires steps { max_steps ≡ N.max_steps }
 {
-    match Locked::<N>::open(alloc, ground, limits, callers, max_steps) {
+    match Locked::<N>::open(alloc, ground, limits, callers, u64::from(max_steps)) {
         Ok((locked, callers)) => close_twice(rt, alloc, locked, callers),
         Err(OpenFault::BadCallers) => Opened::BadCallers,
         Err(OpenFault::NoMemory) => Opened::Other,

@@ -16,6 +16,8 @@ mod closing;
 #[cfg(test)]
 mod left;
 #[cfg(test)]
+mod parts;
+#[cfg(test)]
 mod scenes;
 #[cfg(test)]
 mod storm;

@@ -122,7 +122,7 @@ fn close<N: Layer, A: Allocator + Copy>(
 ) -> Result<u32, Fault> {
     let seen = seen_by_first(&locked, callers.as_mut_slice());
     match locked.close(callers) {
-        Ok((journal, mut kernel)) => look(alloc, scene, told, seen, &journal, &mut kernel),
+        Ok((part, mut kernel)) => look(alloc, scene, told, seen, &part.journal, &mut kernel),
         Err(missing) => otherwise("a caller is missing", u64::from(missing.number), seen),
     }
 }
@@ -150,7 +150,7 @@ fn alone_on<N: Layer, R: Wait, A: Allocator + Copy>(
     requires callers { callers ≡ N.callers }
     requires steps { max_steps ≡ N.max_steps }
 {
-    match Locked::<N, A>::open(alloc, ground, limits, callers, max_steps) {
+    match Locked::<N, A>::open(alloc, ground, limits, callers, u64::from(max_steps)) {
         Ok((locked, mut callers)) => {
             let told = in_turn(rt, alloc, &locked, scene.in_turn, callers.as_mut_slice());
             close(alloc, scene, told, locked, callers)
@@ -174,7 +174,7 @@ fn together_on<N: Layer + Send + Sync, R: Threads + Wait + Sync>(
     requires callers { callers ≡ N.callers }
     requires steps { max_steps ≡ N.max_steps }
 {
-    match Locked::<N>::open(alloc, ground, limits, callers, max_steps) {
+    match Locked::<N>::open(alloc, ground, limits, callers, u64::from(max_steps)) {
         Ok((locked, mut callers)) => {
             let told = at_once(rt, alloc, &locked, scene, callers.as_mut_slice());
             close(alloc, scene, told, locked, callers)

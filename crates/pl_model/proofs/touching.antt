@@ -26,6 +26,8 @@ pub mod Idle
 pub mod InVain
 -- A call that begins, waits, and took no byte leaves every call as it was, if it opens no name.
 pub mod Begun
+-- A call that waits goes on waiting through each step that isn't of it.
+pub mod Going
 -- What a step leaves of the calls that wait, in the words of the law.
 pub mod Law
 -- A call that stays parked keeps the same descriptions, and each that stays is on the node that it was on.

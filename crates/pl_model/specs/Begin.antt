@@ -2,6 +2,7 @@
 use Rattle.std.specs.Prelude.{ℕ, ℤ, pos, negsuc, ◌+◌, ◌-◌, ◌+ℤ◌, Bool, true, false, not, ◌==◌, ◌&&◌, ◌||◌, nat_lt, nat_le, List, [], ◌∷◌, length, map, Option, option_and_then, option_map, is_none, is_some, if◌then◌else◌}
 use Rattle.std.specs.List.{list_any, filter, filter_map}
 use Rattle.std.specs.declared.option.Option.TheVariants.{None, Some}
+use Rattle.pl_model.specs.declared.calls.Limits.{Limits}
 use Rattle.pl_model.specs.declared.calls.Mode.{Mode}
 use Rattle.pl_model.specs.declared.calls.Whence.{Whence}
 use Rattle.pl_model.specs.declared.calls.Whence.TheVariants.{Set, Cur, End}
@@ -21,7 +22,7 @@ use Rattle.pl_model.specs.Trial.{Begins, Begun, Answered, Tried, pipe_at, answer
 use Rattle.pl_model.specs.Transfer.{count, file_at, moved_to}
 use Rattle.pl_model.specs.Capacity.{rounded_capacity, pipe_of, set_capacity}
 use Rattle.pl_model.specs.Poll.{masks, masks_reply}
-use Rattle.pl_model.specs.Tables.{lowest, lowest_pid, install, close_row, describe, create_file, forget_name, fork}
+use Rattle.pl_model.specs.Tables.{descriptor_limit, lowest, lowest_pid, install, close_row, describe, create_file, forget_name, fork}
 use Rattle.pl_model.specs.Fifo.{create_fifo, can_open, meet}
 
 -- the place of an open descriptor in its table
@@ -29,10 +30,10 @@ abbrev pub natural : ℤ → ℕ
 natural (pos n) = n
 natural (negsuc n) = 0
 
--- POSIX.1-2017, File Descriptor: whether a table has a place for it.
-abbrev pub is_descriptor : ℤ → Bool
-is_descriptor (pos n) = nat_lt n open_max
-is_descriptor (negsuc n) = false
+-- POSIX.1-2017, getrlimit, RLIMIT_NOFILE: whether a descriptor may be numbered so.
+abbrev pub is_descriptor : Limits → ℤ → Bool
+is_descriptor limits (pos n) = nat_lt n (descriptor_limit limits)
+is_descriptor limits (negsuc n) = false
 
 -- the number, where it isn't below 0
 abbrev pub unsigned : ℤ → Option ℕ
@@ -236,14 +237,14 @@ module _ {A : Type 0} {K : Keys} where
   unfoldable pub begin_dup2 : Core A K → ℕ → ℤ → ℤ → Begins A K
   begin_dup2 s pid fd target =
       found (open_fd s pid fd) EBADF (λ o.
-      refuse_if (not (is_descriptor target)) EBADF
+      refuse_if (not (is_descriptor s.limits target)) EBADF
       (answered (install s pid (natural target) o.key) (Fd target)))
 
   -- POSIX.1-2017, fcntl, F_DUPFD: EBADF, EINVAL, EMFILE.
   unfoldable pub begin_dup_fd : Core A K → ℕ → ℤ → ℤ → Begins A K
   begin_dup_fd s pid fd least =
       found (open_fd s pid fd) EBADF (λ o.
-      refuse_if (not (is_descriptor least)) EINVAL
+      refuse_if (not (is_descriptor s.limits least)) EINVAL
       (found (lowest s pid (natural least)) EMFILE (λ free.
       answered (install s pid free o.key) (Fd (pos free)))))
 

@@ -1,9 +1,10 @@
 -- The tables of descriptors, the names, and the processes.
-use Rattle.std.specs.Prelude.{ℕ, List, [], ◌-◌, true, false, not, nat_eq, Option, is_none}
+use Rattle.std.specs.Prelude.{ℕ, List, [], ◌-◌, min, true, false, not, nat_eq, Option, is_none}
 use Rattle.std.specs.declared.option.Option.TheVariants.{None, Some}
 use Rattle.std.specs.List.{filter}
 use Rattle.std.specs.Ordering.{nat_cmp}
 use Rattle.std.specs.Cmp.Lexicographic.{slice_cmp, pointwise}
+use Rattle.pl_model.specs.declared.calls.Limits.{Limits}
 use Rattle.pl_model.specs.declared.calls.Mode.{Mode}
 use Rattle.pl_model.specs.declared.flags.OpenFlags.{OpenFlags}
 use Rattle.pl_model.specs.Numbers.{open_max, most_processes, first_from}
@@ -11,10 +12,15 @@ use Rattle.pl_model.specs.Map.{set_at, put_in_order, without}
 use Rattle.pl_model.specs.Keys.{Keys, Node, FileNode}
 use Rattle.pl_model.specs.State.{Core, set_row, set_file, set_description}
 
+-- POSIX.1-2017, getrlimit, RLIMIT_NOFILE: how many descriptors a process may have, numbered from 0. That a greater limit counts as
+-- OPEN_MAX is our own choice.
+abbrev pub descriptor_limit : Limits → ℕ
+descriptor_limit limits = min limits.descriptors_max open_max
+
 module _ {A : Type 0} {K : Keys} where
-  -- POSIX.1-2017, File Descriptor Allocation: the least free descriptor of the process, from `least` on.
+  -- POSIX.1-2017, File Descriptor Allocation: the least free descriptor of the process, from `least` on, within the limit.
   unfoldable pub lowest : Core A K → ℕ → ℕ → Option ℕ
-  lowest s pid least = first_from (λ fd. is_none (s.rows pid fd)) (open_max - least) least
+  lowest s pid least = first_from (λ fd. is_none (s.rows pid fd)) (descriptor_limit s.limits - least) least
 
   -- Our own: the least free pid.
   unfoldable pub lowest_pid : Core A K → Option ℕ

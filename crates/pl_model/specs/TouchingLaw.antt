@@ -66,6 +66,13 @@ ResumesAlone A =
     (s : State A) (c number : ℕ) (w : Waiting A numbers) → IsWhole s → can_progress s.core c ≡ false → get nat_eq s.core.parked number ≡ Some w →
     IsUndisturbed s (step s (Resume c)).state number w
 
+-- A call that waits goes on waiting under its number, unless the step is of that call: it tries it again, interrupts it, or ends its
+-- process.
+abbrev pub EndsByItsOwn : Type 0 → Type 0
+EndsByItsOwn A =
+    (s : State A) (x : Step A) (number : ℕ) (w : Waiting A numbers) → get nat_eq s.core.parked number ≡ Some w → is_of_call x number w ≡ false →
+    IsSome (get nat_eq (step s x).state.core.parked number)
+
 -- Whatever keys the state has, the same step touches the same nodes.
 abbrev pub TouchesUnderRenaming : Type 0 → Type 0
 TouchesUnderRenaming A = (r : Renamings) (s : Core A numbers) (x : Step A) (node : Node numbers) → touches (rename r s) x (rename_node r node) ≡ touches s x node

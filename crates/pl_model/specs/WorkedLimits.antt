@@ -6,12 +6,12 @@ use Rattle.pl_model.specs.declared.calls.Step.{Step}
 use Rattle.pl_model.specs.declared.calls.Step.TheVariants.{Start, Resume, Interrupt}
 use Rattle.pl_model.specs.declared.replies.Reply.{Reply}
 use Rattle.pl_model.specs.declared.replies.Reply.TheVariants.{Pid, Fd, Fds, Count, Bytes, Size, Unit, Fault, Parked}
-use Rattle.pl_model.specs.declared.replies.Errno.TheVariants.{EAGAIN, EEXIST, EINTR, ENOENT, ENOSPC, ENXIO, EPERM}
+use Rattle.pl_model.specs.declared.replies.Errno.TheVariants.{EAGAIN, EBADF, EEXIST, EINTR, EINVAL, EMFILE, ENOENT, ENOSPC, ENXIO, EPERM}
 use Rattle.pl_model.specs.Numbers.{last_call}
-use Rattle.pl_model.specs.Flags.{creat, nonblock, poll_in}
+use Rattle.pl_model.specs.Flags.{creat, nonblock, poll_in, poll_nval}
 use Rattle.pl_model.specs.Numbered.{opening}
 use Rattle.pl_model.specs.Run.{replies}
-use Rattle.pl_model.specs.Worked.{usual, pipe, read, write}
+use Rattle.pl_model.specs.Worked.{usual, pipe, read, write, close, dup, dup2, dup_fd}
 use Rattle.pl_model.specs.WorkedFiles.{open_name, unlink}
 use Rattle.pl_model.specs.WorkedCapacity.{set_pipe_sz}
 use Rattle.pl_model.specs.WorkedFifo.{mkfifo}
@@ -64,3 +64,21 @@ CapacitiesUpToTheLimit A =
     (record (usual first_call file_max) { capacity_max = 100000 })
     (pipe ∷ set_pipe_sz 0 65536 ∷ set_pipe_sz 1 65537 ∷ set_pipe_sz 1 100001 ∷ set_pipe_sz 1 1048577 ∷ set_pipe_sz 1 4096 ∷ [])
     (Fds (pos 0) (pos 1) ∷ Size 65536 ∷ Fault EPERM ∷ Fault EPERM ∷ Fault EPERM ∷ Size 4096 ∷ [])
+
+-- where a process may have three descriptors, no fourth one is given, and none from the limit on; they are found to be open all the same
+abbrev pub DescriptorsUpToTheLimit : Type 0 → Type 0
+DescriptorsUpToTheLimit A =
+    (first_call file_max : ℕ) →
+    AnswersUnder A
+    (record (usual first_call file_max) { descriptors_max = 3 })
+    (pipe ∷ pipe ∷ dup 0 ∷ dup 0 ∷ open_name (codes "f") Mode.Both creat ∷ dup_fd 0 1 ∷ dup_fd 0 3 ∷ dup2 0 3 ∷ dup2 1 2 ∷ close 1 ∷ pipe
+    ∷ open_name (codes "f") Mode.Both creat ∷ poll_now ((pos 2, poll_in) ∷ (pos 3, poll_in) ∷ (pos 1, poll_in) ∷ (pos 0, poll_in) ∷ []) ∷ [])
+    (Fds (pos 0) (pos 1) ∷ Fault EMFILE ∷ Fd (pos 2) ∷ Fault EMFILE ∷ Fault EMFILE ∷ Fault EMFILE ∷ Fault EINVAL ∷ Fault EBADF ∷ Fd (pos 2) ∷ Unit ∷ Fault EMFILE
+    ∷ Fd (pos 1) ∷ masks 2 (0 ∷ poll_nval ∷ poll_in ∷ 0 ∷ []) ∷ [])
+
+-- a limit of 0 gives none, and one above 256 gives 256
+abbrev pub DescriptorsAtTheEnds : Type 0 → Type 0
+DescriptorsAtTheEnds A =
+    (first_call file_max : ℕ) →
+    AnswersUnder A (record (usual first_call file_max) { descriptors_max = 0 }) (pipe ∷ open_name (codes "f") Mode.Both creat ∷ []) (Fault EMFILE ∷ Fault EMFILE ∷ [])
+    × AnswersUnder A (record (usual first_call file_max) { descriptors_max = 1000 }) (pipe ∷ dup_fd 0 255 ∷ dup_fd 0 255 ∷ dup2 0 256 ∷ []) (Fds (pos 0) (pos 1) ∷ Fd (pos 255) ∷ Fault EMFILE ∷ Fault EBADF ∷ [])

@@ -5,7 +5,7 @@ ghost use Rattle.pl_model.specs.Carried.{IsSpliceOrTee};
 use crate::bytes::Bytes8;
 use crate::flags::{OpenFlags, SpliceFlags};
 use crate::name::Name;
-use crate::numbers::{MAX_CAPACITY, MAX_FILE_BYTES, NO_LIMIT};
+use crate::numbers::{MAX_CAPACITY, MAX_FILE_BYTES, NO_LIMIT, OPEN_MAX};
 use crate::polls::PollList;
 use std::alloc::{AllocError, Allocator, Global};
 
@@ -45,17 +45,21 @@ pub struct Limits {
     /// The most bytes that a pipe can be made to hold, at most 1,048,576 (fcntl(2), F_SETPIPE_SZ, EPERM). A new pipe can hold
     /// 65,536, whatever this is.
     pub capacity_max: u32,
+    /// The most descriptors of a process, which are numbered from 0; above 256 it counts as 256 (POSIX.1-2017, getrlimit,
+    /// RLIMIT_NOFILE).
+    pub descriptors_max: u32,
 }
 
 impl Limits {
-    /// Calls are numbered from 1, a file has at most 16,777,216 bytes, a pipe at most 1,048,576; names and waiting calls have
-    /// no limit but memory.
+    /// Calls are numbered from 1, a file has at most 16,777,216 bytes, a pipe at most 1,048,576, a process at most 256 descriptors;
+    /// names and waiting calls have no limit but memory.
     pub const DEFAULT: Limits = Limits {
         first_call: 1,
         file_max: MAX_FILE_BYTES,
         names_max: NO_LIMIT,
         waiting_max: NO_LIMIT,
         capacity_max: MAX_CAPACITY,
+        descriptors_max: OPEN_MAX as u32,
     };
 }
 

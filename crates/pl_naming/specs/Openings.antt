@@ -25,5 +25,5 @@ module _ {A : Type 0} (k : Contents A) (pid : ℕ) (name : List ℕ) (mode : Mod
   pub record MayOpen (fd : ℕ) (found : Option Node) : Type 0 where
     pub begun : begin (core_of k) pid (Call.OpenName name mode flags) ≡ open_named (core_of k) pid fd name (option_map node_of found) mode flags
     pub named : get (pointwise nat_eq) k.nodes.names name ≡ found
-    pub lowest : lowest_of k.tables pid 0 ≡ Some fd
+    pub lowest : lowest_of k.tables k.limits.descriptors_max pid 0 ≡ Some fd
     pub few : live_count k.opened < most_descriptions

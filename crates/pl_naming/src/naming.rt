@@ -102,7 +102,7 @@ fn checked_open<A: Allocator + Copy>(
     if let Some(errno) = open_fault(found.is_some(), creates, is_exclusive) {
         return Err(errno);
     }
-    let Some(fd) = kernel.descs.lowest(pid, 0) else {
+    let Some(fd) = kernel.descs.lowest(pid, 0, kernel.limits.descriptors_max) else {
         return Err(Errno::EMFILE);
     };
     if MAX_DESCRIPTIONS <= kernel.descs.live() {
@@ -121,7 +121,7 @@ fn open_file<A: Allocator + Copy>(
     flags: OpenFlags,
 ) -> Result<Reply<A>, NoMemory>
     requires process { IsProcess kernel.old pid }
-    requires lowest { lowest_of kernel.old.tables pid 0 ≡ Some fd }
+    requires lowest { lowest_of kernel.old.tables kernel.old.limits.descriptors_max pid 0 ≡ Some fd }
     requires few { live_count kernel.old.opened < most_descriptions }
     requires there { IsSome (at kernel.old.nodes.files file) }
     ensures done { IfOk result (λ reply. (name : List ℕ) → MayOpen kernel.old pid name mode flags fd (Some (Node.File file)) → MakesAtKeys kernel.old (Step.Begin pid (Call.OpenName name mode flags)) reply kernel.new) }

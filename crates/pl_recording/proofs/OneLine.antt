@@ -206,4 +206,5 @@ limits_line limits =
     (behind (codes " --file-max ") limits.file_max _ (literal (codes " --file-max ") refl)
     (behind (codes " --names-max ") limits.names_max _ (literal (codes " --names-max ") refl)
     (behind (codes " --waiting-max ") limits.waiting_max _ (literal (codes " --waiting-max ") refl)
-    (both (codes " --capacity-max ") (decimal limits.capacity_max) (literal (codes " --capacity-max ") refl) (number_line limits.capacity_max)))))
+    (behind (codes " --capacity-max ") limits.capacity_max _ (literal (codes " --capacity-max ") refl)
+    (both (codes " --descriptors-max ") (decimal limits.descriptors_max) (literal (codes " --descriptors-max ") refl) (number_line limits.descriptors_max))))))

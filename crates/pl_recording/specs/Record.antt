@@ -21,7 +21,8 @@ limits_text limits =
     ++ (codes " --file-max " ++ (decimal limits.file_max
     ++ (codes " --names-max " ++ (decimal limits.names_max
     ++ (codes " --waiting-max " ++ (decimal limits.waiting_max
-    ++ (codes " --capacity-max " ++ decimal limits.capacity_max))))))))
+    ++ (codes " --capacity-max " ++ (decimal limits.capacity_max
+    ++ (codes " --descriptors-max " ++ decimal limits.descriptors_max))))))))))
 
 -- the lines in front of all steps
 abbrev pub header : Limits → List ℕ

@@ -33,7 +33,8 @@ fn push_limits<A: Allocator + Copy>(text: &mut String<A>, limits: Limits) -> Res
     push_number(text, " --file-max ", limits.file_max)?;
     push_number(text, " --names-max ", limits.names_max)?;
     push_number(text, " --waiting-max ", limits.waiting_max)?;
-    push_number(text, " --capacity-max ", limits.capacity_max)
+    push_number(text, " --capacity-max ", limits.capacity_max)?;
+    push_number(text, " --descriptors-max ", limits.descriptors_max)
 }
 
 /// Adds the lines in front of a record, or a front of them where there is no memory for them.

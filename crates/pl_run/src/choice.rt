@@ -122,14 +122,15 @@ fn with_option<'a>(
     command.arg(Arg::new(alloc, name).long(name))
 }
 
-/// The command with the options `--file-max N`, `--names-max N`, `--waiting-max N` and `--capacity-max N`.
+/// The command with the options `--file-max N`, `--names-max N`, `--waiting-max N`, `--capacity-max N` and `--descriptors-max N`.
 fn with_limits<'a>(alloc: Global, command: Command<'a>) -> Result<Command<'a>, AllocError>
     ensures { IfOk result (λ made. app_of made ≡ with_limits (app_of command.entry)) }
 {
     let command = with_option(alloc, command, "file-max")?;
     let command = with_option(alloc, command, "names-max")?;
     let command = with_option(alloc, command, "waiting-max")?;
-    with_option(alloc, command, "capacity-max")
+    let command = with_option(alloc, command, "capacity-max")?;
+    with_option(alloc, command, "descriptors-max")
 }
 
 /// The command `piperun [OPTION ..] [FILE]`, with all of these options.

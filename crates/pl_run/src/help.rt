@@ -16,6 +16,9 @@ FILE, or standard input where there is none. LIMIT is one of these:
       --capacity-max N
                       the most bytes that setsz gives a pipe; else it is
                       1048576, the most
+      --descriptors-max N
+                      the most descriptors of a process; else it is 256, the
+                      most
 
       --memory BYTES  the most bytes that the script, what it makes and its
                       output may take at once; a call that finds none prints
@@ -67,8 +70,9 @@ Each line of a script is one call, a question or a comment:
   # => TEXT                            of a record: the last reply is TEXT
   # piperun --first-call N             of a record, as its first line: names
                                        its limits, also --file-max N,
-                                       --names-max N, --waiting-max N and
-                                       --capacity-max N
+                                       --names-max N, --waiting-max N,
+                                       --capacity-max N and
+                                       --descriptors-max N
 
 BYTES is an even number of hexadecimal digits, N*hh for N times the byte hh, or
 - for none. NAME is printable, with %hh for any other byte and for %, or - for

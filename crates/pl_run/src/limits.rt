@@ -30,17 +30,25 @@ pub(crate) fn limits_of(matches: &ArgMatches) -> Result<Limits, Fault>
 {
     let most_bytes = u64::from(LIMITS.file_max);
     let most_capacity = u64::from(LIMITS.capacity_max);
+    let most_descriptors = u64::from(LIMITS.descriptors_max);
     let first_call = limit_of(matches, "first-call", u64::MAX, LIMITS.first_call)?;
     let file_max = limit_of(matches, "file-max", most_bytes, most_bytes)?;
     let names_max = limit_of(matches, "names-max", u64::MAX, LIMITS.names_max)?;
     let waiting_max = limit_of(matches, "waiting-max", u64::MAX, LIMITS.waiting_max)?;
     let capacity_max = limit_of(matches, "capacity-max", most_capacity, most_capacity)?;
+    let descriptors_max = limit_of(
+        matches,
+        "descriptors-max",
+        most_descriptors,
+        most_descriptors,
+    )?;
     Ok(Limits {
         first_call,
         file_max: file_max as u32,
         names_max,
         waiting_max,
         capacity_max: capacity_max as u32,
+        descriptors_max: descriptors_max as u32,
     })
 }
 

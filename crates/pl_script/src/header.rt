@@ -10,7 +10,7 @@ use crate::fault::ScriptFault;
 use crate::running::header_lines;
 use pl_lines::{next_line, split_version};
 use pl_model::Limits;
-use pl_model::numbers::{MAX_CAPACITY, MAX_FILE_BYTES};
+use pl_model::numbers::{MAX_CAPACITY, MAX_FILE_BYTES, OPEN_MAX};
 use pl_words::{next_word, parse_u64, without_return};
 
 /// The limits with the one that the option names set to this; `None` where no option has this name, or the number is out of its range.
@@ -49,6 +49,14 @@ fn with_limit(limits: Limits, option: &[u8], n: u64) -> Option<Limits>
         }
         Some(Limits {
             capacity_max: n as u32,
+            ..limits
+        })
+    } else if option == b"--descriptors-max".as_slice() {
+        if n > OPEN_MAX as u64 {
+            return None;
+        }
+        Some(Limits {
+            descriptors_max: n as u32,
             ..limits
         })
     } else {
@@ -106,7 +114,8 @@ fn limits_of_lines(limits: Limits, body: &[u8]) -> Option<Limits>
 
 /// The limits of a record: those given, with those that its header sets. The header is a comment `# piperun OPTION NUMBER ..`, as the
 /// first line, or behind the one that names the version. The options are `--first-call`, `--file-max` up to 16,777,216, `--names-max`,
-/// `--waiting-max` and `--capacity-max` up to 1,048,576. Every number is below 2^64, and of an option that stands twice the last counts.
+/// `--waiting-max`, `--capacity-max` up to 1,048,576 and `--descriptors-max` up to 256. Every number is below 2^64, and of an option that
+/// stands twice the last counts.
 ///
 /// # Errors
 ///

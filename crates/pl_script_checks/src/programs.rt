@@ -81,6 +81,14 @@ const PROGRAMS: &[Program] = &[
         line: "",
         status: 0,
     },
+    // A process gets no descriptor from its limit on.
+    Program {
+        words: &["--descriptors-max", "2"],
+        input: "start\n1 pipe\n1 dup 0\n1 dup2 0 2\n1 dupfd 0 2\n",
+        output: "pid 1\nfds 0 1\nEMFILE\nEBADF\nEINVAL\n",
+        line: "",
+        status: 0,
+    },
     // A limit that the record names goes before that of the command line.
     Program {
         words: &["--check", "--waiting-max", "0", "--capacity-max", "65536"],

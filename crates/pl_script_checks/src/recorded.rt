@@ -15,6 +15,7 @@ const LIMITS: Limits = Limits {
     names_max: 3,
     waiting_max: 2,
     capacity_max: 65_536,
+    descriptors_max: 32,
 };
 
 const MADE: &[(Ask, Want)] = &[
@@ -26,7 +27,7 @@ const MADE: &[(Ask, Want)] = &[
 ];
 
 const RECORD: &str = "piperun 2
-# piperun --first-call 7 --file-max 4096 --names-max 3 --waiting-max 2 --capacity-max 65536
+# piperun --first-call 7 --file-max 4096 --names-max 3 --waiting-max 2 --capacity-max 65536 --descriptors-max 32
 start
 # => pid 1
 1 pipe

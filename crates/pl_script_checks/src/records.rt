@@ -97,6 +97,18 @@ const RECORDS: &[Record] = &[
         all: "",
         end: Ok((6, 0)),
     },
+    Record {
+        script: "# piperun --descriptors-max 2\nstart\n1 pipe\n1 dup 0\n# => EMFILE\n1 dup2 0 2\n# => EBADF\n1 dupfd 0 2\n# => EINVAL\n",
+        first: "",
+        all: "",
+        end: Ok((3, 0)),
+    },
+    Record {
+        script: "# piperun --descriptors-max 256\nstart\n1 pipe\n1 dupfd 0 255\n# => fd 255\n",
+        first: "",
+        all: "",
+        end: Ok((1, 0)),
+    },
     // A header that stands elsewhere is a comment.
     Record {
         script: "start\n# piperun --first-call 7\n1 pipe\n1 read 0 1\n# => parked 1\n",
@@ -125,6 +137,12 @@ const RECORDS: &[Record] = &[
     },
     Record {
         script: "# piperun --capacity-max 1048577\n",
+        first: "",
+        all: "",
+        end: Err(ScriptFault::BadLine(1)),
+    },
+    Record {
+        script: "# piperun --descriptors-max 257\n",
         first: "",
         all: "",
         end: Err(ScriptFault::BadLine(1)),

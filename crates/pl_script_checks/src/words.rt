@@ -57,6 +57,7 @@ const ALL_SET: Limits = Limits {
     names_max: 3,
     waiting_max: 2,
     capacity_max: 8_192,
+    descriptors_max: 5,
 };
 
 const WORDS: &[(&[&str], Asked)] = &[
@@ -170,9 +171,13 @@ const WORDS_OF_LIMITS: &[(&[&str], Asked)] = &[
     (&["--capacity-max", "1048576"], Runs(1)),
     (&["--capacity-max", "1048577"], BAD),
     (&["--capacity-max"], BAD),
+    (&["--descriptors-max", "256"], Runs(1)),
+    (&["--descriptors-max", "257"], BAD),
+    (&["--descriptors-max", "4294967299"], BAD),
     (&["--file-max", "1", "--file-max", "1"], BAD),
     (
         &[
+            "--descriptors-max=5",
             "--capacity-max=8192",
             "--waiting-max=2",
             "--names-max=3",

@@ -1,7 +1,7 @@
 //! Two threads that talk through a pipe: one writes, and the other waits for what it reads.
 #![tactic(auto)]
 
-ghost use Rattle.std.specs.Prelude.{◌≡◌, ◌≤◌};
+ghost use Rattle.std.specs.Prelude.{◌≡◌, ◌≤◌, ◌^◌};
 ghost use Rattle.pl_model.specs.Numbers.{most_file_bytes};
 
 use pl_locked::{Caller, Ground, Layer, Locked};
@@ -63,18 +63,18 @@ fn talk<N: Layer + Send + Sync, R: Threads + Wait + Sync>(
     ground: Ground,
     limits: Limits,
     count: u32,
-    max_steps: u32,
+    max_steps: u64,
 ) -> Option<(Reply, bool)>
     requires ground { (ground.name ≡ N.name) × (ground.parts ≡ N.parts) × (ground.table ≡ N.table) }
     requires limits { limits ≡ N.limits }
     requires file_max { limits.file_max ≤ most_file_bytes }
     requires callers { count ≡ N.callers }
-    requires steps { max_steps ≡ N.max_steps }
+    requires steps { (max_steps ≡ N.max_steps) × (max_steps ≤ 2 ^ 62) }
 {
     let (locked, mut callers) = Locked::<N>::open(alloc, ground, limits, count, max_steps).ok()?;
     let read = read_and_write(rt, alloc, &locked, &mut callers);
-    let (journal, _kernel) = locked.close(callers).ok()?;
-    Some((read?, journal.replay(alloc, limits).ok()?))
+    let (part, _kernel) = locked.close(callers).ok()?;
+    Some((read?, part.journal.replay(alloc, limits).ok()?))
 }
 
 fn main(rt: HostRuntime) -> io::Result<ExitCode> {

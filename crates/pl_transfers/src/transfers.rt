@@ -68,10 +68,11 @@ pub fn pipe<A: Allocator + Copy>(
     ensures undone { OnErr result (kernel.new ≡ kernel.old) }
     ensures wanted { OnErr result (MayWantAtKeys {A = A} kernel.old (Step.Begin pid (Call.Pipe nonblock direct))) }
 {
-    let Some(first) = kernel.descs.lowest(pid, 0) else {
+    let most = kernel.limits.descriptors_max;
+    let Some(first) = kernel.descs.lowest(pid, 0, most) else {
         return Ok(Reply::Fault(Errno::EMFILE));
     };
-    let Some(second) = kernel.descs.lowest(pid, first + 1) else {
+    let Some(second) = kernel.descs.lowest(pid, first + 1, most) else {
         return Ok(Reply::Fault(Errno::EMFILE));
     };
     if kernel.descs.live() > MAX_DESCRIPTIONS - 2 {

@@ -300,7 +300,7 @@ fn resume_open<A: Allocator + Copy>(
     requires { OpenWaits kernel.old number pid key true }
     ensures { MakesAtKeys kernel.old (Step.Resume number) result kernel.new }
 {
-    let Some(fd) = kernel.descs.lowest(pid, 0) else {
+    let Some(fd) = kernel.descs.lowest(pid, 0, kernel.limits.descriptors_max) else {
         end_call(kernel, number);
         return Reply::Fault(Errno::EMFILE);
     };

@@ -17,16 +17,18 @@ impl Clay {
         Clay::open_within(&Limits { first_call, file_max, ..Limits::default() })
     }
 
-    /// A kernel without processes, within limits. `None` where there is no memory, or a pipe or a file might have more bytes than any may.
+    /// A kernel without processes, within limits. `None` where there is no memory, or a pipe or a file might have more bytes than any may, or
+    /// a process more descriptors.
     ///
     /// # Panics
     ///
     /// Where the library that was linked declares other calls: its version differs from `VERSION` by more than the third number.
     pub fn open_within(limits: &Limits) -> Option<Clay> {
         assert_eq!(version() / 1_000, VERSION / 1_000, "the library is of another version than its wrapper");
-        let Limits { first_call, memory, names, waiting_calls, capacity, file_max } = *limits;
+        let Limits { first_call, memory, names, waiting_calls, capacity, file_max, descriptors_max } = *limits;
+        let sizes = u64::from(file_max) << 32 | u64::from(capacity);
         // the words of bindingclay_limits, whose first one is its size
-        let words = [48, first_call, memory, names, waiting_calls, u64::from(file_max) << 32 | u64::from(capacity)];
+        let words = [56, first_call, memory, names, waiting_calls, sizes, u64::from(descriptors_max)];
         let mut kernel = std::ptr::null_mut();
         let mut budget = std::ptr::null_mut();
         let open = unsafe { bindingclay_open_words(words.as_ptr(), words.len(), &mut kernel, &mut budget) };

@@ -9,8 +9,8 @@ use std::io;
 impl Clay {
     /// The kernel that a shared one has.
     pub(super) fn of_shared(limits: &shared::Limits) -> io::Result<Clay> {
-        let shared::Limits { memory, names, waiting_calls, capacity, file_max } = *limits;
-        let limits = Limits { memory, names, waiting_calls, capacity, file_max, ..Limits::default() };
+        let shared::Limits { memory, names, waiting_calls, capacity, file_max, descriptors_max } = *limits;
+        let limits = Limits { memory, names, waiting_calls, capacity, file_max, descriptors_max, ..Limits::default() };
         Clay::open_within(&limits).ok_or_else(|| io::ErrorKind::OutOfMemory.into())
     }
 

@@ -12,6 +12,9 @@ pub const MOST_FILE_BYTES: u32 = 16_777_216;
 /// The most bytes that a pipe can be made to hold.
 pub const MOST_CAPACITY: u32 = 1_048_576;
 
+/// The most descriptors of a process.
+pub const MOST_DESCRIPTORS: u32 = 256;
+
 /// The modes and flags of `open_name`, `set_fl` and `get_fl`, and `O_NONBLOCK` of `pipe2` (Linux, fcntl.h).
 pub const O_RDONLY: u32 = 0;
 pub const O_WRONLY: u32 = 0o1;
@@ -67,6 +70,8 @@ pub struct Limits {
     pub capacity: u32,
     /// The most bytes of a regular file, at most `MOST_FILE_BYTES`.
     pub file_max: u32,
+    /// The most descriptors of a process, numbered from 0, at most `MOST_DESCRIPTORS`. A call that would give one from there on is EMFILE.
+    pub descriptors_max: u32,
 }
 
 impl Default for Limits {
@@ -78,6 +83,7 @@ impl Default for Limits {
             waiting_calls: u64::MAX,
             capacity: MOST_CAPACITY,
             file_max: MOST_FILE_BYTES,
+            descriptors_max: MOST_DESCRIPTORS,
         }
     }
 }

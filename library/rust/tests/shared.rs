@@ -1,7 +1,7 @@
 //! The shared kernel in threads: what a call that waits is ended by, and what closes as it is dropped. What is wanted comes from
 //! docs/RULES.md, from POSIX and from the pages of Linux's manual.
 
-use bindingclay::shared::{poll, splice, tee, File, PipeOptions, PipeReader, PipeWriter, PollFd, Process, Shared};
+use bindingclay::shared::{poll, splice, tee, File, Limits, PipeOptions, PipeReader, PipeWriter, PollFd, Process, Shared};
 use bindingclay::shared::{POLLERR, POLLHUP, POLLIN, POLLOUT};
 use std::io::{ErrorKind, Read, Result, Seek, SeekFrom, Write};
 use std::thread;
@@ -97,6 +97,22 @@ fn a_descriptor_is_free_once_its_handle_is_dropped() -> Result<()> {
     drop(pipes.pop());
     let (reader, writer) = process.pipe()?;
     assert_eq!((reader.as_raw_fd(), writer.as_raw_fd()), (254, 255));
+    Ok(())
+}
+
+#[test]
+fn a_process_has_as_many_descriptors_as_the_limits_allow() -> Result<()> {
+    let most = Limits::default();
+    let more = Shared::within(&Limits { descriptors_max: most.descriptors_max + 1, ..most });
+    assert_eq!(more.err().map(|error| error.kind()), Some(ErrorKind::InvalidInput));
+    let process = Shared::within(&Limits { descriptors_max: 3, ..most })?.start()?;
+    let (reader, _writer) = process.pipe()?;
+    assert_eq!(process.pipe().expect_err("one is free").raw_os_error(), Some(EMFILE));
+    let another = reader.try_clone()?;
+    assert_eq!(another.as_raw_fd(), 2);
+    assert_eq!(reader.try_clone().expect_err("none is free").raw_os_error(), Some(EMFILE));
+    drop(another);
+    assert_eq!(reader.try_clone()?.as_raw_fd(), 2);
     Ok(())
 }
 

@@ -13,7 +13,7 @@ use std::time::{Duration, Instant};
 const EINVAL: i32 = 22;
 
 const HEADER: &str = "piperun 2\n# piperun --first-call 1 --file-max 16777216 --names-max 18446744073709551615 --waiting-max \
-                      18446744073709551615 --capacity-max 1048576\n";
+                      18446744073709551615 --capacity-max 1048576 --descriptors-max 256\n";
 
 fn handed_out(kernel: &Shared) -> Result<String> {
     let mut text = Vec::new();

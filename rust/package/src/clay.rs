@@ -91,6 +91,7 @@ impl Clay {
             names_max: limits.names,
             waiting_max: limits.waiting_calls,
             capacity_max: limits.capacity,
+            descriptors_max: limits.descriptors_max,
         };
         let counter = counter(limits.memory);
         let kernel = Kernel::new(counter, inner).map_err(|_| io::ErrorKind::InvalidInput)?;

@@ -1,9 +1,11 @@
 -- What dup, dup2 and fcntl's F_DUPFD come to at the kernel's keys.
-use Rattle.std.proofs.Common.{◌≡◌, ◌<◌, ◌≤◌, ◌≢◌, ℕ, Bool, true, false, cond, Option, Some, None, IsSome, refl, sym, ◌∙◌, ap, arith}
+use Rattle.std.proofs.Common.{◌≡◌, ◌<◌, ◌≤◌, ◌≢◌, ℕ, Bool, true, false, cond, Option, Some, None, IsSome, refl, sym, ◌∙◌, ap, arith, ltb-true}
 use Rattle.std.specs.Prelude.{not, ℤ, pos, negsuc, option_map}
+use Rattle.std.proofs.lemmas.Bool.{le-ltb, lt-ltb}
 use Rattle.std.proofs.lemmas.Bool.Decides.{nat_tests}
 use Rattle.pl_model.specs.Numbers.{open_max}
 use Rattle.pl_model.specs.declared.calls.Call.{Call}
+use Rattle.pl_model.specs.declared.calls.Limits.{Limits}
 use Rattle.pl_model.specs.declared.calls.Step.{Step}
 use Rattle.pl_model.specs.declared.calls.Step.TheVariants.{Begin}
 use Rattle.pl_model.specs.declared.replies.Reply.{Reply}
@@ -15,7 +17,7 @@ use Rattle.pl_model.specs.State.{Core, Description, Open}
 use Rattle.pl_model.specs.Live.{is_live}
 use Rattle.pl_model.specs.Settle.{settle}
 use Rattle.pl_model.specs.Trial.{Begins, found, answered, refuse_if}
-use Rattle.pl_model.specs.Tables.{lowest, install, close_row}
+use Rattle.pl_model.specs.Tables.{descriptor_limit, lowest, install, close_row}
 use Rattle.pl_model.specs.Begin.{begin_dup, begin_dup2, begin_dup_fd, open_fd, is_descriptor, natural}
 use Rattle.pl_model.specs.Step.{begin, ended, stepped}
 use Rattle.pl_model.specs.Numbered.{numbers}
@@ -39,26 +41,27 @@ use lib.Signed.{lt_z}
 use lib.IntN.{nat_abs}
 
 -- whether a table has a place for a whole number, by the tests of the code
-pub below_all : (z : ℤ) → lt_z z (pos 0) ≡ true → is_descriptor z ≡ false
-below_all (pos n) h = grind (arith, nat_tests)
-below_all (negsuc n) h = refl
+module _ (limits : Limits) where
+  pub below_all : (z : ℤ) → lt_z z (pos 0) ≡ true → is_descriptor limits z ≡ false
+  below_all (pos n) h = grind (arith, nat_tests)
+  below_all (negsuc n) h = refl
 
-pub above_all : (z : ℤ) → lt_z z (pos 0) ≡ false → open_max ≤ nat_abs z → is_descriptor z ≡ false
-above_all (pos n) l h = grind (arith, nat_tests)
-above_all (negsuc n) l h = refl
+  pub above_all : (z : ℤ) → lt_z z (pos 0) ≡ false → descriptor_limit limits ≤ nat_abs z → is_descriptor limits z ≡ false
+  above_all (pos n) l h = le-ltb n (descriptor_limit limits) h
+  above_all (negsuc n) l h = refl
 
-pub within_all : (z : ℤ) → lt_z z (pos 0) ≡ false → nat_abs z < open_max → is_descriptor z ≡ true
-within_all (pos n) l h = grind (arith, nat_tests)
-within_all (negsuc n) l h = absurd (cc)
+  pub within_all : (z : ℤ) → lt_z z (pos 0) ≡ false → nat_abs z < descriptor_limit limits → is_descriptor limits z ≡ true
+  within_all (pos n) l h = lt-ltb n (descriptor_limit limits) h
+  within_all (negsuc n) l h = absurd (cc)
 
-pub place_is : (z : ℤ) → is_descriptor z ≡ true → nat_abs z ≡ natural z
-place_is (pos n) h = refl
-place_is (negsuc n) h = absurd (cc)
+  pub place_is : (z : ℤ) → is_descriptor limits z ≡ true → nat_abs z ≡ natural z
+  place_is (pos n) h = refl
+  place_is (negsuc n) h = absurd (cc)
 
--- a place of the table that names nothing
-pub unnamed : (tables : Tables) (pid : ℕ) (fd : ℤ) → is_descriptor fd ≡ true → row_of tables pid fd ≡ None → row_at tables pid (natural fd) ≡ None
-unnamed tables pid (pos n) h e = sym (ap (λ b. cond b (row_at tables pid n) None) h) ∙ e
-unnamed tables pid (negsuc n) h e = absurd (cc)
+  -- a place of the table that names nothing
+  pub unnamed : (tables : Tables) (pid : ℕ) (fd : ℤ) → is_descriptor limits fd ≡ true → row_of tables pid fd ≡ None → row_at tables pid (natural fd) ≡ None
+  unnamed tables pid (pos n) h e = sym (ap (λ b. cond b (row_at tables pid n) None) (lt-ltb n open_max (omega (arith, ltb-true n (descriptor_limit limits) h)))) ∙ e
+  unnamed tables pid (negsuc n) h e = absurd (cc)
 
 -- A description is held once more, and a free descriptor comes to name it by that hold.
 module _ {A : Type 0} (m : Known A) (pid fd key : ℕ) (more : Descs) (more_loose : count_at more.loose ≡ change_count key one_more (count_at m.descs.loose)) (more_rest : more ≡ record m.descs { loose = more.loose })
@@ -124,11 +127,11 @@ module _ {A : Type 0} (m : Caller A) (fd : ℤ) where
   names_free key o = found o EMFILE (λ free. answered (install c pid free key) (Fd (pos free)))
 
   module _ (call : Call A) (least key : ℕ) (begins : begin c pid call ≡ names_free key (lowest c pid least)) (reply : Reply A) (new : Contents A) where
-    duplicated : Duplicates k pid key (lowest_of descs.tables pid least) reply new → MakesAtKeys k (Begin pid call) reply new
+    duplicated : Duplicates k pid key (lowest_of descs.tables limits.descriptors_max pid least) reply new → MakesAtKeys k (Begin pid call) reply new
     unfolding lowest core_of
-    duplicated d = by (lowest_of descs.tables pid least) refl d
+    duplicated d = by (lowest_of descs.tables limits.descriptors_max pid least) refl d
       where
-        by : (o : Option ℕ) → lowest_of descs.tables pid least ≡ o → Duplicates k pid key o reply new → MakesAtKeys k (Begin pid call) reply new
+        by : (o : Option ℕ) → lowest_of descs.tables limits.descriptors_max pid least ≡ o → Duplicates k pid key o reply new → MakesAtKeys k (Begin pid call) reply new
         by None e d = does_plain k new (Begin pid call) (ended c (stepped c (Fault EMFILE))) reply (step-refused k pid call process EMFILE (begins ∙ ap (names_free key) e)) d.0 (ap (λ z. core_of z) d.1 ∙ sym sound.settled)
         by (Some free) e d = does_plain k new (Begin pid call) (ended c (stepped (install c pid free key) (Fd (pos free)))) reply
             (step-answered k pid call process (install c pid free key) (Fd (pos free)) (begins ∙ ap (names_free key) e)) d.0 (sym d.2 ∙ ap (settle c) d.1)
@@ -144,26 +147,26 @@ module _ {A : Type 0} (m : Caller A) (fd : ℤ) where
   pub dup-closed : row_of descs.tables pid fd ≡ None → MakesAtKeys k (Begin pid (Call.Dup fd)) (Fault EBADF) k
   dup-closed = unopened (Call.Dup fd) dups dup_begins
 
-  pub dup-does : (key : ℕ) → row_of descs.tables pid fd ≡ Some key → (reply : Reply A) (new : Contents A) → Duplicates k pid key (lowest_of descs.tables pid 0) reply new → MakesAtKeys k (Begin pid (Call.Dup fd)) reply new
+  pub dup-does : (key : ℕ) → row_of descs.tables pid fd ≡ Some key → (reply : Reply A) (new : Contents A) → Duplicates k pid key (lowest_of descs.tables limits.descriptors_max pid 0) reply new → MakesAtKeys k (Begin pid (Call.Dup fd)) reply new
   dup-does key row reply new = duplicated (Call.Dup fd) 0 key (opened (Call.Dup fd) dups dup_begins key row) reply new
 
   -- fcntl, F_DUPFD
   module _ (least : ℤ) where
     abbrev dups_from : Open numbers → Begins A numbers
-    dups_from o = refuse_if (not (is_descriptor least)) EINVAL (names_free o.key (lowest c pid (natural least)))
+    dups_from o = refuse_if (not (is_descriptor limits least)) EINVAL (names_free o.key (lowest c pid (natural least)))
 
     dup_fd_begins : begin c pid (Call.DupFd fd least) ≡ found (open_fd c pid fd) EBADF dups_from
-    unfolding begin begin_dup_fd
+    unfolding begin begin_dup_fd core_of
     dup_fd_begins = refl
 
     pub dup_fd-closed : row_of descs.tables pid fd ≡ None → MakesAtKeys k (Begin pid (Call.DupFd fd least)) (Fault EBADF) k
     dup_fd-closed = unopened (Call.DupFd fd least) dups_from dup_fd_begins
 
     module _ (key : ℕ) (row : row_of descs.tables pid fd ≡ Some key) where
-      pub dup_fd-refused : is_descriptor least ≡ false → MakesAtKeys k (Begin pid (Call.DupFd fd least)) (Fault EINVAL) k
+      pub dup_fd-refused : is_descriptor limits least ≡ false → MakesAtKeys k (Begin pid (Call.DupFd fd least)) (Fault EINVAL) k
       dup_fd-refused out = refused (Call.DupFd fd least) dups_from dup_fd_begins key row EINVAL (names_free key (lowest c pid (natural least))) (ap (λ b. refuse_if (not b) EINVAL (names_free key (lowest c pid (natural least)))) out)
 
-      pub dup_fd-does : is_descriptor least ≡ true → (reply : Reply A) (new : Contents A) → Duplicates k pid key (lowest_of descs.tables pid (natural least)) reply new → MakesAtKeys k (Begin pid (Call.DupFd fd least)) reply new
+      pub dup_fd-does : is_descriptor limits least ≡ true → (reply : Reply A) (new : Contents A) → Duplicates k pid key (lowest_of descs.tables limits.descriptors_max pid (natural least)) reply new → MakesAtKeys k (Begin pid (Call.DupFd fd least)) reply new
       dup_fd-does within reply new = duplicated (Call.DupFd fd least) (natural least) key
           (opened (Call.DupFd fd least) dups_from dup_fd_begins key row ∙ ap (λ b. refuse_if (not b) EINVAL (names_free key (lowest c pid (natural least)))) within) reply new
 
@@ -173,10 +176,10 @@ module _ {A : Type 0} (m : Caller A) (fd : ℤ) where
     x = Begin pid (Call.Dup2 fd target)
 
     abbrev replaces : Open numbers → Begins A numbers
-    replaces o = refuse_if (not (is_descriptor target)) EBADF (answered (install c pid (natural target) o.key) (Fd target))
+    replaces o = refuse_if (not (is_descriptor limits target)) EBADF (answered (install c pid (natural target) o.key) (Fd target))
 
     dup2_begins : begin c pid (Call.Dup2 fd target) ≡ found (open_fd c pid fd) EBADF replaces
-    unfolding begin begin_dup2
+    unfolding begin begin_dup2 core_of
     dup2_begins = refl
 
     pub dup2-closed : row_of descs.tables pid fd ≡ None → MakesAtKeys k x (Fault EBADF) k
@@ -186,10 +189,10 @@ module _ {A : Type 0} (m : Caller A) (fd : ℤ) where
       abbrev checked : Bool → Begins A numbers
       checked b = refuse_if (not b) EBADF (answered (install c pid (natural target) key) (Fd target))
 
-      pub dup2-refused : is_descriptor target ≡ false → MakesAtKeys k x (Fault EBADF) k
+      pub dup2-refused : is_descriptor limits target ≡ false → MakesAtKeys k x (Fault EBADF) k
       dup2-refused out = refused (Call.Dup2 fd target) replaces dup2_begins key row EBADF (answered (install c pid (natural target) key) (Fd target)) (ap checked out)
 
-      module _ (within : is_descriptor target ≡ true) (new : Contents A) where
+      module _ (within : is_descriptor limits target ≡ true) (new : Contents A) where
         dup2-does : core_of new ≡ settle c (install c pid (natural target) key) → MakesAtKeys k x (Fd target) new
         dup2-does is = does_plain k new x (ended c (stepped (install c pid (natural target) key) (Fd target))) (Fd target)
             (step-answered k pid (Call.Dup2 fd target) process (install c pid (natural target) key) (Fd target) (opened (Call.Dup2 fd target) replaces dup2_begins key row ∙ ap checked within)) refl is
@@ -234,5 +237,5 @@ module _ {A : Type 0} (m : Caller A) (fd : ℤ) where
               described None e = absurd (cc)
               described (Some y) e = refl
 
-          pub dup2-instead : is_descriptor target ≡ true → (new : Contents A) → core_of new ≡ install (core_of mid) pid (natural target) key → MakesAtKeys k x (Fd target) new
+          pub dup2-instead : is_descriptor limits target ≡ true → (new : Contents A) → core_of new ≡ install (core_of mid) pid (natural target) key → MakesAtKeys k x (Fd target) new
           dup2-instead within new is = dup2-does within new (is ∙ ap (λ z. install z pid (natural target) key) closes ∙ sym (instead-settled c pid (natural target) key other other_row apart from))

@@ -16,6 +16,9 @@ use std::thread;
 /// How often a caller looks before it sleeps.
 const LOOKS: u32 = 32;
 
+/// How often it glances before it lets other threads run. A partner on another processor mostly answers meanwhile.
+const GLANCES: u32 = 64;
+
 impl<N: Layer, A: Allocator + Copy> Locked<N, A> {
     /// Begins a call of a process. Where it is parked it waits, without the lock, until the call can get on, and tries it again, until it is
     /// answered. So no try is in vain. It looks a few times before it sleeps. Where another caller interrupts the call or ends its process, the answer is `NoCall`.
@@ -87,6 +90,19 @@ impl<N: Layer, A: Allocator + Copy> Locked<N, A> {
         }
     }
 
+    // Glances a few times, until there are more steps than so many. It answers how many there are.
+    fn watch(&self, me: &mut Caller<N, A>, seen: u64) -> u64
+        ensures { Sees me.old me.new }
+    {
+        for _ in 0..GLANCES {
+            let steps = self.glance(me);
+            if steps > seen {
+                return steps;
+            }
+        }
+        seen
+    }
+
     // Looks for a short time whether the call can get on, and lets other threads run meanwhile. Where it can, the desk is locked: a partner
     // that answers soon then costs no sleep.
     fn look<'a>(&'a self, me: &mut Caller<N, A>, number: u64) -> Option<MutexGuard<'a, Desk<N, A>>>
@@ -96,7 +112,7 @@ impl<N: Layer, A: Allocator + Copy> Locked<N, A> {
         let mut seen = 0;
         for _ in 0..LOOKS {
             // Without a new step the call can't have got on.
-            let steps = self.glance(me);
+            let steps = self.watch(me, seen);
             if steps > seen
                 && let Some(mut desk) = self.desk.try_lock()
             {

@@ -9,10 +9,10 @@ use Rattle.pl_model.specs.Poll.{try_poll}
 use Rattle.pl_model.specs.Splice.{try_move}
 use Rattle.pl_model.specs.Capacity.{rounded_capacity}
 use Rattle.pl_model.specs.Tables.{lowest, lowest_pid}
-use Rattle.pl_model.specs.Begin.{begin_pipe, begin_mkfifo, begin_open_name, begin_read, begin_write, begin_splice, begin_tee, begin_poll, begin_set_pipe_sz, begin_unlink}
+use Rattle.pl_model.specs.Begin.{begin_pipe, begin_mkfifo, begin_open_name, begin_read, begin_write, begin_splice, begin_tee, begin_poll, begin_dup, begin_dup2, begin_dup_fd, begin_close, begin_set_pipe_sz, begin_unlink}
 use Rattle.pl_model.specs.Step.{try, begin, happen, core_step}
 use Rattle.pl_model.specs.Numbered.{step}
-use Rattle.pl_model.specs.WorkedLimits.{NamesUpToTheLimit, WaitingCallsUpToTheLimit, NoCallMayWait, CapacitiesUpToTheLimit}
+use Rattle.pl_model.specs.WorkedLimits.{NamesUpToTheLimit, WaitingCallsUpToTheLimit, NoCallMayWait, CapacitiesUpToTheLimit, DescriptorsUpToTheLimit, DescriptorsAtTheEnds}
 
 module _ (A : Type 0) where
   pub names_up_to_the_limit : NamesUpToTheLimit A
@@ -30,3 +30,11 @@ module _ (A : Type 0) where
   pub capacities_up_to_the_limit : CapacitiesUpToTheLimit A
   unfolding first_from numbers_from pids in_rows in_parked readers writers settle flowed rounded_capacity lowest lowest_pid begin_pipe begin_set_pipe_sz try begin happen core_step step
   capacities_up_to_the_limit first_call file_max = refl
+
+  pub descriptors_up_to_the_limit : DescriptorsUpToTheLimit A
+  unfolding first_from numbers_from pids in_rows in_parked readers writers settle flowed lowest lowest_pid begin_pipe begin_open_name begin_poll begin_dup begin_dup2 begin_dup_fd begin_close try begin happen core_step step
+  descriptors_up_to_the_limit first_call file_max = refl
+
+  pub descriptors_at_the_ends : DescriptorsAtTheEnds A
+  unfolding first_from numbers_from pids in_rows in_parked readers writers settle flowed lowest lowest_pid begin_pipe begin_open_name begin_dup2 begin_dup_fd try begin happen core_step step
+  descriptors_at_the_ends first_call file_max = (refl, refl)

@@ -1,9 +1,9 @@
 -- What a call that begins leaves as it was at a node that it doesn't touch.
-use Rattle.std.proofs.Common.{◌≡◌, ◌≢◌, ℕ, ℤ, pos, negsuc, Bool, true, false, cond, List, [], ◌∷◌, Option, nat_eq, refl, sym, ◌∙◌, ap, subst}
+use Rattle.std.proofs.Common.{◌≡◌, ◌≢◌, ℕ, ℤ, pos, negsuc, Bool, true, false, cond, List, [], ◌∷◌, Option, nat_eq, refl, sym, ◌∙◌, ap, subst, arith, ltb-true}
 use Rattle.std.specs.Prelude.{◌||◌, ◌&&◌, IfSome, not, map, nat_lt, option_and_then}
 use Rattle.std.specs.Set.{is_member}
 use Rattle.std.specs.declared.option.Option.TheVariants.{None, Some}
-use Rattle.std.proofs.lemmas.Bool.{or_parts, false_from_ne_true}
+use Rattle.std.proofs.lemmas.Bool.{or_parts, false_from_ne_true, lt-ltb}
 use Rattle.pl_model.specs.declared.calls.Call.{Call}
 use Rattle.pl_model.specs.declared.calls.Mode.{Mode}
 use Rattle.pl_model.specs.declared.calls.Whence.{Whence}
@@ -17,7 +17,7 @@ use Rattle.pl_model.specs.Map.{Map}
 use Rattle.pl_model.specs.Keys.{Node, NewKeys, PipeNode, FileNode, same_node}
 use Rattle.pl_model.specs.State.{Core, Description, Open, Waiting, described, named, row, set_description, set_file}
 use Rattle.pl_model.specs.Trial.{Begun, Refused, Answered, Tried, still, flowed}
-use Rattle.pl_model.specs.Tables.{lowest_pid, install, close_row, describe, create_file, forget_name, fork}
+use Rattle.pl_model.specs.Tables.{descriptor_limit, lowest_pid, install, close_row, describe, create_file, forget_name, fork}
 use Rattle.pl_model.specs.Fifo.{create_fifo, meet}
 use Rattle.pl_model.specs.Capacity.{set_capacity, pipe_of}
 use Rattle.pl_model.specs.Begin.{open_fd, open_for, allowed, natural, is_descriptor, make_pipe, truncated, open_named, begin_pipe, begin_mkfifo, begin_open_name, begin_read, begin_write, begin_splice, begin_tee, begin_poll, begin_dup, begin_dup2, begin_dup_fd, begin_close, begin_lseek, begin_get_fl, begin_set_fl, begin_get_pipe_sz, begin_set_pipe_sz, begin_unlink, begin_fork}
@@ -71,11 +71,11 @@ module _ {A : Type 0} (c : Core A numbers) (node : Node numbers) where
   row_off : (pid fd : ℕ) → nat_lt fd open_max ≡ true → names_at c node pid (pos fd) ≡ false → OffRow c node c pid fd
   row_off pid fd within off k named = ap (is_at c node) (sym (ap (λ b. cond b (c.rows pid fd) None) within ∙ named)) ∙ off
 
-  target_off : (pid : ℕ) (target : ℤ) → not (is_descriptor target) ≡ false → names_at c node pid target ≡ false → OffRow c node c pid (natural target)
-  target_off pid (pos n) within off = at (nat_lt n open_max) refl within
+  target_off : (pid : ℕ) (target : ℤ) → not (is_descriptor c.limits target) ≡ false → names_at c node pid target ≡ false → OffRow c node c pid (natural target)
+  target_off pid (pos n) within off = at (nat_lt n (descriptor_limit c.limits)) refl within
     where
-      at : (b : Bool) → nat_lt n open_max ≡ b → not b ≡ false → OffRow c node c pid n
-      at true e h = row_off pid n e off
+      at : (b : Bool) → nat_lt n (descriptor_limit c.limits) ≡ b → not b ≡ false → OffRow c node c pid n
+      at true e h = row_off pid n (lt-ltb n open_max (omega (arith, ltb-true n (descriptor_limit c.limits) e))) off
       at false e h = absurd (cc)
   target_off pid (negsuc n) within off = absurd (cc)
 
@@ -144,7 +144,7 @@ module _ {A : Type 0} (c : Core A numbers) (node : Node numbers) where
   unfolding begin_dup_fd
   dup_fd_fine new pid call fd least = search (ways, fine_refusable, installs, lowest_free) depth 14
 
-  installs_at : (pid : ℕ) (target : ℤ) (d : ℕ) → not (is_descriptor target) ≡ false → names_at c node pid target ≡ false → Leaves c (install c pid (natural target) d) node
+  installs_at : (pid : ℕ) (target : ℤ) (d : ℕ) → not (is_descriptor c.limits target) ≡ false → names_at c node pid target ≡ false → Leaves c (install c pid (natural target) d) node
   installs_at pid target d within off = row_set c node c same pid (natural target) (Some d) (target_off pid target within off)
 
   dup2_fine : (new : NewKeys numbers) (pid : ℕ) (call : Call A) (fd target : ℤ) → names_at c node pid target ≡ false → LeadsTo new (Fine pid call) (begin_dup2 c pid fd target)

@@ -28,6 +28,7 @@ use Rattle.pl_model.specs.Fifo.{meet, is_open_without}
 use Rattle.pl_model.specs.Begin.{open_named, begin_pipe, begin_mkfifo, begin_open_name, begin_read, begin_write, begin_splice, begin_tee, begin_poll, begin_dup, begin_dup2, begin_dup_fd, begin_close, begin_lseek, begin_get_fl, begin_set_fl, begin_get_pipe_sz, begin_set_pipe_sz, begin_unlink, begin_fork}
 use Rattle.pl_model.specs.Step.{opened_by, try, try_open, begin, begun, first_tried, tried_again, waiting, stepped, parked, without_call}
 use Rattle.pl_model.specs.Touching.{stands_at, keeps_at, touches_by, is_exit}
+use Rattle.pl_model.specs.TouchingLaw.{opens_name}
 use Rattle.pl_model.specs.Numbered.{numbers}
 use Rattle.pl_model.proofs.by_call.Ways.{BegunAll, LeadsTo, TrialAll, begun_plain, ways}
 use Rattle.pl_model.proofs.settling.Meeting.{met_by, meet-get}
@@ -233,30 +234,36 @@ module _ {A : Type 0} (c : Core A numbers) (new : NewKeys numbers) (n : ℕ) (w 
   exit_stays : (pid : ℕ) → nat_eq w.pid pid ≡ false → Stays (exit c pid)
   exit_stays pid other = filter_stays (λ e. not (nat_eq e.1.pid pid)) c.parked n w (λ k e. ap not other) here
 
-  -- the checks of a call
+  -- the checks of a call that opens no name
+  pub other_stays : (pid : ℕ) (call : Call A) → opens_name call ≡ false → (is_exit call && nat_eq w.pid pid) ≡ false → LeadsTo new (BegunAll Stays) (begin c pid call)
+  unfolding begin
+  other_stays pid (Call.Pipe nonblock direct) none other = pipe_stays pid nonblock direct
+  other_stays pid (Call.Mkfifo name) none other = mkfifo_stays name
+  other_stays pid (Call.OpenName name mode flags) none other = absurd (cc)
+  other_stays pid (Call.Read fd k) none other = read_stays pid fd k
+  other_stays pid (Call.Write fd bytes) none other = write_stays pid fd bytes
+  other_stays pid (Call.Splice from from_offset to to_offset len flags) none other = splice_stays pid from from_offset to to_offset len flags
+  other_stays pid (Call.Tee from to len flags) none other = tee_stays pid from to len flags
+  other_stays pid (Call.Poll entries wait) none other = poll_stays pid entries wait
+  other_stays pid (Call.Dup fd) none other = dup_stays pid fd
+  other_stays pid (Call.Dup2 fd target) none other = dup2_stays pid fd target
+  other_stays pid (Call.DupFd fd least) none other = dup_fd_stays pid fd least
+  other_stays pid (Call.Close fd) none other = close_stays pid fd
+  other_stays pid (Call.Lseek fd offset whence) none other = lseek_stays pid fd offset whence
+  other_stays pid (Call.GetFl fd) none other = get_fl_stays pid fd
+  other_stays pid (Call.SetFl fd flags) none other = set_fl_stays pid fd flags
+  other_stays pid (Call.GetPipeSz fd) none other = get_pipe_sz_stays pid fd
+  other_stays pid (Call.SetPipeSz fd size) none other = set_pipe_sz_stays pid fd size
+  other_stays pid (Call.Unlink name) none other = unlink_stays name
+  other_stays pid Call.Fork none other = fork_stays pid
+  other_stays pid Call.Exit none other = begun_plain new (BegunAll Stays) _ (exit_stays pid other)
+
+  -- those of any call that touches none of what this one keeps
   pub begin_stays : (pid : ℕ) (call : Call A) → (is_exit call && nat_eq w.pid pid) ≡ false → ((node : Node numbers) → keeps_at c node w ≡ true → touches_by c node pid call ≡ false) →
       LeadsTo new (BegunAll Stays) (begin c pid call)
   unfolding begin touches_by
-  begin_stays pid (Call.Pipe nonblock direct) other off = pipe_stays pid nonblock direct
-  begin_stays pid (Call.Mkfifo name) other off = mkfifo_stays name
   begin_stays pid (Call.OpenName name mode flags) other off = open_stays pid name mode flags off
-  begin_stays pid (Call.Read fd k) other off = read_stays pid fd k
-  begin_stays pid (Call.Write fd bytes) other off = write_stays pid fd bytes
-  begin_stays pid (Call.Splice from from_offset to to_offset len flags) other off = splice_stays pid from from_offset to to_offset len flags
-  begin_stays pid (Call.Tee from to len flags) other off = tee_stays pid from to len flags
-  begin_stays pid (Call.Poll entries wait) other off = poll_stays pid entries wait
-  begin_stays pid (Call.Dup fd) other off = dup_stays pid fd
-  begin_stays pid (Call.Dup2 fd target) other off = dup2_stays pid fd target
-  begin_stays pid (Call.DupFd fd least) other off = dup_fd_stays pid fd least
-  begin_stays pid (Call.Close fd) other off = close_stays pid fd
-  begin_stays pid (Call.Lseek fd offset whence) other off = lseek_stays pid fd offset whence
-  begin_stays pid (Call.GetFl fd) other off = get_fl_stays pid fd
-  begin_stays pid (Call.SetFl fd flags) other off = set_fl_stays pid fd flags
-  begin_stays pid (Call.GetPipeSz fd) other off = get_pipe_sz_stays pid fd
-  begin_stays pid (Call.SetPipeSz fd size) other off = set_pipe_sz_stays pid fd size
-  begin_stays pid (Call.Unlink name) other off = unlink_stays name
-  begin_stays pid Call.Fork other off = fork_stays pid
-  begin_stays pid Call.Exit other off = begun_plain new (BegunAll Stays) _ (exit_stays pid other)
+  begin_stays pid call other off = other_stays pid call refl other
 
   -- what a try leaves, as the call was parked before it
   flow_stays : (s u : Core A numbers) (flow : Flow numbers) → Stays s → u.parked ≡ s.parked → Stays (flowed u flow)

@@ -101,7 +101,7 @@ module _ {A : Type 0} (m : Caller A) (mode : Mode) (flags : OpenFlags) (fd p : �
     pub fifo-wants : can_open c p mode flags ≡ true → MayWantAtKeys k (Begin pid (Call.OpenName name mode flags))
     fifo-wants is = drawn-wants m name mode flags fd opens (begun true is)
 
-  module _ (least : lowest_of descs.tables pid 0 ≡ Some fd) (d : ℕ) (x : Pipe) (was : at nodes.pipes p ≡ Some x) (vacant : at descs.opened d ≡ None) where
+  module _ (least : lowest_of descs.tables limits.descriptors_max pid 0 ≡ Some fd) (d : ℕ) (x : Pipe) (was : at nodes.pipes p ≡ Some x) (vacant : at descs.opened d ≡ None) where
     abbrev met : Calls A
     met = met_calls kernel p mode
 

@@ -35,7 +35,7 @@ use Rattle.pl_naming.proofs.by_call.Unused.{keys, are_unused}
 
 -- A description is opened on a node, at the least free descriptor. The parked calls may be others by then, of which the same is known.
 module _ {A : Type 0} (m : Caller A) (calls' : Calls A) (sound' : IsSound A (contents m.descs m.nodes calls' m.limits)) (are' : AreCounted A m.descs calls'.calls)
-    (fd : ℕ) (least : lowest_of m.descs.tables m.pid 0 ≡ Some fd) (n : Node) (d : ℕ) (vacant : at m.descs.opened d ≡ None) (mode : Mode) (flags : OpenFlags) where
+    (fd : ℕ) (least : lowest_of m.descs.tables m.limits.descriptors_max m.pid 0 ≡ Some fd) (n : Node) (d : ℕ) (vacant : at m.descs.opened d ≡ None) (mode : Mode) (flags : OpenFlags) where
   open m use {kernel, descs, nodes, calls, limits, sound, are, pid, process}
 
   abbrev k : Contents A
@@ -48,7 +48,7 @@ module _ {A : Type 0} (m : Caller A) (calls' : Calls A) (sound' : IsSound A (con
   end = fresh n mode flags
 
   pub free : (row_at descs.tables pid fd ≡ None) × (fd < open_max)
-  free = let l = lowest_found descs.tables pid 0 fd least in (l.0, l.1)
+  free = let l = lowest_found descs.tables limits.descriptors_max pid 0 fd least in (l.0, l.1)
 
   abbrev pub left : Nodes → Core A numbers
   left nodes' = install (describe (record c { pipes = at nodes'.pipes; files = at nodes'.files; names = keyed nodes'.names; parked = parked_of calls'.calls; next_call = calls'.next }) d (node_of n) mode flags) pid fd d

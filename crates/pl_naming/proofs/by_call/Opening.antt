@@ -81,24 +81,24 @@ module _ {A : Type 0} (k : Contents A) (pid : ℕ) (name : List ℕ) (mode : Mod
     open-fault errno is = checked ∙ ap (λ f. unless_fault f (at_place (option_map node_of o) (lowest c pid 0))) is
 
     module _ (fine : fault_of_open (is_some o) creates is_exclusive ≡ None) where
-      lowest-is : lowest c pid 0 ≡ lowest_of k.tables pid 0
+      lowest-is : lowest c pid 0 ≡ lowest_of k.tables k.limits.descriptors_max pid 0
       unfolding lowest core_of
       lowest-is = refl
 
-      placed : (place : Option ℕ) → lowest_of k.tables pid 0 ≡ place → begin c pid call ≡ at_place (option_map node_of o) place
+      placed : (place : Option ℕ) → lowest_of k.tables k.limits.descriptors_max pid 0 ≡ place → begin c pid call ≡ at_place (option_map node_of o) place
       placed place is = checked ∙ ap (λ f. unless_fault f (at_place (option_map node_of o) (lowest c pid 0))) fine ∙ ap (at_place (option_map node_of o)) (lowest-is ∙ is)
 
-      pub open-many : lowest_of k.tables pid 0 ≡ None → IsRefused k pid name mode flags EMFILE
+      pub open-many : lowest_of k.tables k.limits.descriptors_max pid 0 ≡ None → IsRefused k pid name mode flags EMFILE
       open-many none = placed None none
 
-      pub open-full : (fd : ℕ) → live_count c ≡ opened_count k.opened → lowest_of k.tables pid 0 ≡ Some fd → most_descriptions ≤ opened_count k.opened → IsRefused k pid name mode flags ENFILE
+      pub open-full : (fd : ℕ) → live_count c ≡ opened_count k.opened → lowest_of k.tables k.limits.descriptors_max pid 0 ≡ Some fd → most_descriptions ≤ opened_count k.opened → IsRefused k pid name mode flags ENFILE
       open-full fd count is full =
           placed (Some fd) is ∙ ap (in_room (option_map node_of o) fd) (let many : most_descriptions ≤ live_count c = omega (arith, count, full) in over (live_count c) many)
         where
           over : (n : ℕ) → most_descriptions ≤ n → nat_le most_descriptions n ≡ true
           over n h = grind arith
 
-      pub open-may : (fd : ℕ) → live_count c ≡ opened_count k.opened → lowest_of k.tables pid 0 ≡ Some fd → opened_count k.opened < most_descriptions → MayOpen k pid name mode flags fd o
+      pub open-may : (fd : ℕ) → live_count c ≡ opened_count k.opened → lowest_of k.tables k.limits.descriptors_max pid 0 ≡ Some fd → opened_count k.opened < most_descriptions → MayOpen k pid name mode flags fd o
       open-may fd count is few = record {
         begun = placed (Some fd) is ∙ ap (in_room (option_map node_of o) fd) (let fewer : live_count c < most_descriptions = omega (arith, count, few) in under (live_count c) fewer);
         named = stands;

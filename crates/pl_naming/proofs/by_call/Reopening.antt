@@ -55,7 +55,7 @@ module _ {A : Type 0} (m : Caller A) (name : List ℕ) (mode : Mode) (flags : Op
   abbrev c : Core A numbers
   c = core_of k
 
-  module _ (f : ℕ) (least : lowest_of descs.tables pid 0 ≡ Some fd) (d : ℕ) (held : List ℕ) (was : at nodes.files f ≡ Some held) (vacant : at descs.opened d ≡ None) where
+  module _ (f : ℕ) (least : lowest_of descs.tables limits.descriptors_max pid 0 ≡ Some fd) (d : ℕ) (held : List ℕ) (was : at nodes.files f ≡ Some held) (vacant : at descs.opened d ≡ None) where
     abbrev end : Core A numbers → Core A numbers
     end s = install (describe s d (FileNode f) mode (status_flags flags)) pid fd d
 

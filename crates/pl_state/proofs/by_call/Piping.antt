@@ -1,5 +1,5 @@
 -- What making a pipe comes to at the kernel's keys.
-use Rattle.std.proofs.Common.{◌∷◌, length, w32, to_z, ◌≡◌, ◌≢◌, ℕ, ◌+◌, ◌-◌, ◌<◌, ◌≤◌, Bool, true, false, cond, List, [], Option, Some, None, IfSome, IsSome, refl, sym, ◌∙◌, ap, subst, nat_eq, nat_lt, arith, map}
+use Rattle.std.proofs.Common.{◌∷◌, length, w32, to_z, ◌≡◌, ◌≢◌, ℕ, ◌+◌, ◌-◌, ◌<◌, ◌≤◌, min, Bool, true, false, cond, List, [], Option, Some, None, IfSome, IsSome, refl, sym, ◌∙◌, ap, subst, nat_eq, nat_lt, arith, map}
 use Rattle.std.specs.Prelude.{◌&&◌, pos, option_map, is_some, is_none, FitsSigned}
 use Rattle.std.proofs.lemmas.Bool.{eq-eqb, ne_eqb}
 use Rattle.std.proofs.lemmas.Int.{to_z_pos}
@@ -67,8 +67,8 @@ module _ {A : Type 0} (m : Known A) where
   kept_live d h = sym (opened-live descs nodes calls limits are d) ∙ live-is state d ∙ or_right (is_member nat_eq (in_rows state) d) _ h
 
 -- the least free descriptor is free, and within the table
-pub lowest_found : (tables : Tables) (pid least fd : ℕ) → lowest_of tables pid least ≡ Some fd → (row_at tables pid fd ≡ None) × (fd < open_max) × (least ≤ fd)
-lowest_found tables pid least fd h = (let f = first_found (λ fd. is_none (row_at tables pid fd)) (open_max - least) least fd h in (free (row_at tables pid fd) f.0, omega (arith, f.1, f.2), f.1)) where
+pub lowest_found : (tables : Tables) (most pid least fd : ℕ) → lowest_of tables most pid least ≡ Some fd → (row_at tables pid fd ≡ None) × (fd < open_max) × (least ≤ fd)
+lowest_found tables most pid least fd h = (let f = first_found (λ fd. is_none (row_at tables pid fd)) (min most open_max - least) least fd h in (free (row_at tables pid fd) f.0, omega (arith, f.1, f.2), f.1)) where
   free : (o : Option ℕ) → is_none o ≡ true → o ≡ None
   free None h = refl
   free (Some d) h = absurd (cc)
@@ -127,7 +127,7 @@ module _ {A : Type 0} (m : Caller A) (nonblock direct : Bool) where
   abbrev x : Step A
   x = Begin pid call
 
-  lowest-is : (least : ℕ) → lowest c pid least ≡ lowest_of k.tables pid least
+  lowest-is : (least : ℕ) → lowest c pid least ≡ lowest_of k.tables k.limits.descriptors_max pid least
   unfolding lowest core_of
   lowest-is least = refl
 
@@ -140,24 +140,24 @@ module _ {A : Type 0} (m : Caller A) (nonblock direct : Bool) where
   abbrev first_found_at : Option ℕ → Begins A numbers
   first_found_at o = found o EMFILE (λ first. second_found first (lowest c pid (first + 1)))
 
-  pub pipe-none : lowest_of k.tables pid 0 ≡ None → MakesAtKeys k x (Fault EMFILE) k
+  pub pipe-none : lowest_of k.tables k.limits.descriptors_max pid 0 ≡ None → MakesAtKeys k x (Fault EMFILE) k
   unfolding begin begin_pipe
   pipe-none h = does_same k sound x (stepped c (Fault EMFILE)) (Fault EMFILE) (step-refused k pid call process EMFILE (ap first_found_at (lowest-is 0 ∙ h))) refl refl
 
-  module _ (first : ℕ) (at_first : lowest_of k.tables pid 0 ≡ Some first) where
+  module _ (first : ℕ) (at_first : lowest_of k.tables k.limits.descriptors_max pid 0 ≡ Some first) where
     begun_first : begin c pid call ≡ second_found first (lowest c pid (first + 1))
     unfolding begin begin_pipe
     begun_first = ap first_found_at (lowest-is 0 ∙ at_first)
 
-    pub pipe-one : lowest_of k.tables pid (first + 1) ≡ None → MakesAtKeys k x (Fault EMFILE) k
+    pub pipe-one : lowest_of k.tables k.limits.descriptors_max pid (first + 1) ≡ None → MakesAtKeys k x (Fault EMFILE) k
     pipe-one h = does_same k sound x (stepped c (Fault EMFILE)) (Fault EMFILE) (step-refused k pid call process EMFILE (begun_first ∙ ap (second_found first) (lowest-is (first + 1) ∙ h))) refl refl
 
     pub first_free : (row_at k.tables pid first ≡ None) × (first < open_max)
-    first_free = let f = lowest_found k.tables pid 0 first at_first in (f.0, f.1)
+    first_free = let f = lowest_found k.tables k.limits.descriptors_max pid 0 first at_first in (f.0, f.1)
 
-    module _ (second : ℕ) (at_second : lowest_of k.tables pid (first + 1) ≡ Some second) where
+    module _ (second : ℕ) (at_second : lowest_of k.tables k.limits.descriptors_max pid (first + 1) ≡ Some second) where
       pub second_free : (row_at k.tables pid second ≡ None) × (second < open_max) × (first < second)
-      second_free = let f = lowest_found k.tables pid (first + 1) second at_second in (f.0, f.1, omega (arith, f.2))
+      second_free = let f = lowest_found k.tables k.limits.descriptors_max pid (first + 1) second at_second in (f.0, f.1, omega (arith, f.2))
 
       begun_second : begin c pid call ≡ refuse_if (nat_lt (most_descriptions - 2) (live_count c)) ENFILE (Draws (makes first second))
       begun_second = begun_first ∙ ap (second_found first) (lowest-is (first + 1) ∙ at_second)

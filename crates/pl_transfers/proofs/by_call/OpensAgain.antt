@@ -66,15 +66,15 @@ module _ {A : Type 0} (m : Known A) (n pid d : ℕ) (met : Bool) (waits : OpenWa
   open-waits unmet = waits_still k sound n w here w.taken refl (came k sound n w here _ (tries ∙ ap (λ b. tried b (lowest c pid 0)) unmet))
 
   module _ (yes : met ≡ true) where
-    placed : (place : Option ℕ) → lowest_of descs.tables pid 0 ≡ place → try c (waiting_of w) w.call true ≡ opened_by c pid d place
+    placed : (place : Option ℕ) → lowest_of descs.tables limits.descriptors_max pid 0 ≡ place → try c (waiting_of w) w.call true ≡ opened_by c pid d place
     unfolding lowest core_of
     placed place is = tries ∙ ap (λ b. tried b (lowest c pid 0)) yes ∙ ap (opened_by c pid d) is
 
-    pub open-many : lowest_of descs.tables pid 0 ≡ None → (new : Contents A) → core_of new ≡ settle c (without_call c n) → MakesAtKeys k (Resume n) (Fault EMFILE) new
+    pub open-many : lowest_of descs.tables limits.descriptors_max pid 0 ≡ None → (new : Contents A) → core_of new ≡ settle c (without_call c n) → MakesAtKeys k (Resume n) (Fault EMFILE) new
     open-many none new is = ends_still k sound n w here (Fault EMFILE) new (came k sound n w here _ (placed None none)) is
 
     -- the descriptor comes to name the description, and the call is gone
-    module _ (fd : ℕ) (least : lowest_of descs.tables pid 0 ≡ Some fd)
+    module _ (fd : ℕ) (least : lowest_of descs.tables limits.descriptors_max pid 0 ≡ Some fd)
         (descs' : Descs) (pids : is_pid descs'.tables ≡ is_pid descs.tables) (rows : row_at descs'.tables ≡ with_row (row_at descs.tables) pid fd (Some d))
         (opened : descs'.opened ≡ descs.opened) (loose : count_at descs'.loose ≡ change_count d one_less (count_at descs.loose)) (tidy : IsTidy descs') where
       abbrev left : Calls A
@@ -89,7 +89,7 @@ module _ {A : Type 0} (m : Known A) (n pid d : ℕ) (met : Bool) (waits : OpenWa
       settles : settle c gone ≡ gone
       unfolding core_of
       settles =
-          let place = lowest_found descs.tables pid 0 fd least in
+          let place = lowest_found descs.tables limits.descriptors_max pid 0 fd least in
           let bounds = pid_in descs.tables pid process in
           subst (λ p. settle c (without_call (install c p fd d) n) ≡ without_call (install c p fd d) n) of
           (resume_fifo-settled c sound.settled (rise_once 0 calls.next calls.calls sound.rise) n d (waiting_of w) (parked-is k sound n (Some w) here) kept fd

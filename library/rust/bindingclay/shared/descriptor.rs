@@ -156,7 +156,7 @@ macro_rules! handle {
             ///
             /// # Errors
             ///
-            /// `EMFILE` if the process has 256 descriptors, and that it has exited.
+            /// `EMFILE` if none of its process's descriptors is free, and that the process has exited.
             pub fn try_clone(&self) -> io::Result<$name> {
                 self.0.try_clone().map($name)
             }

@@ -90,6 +90,8 @@ pub struct Limits {
     pub capacity: u32,
     /// The most bytes of a regular file, at most 16,777,216.
     pub file_max: u32,
+    /// The most descriptors of a process, numbered from 0, at most 256. A call that would give one from there on is `EMFILE`.
+    pub descriptors_max: u32,
 }
 
 impl Default for Limits {
@@ -100,6 +102,7 @@ impl Default for Limits {
             waiting_calls: u64::MAX,
             capacity: 1_048_576,
             file_max: 16_777_216,
+            descriptors_max: 256,
         }
     }
 }
@@ -124,9 +127,10 @@ impl Shared {
     ///
     /// # Errors
     ///
-    /// `InvalidInput` if a pipe or a file might have more bytes than any may, and `OutOfMemory`.
+    /// `InvalidInput` if a pipe or a file might have more bytes than any may, or a process more descriptors, and `OutOfMemory`.
     pub fn within(limits: &Limits) -> io::Result<Shared> {
-        if limits.capacity > Limits::default().capacity || limits.file_max > Limits::default().file_max {
+        let most = Limits::default();
+        if limits.capacity > most.capacity || limits.file_max > most.file_max || limits.descriptors_max > most.descriptors_max {
             return Err(io::ErrorKind::InvalidInput.into());
         }
         let front = Front::new(Clay::of_shared(limits)?);

@@ -75,7 +75,7 @@ impl Drop for Owner {
     }
 }
 
-/// A process, which has up to 256 descriptors. Clones are the same process.
+/// A process, which has up to 256 descriptors, or as many as the limits of its kernel allow. Clones are the same process.
 ///
 /// It exits by [`exit`](Self::exit), or as the last of its clones and of its handles is dropped.
 #[derive(Clone)]
@@ -125,8 +125,7 @@ impl Process {
     ///
     /// # Errors
     ///
-    /// `EMFILE` if fewer than two of its 256 descriptors are free, `ENFILE` if the kernel has 4,096 open file descriptions, and
-    /// `OutOfMemory`.
+    /// `EMFILE` if fewer than two of its descriptors are free, `ENFILE` if the kernel has 4,096 open file descriptions, and `OutOfMemory`.
     pub fn pipe(&self) -> io::Result<(PipeReader, PipeWriter)> {
         self.pipe_with(PipeOptions::default())
     }

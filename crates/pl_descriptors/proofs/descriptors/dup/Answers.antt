@@ -25,5 +25,5 @@ returns-in_default g c =
 pub returns : goal.returns
 returns g c =
     let w = (goal.at.returns g c).After-find in
-    let done = subst (λ (z : Contents g.row.A.Denot). Duplicates z c.args.pid c.in-Some.key (lowest_of z.tables c.args.pid 0) c.duplicate.result c.duplicate.new.kernel) (sym c.kernel.view_is) c.duplicate.ensures in
+    let done = subst (λ (z : Contents g.row.A.Denot). Duplicates z c.args.pid c.in-Some.key (lowest_of z.tables z.limits.descriptors_max c.args.pid 0) c.duplicate.result c.duplicate.new.kernel) (sym c.kernel.view_is) c.duplicate.ensures in
     rw (← c.kernel.view_is) (dup-does (calls g w) c.args.fd c.in-Some.key (named g w ∙ c.in-Some.is) c.duplicate.result c.duplicate.new.kernel done)

@@ -1,6 +1,5 @@
-use Rattle.std.proofs.Common.{◌≡◌, ◌<◌, ◌≤◌, Some, true, false, sym, ap, subst, ◌∙◌, w32, to_z, of_z, pos, IsSome, refl}
+use Rattle.std.proofs.Common.{◌≡◌, ◌<◌, ◌≤◌, Some, true, false, sym, ap, subst, ◌∙◌, w32, to_z, of_z, pos, IsSome, refl, arith}
 use Rattle.std.proofs.lemmas.Int.{to_z-of_z}
-use Rattle.pl_model.specs.Numbers.{open_max}
 use Rattle.pl_model.specs.Begin.{is_descriptor, natural}
 use Rattle.pl_model.specs.Settle.{settle}
 use Rattle.pl_model.specs.State.{Core}
@@ -15,7 +14,7 @@ use Rattle.pl_state.proofs.Known.{Caller, caller}
 use Rattle.pl_descriptors.proofs.descriptors.dup2.Given.{Over}
 use Rattle.pl_descriptors.proofs.descriptors.dup2.Goals.{After-find, After-find-2}
 use Rattle.pl_descriptors.proofs.descriptors.dup2.Goals as goal
-use Rattle.pl_descriptors.proofs.descriptors.dup2.Goals.{then-target-lt0-via-then-target-lt0, then-target-lt0-via-else-target-lt0+then-target-ge-OPEN_MAX, in-Some-find+else-other-key, in_default-find}
+use Rattle.pl_descriptors.proofs.descriptors.dup2.Goals.{then-target-lt0-via-then-target-lt0, then-target-lt0-via-else-target-lt0+then-most-target, in-Some-find+else-other-key, in_default-find}
 use lib.Signed.{lt_z}
 use lib.IntN.{nat_abs}
 
@@ -44,11 +43,11 @@ module _ (g : Over) (c : After-find-2 g) where
   target_is : to_z w32 (of_z w32 c.args.target) ≡ c.args.target
   target_is = to_z-of_z w32 c.args.target c.ranges.target
 
-  within : is_descriptor c.args.target ≡ true
-  within = within_all c.args.target (ap (λ z. lt_z z (pos 0)) (sym target_is) ∙ c.if-target-lt0.false) (subst (λ z. nat_abs z < open_max) target_is c.if-target-ge-OPEN_MAX.false)
+  within : is_descriptor c.kernel.inside.limits c.args.target ≡ true
+  within = within_all c.kernel.inside.limits c.args.target (ap (λ z. lt_z z (pos 0)) (sym target_is) ∙ c.if-target-lt0.false) (omega (arith, c.min-most.ensures, subst (λ z. nat_abs z < c.min-most.result) target_is c.if-most-target.false))
 
   place : nat_abs (to_z w32 (of_z w32 c.args.target)) ≡ natural c.args.target
-  place = ap nat_abs target_is ∙ place_is c.args.target within
+  place = ap nat_abs target_is ∙ place_is c.kernel.inside.limits c.args.target within
 
   row : row_of tables c.args.pid c.args.fd ≡ Some c.in-Some.key
   row = named g at_find ∙ c.in-Some.is
@@ -70,9 +69,9 @@ pub returns-then-target-lt0 : goal.returns-then-target-lt0
 returns-then-target-lt0 g c =
     let w = (goal.at.returns-then-target-lt0 g c).After-find in
     let target_is = to_z-of_z w32 c.args.target c.ranges.target in
-    let out : is_descriptor c.args.target ≡ false = elim c.then-target-lt0.branch [
-      | then-target-lt0-via-then-target-lt0 w ↦ below_all c.args.target (ap (λ z. lt_z z (pos 0)) (sym target_is) ∙ w.if-target-lt0.true)
-      | then-target-lt0-via-else-target-lt0+then-target-ge-OPEN_MAX w ↦ above_all c.args.target (ap (λ z. lt_z z (pos 0)) (sym target_is) ∙ w.if-target-lt0.false) (subst (λ z. open_max ≤ nat_abs z) target_is w.if-target-ge-OPEN_MAX.true)
+    let out : is_descriptor c.kernel.inside.limits c.args.target ≡ false = elim c.then-target-lt0.branch [
+      | then-target-lt0-via-then-target-lt0 w ↦ below_all c.kernel.inside.limits c.args.target (ap (λ z. lt_z z (pos 0)) (sym target_is) ∙ w.if-target-lt0.true)
+      | then-target-lt0-via-else-target-lt0+then-most-target w ↦ above_all c.kernel.inside.limits c.args.target (ap (λ z. lt_z z (pos 0)) (sym target_is) ∙ w.if-target-lt0.false) (omega (arith, c.min-most.ensures, subst (λ z. c.min-most.result ≤ nat_abs z) target_is w.if-most-target.true))
     ] in
     rw (← c.kernel.view_is) (dup2-refused (calls g w) c.args.fd c.args.target c.in-Some.key (named g w ∙ c.in-Some.is) out)
 
@@ -101,7 +100,7 @@ assign-requires-clause-free g c =
           ∙ mid_free (at_call g v) c.args.fd c.args.target c.in-Some.key (row g v) w.in-Some-find.other (target_names g v ∙ w.in-Some-find.is) (λ e. w.if-other-key.false (sym e)) w.close_open.new.kernel (closes g v _ w.close_open.ensures)
       | in_default-find w ↦
           (λ i. row_at (w.kernel-is i).tables c.args.pid (place g v i)) ∙ ap (λ (z : Contents g.row.A.Denot). row_at z.tables c.args.pid (natural c.args.target)) (sym c.kernel.view_is)
-          ∙ unnamed (tables g v) c.args.pid c.args.target (within g v) (target_names g v ∙ w.in_default-find.is)
+          ∙ unnamed c.kernel.inside.limits (tables g v) c.args.pid c.args.target (within g v) (target_names g v ∙ w.in_default-find.is)
     ]
 
 pub assign-requires-clause-here : goal.assign-requires-clause-here

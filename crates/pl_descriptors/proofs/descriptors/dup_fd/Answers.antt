@@ -1,6 +1,5 @@
-use Rattle.std.proofs.Common.{◌<◌, ◌≤◌, ◌≡◌, true, false, sym, ap, subst, ◌∙◌, w32, to_z, of_z, pos}
+use Rattle.std.proofs.Common.{◌<◌, ◌≤◌, ◌≡◌, true, false, sym, ap, subst, ◌∙◌, w32, to_z, of_z, pos, arith}
 use Rattle.std.proofs.lemmas.Int.{to_z-of_z}
-use Rattle.pl_model.specs.Numbers.{open_max}
 use Rattle.pl_model.specs.Begin.{is_descriptor, natural}
 use Rattle.pl_desc.specs.Rows.{row_of, lowest_of}
 use Rattle.pl_state.specs.Contents.{Contents}
@@ -11,7 +10,7 @@ use Rattle.pl_state.proofs.Known.{Caller, caller}
 use Rattle.pl_descriptors.proofs.descriptors.dup_fd.Given.{Over}
 use Rattle.pl_descriptors.proofs.descriptors.dup_fd.Goals.{After-find}
 use Rattle.pl_descriptors.proofs.descriptors.dup_fd.Goals as goal
-use Rattle.pl_descriptors.proofs.descriptors.dup_fd.Goals.{then-least-lt0-via-then-least-lt0, then-least-lt0-via-else-least-lt0+then-least-ge-OPEN_MAX}
+use Rattle.pl_descriptors.proofs.descriptors.dup_fd.Goals.{then-least-lt0-via-then-least-lt0, then-least-lt0-via-else-least-lt0+then-most-least}
 use lib.Signed.{lt_z}
 use lib.IntN.{nat_abs}
 
@@ -32,9 +31,9 @@ pub returns-then-least-lt0 : goal.returns-then-least-lt0
 returns-then-least-lt0 g c =
     let w = (goal.at.returns-then-least-lt0 g c).After-find in
     let least_is = to_z-of_z w32 c.args.least c.ranges.least in
-    let out : is_descriptor c.args.least ≡ false = elim c.then-least-lt0.branch [
-      | then-least-lt0-via-then-least-lt0 v ↦ below_all c.args.least (ap (λ z. lt_z z (pos 0)) (sym least_is) ∙ v.if-least-lt0.true)
-      | then-least-lt0-via-else-least-lt0+then-least-ge-OPEN_MAX v ↦ above_all c.args.least (ap (λ z. lt_z z (pos 0)) (sym least_is) ∙ v.if-least-lt0.false) (subst (λ z. open_max ≤ nat_abs z) least_is v.if-least-ge-OPEN_MAX.true)
+    let out : is_descriptor c.kernel.inside.limits c.args.least ≡ false = elim c.then-least-lt0.branch [
+      | then-least-lt0-via-then-least-lt0 v ↦ below_all c.kernel.inside.limits c.args.least (ap (λ z. lt_z z (pos 0)) (sym least_is) ∙ v.if-least-lt0.true)
+      | then-least-lt0-via-else-least-lt0+then-most-least v ↦ above_all c.kernel.inside.limits c.args.least (ap (λ z. lt_z z (pos 0)) (sym least_is) ∙ v.if-least-lt0.false) (omega (arith, c.min-most.ensures, subst (λ z. c.min-most.result ≤ nat_abs z) least_is v.if-most-least.true))
     ] in
     rw (← c.kernel.view_is) (dup_fd-refused (calls g w) c.args.fd c.args.least c.in-Some.key (named g w ∙ c.in-Some.is) out)
 
@@ -42,8 +41,8 @@ pub returns : goal.returns
 returns g c =
     let w = (goal.at.returns g c).After-find in
     let least_is = to_z-of_z w32 c.args.least c.ranges.least in
-    let within : is_descriptor c.args.least ≡ true = within_all c.args.least (ap (λ z. lt_z z (pos 0)) (sym least_is) ∙ c.if-least-lt0.false) (subst (λ z. nat_abs z < open_max) least_is c.if-least-ge-OPEN_MAX.false) in
-    let least : nat_abs (to_z w32 (of_z w32 c.args.least)) ≡ natural c.args.least = ap nat_abs least_is ∙ place_is c.args.least within in
-    let done = subst (λ (z : Contents g.row.A.Denot). Duplicates z c.args.pid c.in-Some.key (lowest_of z.tables c.args.pid (natural c.args.least)) c.duplicate.result c.duplicate.new.kernel) (sym c.kernel.view_is)
-    (subst (λ n. Duplicates c.args.kernel.now c.args.pid c.in-Some.key (lowest_of c.args.kernel.now.tables c.args.pid n) c.duplicate.result c.duplicate.new.kernel) least c.duplicate.ensures) in
+    let within : is_descriptor c.kernel.inside.limits c.args.least ≡ true = within_all c.kernel.inside.limits c.args.least (ap (λ z. lt_z z (pos 0)) (sym least_is) ∙ c.if-least-lt0.false) (omega (arith, c.min-most.ensures, subst (λ z. nat_abs z < c.min-most.result) least_is c.if-most-least.false)) in
+    let least : nat_abs (to_z w32 (of_z w32 c.args.least)) ≡ natural c.args.least = ap nat_abs least_is ∙ place_is c.kernel.inside.limits c.args.least within in
+    let done = subst (λ (z : Contents g.row.A.Denot). Duplicates z c.args.pid c.in-Some.key (lowest_of z.tables z.limits.descriptors_max c.args.pid (natural c.args.least)) c.duplicate.result c.duplicate.new.kernel) (sym c.kernel.view_is)
+    (subst (λ n. Duplicates c.args.kernel.now c.args.pid c.in-Some.key (lowest_of c.args.kernel.now.tables c.args.kernel.now.limits.descriptors_max c.args.pid n) c.duplicate.result c.duplicate.new.kernel) least c.duplicate.ensures) in
     rw (← c.kernel.view_is) (dup_fd-does (calls g w) c.args.fd c.args.least c.in-Some.key (named g w ∙ c.in-Some.is) within c.duplicate.result c.duplicate.new.kernel done)

@@ -6,7 +6,7 @@ use Rattle.std.specs.List.{All}
 use mathlib.Core.List.{IsPrefix}
 use Rattle.pl_model.specs.declared.history.Entry.{Entry}
 use Rattle.pl_model.specs.History.{of}
-use Rattle.pl_locked.specs.Views.{CallerView, IsSub, total_made}
+use Rattle.pl_locked.specs.Views.{CallerView, IsSub, Kept, total_made}
 use Rattle.pl_locked.proofs.Subs.{sub_later}
 use Rattle.pl_locked.proofs.caller.gather.Goals as goal
 
@@ -31,9 +31,9 @@ loop-caller-preserved g c =
     let inv = c.loop-caller.invariant in
     let x : CallerView A = c.in-Some.caller in
     let rest : List (CallerView A) = c.pop.new.self.items in
-    let journal : List (Entry A) = c.args.recorded.now in
+    let journal : List (Entry A) = c.args.recorded.now.journal in
     let was : c.loop-caller.callers.items ≡ rest ++ x ∷ [] = c.in-Some.ensures.items in
-    let same : c.loop-caller.recorded ≡ journal = inv.recorded in
+    let same : c.loop-caller.recorded.journal ≡ journal = ap (λ (z : Kept A). z.journal) inv.recorded in
     let parts = c.into_parts-share.ensures in
     let begins : IsPrefix x.seen journal = subst (λ (h : List (Entry A)). IsPrefix h journal) parts.eye (subst (IsPrefix c.into_parts-share.result.1.seen) same c.take_in.ensures.earlier) in
     let own : IsSub x.made (of x.number journal) = sub_later x.number x.made x.seen journal parts.own begins in
@@ -47,7 +47,7 @@ loop-caller-preserved g c =
       parts = omega arith;
       amount = omega arith;
       bound = c.merge.ensures.apart;
-      recorded = c.take_in.ensures.same ∙ same;
+      recorded = c.take_in.ensures.same ∙ inv.recorded;
       gone = x ∷ inv.gone;
       all = inv.all ∙ (ap (λ (l : List (CallerView A)). l ++ inv.gone) was ∙ append_assoc rest (x ∷ []) inv.gone);
       each = All-cons (Seen journal) x inv.gone (begins, own) inv.each;
@@ -57,4 +57,4 @@ pub returns-clause-each : goal.returns-clause-each
 returns-clause-each g c =
     let inv = c.loop-caller.invariant in
     let none : c.loop-caller.callers.items ≡ [] = search (rules, c.in_default.ensures.cases, c.in_default.ensures.items) in
-    subst (All (Seen c.args.recorded.now)) (sym (inv.all ∙ ap (λ l. l ++ inv.gone) none)) inv.each
+    subst (All (Seen c.args.recorded.now.journal)) (sym (inv.all ∙ ap (λ l. l ++ inv.gone) none)) inv.each

@@ -14,7 +14,7 @@ invariant-loop-caller g l = record {
   recorded : l.recorded ≡ l.fn.recorded;
   gone : List (CallerView g.row.A.Denot);
   all : l.fn.callers.items ≡ l.callers.items ++ gone;
-  each : All (λ c. IsPrefix c.seen l.fn.recorded × IsSub c.made (of c.number l.fn.recorded)) gone;
+  each : All (λ c. IsPrefix c.seen l.fn.recorded.journal × IsSub c.made (of c.number l.fn.recorded.journal)) gone;
 }
 
 abbrev pub decreases-loop-caller : goal.decreases-loop-caller

@@ -52,15 +52,15 @@ returns-in_err-reserve-clause-wanted g c =
     on_err c.from_residual.result _ (rw (← c.kernel.view_is) (fifo-wants m c.args.mode c.args.flags c.args.fd c.args.pipe c.args.name (may g v) (asked g v ∙ c.if-not-can_open.false)))
 
 pub open_at-requires-clause-place : goal.open_at-requires-clause-place
-open_at-requires-clause-place g c = (lowest_found c.args.kernel.now.tables c.args.pid 0 c.args.fd c.requires.may.lowest).1
+open_at-requires-clause-place g c = (lowest_found c.args.kernel.now.tables c.args.kernel.now.limits.descriptors_max c.args.pid 0 c.args.fd c.requires.may.lowest).1
 
 pub open_at-requires-clause-free : goal.open_at-requires-clause-free
 open_at-requires-clause-free g c =
     ap (λ (z : Descs). row_at z.tables c.args.pid c.args.fd) c.reserve.ensures.kept ∙ ap (λ (z : Contents g.row.A.Denot). row_at z.tables c.args.pid c.args.fd) c.kernel.view_is
-    ∙ (lowest_found c.args.kernel.now.tables c.args.pid 0 c.args.fd c.requires.may.lowest).0
+    ∙ (lowest_found c.args.kernel.now.tables c.args.kernel.now.limits.descriptors_max c.args.pid 0 c.args.fd c.requires.may.lowest).0
 
 pub overflow_cast-result : goal.overflow_cast-result
-overflow_cast-result g c = fits_place c.args.fd (lowest_found c.args.kernel.now.tables c.args.pid 0 c.args.fd c.requires.may.lowest).1
+overflow_cast-result g c = fits_place c.args.fd (lowest_found c.args.kernel.now.tables c.args.kernel.now.limits.descriptors_max c.args.pid 0 c.args.fd c.requires.may.lowest).1
 
 -- what opening the FIFO comes to
 made : (g : Over) (c : After-open_at g) (can : machine_can_open (core_of {A = g.row.A.Denot} (view_of c.kernel.inside)) c.args.pipe c.args.mode c.args.flags ≡ true)
@@ -96,4 +96,4 @@ pub returns-clause-done : goal.returns-clause-done
 returns-clause-done g c =
     let v = goal.at.returns-clause-done g c in
     let all = made g v.After-open_at (asked g v.After-can_open ∙ c.if-not-can_open.false) in
-    rw (← c.kernel.view_is, to_z_place c.args.fd (lowest_found c.args.kernel.now.tables c.args.pid 0 c.args.fd c.requires.may.lowest).1) all.2
+    rw (← c.kernel.view_is, to_z_place c.args.fd (lowest_found c.args.kernel.now.tables c.args.kernel.now.limits.descriptors_max c.args.pid 0 c.args.fd c.requires.may.lowest).1) all.2

@@ -48,15 +48,15 @@ returns-in_default-clause-wanted g c =
     rw (← c.kernel.view_is) (new-wants m c.args.name.now c.args.mode c.args.flags c.args.fd may (ap lets_name c.kernel.view_is ∙ sym c.can_name.ensures ∙ c.if-not-can_name.false))
 
 pub open_at-requires-clause-place : goal.open_at-requires-clause-place
-open_at-requires-clause-place g c = (lowest_found c.args.kernel.now.tables c.args.pid 0 c.args.fd c.requires.may.lowest).1
+open_at-requires-clause-place g c = (lowest_found c.args.kernel.now.tables c.args.kernel.now.limits.descriptors_max c.args.pid 0 c.args.fd c.requires.may.lowest).1
 
 pub open_at-requires-clause-free : goal.open_at-requires-clause-free
 open_at-requires-clause-free g c =
     ap (λ (z : Descs). row_at z.tables c.args.pid c.args.fd) c.reserve.ensures.kept ∙ ap (λ (z : Contents g.row.A.Denot). row_at z.tables c.args.pid c.args.fd) c.kernel.view_is
-    ∙ (lowest_found c.args.kernel.now.tables c.args.pid 0 c.args.fd c.requires.may.lowest).0
+    ∙ (lowest_found c.args.kernel.now.tables c.args.kernel.now.limits.descriptors_max c.args.pid 0 c.args.fd c.requires.may.lowest).0
 
 pub overflow_cast-result : goal.overflow_cast-result
-overflow_cast-result g c = fits_place c.args.fd (lowest_found c.args.kernel.now.tables c.args.pid 0 c.args.fd c.requires.may.lowest).1
+overflow_cast-result g c = fits_place c.args.fd (lowest_found c.args.kernel.now.tables c.args.kernel.now.limits.descriptors_max c.args.pid 0 c.args.fd c.requires.may.lowest).1
 
 -- what making the file and opening it comes to
 made : (g : Over) (c : After-open_at g) (can : lets_name (view_of c.kernel.inside) ≡ true)
@@ -86,4 +86,4 @@ invariant_of-kernel-2 g c = let all = made g (goal.at.invariant_of-kernel-2 g c)
 pub returns-clause-done : goal.returns-clause-done
 returns-clause-done g c =
     let all = made g (goal.at.returns-clause-done g c).After-open_at (ap lets_name c.kernel.view_is ∙ sym c.can_name.ensures ∙ c.if-not-can_name.false) in
-    rw (← c.kernel.view_is, to_z_place c.args.fd (lowest_found c.args.kernel.now.tables c.args.pid 0 c.args.fd c.requires.may.lowest).1) all.2
+    rw (← c.kernel.view_is, to_z_place c.args.fd (lowest_found c.args.kernel.now.tables c.args.kernel.now.limits.descriptors_max c.args.pid 0 c.args.fd c.requires.may.lowest).1) all.2

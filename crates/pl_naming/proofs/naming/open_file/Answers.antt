@@ -29,15 +29,15 @@ returns-in_err-reserve-clause-wanted g c =
     (subst (λ (k : Contents g.row.A.Denot). MayOpen k c.args.pid name c.args.mode c.args.flags c.args.fd (Some (node.File c.args.file))) (sym c.kernel.view_is) may)))
 
 pub open_at-requires-clause-place : goal.open_at-requires-clause-place
-open_at-requires-clause-place g c = (lowest_found c.args.kernel.now.tables c.args.pid 0 c.args.fd c.requires.lowest).1
+open_at-requires-clause-place g c = (lowest_found c.args.kernel.now.tables c.args.kernel.now.limits.descriptors_max c.args.pid 0 c.args.fd c.requires.lowest).1
 
 pub open_at-requires-clause-free : goal.open_at-requires-clause-free
 open_at-requires-clause-free g c =
     ap (λ (z : Descs). row_at z.tables c.args.pid c.args.fd) c.reserve.ensures.kept ∙ ap (λ (z : Contents g.row.A.Denot). row_at z.tables c.args.pid c.args.fd) c.kernel.view_is
-    ∙ (lowest_found c.args.kernel.now.tables c.args.pid 0 c.args.fd c.requires.lowest).0
+    ∙ (lowest_found c.args.kernel.now.tables c.args.kernel.now.limits.descriptors_max c.args.pid 0 c.args.fd c.requires.lowest).0
 
 pub overflow_cast-result : goal.overflow_cast-result
-overflow_cast-result g c = fits_place c.args.fd (lowest_found c.args.kernel.now.tables c.args.pid 0 c.args.fd c.requires.lowest).1
+overflow_cast-result g c = fits_place c.args.fd (lowest_found c.args.kernel.now.tables c.args.kernel.now.limits.descriptors_max c.args.pid 0 c.args.fd c.requires.lowest).1
 
 -- what opening the file comes to
 made : (g : Over) (c : After-open_at g)
@@ -46,7 +46,7 @@ made : (g : Over) (c : After-open_at g)
     → MakesAtKeys (view_of c.kernel.inside) (Begin c.args.pid (Call.OpenName name c.args.mode c.args.flags)) (Fd (pos c.args.fd)) (contents c.open_at.new.descs (nodes_of c.empty_if.new.nodes) c.kernel.inside.parked c.kernel.inside.limits))
 made g c =
     let m = caller c.kernel.inside c.kernel.invariant c.args.kernel.now c.kernel.view_is c.args.pid c.requires.process in
-    let least = subst (λ (k : Contents g.row.A.Denot). lowest_of k.tables c.args.pid 0 ≡ Some c.args.fd) (sym c.kernel.view_is) c.requires.lowest in
+    let least = subst (λ (k : Contents g.row.A.Denot). lowest_of k.tables k.limits.descriptors_max c.args.pid 0 ≡ Some c.args.fd) (sym c.kernel.view_is) c.requires.lowest in
     let held = there (at m.nodes.files c.args.file) (subst (λ (k : Contents g.row.A.Denot). IsSome (at k.nodes.files c.args.file)) (sym c.kernel.view_is) c.requires.there) in
     let kept = c.reserve.ensures.kept in
     let d = c.open_at.result in
@@ -68,5 +68,5 @@ invariant_of-kernel-2 g c = let all = made g (goal.at.invariant_of-kernel-2 g c)
 pub returns-clause-done : goal.returns-clause-done
 returns-clause-done g c =
     let all = made g (goal.at.returns-clause-done g c).After-open_at in
-    λ name may. rw (← c.kernel.view_is, to_z_place c.args.fd (lowest_found c.args.kernel.now.tables c.args.pid 0 c.args.fd c.requires.lowest).1)
+    λ name may. rw (← c.kernel.view_is, to_z_place c.args.fd (lowest_found c.args.kernel.now.tables c.args.kernel.now.limits.descriptors_max c.args.pid 0 c.args.fd c.requires.lowest).1)
     (all.2 name (subst (λ (k : Contents g.row.A.Denot). MayOpen k c.args.pid name c.args.mode c.args.flags c.args.fd (Some (node.File c.args.file))) (sym c.kernel.view_is) may))

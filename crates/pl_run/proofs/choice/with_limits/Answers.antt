@@ -8,4 +8,5 @@ pub returns : goal.returns
 returns c =
     let two = c.in_ok-command-2.ensures ∙ ap (λ (app : App). with_rule app (valued_rule (codes "names-max"))) c.in_ok-command.ensures in
     let three = c.in_ok-command-3.ensures ∙ ap (λ (app : App). with_rule app (valued_rule (codes "waiting-max"))) two in
-    subst (λ (app : App). IfOk c.with_option-4.result (λ made. app_of made ≡ with_rule app (valued_rule (codes "capacity-max")))) three c.with_option-4.ensures
+    let four = c.in_ok-command-4.ensures ∙ ap (λ (app : App). with_rule app (valued_rule (codes "capacity-max"))) three in
+    subst (λ (app : App). IfOk c.with_option-5.result (λ made. app_of made ≡ with_rule app (valued_rule (codes "descriptors-max")))) four c.with_option-5.ensures

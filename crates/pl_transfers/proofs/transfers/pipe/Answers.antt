@@ -34,7 +34,7 @@ module _ (g : Over) (c : In-Some g) where
   abbrev caller_first : Caller g.row.A.Denot
   caller_first = calls g c.before.before
 
-  at_first : lowest_of tables c.args.pid 0 ≡ Some c.in-Some.first
+  at_first : lowest_of tables c.kernel.inside.limits.descriptors_max c.args.pid 0 ≡ Some c.in-Some.first
   at_first = sym c.lowest.ensures ∙ c.in-Some.is
 
   free_first : (row_at tables c.args.pid c.in-Some.first ≡ None) × (c.in-Some.first < open_max)
@@ -45,7 +45,7 @@ module _ (g : Over) (c : In-Some-lowest g) where
   abbrev with_first : In-Some g
   with_first = c.before.before
 
-  at_second : lowest_of (tables g with_first) c.args.pid (c.in-Some.first + 1) ≡ Some c.in-Some-lowest.second
+  at_second : lowest_of (tables g with_first) c.kernel.inside.limits.descriptors_max c.args.pid (c.in-Some.first + 1) ≡ Some c.in-Some-lowest.second
   at_second = sym c.lowest-2.ensures ∙ c.in-Some-lowest.is
 
   free_second : (row_at (tables g with_first) c.args.pid c.in-Some-lowest.second ≡ None) × (c.in-Some-lowest.second < open_max) × (c.in-Some.first < c.in-Some-lowest.second)
@@ -120,7 +120,7 @@ pub overflow_cast-result-2 : goal.overflow_cast-result-2
 overflow_cast-result-2 g c = fits_place c.in-Some-lowest.second (free_second g (goal.at.overflow_cast-result-2 g c).In-Some-lowest).1
 
 -- what making the pipe and both its ends comes to
-made : (g : Over) (c : After-open_at-2 g) → lowest_of c.kernel.inside.descs.tables c.args.pid 0 ≡ Some c.in-Some.first → lowest_of c.kernel.inside.descs.tables c.args.pid (c.in-Some.first + 1) ≡ Some c.in-Some-lowest.second
+made : (g : Over) (c : After-open_at-2 g) → lowest_of c.kernel.inside.descs.tables c.kernel.inside.limits.descriptors_max c.args.pid 0 ≡ Some c.in-Some.first → lowest_of c.kernel.inside.descs.tables c.kernel.inside.limits.descriptors_max c.args.pid (c.in-Some.first + 1) ≡ Some c.in-Some-lowest.second
     → live_count c.kernel.inside.descs.opened ≤ most_descriptions - 2
     → (IsSound g.row.A.Denot (contents c.open_at-2.new.descs (nodes_of c.make.new.self) c.kernel.inside.parked c.kernel.inside.limits)) × (AreCounted g.row.A.Denot c.open_at-2.new.descs c.kernel.inside.parked.calls)
     × (MakesAtKeys (view_of c.kernel.inside) (Begin c.args.pid (Call.Pipe c.args.nonblock c.args.direct)) (Fds (pos c.in-Some.first) (pos c.in-Some-lowest.second)) (contents c.open_at-2.new.descs (nodes_of c.make.new.self) c.kernel.inside.parked c.kernel.inside.limits))

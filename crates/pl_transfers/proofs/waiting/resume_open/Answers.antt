@@ -34,10 +34,10 @@ returns-in_default g c =
     rw (← c.kernel.view_is) (open-many (m g v) c.args.number c.args.pid c.args.key true (waits g v) refl (sym c.lowest.ensures ∙ c.in_default.is) new ended)
 
 pub install-requires-clause-place : goal.install-requires-clause-place
-install-requires-clause-place g c = (lowest_found c.kernel.inside.descs.tables c.args.pid 0 c.in-Some.fd (sym c.lowest.ensures ∙ c.in-Some.is)).1
+install-requires-clause-place g c = (lowest_found c.kernel.inside.descs.tables c.kernel.inside.limits.descriptors_max c.args.pid 0 c.in-Some.fd (sym c.lowest.ensures ∙ c.in-Some.is)).1
 
 pub install-requires-clause-free : goal.install-requires-clause-free
-install-requires-clause-free g c = (lowest_found c.kernel.inside.descs.tables c.args.pid 0 c.in-Some.fd (sym c.lowest.ensures ∙ c.in-Some.is)).0
+install-requires-clause-free g c = (lowest_found c.kernel.inside.descs.tables c.kernel.inside.limits.descriptors_max c.args.pid 0 c.in-Some.fd (sym c.lowest.ensures ∙ c.in-Some.is)).0
 
 pub install-requires-clause-held : goal.install-requires-clause-held
 install-requires-clause-held g c =
@@ -45,7 +45,7 @@ install-requires-clause-held g c =
     held (m g v) c.args.number c.args.pid c.args.key true (waits g v)
 
 pub overflow_cast-result : goal.overflow_cast-result
-overflow_cast-result g c = fits_place c.in-Some.fd (lowest_found c.kernel.inside.descs.tables c.args.pid 0 c.in-Some.fd (sym c.lowest.ensures ∙ c.in-Some.is)).1
+overflow_cast-result g c = fits_place c.in-Some.fd (lowest_found c.kernel.inside.descs.tables c.kernel.inside.limits.descriptors_max c.args.pid 0 c.in-Some.fd (sym c.lowest.ensures ∙ c.in-Some.is)).1
 
 pub invariant_of-kernel : goal.invariant_of-kernel
 invariant_of-kernel g c =
@@ -65,6 +65,6 @@ returns g c =
     let n = c.args.number in
     let fd = c.in-Some.fd in
     let least = sym c.lowest.ensures ∙ c.in-Some.is in
-    rw (← c.kernel.view_is, to_z_place fd (lowest_found c.kernel.inside.descs.tables c.args.pid 0 fd least).1)
+    rw (← c.kernel.view_is, to_z_place fd (lowest_found c.kernel.inside.descs.tables c.kernel.inside.limits.descriptors_max c.args.pid 0 fd least).1)
     (subst (λ (z : Calls g.row.A.Denot). MakesAtKeys (view_of c.kernel.inside) (Resume n) (Fd (pos fd)) (contents c.install.new.self (nodes_of c.kernel.inside.nodes) z c.kernel.inside.limits)) (sym c.take.ensures.rest)
     (open-made (m g v) n c.args.pid c.args.key true (waits g v) refl fd least c.install.new.self i.pids i.rows (ap (λ (z : Descs). z.opened) i.rest) i.loose i.tidy))

@@ -12,7 +12,7 @@ use Rattle.pl_locked.proofs.desk.Desk.show.Goals as goal
 own : (g : Over) (c : After-show g) → IsSub c.me.inside.made (of c.me.inside.number c.show.new.eye.seen)
 own g c =
     let me = c.me.inside in
-    subst (λ (h : List (Entry g.row.A.Denot)). IsSub me.made (of me.number h)) (sym c.show.ensures.seen) (sub_later me.number me.made me.eye.seen c.self.inside.recorded c.me.invariant.4 c.show.ensures.earlier)
+    subst (λ (h : List (Entry g.row.A.Denot)). IsSub me.made (of me.number h)) (sym c.show.ensures.seen) (sub_later me.number me.made me.eye.seen c.self.inside.recorded.journal c.me.invariant.4 c.show.ensures.earlier)
 
 pub invariant_of-me : goal.invariant_of-me
 invariant_of-me g c =

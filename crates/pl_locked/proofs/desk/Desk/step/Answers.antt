@@ -18,7 +18,7 @@ module _ (g : Over) (c : After-add g) where
   A = g.row.A.Denot
 
   abbrev before : List (Entry A)
-  before = c.self.inside.recorded
+  before = c.self.inside.recorded.journal
 
   abbrev k : ℕ
   k = c.me.inside.number

@@ -1,0 +1,23 @@
+use Rattle.std.proofs.Common.{rules, ◌≡◌, sym, ap, ◌∙◌, subst, w32, to_z, of_z}
+use Rattle.pl_state.specs.Makes.{Makes}
+use Rattle.pl_model.specs.declared.calls.Call.{Call}
+use Rattle.pl_model.specs.declared.calls.Step.{Step}
+use Rattle.pl_transfers.specs.Waits.{reply_of}
+use Rattle.pl_locked.proofs.made.make.Goals as goal
+
+pub returns-in_ok-reply-in-Begin-default-Write-clause-made :
+    goal.returns-in_ok-reply-in-Begin-default-Write-clause-made
+returns-in_ok-reply-in-Begin-default-Write-clause-made g c =
+    let w = c.in-Begin-default-Write in
+    let signed : to_z w32 (of_z w32 w.fd) ≡ w.fd = search rules in
+    let same : Step.Begin w.pid (Call.Write (to_z w32 (of_z w32 w.fd)) c.as_slice.result.now) ≡ c.args.step =
+    (λ i. Step.Begin w.pid (Call.Write (signed i) (c.as_slice.ensures.value i))) ∙ ap (Step.Begin w.pid) (sym w.field-1-is) ∙ sym w.is
+    in
+    λ s stands.
+    let made = subst (λ x. Makes {A = g.row.A.Denot} c.args.kernel.now x (reply_of c.in_ok-reply-in-Begin-default-Write.reply) c.write_from.new.self) same c.in_ok-reply-in-Begin-default-Write.ensures.made s stands in
+    (c.reply_of-in-Begin-default-Write.ensures ∙ made.0, made.1)
+
+pub returns-in_ok-reply-in_default-clause-made : goal.returns-in_ok-reply-in_default-clause-made
+returns-in_ok-reply-in_default-clause-made g c =
+    let same : c.in_default-1.step ≡ c.args.step = search rules in
+    subst (λ x. Makes {A = g.row.A.Denot} c.args.kernel.now x c.in_ok-reply-in_default.reply c.step_pair.new.self) same c.in_ok-reply-in_default.ensures.made
