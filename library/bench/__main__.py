@@ -7,6 +7,7 @@ below 1, the library takes less. Take figures on a machine without other work.
 Environment, each with what is taken without it:
   PREFIX    where the library is installed    library/install.sh installs it for the run, by ARCHIVE and MEMORY
   PIPERUN   the program piperun               crates/piperun/out/piperun; scripts are passed over if it isn't there
+  LOCKED    the program pl_bench              crates/pl_bench/out/pl_bench; the locked layer is passed over if it isn't there
   CC        the C compiler                    cc
 
 The status is 1 if something can't be built or run, or if a figure isn't above 0.
@@ -20,6 +21,7 @@ import sys
 import tempfile
 from typing import List
 
+import locked
 import machine
 import plot
 import programs
@@ -46,6 +48,11 @@ def measured(pace: str, work: pathlib.Path) -> List[table.Row]:
         rows += scripts.measure(piperun.absolute(), library.build(programs.HOST_CALLS), work, pace)
     else:
         passed_over("scripts, as there is no piperun")
+    of_threads = pathlib.Path(os.environ.get("LOCKED", programs.ROOT / "crates/pl_bench/out/pl_bench"))
+    if os.access(of_threads, os.X_OK):
+        rows += locked.measure(of_threads.absolute(), library.build(programs.HOST_JOBS), pace)
+    else:
+        passed_over("the locked layer, as there is no pl_bench")
     return rows
 
 

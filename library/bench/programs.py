@@ -36,6 +36,7 @@ PROGRAMS = [
     Program("memory", ("memory.c", "queue.c")),
 ]
 HOST_CALLS = Program("host_calls", ("host_calls.c",))
+HOST_JOBS = Program("host_jobs", ("host_jobs.c",))
 
 
 def compiler() -> List[str]:

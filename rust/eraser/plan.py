@@ -39,7 +39,7 @@ PLACES = LIBRARY | SCRIPT | EXPORTS | CHECKS
 
 # Crates that the edition leaves out: the threads, whose promise is a history that a proof speaks of, and the examples, which a test of the
 # package's own reads.
-LEFT_OUT = {"pl_history", "pl_locked", "pl_locked_checks", "pl_talk", "pl_examples"}
+LEFT_OUT = {"pl_history", "pl_locked", "pl_locked_checks", "pl_talk", "pl_bench", "pl_examples"}
 
 # Files of which the edition has a form of its own, in `rust/replaced`: allocators, which in Rust only permit.
 REPLACED = {
