@@ -66,12 +66,17 @@ ResumesAlone A =
     (s : State A) (c number : ℕ) (w : Waiting A numbers) → IsWhole s → can_progress s.core c ≡ false → get nat_eq s.core.parked number ≡ Some w →
     IsUndisturbed s (step s (Resume c)).state number w
 
+-- The call waits under its number, and is the same: of its process, with what it asks, keeps and took. If it is an open, another one may
+-- have met it.
+abbrev pub GoesOn : {A : Type 0} → Core A numbers → ℕ → Waiting A numbers → Type 0
+GoesOn c number w = (met : Bool) × (get nat_eq c.parked number ≡ Some (record w { met = met }))
+
 -- A call that waits goes on waiting under its number, unless the step is of that call: it tries it again, interrupts it, or ends its
 -- process.
 abbrev pub EndsByItsOwn : Type 0 → Type 0
 EndsByItsOwn A =
     (s : State A) (x : Step A) (number : ℕ) (w : Waiting A numbers) → get nat_eq s.core.parked number ≡ Some w → is_of_call x number w ≡ false →
-    IsSome (get nat_eq (step s x).state.core.parked number)
+    GoesOn (step s x).state.core number w
 
 -- Whatever keys the state has, the same step touches the same nodes.
 abbrev pub TouchesUnderRenaming : Type 0 → Type 0

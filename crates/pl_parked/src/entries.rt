@@ -28,12 +28,29 @@ fn place_from_end<A: Allocator>(entries: &[Entry<A>], number: u64) -> Option<usi
     }
 }
 
+// Where the entry of a number stands, if no number is missing up to it: so this finds calls that wait for long while newer ones come and go.
+fn place_from_start<A: Allocator>(entries: &[Entry<A>], number: u64) -> Option<usize>
+    ensures { IfSome result (λ place. number_at entries.now place ≡ Some number) }
+{
+    let end = entries.len().checked_sub(1)?;
+    let ahead = number.checked_sub(entries[0].0)?;
+    if ahead > end as u64 {
+        return None;
+    }
+    let place = ahead as usize;
+    if number == entries[place].0 {
+        Some(place)
+    } else {
+        None
+    }
+}
+
 /// Where the entry of a number stands.
 pub(crate) fn place_of<A: Allocator>(entries: &[Entry<A>], number: u64) -> Option<usize>
     ensures here { (next : ℕ) → Rise 0 next entries.now → IfSome result (λ place. number_at entries.now place ≡ Some number) }
     ensures none { (next : ℕ) → Rise 0 next entries.now → IfNone result (get nat_eq entries.now number ≡ None) }
 {
-    let place = place_from_end(entries, number);
+    let place = place_from_end(entries, number).or_else(|| place_from_start(entries, number));
     if place.is_some() {
         return place;
     }

@@ -1,6 +1,6 @@
 -- A call that waits goes on waiting through each step that isn't of it.
 use Rattle.std.proofs.Common.{◌≡◌, ℕ, ◌+◌, Bool, true, false, cond, List, [], ◌∷◌, ◌++◌, Option, nat_eq, refl, sym, ap, subst, ◌∙◌}
-use Rattle.std.specs.Prelude.{IsSome, ◌&&◌, ◌==◌, option_map}
+use Rattle.std.specs.Prelude.{◌&&◌, ◌==◌, option_map}
 use Rattle.std.specs.declared.option.Option.TheVariants.{None, Some}
 use Rattle.pl_model.specs.declared.calls.Call.{Call}
 use Rattle.pl_model.specs.declared.calls.Mode.{Mode}
@@ -14,12 +14,12 @@ use Rattle.pl_model.specs.Keys.{Node, NewKeys, Plain, Draws, PipeNode, FileNode,
 use Rattle.pl_model.specs.State.{Core, Waiting, named, can_wait}
 use Rattle.pl_model.specs.Trial.{Trial, Flow, Done, Wait, Begun, Begins, Refused, Answered, Tried, flowed}
 use Rattle.pl_model.specs.Tables.{lowest_pid}
-use Rattle.pl_model.specs.Fifo.{meet}
+use Rattle.pl_model.specs.Fifo.{meet, meets}
 use Rattle.pl_model.specs.Begin.{open_named, begin_open_name}
 use Rattle.pl_model.specs.Settle.{settle}
 use Rattle.pl_model.specs.Step.{Stepped, try, begin, begun, first_tried, waiting, stepped, parked, happen, core_step, ended, resumed, tried_again, interrupted, started, without_call}
 use Rattle.pl_model.specs.Touching.{is_exit, is_of_call}
-use Rattle.pl_model.specs.TouchingLaw.{opens_name}
+use Rattle.pl_model.specs.TouchingLaw.{opens_name, GoesOn}
 use Rattle.pl_model.specs.Numbered.{numbers}
 use Rattle.pl_model.proofs.by_call.Ways.{BegunAll, LeadsTo, TrialAll, ways}
 use Rattle.pl_model.proofs.settling.Meeting.{met_by, meet-get}
@@ -28,21 +28,17 @@ use Rattle.pl_model.proofs.streams.Maps.{append_old}
 use Rattle.pl_model.proofs.touching.Parked.{settled-parked, core_step-is}
 use Rattle.pl_model.proofs.touching.Staying.{AsParked, Stays, try_parked, other_stays, end_stays, again_stays}
 
--- what stands under a number stands there too where an entry comes behind
-appended_stands : {X : Type 0} (es : Map ℕ X) (k n : ℕ) (v : X) → IsSome (get nat_eq es n) → IsSome (get nat_eq (es ++ (k, v) ∷ []) n)
-appended_stands {X = X} es k n v h = at (get nat_eq es n) refl h
-  where
-    at : (o : Option X) → get nat_eq es n ≡ o → IsSome o → IsSome (get nat_eq (es ++ (k, v) ∷ []) n)
-    at None e i = absurd (cc)
-    at (Some w) e i = subst (λ o. IsSome o) (sym (append_old es k n v w e)) refl
-
 module _ {A : Type 0} (c : Core A numbers) (new : NewKeys numbers) (n : ℕ) (w : Waiting A numbers) (here : get nat_eq c.parked n ≡ Some w) where
-  -- some call waits under the number
+  -- the call goes on waiting
   abbrev pub Waits : Core A numbers → Type 0
-  Waits u = IsSome (get nat_eq u.parked n)
+  Waits u = GoesOn u n w
+
+  -- it does in such a list of calls
+  abbrev WaitsIn : Map ℕ (Waiting A numbers) → Type 0
+  WaitsIn es = (met : Bool) × (get nat_eq es n ≡ Some (record w { met = met }))
 
   waits_so : (u : Core A numbers) → Stays c new n w here u → Waits u
-  waits_so u h = subst (λ o. IsSome o) (sym h) refl
+  waits_so u h = (w.met, h)
 
   waits_here : Waits c
   waits_here = waits_so c here
@@ -58,7 +54,11 @@ module _ {A : Type 0} (c : Core A numbers) (new : NewKeys numbers) (n : ℕ) (w 
 
   -- an open that it meets leaves it parked, as one that was met
   met_waits : (p : ℕ) (mode : Mode) → Waits (meet c p mode)
-  met_waits p mode = subst (λ o. IsSome o) (sym (meet-get c p mode n ∙ ap (option_map (met_by c p mode)) here)) refl
+  met_waits p mode = at (meets c p mode w) (meet-get c p mode n ∙ ap (option_map (met_by c p mode)) here)
+    where
+      at : (b : Bool) → get nat_eq (meet c p mode).parked n ≡ Some (cond b (record w { met = true }) w) → Waits (meet c p mode)
+      at true found = (true, found)
+      at false found = (w.met, found)
 
   truncate_waits : (b : Bool) (u v : Core A numbers) → Waits u → Waits v → Waits (cond b u v)
   truncate_waits true u v h k = h
@@ -79,7 +79,7 @@ module _ {A : Type 0} (c : Core A numbers) (new : NewKeys numbers) (n : ℕ) (w 
   begin_waits pid call other = leads_so (begin c pid call) (other_stays c new n w here pid call refl other)
 
   flow_waits : (s u : Core A numbers) (flow : Flow numbers) → Waits s → u.parked ≡ s.parked → Waits (flowed u flow)
-  flow_waits s u flow h same = subst (λ (es : Map ℕ (Waiting A numbers)). IsSome (get nat_eq es n)) (sym (flowed_parked u flow ∙ same)) h
+  flow_waits s u flow h same = subst WaitsIn (sym (flowed_parked u flow ∙ same)) h
 
   first_waits : (s : Core A numbers) (v : Waiting A numbers) (may_wait : Bool) (t : Trial A numbers) → Waits s → TrialAll (AsParked s) t → Waits (first_tried c v may_wait t).state
   first_waits s v may_wait (Done u flow reply) h k = flow_waits s u flow h k
@@ -88,7 +88,9 @@ module _ {A : Type 0} (c : Core A numbers) (new : NewKeys numbers) (n : ℕ) (w 
     where
       spent : (b : Bool) → Waits (cond b (stepped c CallsSpent) (record { state = parked (flowed u flow) (record v { taken = taken }); reply = Parked c.next_call; flow = flow })).state
       spent true = waits_here
-      spent false = appended_stands (flowed u flow).parked (flowed u flow).next_call n (record v { taken = taken }) (flow_waits s u flow h k)
+      spent false =
+          let old = flow_waits s u flow h k in
+          (old.0, append_old (flowed u flow).parked (flowed u flow).next_call n (record v { taken = taken }) (record w { met = old.0 }) old.1)
 
   begun_waits : (pid : ℕ) (call : Call A) (b : Begun A numbers) → BegunAll Waits b → Waits (begun c pid call b).state
   begun_waits pid call (Refused errno) k = waits_here
@@ -127,4 +129,4 @@ module _ {A : Type 0} (c : Core A numbers) (new : NewKeys numbers) (n : ℕ) (w 
   step_waits x other =
       let h = (drawn new (happen c x)).state in
       subst (λ (z : Stepped A numbers). Waits z.state) (sym (core_step-is c x new))
-      (subst (λ (es : Map ℕ (Waiting A numbers)). IsSome (get nat_eq es n)) (sym (settled-parked c h)) (happen_waits x other))
+      (subst WaitsIn (sym (settled-parked c h)) (happen_waits x other))

@@ -1,6 +1,5 @@
 -- What a step leaves of the calls that wait, in the words of the law.
 use Rattle.std.proofs.Common.{◌≡◌, ℕ, ◌+◌, ◌<◌, length, true, false, refl, sym, subst, ◌∙◌, ap, Some, nat_eq, arith}
-use Rattle.std.specs.Prelude.{IsSome}
 use Rattle.pl_model.specs.declared.calls.Call.{Call}
 use Rattle.pl_model.specs.declared.calls.Step.{Step}
 use Rattle.pl_model.specs.declared.calls.Step.TheVariants.{Begin, Resume}
@@ -13,7 +12,7 @@ use Rattle.pl_model.specs.Numbered.{numbers, State, next_numbers, step_of, step}
 use Rattle.pl_model.specs.StandsFor.{AreUnused, IsBelowCounters}
 use Rattle.pl_model.specs.Waking.{can_progress}
 use Rattle.pl_model.specs.Touching.{keeps_at, touches, is_of_call}
-use Rattle.pl_model.specs.TouchingLaw.{IsWhole, IsUndisturbed, opens_name}
+use Rattle.pl_model.specs.TouchingLaw.{IsWhole, IsUndisturbed, GoesOn, opens_name}
 use Rattle.pl_model.proofs.touching.SameAt.{IsFit}
 use Rattle.pl_model.proofs.touching.Untouched.{untouched, untouched_by_another}
 use Rattle.pl_model.proofs.touching.Begun.{idle_begun}
@@ -63,8 +62,8 @@ module _ {A : Type 0} (s : State A) where
       ((node : Node numbers) → keeps_at s.core node w ≡ true → touches s.core x node ≡ false) → IsUndisturbed s (step s x).state number w
   leaves_another x number w whole here other away = undisturbed x number w (untouched_by_another s.core x (next_numbers s) (next_unused whole.sound.below) (fit_of whole) number w here away other)
 
-  pub ends_by_its_own : (x : Step A) (number : ℕ) (w : Waiting A numbers) → get nat_eq s.core.parked number ≡ Some w → is_of_call x number w ≡ false → IsSome (get nat_eq (step s x).state.core.parked number)
-  ends_by_its_own x number w here other = subst (λ (c : Core A numbers). IsSome (get nat_eq c.parked number)) (sym (leaves x)) (step_waits s.core (next_numbers s) number w here x other)
+  pub ends_by_its_own : (x : Step A) (number : ℕ) (w : Waiting A numbers) → get nat_eq s.core.parked number ≡ Some w → is_of_call x number w ≡ false → GoesOn (step s x).state.core number w
+  ends_by_its_own x number w here other = subst (λ (c : Core A numbers). GoesOn c number w) (sym (leaves x)) (step_waits s.core (next_numbers s) number w here x other)
 
   pub waits_alone : (pid : ℕ) (call : Call A) (n : ℕ) (v : Waiting A numbers) (number : ℕ) (w : Waiting A numbers) → IsWhole s → opens_name call ≡ false →
       (step s (Begin pid call)).reply ≡ Parked n → get nat_eq (step s (Begin pid call)).state.core.parked n ≡ Some v → v.taken ≡ 0 →
