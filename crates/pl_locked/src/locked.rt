@@ -20,9 +20,16 @@ use pl_model::{Limits, Reply, Step};
 use std::alloc::{Allocator, Global};
 use std::sync::{Condvar, Mutex, MutexGuard, Wait};
 use std::thread;
+use std::time::Duration;
 
 /// How often a caller tries to lock the desk before it sleeps.
-const TRIES: u32 = 16;
+const TRIES: u32 = 64;
+
+/// How often it lets other threads run, and finds new steps each time, before it knows that they make step after step.
+const BUSY: u32 = 4;
+
+/// For how many microseconds it then leaves the lock to them.
+const AWAY: u64 = 50;
 
 /// A caller of the layer was not handed in: all that was is handed back.
 #[derive(Drop)]
@@ -65,6 +72,8 @@ pub struct Locked<N: Layer, A: Allocator = Global> {
     desk: Mutex<Desk<N, A>>,
     /// What each caller waits at, by its number.
     turns: Vec<Condvar, A>,
+    /// Where callers are that leave the lock to others.
+    away: Condvar,
     word: Word<N, A>,
     ghost known: { (count ≡ N.callers) × (length turns.items ≡ N.callers) },
 }
@@ -137,6 +146,7 @@ impl<N: Layer, A: Allocator + Copy> Locked<N, A> {
             count,
             desk: Mutex::new(desk),
             turns,
+            away: Condvar::new(),
             word,
         }
     }
@@ -166,6 +176,7 @@ impl<N: Layer, A: Allocator + Copy> Locked<N, A> {
                     count: _,
                     desk,
                     turns: _,
+                    away: _,
                     word,
                 } = self;
                 Ok(desk.into_inner().finish(&word, callers))
@@ -180,7 +191,7 @@ impl<N: Layer, A: Allocator + Copy> Locked<N, A> {
         ensures part { IsRest result.first me.new.seen result.journal }
         ensures shown { Shown N.limits N.max_steps me.old me.new }
     {
-        self.part_of(self.lock(rt), me)
+        self.part_of(self.lock(rt, me), me)
     }
 
     // What the desk hands out.
@@ -200,8 +211,76 @@ impl<N: Layer, A: Allocator + Copy> Locked<N, A> {
         self.word.look(&mut me.eye)
     }
 
-    // Locks the desk. It tries a few times before it sleeps: a step under the lock takes less time than to sleep and to be woken.
-    fn lock<R: Wait>(&self, rt: &R) -> MutexGuard<'_, Desk<N, A>> {
+    // How many steps there are now.
+    fn steps(&self, me: &mut Caller<N, A>) -> u64
+        ensures { me.new ≡ me.old }
+    {
+        let mut eye = self.word.copy(&mut me.eye);
+        self.word.look(&mut eye)
+    }
+
+    // Whether others make step after step: it finds new ones each time that it let them run.
+    fn is_busy(&self, me: &mut Caller<N, A>) -> bool
+        ensures { me.new ≡ me.old }
+    {
+        let mut seen = self.steps(me);
+        for _ in 0..BUSY {
+            thread::yield_now();
+            let steps = self.steps(me);
+            if steps == seen {
+                return false;
+            }
+            seen = steps;
+        }
+        true
+    }
+
+    // Leaves the lock to others for a short time, where they make step after step. If the lock changed hands at each step, what steps use
+    // would go from one processor to another, which costs more than the steps.
+    fn give_way<R: Wait>(&self, rt: &R, me: &mut Caller<N, A>)
+        ensures { me.new ≡ me.old }
+    {
+        if self.is_busy(me) {
+            let seen = self.away.notifications();
+            self.away.sleep(rt, seen, Duration::from_micros(AWAY));
+        }
+    }
+
+    // Lets those go on that left the lock to a caller, if its call waits: it makes no step now.
+    fn recall(&self, reply: &Reply<A>) {
+        if matches!(reply, Reply::Parked(_)) {
+            self.away.notify_all();
+        }
+    }
+
+    // Locks the desk.
+    #[inline(always)]
+    fn lock<R: Wait>(&self, rt: &R, me: &mut Caller<N, A>) -> MutexGuard<'_, Desk<N, A>>
+        ensures { me.new ≡ me.old }
+    {
+        match self.desk.try_lock() {
+            Some(desk) => desk,
+            None => self.lock_later(rt, me),
+        }
+    }
+
+    // Locks the desk, which was locked. It tries a few times before it sleeps: a step under the lock takes less time than to sleep and to be
+    // woken.
+    #[inline(never)]
+    fn lock_later<R: Wait>(&self, rt: &R, me: &mut Caller<N, A>) -> MutexGuard<'_, Desk<N, A>>
+        ensures { me.new ≡ me.old }
+    {
+        for _ in 0..TRIES {
+            self.give_way(rt, me);
+            if let Some(desk) = self.desk.try_lock() {
+                return desk;
+            }
+        }
+        self.desk.lock(rt)
+    }
+
+    // The same for a caller that is about to sleep, which leaves the lock to nobody.
+    fn lock_at_once<R: Wait>(&self, rt: &R) -> MutexGuard<'_, Desk<N, A>> {
         for _ in 0..TRIES {
             if let Some(desk) = self.desk.try_lock() {
                 return desk;
@@ -236,7 +315,10 @@ impl<N: Layer, A: Allocator + Copy> Locked<N, A> {
             self.turns[caller].notify_one();
         }
         match made {
-            Ok(reply) => Ok((reply, steps)),
+            Ok(reply) => {
+                self.recall(&reply);
+                Ok((reply, steps))
+            }
             Err(fault) => Err(fault),
         }
     }
@@ -255,7 +337,7 @@ impl<N: Layer, A: Allocator + Copy> Locked<N, A> {
         ensures wanted { IsErrOf result StepFault.NoMemory → ¬ Full N.max_steps me.new }
         ensures unmade { OnErr result (Shown N.limits N.max_steps me.old me.new) }
     {
-        self.make(self.lock(rt), me, step)
+        self.make(self.lock(rt, me), me, step)
     }
 
     /// Makes one step under the lock. The caller has then seen all that had happened, and what it made last.

@@ -113,19 +113,13 @@ impl<N: Layer, A: Allocator + Copy> Recorded<N, A> {
         ensures unmade { OnErr result ((self.new ≡ self.old) × (made.new ≡ made.old) × (eye.new ≡ eye.old)) }
     {
         self.rest.reserve(1)?;
-        let done = make(&mut self.kernel, self.alloc, step)?;
-        let entry = Entry {
-            caller,
-            number,
-            step: done.step,
-            reply: done.told,
-        };
+        let (entry, reply) = make(&mut self.kernel, self.alloc, caller, number, step)?;
         let count = self.first + self.rest.len() as u64;
         word.add(&mut self.recorder, count, &entry);
         word.follow(eye, &mut self.recorder);
         made.push(&entry);
         self.rest.push_reserved(entry);
-        Ok(done.reply)
+        Ok(reply)
     }
 
     /// Whether the parked call of a number can get on.

@@ -79,7 +79,7 @@ impl<N: Layer, A: Allocator + Copy> Locked<N, A> {
         ensures unmade { OnErr result (Shown N.limits N.max_steps me.old me.new) }
         ensures helped { NoneInVain N.limits me.old me.new }
     {
-        let desk = match self.look(me, number) {
+        let desk = match self.look(rt, me, number) {
             Some(desk) => desk,
             None => self.sleep(rt, me, number),
         };
@@ -105,7 +105,12 @@ impl<N: Layer, A: Allocator + Copy> Locked<N, A> {
 
     // Looks for a short time whether the call can get on, and lets other threads run meanwhile. Where it can, the desk is locked: a partner
     // that answers soon then costs no sleep.
-    fn look<'a>(&'a self, me: &mut Caller<N, A>, number: u64) -> Option<MutexGuard<'a, Desk<N, A>>>
+    fn look<'a, R: Wait>(
+        &'a self,
+        rt: &R,
+        me: &mut Caller<N, A>,
+        number: u64,
+    ) -> Option<MutexGuard<'a, Desk<N, A>>>
         ensures sees { Sees me.old me.new }
         ensures helped { IfSome result (λ desk. CouldGetOn {A = A} N.limits (mutex_guard_value desk).journal number) }
     {
@@ -113,15 +118,19 @@ impl<N: Layer, A: Allocator + Copy> Locked<N, A> {
         for _ in 0..LOOKS {
             // Without a new step the call can't have got on.
             let steps = self.watch(me, seen);
-            if steps > seen
-                && let Some(mut desk) = self.desk.try_lock()
-            {
-                if desk.can_progress(number) {
-                    desk.wait_for(me.number(), Waiting::Nothing);
-                    return Some(desk);
+            if steps > seen {
+                // At its first look it finds the steps from before it waited.
+                if seen > 0 {
+                    self.give_way(rt, me);
                 }
-                desk.wait_for(me.number(), Waiting::Awake(number));
-                seen = steps;
+                if let Some(mut desk) = self.desk.try_lock() {
+                    if desk.can_progress(number) {
+                        desk.wait_for(me.number(), Waiting::Nothing);
+                        return Some(desk);
+                    }
+                    desk.wait_for(me.number(), Waiting::Awake(number));
+                    seen = steps;
+                }
             }
             thread::yield_now();
         }
@@ -138,7 +147,7 @@ impl<N: Layer, A: Allocator + Copy> Locked<N, A> {
         ensures { CouldGetOn {A = A} N.limits (mutex_guard_value result).journal number }
     {
         let caller = me.number();
-        let mut desk = self.lock(rt);
+        let mut desk = self.lock_at_once(rt);
         desk.wait_for(caller, Waiting::Asleep(number));
         let mut desk = self.turns[caller as usize].wait_while(
             rt,

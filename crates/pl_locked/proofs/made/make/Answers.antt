@@ -1,4 +1,4 @@
-use Rattle.std.proofs.Common.{rules, ◌≡◌, sym, ap, ◌∙◌, subst, w32, to_z, of_z}
+use Rattle.std.proofs.Common.{rules, IfOk, ◌≡◌, sym, ap, ◌∙◌, subst, w32, to_z, of_z}
 use Rattle.pl_state.specs.Makes.{Makes}
 use Rattle.pl_model.specs.declared.calls.Call.{Call}
 use Rattle.pl_model.specs.declared.calls.Step.{Step}
@@ -17,7 +17,16 @@ returns-in_ok-reply-in-Begin-default-Write-clause-made g c =
     let made = subst (λ x. Makes {A = g.row.A.Denot} c.args.kernel.now x (reply_of c.in_ok-reply-in-Begin-default-Write.reply) c.write_from.new.self) same c.in_ok-reply-in-Begin-default-Write.ensures.made s stands in
     (c.reply_of-in-Begin-default-Write.ensures ∙ made.0, made.1)
 
-pub returns-in_ok-reply-in_default-clause-made : goal.returns-in_ok-reply-in_default-clause-made
-returns-in_ok-reply-in_default-clause-made g c =
+pub returns-in-Begin-default-Read-clause-made : goal.returns-in-Begin-default-Read-clause-made
+returns-in-Begin-default-Read-clause-made g c =
+    let r = c.in-Begin-default-Read in
+    let signed : to_z w32 (of_z w32 r.fd) ≡ r.fd = search rules in
+    let same : Step.Begin r.pid (Call.Read (to_z w32 (of_z w32 r.fd)) r.n) ≡ c.args.step =
+    (λ i. Step.Begin r.pid (Call.Read (signed i) r.n)) ∙ ap (Step.Begin r.pid) (sym r.field-1-is) ∙ sym r.is
+    in
+    subst (λ x. IfOk c.make_read.result (λ made. Makes {A = g.row.A.Denot} c.args.kernel.now x made.1 c.make_read.new.kernel)) same c.make_read.ensures.made
+
+pub returns-in_default-clause-made : goal.returns-in_default-clause-made
+returns-in_default-clause-made g c =
     let same : c.in_default-1.step ≡ c.args.step = search rules in
-    subst (λ x. Makes {A = g.row.A.Denot} c.args.kernel.now x c.in_ok-reply-in_default.reply c.step_pair.new.self) same c.in_ok-reply-in_default.ensures.made
+    subst (λ x. IfOk c.make_other.result (λ made. Makes {A = g.row.A.Denot} c.args.kernel.now x made.1 c.make_other.new.kernel)) same c.make_other.ensures.made

@@ -17,10 +17,10 @@ module _ (g : Over) (c : After-push_reserved g) where
   before = c.self.inside.recorder.seen
 
   abbrev now : Entry g.row.A.Denot
-  now = entry c.args.caller c.args.number c.args.step c.in_ok-done.done.reply
+  now = entry c.args.caller c.args.number c.args.step c.in_ok-entry.reply
 
-  same : entry c.args.caller c.args.number c.in_ok-done.done.step c.in_ok-done.done.told ≡ now
-  same = λ i. entry c.args.caller c.args.number (c.in_ok-done.ensures.kept i) (c.in_ok-done.ensures.twice i)
+  same : c.in_ok-entry.entry ≡ now
+  same = c.in_ok-entry.ensures.entry
 
   abbrev rest : List (Entry g.row.A.Denot)
   rest = c.self.inside.rest.items
@@ -46,7 +46,7 @@ invariant_of-self-2 g c =
     let k = (goal.at.invariant_of-self-2 g c).After-push_reserved in
     let limits = g.N.Layer.limits in
     let h = before g k in
-    let made = c.in_ok-done.ensures.made (state_of_history limits h) c.self.invariant.1 in
+    let made = c.in_ok-entry.ensures.made (state_of_history limits h) c.self.invariant.1 in
     let number : c.args.number ≡ length (of c.args.caller h) = subst (λ (z : Kept g.row.A.Denot). c.args.number ≡ length (of c.args.caller z.journal)) (sym c.self.view_is) c.requires.number in
     let longer : length (h ++ now g k ∷ []) ≡ length h + 1 = length-append h (now g k ∷ []) in
     let few : length h < 2 ^ 62 = subst (λ (z : Kept g.row.A.Denot). length z.journal < 2 ^ 62) (sym c.self.view_is) c.requires.few in (
@@ -64,7 +64,7 @@ returns-clause-seen g c =
 
 pub returns-clause-number : goal.returns-clause-number
 returns-clause-number g c =
-    keeps_number (state_of_history g.N.Layer.limits c.self.inside.recorder.seen) c.args.step c.in_ok-done.done.reply (c.in_ok-done.ensures.made _ c.self.invariant.1).0
+    keeps_number (state_of_history g.N.Layer.limits c.self.inside.recorder.seen) c.args.step c.in_ok-entry.reply (c.in_ok-entry.ensures.made _ c.self.invariant.1).0
 
 pub returns-clause-legal : goal.returns-clause-legal
 returns-clause-legal g c = (invariant_of-self-2 g c).0
