@@ -1,6 +1,7 @@
 /* Does a job of crates/pl_bench by the host's pipes, and prints the nanoseconds that a round takes: host_jobs JOB ROUNDS. */
 #define _GNU_SOURCE
 #include <pthread.h>
+#include <stdatomic.h>
 #include <stdbool.h>
 #include <stdio.h>
 #include <stdlib.h>
@@ -15,16 +16,18 @@ struct job {
     const char *name;
     unsigned threads;
     bool makes_pairs, at_own_pipe, is_answered;
-    size_t size;
+    size_t size; /* 0: it moves nothing, and loads a word */
 };
 
 static const struct job JOBS[] = {
     { "alone", 1, true, false, false, SMALL },
+    { "handed", 1, true, false, false, SMALL },
     { "pairs", 1, true, false, false, SMALL },
     { "pingpong", 2, false, false, true, 1 },
     { "readers", 64, false, false, false, 1 },
     { "answered", 64, false, false, true, 1 },
     { "stream", 2, false, false, false, LARGE },
+    { "glance", 1, false, false, false, 0 },
     { "own2", 2, true, true, false, SMALL },
     { "own4", 4, true, true, false, SMALL },
     { "one2", 2, true, false, false, SMALL },
@@ -58,6 +61,14 @@ static void make_pairs(unsigned number)
     }
 }
 
+/* a thousand loads a round */
+static void load_a_word(void)
+{
+    static atomic_ullong word;
+    for (long i = 0; i < 1000 * rounds; i++)
+        (void)atomic_load(&word);
+}
+
 static void send_pieces(void)
 {
     static char bytes[LARGE];
@@ -84,6 +95,8 @@ static void *work(void *argument)
     const unsigned number = *(const unsigned *)argument;
     if (job->makes_pairs)
         make_pairs(number);
+    else if (job->size == 0)
+        load_a_word();
     else if (number == 0)
         send_pieces();
     else

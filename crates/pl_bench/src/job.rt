@@ -12,12 +12,17 @@ const LARGE: u32 = 65_536;
 /// How many pipes there are: one for each of four callers. That of caller k has the descriptors 2k and 2k + 1.
 const PIPES: u32 = 4;
 
+/// After how many rounds the journal is handed out, where it is.
+const HANDED: u32 = 100;
+
 /// A job of the callers.
 #[derive(Clone, Copy, PartialEq)]
 pub(crate) enum Job {
     /// One caller writes 64 bytes and reads them, on a layer that has one.
     Alone,
-    /// The same on a layer of 64 callers.
+    /// The same, and the journal is handed out every hundred rounds, and dropped.
+    Handed,
+    /// The first on a layer of 64 callers.
     Pairs,
     /// Two callers answer each other's byte.
     PingPong,
@@ -27,6 +32,8 @@ pub(crate) enum Job {
     Answered,
     /// One caller writes pieces of 64 KiB, and another reads them.
     Stream,
+    /// One caller glances, a thousand times a round.
+    Glance,
     /// So many callers write 64 bytes and read them, each at a pipe of its own.
     Own(u32),
     /// So many callers do so at one pipe.
@@ -37,11 +44,13 @@ impl Job {
     pub(crate) fn named(name: &str) -> Option<Job> {
         Some(match name {
             "alone" => Job::Alone,
+            "handed" => Job::Handed,
             "pairs" => Job::Pairs,
             "pingpong" => Job::PingPong,
             "readers" => Job::Readers,
             "answered" => Job::Answered,
             "stream" => Job::Stream,
+            "glance" => Job::Glance,
             "own2" => Job::Own(2),
             "own4" => Job::Own(4),
             "one2" => Job::One(2),
@@ -53,7 +62,7 @@ impl Job {
     /// How many callers the layer has.
     pub(crate) fn callers(self) -> u32 {
         match self {
-            Job::Alone => 1,
+            Job::Alone | Job::Handed | Job::Glance => 1,
             Job::Pairs | Job::Readers | Job::Answered => 64,
             Job::PingPong | Job::Stream => 2,
             Job::Own(count) | Job::One(count) => count,
@@ -144,6 +153,37 @@ fn pairs<N: Layer, R: Wait, A: Allocator + Copy>(
     true
 }
 
+/// The same by parts of so many rounds, and behind each the journal is handed out.
+fn handed<N: Layer, R: Wait, A: Allocator + Copy>(
+    rt: &R,
+    alloc: A,
+    locked: &Locked<N, A>,
+    me: &mut Caller<N, A>,
+    rounds: u32,
+) -> bool {
+    for _ in 0..rounds / HANDED {
+        if !pairs(rt, alloc, locked, me, 0, HANDED) {
+            return false;
+        }
+        drop(locked.hand_out(rt, me));
+    }
+    true
+}
+
+/// The caller glances so many thousand times.
+fn glances<N: Layer, A: Allocator + Copy>(
+    locked: &Locked<N, A>,
+    me: &mut Caller<N, A>,
+    rounds: u32,
+) -> bool {
+    for _ in 0..rounds {
+        for _ in 0..1000 {
+            let _steps = locked.glance(me);
+        }
+    }
+    true
+}
+
 /// The caller writes so many pieces, and waits for an answer after each if it is to. Then it closes the write end.
 fn send<N: Layer, R: Wait, A: Allocator + Copy>(
     rt: &R,
@@ -196,6 +236,8 @@ pub(crate) fn work<N: Layer, R: Wait, A: Allocator + Copy>(
     let (len, answered) = match job {
         Job::Own(_) => return pairs(rt, alloc, locked, me, number, rounds),
         Job::One(_) => return pairs(rt, alloc, locked, me, 0, rounds),
+        Job::Glance => return glances(locked, me, rounds),
+        Job::Handed => return handed(rt, alloc, locked, me, rounds),
         Job::Alone | Job::Pairs if number == 0 => {
             return pairs(rt, alloc, locked, me, 0, rounds);
         }

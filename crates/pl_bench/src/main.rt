@@ -1,15 +1,18 @@
 //! `pl_bench JOB ROUNDS`: how long threads take over the locked layer, in nanoseconds a round. `library/bench` runs the same threads at the
-//! host's pipes beside it.
+//! host's pipes beside it. `pl_bench entry ROUNDS`: how many bytes of memory an entry of the journal takes.
 #![tactic(auto)]
 
 ghost use Rattle.std.specs.Prelude.{◌≡◌, ◌≤◌, ◌^◌};
 ghost use Rattle.pl_model.specs.Numbers.{most_file_bytes};
 
 mod crowd;
+mod entry;
 mod job;
 
 use crate::crowd::sixty_four;
+use crate::entry::entry_bytes;
 use crate::job::{Job, begin};
+use pl_budget::Budget;
 use pl_locked::{Caller, Ground, Layer, Locked};
 use pl_model::Limits;
 use std::alloc::Global;
@@ -20,6 +23,9 @@ use std::process::ExitCode;
 use std::sync::Wait;
 use std::thread::Threads;
 use std::time::{Clock, Instant};
+
+/// How many steps a layer makes at most.
+const MOST_STEPS: u64 = 1_000_000_000_000;
 
 /// How many nanoseconds the callers take for all rounds of a job, on a layer with pipes; nothing where something fails.
 fn time<N: Layer + Send + Sync, R: Threads + Wait + Clock + Sync>(
@@ -62,12 +68,53 @@ fn bench<N: Layer + Send + Sync, R: Threads + Wait + Clock + Sync>(
     time(rt, alloc, &locked, callers.as_mut_slice(), job, rounds)
 }
 
-/// The words: a job, and how many rounds it has.
-fn asked<R: Env + AllocGlobal>(rt: &R) -> Option<(Job, u32)> {
+/// How long a round of a job takes, in nanoseconds.
+fn nanoseconds<R: Threads + Wait + Clock + Sync + AllocGlobal>(
+    rt: &R,
+    job: Job,
+    rounds: u32,
+) -> Option<u128> {
+    let ground = Ground::new(rt.alloc()).ok()?;
+    let took = bench::<Brand, _>(
+        rt,
+        rt.alloc(),
+        ground,
+        Limits::DEFAULT,
+        job.callers(),
+        MOST_STEPS,
+        job,
+        rounds,
+    )?;
+    took.checked_div(u128::from(rounds))
+}
+
+/// How many bytes an entry of the journal takes.
+fn bytes<R: Wait + AllocGlobal>(rt: &R, rounds: u32) -> Option<u128> {
+    let budget = Budget::new(rt.alloc(), u64::MAX);
+    let ground = Ground::new(&budget).ok()?;
+    let each = entry_bytes::<Brand, _>(rt, &budget, ground, Limits::DEFAULT, MOST_STEPS, rounds)?;
+    Some(u128::from(each))
+}
+
+/// What is measured.
+#[derive(Clone, Copy)]
+enum Subject {
+    /// How long a job takes.
+    Time(Job),
+    /// What an entry of the journal takes.
+    Entry,
+}
+
+/// The words: what is measured, and how many rounds it has.
+fn asked<R: Env + AllocGlobal>(rt: &R) -> Option<(Subject, u32)> {
     let mut words = env::args(rt).ok()?.skip(1);
-    let job = Job::named(words.next()?.as_str())?;
+    let word = words.next()?;
+    let subject = match word.as_str() {
+        "entry" => Subject::Entry,
+        name => Subject::Time(Job::named(name)?),
+    };
     let rounds = words.next()?.as_str().parse::<u32>().ok()?;
-    Some((job, rounds))
+    Some((subject, rounds))
 }
 
 /// The status where the usage is printed: only a program that was given no words was asked for it.
@@ -84,29 +131,19 @@ fn status_of_usage<R: Env + AllocGlobal>(rt: &R) -> ExitCode {
 }
 
 fn main(rt: HostRuntime) -> io::Result<ExitCode> {
-    let Some((job, rounds)) = asked(&rt) else {
+    let Some((subject, rounds)) = asked(&rt) else {
         println!(rt;
-            "usage: pl_bench alone|pairs|pingpong|readers|answered|stream|own2|own4|one2|one4 ROUNDS"
+            "usage: pl_bench alone|handed|pairs|pingpong|readers|answered|stream|glance|own2|own4|one2|one4|entry ROUNDS"
         )?;
         return Ok(status_of_usage(&rt));
     };
-    let Ok(ground) = Ground::new(rt.alloc()) else {
+    let measured = match subject {
+        Subject::Time(job) => nanoseconds(&rt, job, rounds),
+        Subject::Entry => bytes(&rt, rounds),
+    };
+    let Some(figure) = measured else {
         return Ok(ExitCode::FAILURE);
     };
-    let most = 1_000_000_000_000;
-    let count = job.callers();
-    let Some(took) = bench::<Brand, _>(
-        &rt,
-        rt.alloc(),
-        ground,
-        Limits::DEFAULT,
-        count,
-        most,
-        job,
-        rounds,
-    ) else {
-        return Ok(ExitCode::FAILURE);
-    };
-    println!(rt; "{}", took / u128::from(rounds.max(1)))?;
+    println!(rt; "{figure}")?;
     Ok(ExitCode::SUCCESS)
 }

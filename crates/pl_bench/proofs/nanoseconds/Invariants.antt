@@ -1,4 +1,4 @@
-use Rattle.pl_bench.proofs.main.Given as goal
+use Rattle.pl_bench.proofs.nanoseconds.Given as goal
 
 -- the layer that is opened there
 abbrev pub ghosts-bench-N-Ledger : goal.ghosts-bench-N-Ledger
