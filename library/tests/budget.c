@@ -405,6 +405,31 @@ static void two_guests(void)
     bindingclay_free(other.clay);
 }
 
+/* ---- Idle pipes ---- */
+
+enum { MANY = 1000, PIPES_OF_ONE = 100, IDLE = 400 };
+
+/* A thousand idle pipes take at most so many bytes each, also once they may hold 1,048,576 bytes. */
+static void idle_pipes(void)
+{
+    struct kernel kernel = kernel_of(FIRST, UINT64_MAX);
+    asking = kernel.owner;
+    for (uint32_t pid = 1; pid <= MANY / PIPES_OF_ONE; pid++)
+        DONE(bindingclay_start(kernel.clay), pid);
+    uint64_t before = held_by[FIRST];
+    for (uint32_t i = 0; i < MANY; i++) {
+        uint32_t pid = 1 + i / PIPES_OF_ONE;
+        bindingclay_ends ends = NEW_PIPE(kernel.clay, pid, false);
+        DONE(bindingclay_set_pipe_sz(kernel.clay, pid, ends.write_end, 1048576), 1048576);
+    }
+    asking = PROGRAM;
+    uint64_t each = (held_by[FIRST] - before) / MANY;
+    HOLDS(is_within(kernel));
+    printf("an idle pipe: %" PRIu64 " bytes\n", each);
+    HOLDS(each <= IDLE);
+    free_kernel(kernel);
+}
+
 int main(int argc, char **argv)
 {
     long calls = argc > 1 ? atol(argv[1]) : 100000;
@@ -413,5 +438,6 @@ int main(int argc, char **argv)
     for (uint64_t memory = 65536; memory <= 8388608; memory *= 2)
         guest(memory, calls);
     two_guests();
+    idle_pipes();
     return end();
 }

@@ -1,6 +1,7 @@
 -- What is told of a parked call, whatever keys the machine has for what it keeps.
-use Rattle.std.proofs.Common.{◌≡◌, ℕ, Option, Some, None, IsSome, IfSome, refl, sym, ◌∙◌, ap, subst, nat_eq}
-use Rattle.std.specs.Prelude.{option_map, option_and_then}
+use Rattle.std.proofs.Common.{◌≡◌, ℕ, [], ◌∷◌, Option, Some, None, IsSome, IfSome, refl, sym, ◌∙◌, ap, subst, nat_eq}
+use Rattle.std.specs.Prelude.{map, option_map, option_and_then, IsSomeAnd}
+use Rattle.std.proofs.lemmas.Bool.{eqb-true}
 use Rattle.pl_model.specs.declared.calls.Call.{Call}
 use Rattle.pl_model.specs.declared.calls.Call.TheVariants as call
 use Rattle.pl_model.specs.Map.{get}
@@ -10,11 +11,12 @@ use Rattle.pl_model.specs.Renaming.{rename_waiting, Renamings}
 use Rattle.pl_parked.specs.declared.call.ParkedCall.{ParkedCall}
 use Rattle.pl_state.specs.Contents.{Contents, core_of, waiting_of}
 use Rattle.pl_state.specs.Makes.{Stands}
+use Rattle.pl_state.specs.Parking.{ReadWaits}
 use Rattle.pl_state.specs.Sound.{IsSound, IsWaiting, MayWait}
 use Rattle.pl_state.proofs.by_call.Resumed.{parked-is}
 use Rattle.pl_state.proofs.waiting.Calls.{get-each}
 use Rattle.pl_kernel.specs.declared.told_calls.CallFacts.{CallFacts}
-use Rattle.pl_kernel.specs.ToldCalls.{facts_of_call, TellsCall, TellsEach}
+use Rattle.pl_kernel.specs.ToldCalls.{facts_of_call, IsReadAt, IsReadOf, TellsAlike, TellsCall, TellsEach}
 
 -- each call that may wait is told of
 may-told : {A : Type 0} (pid taken : ℕ) (x : Call A) → MayWait x taken → IsSome (facts_of_call pid x)
@@ -51,3 +53,25 @@ module _ {A : Type 0} (k : Contents A) (sound : IsSound A k) (number : ℕ) (fou
       by : (r : Renamings) (o : Option (ParkedCall A)) → get nat_eq k.calls.calls number ≡ o → IsSome (option_map (rename_waiting r) (option_map waiting_of o)) → IsSome (option_and_then (λ w. facts_of_call w.pid w.call) o)
       by r None stood parked = absurd (cc)
       by r (Some w) stood parked = (let waits : IsWaiting A w = subst (λ o. IfSome o (IsWaiting A)) stood (sound.waiting number) in may-told w.pid w.taken w.call waits.may)
+
+module _ {A : Type 0} (k : Contents A) (sound : IsSound A k) where
+  -- a read that waits in the kernel waits in the machine, and keeps what the machine has in its place
+  read_at : (number key n : ℕ) → ReadWaits k number key n → (s : State A) (stands : Stands k s) → IsReadAt s.core (map stands.numbered.description.to (key ∷ [])) number
+  read_at number key n r s stands =
+      let waits : IsWaiting A r.call = subst (λ o. IfSome o (IsWaiting A)) r.here (sound.waiting number) in
+      let kept = map stands.numbered.description.to (key ∷ []) in
+      subst (λ o. IsSomeAnd o (IsReadOf kept)) (sym (of_state k sound number (Some r.call) r.here s stands)) (
+      record {
+        fd = r.fd;
+        n = n;
+        asked = r.asked;
+        keeps = ap (map stands.numbered.description.to) r.kept;
+        nothing = subst (λ (x : Call A). MayWait x r.call.taken) r.asked waits.may;
+      }
+      )
+
+  pub tells_alike : (number other key second n m : ℕ) → ReadWaits k number key n → ReadWaits k other second m → TellsAlike k number other (nat_eq key second)
+  tells_alike number other key second n m a b = λ same. λ s. λ stands.
+      let to = stands.numbered.description.to in
+      let is : key ≡ second = eqb-true key second same in
+      (map to (key ∷ []), read_at number key n a s stands, subst (λ x. IsReadAt s.core (map to (x ∷ [])) other) (sym is) (read_at other second m b s stands))

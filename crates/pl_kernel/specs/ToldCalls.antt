@@ -1,10 +1,12 @@
 -- What is told of parked calls.
-use Rattle.std.specs.Prelude.{◌≡◌, ℕ, ℤ, negsuc, List, [], ◌∷◌, nat_eq, Option, option_and_then, IsSome}
+use Rattle.std.specs.Prelude.{◌≡◌, ℕ, ℤ, negsuc, Bool, true, List, [], ◌∷◌, nat_eq, Option, option_and_then, IsSome, IsSomeAnd}
 use Rattle.std.specs.declared.option.Option.TheVariants.{None, Some}
 use Rattle.pl_model.specs.declared.calls.Call.{Call}
 use Rattle.pl_model.specs.declared.flags.PollMask.{PollMask}
 use Rattle.pl_model.specs.Map.{get}
-use Rattle.pl_model.specs.Numbered.{State}
+use Rattle.pl_model.specs.Keys.{Keys}
+use Rattle.pl_model.specs.State.{Core, Waiting}
+use Rattle.pl_model.specs.Numbered.{State, numbers}
 use Rattle.pl_state.specs.Contents.{Contents}
 use Rattle.pl_state.specs.Makes.{Stands}
 use Rattle.pl_kernel.specs.declared.told_calls.CallFacts.{CallFacts}
@@ -46,3 +48,23 @@ module _ {A : Type 0} (k : Contents A) (number : ℕ) where
   -- and of each call that is parked something is told
   abbrev pub TellsEach : Option CallFacts → Type 0
   TellsEach told = (s : State A) → Stands k s → IsSome (get nat_eq s.core.parked number) → IsSome told
+
+-- a call that waits is a read, and keeps these descriptions
+pub record IsReadOf {A : Type 0} {K : Keys} (kept : List K.Description) (w : Waiting A K) : Type 0 where
+  pub fd : ℤ
+  pub n : ℕ
+  pub asked : w.call ≡ Call.Read fd n
+  pub keeps : w.kept ≡ kept
+  pub nothing : w.taken ≡ 0
+
+-- such a read is parked under a number
+abbrev pub IsReadAt : {A : Type 0} {K : Keys} → Core A K → List K.Description → ℕ → Type 0
+IsReadAt c kept number = IsSomeAnd (get nat_eq c.parked number) (IsReadOf kept)
+
+-- reads of the same description are parked under two numbers
+abbrev pub AreAlike : {A : Type 0} → Core A numbers → (number other : ℕ) → Type 0
+AreAlike c number other = (kept : List ℕ) × IsReadAt c kept number × IsReadAt c kept other
+
+-- Two calls were told to be such reads: in each state for which the kernel stands, they are.
+abbrev pub TellsAlike : {A : Type 0} → Contents A → (number other : ℕ) → Bool → Type 0
+TellsAlike {A} k number other told = told ≡ true → (s : State A) → Stands k s → AreAlike s.core number other

@@ -1,9 +1,10 @@
 //! What is told of parked calls. Nothing here takes memory.
 ghost use Rattle.std.specs.Prelude.{◌≡◌};
-ghost use Rattle.pl_kernel.specs.ToldCalls.{first_fd, facts_of_call, TellsCall, TellsEach};
+ghost use Rattle.pl_kernel.specs.ToldCalls.{first_fd, facts_of_call, TellsAlike, TellsCall, TellsEach};
 
 use pl_model::{Call, PollMask};
 use pl_state::KernelState;
+use pl_transfers::waiting_read;
 use std::alloc::Allocator;
 
 /// In place of a descriptor, where a call has none.
@@ -79,4 +80,19 @@ pub fn call_facts<A: Allocator + Copy>(kernel: &KernelState<A>, number: u64) -> 
 {
     let waiting = kernel.parked.get(number)?;
     facts_of_call(waiting.pid, &waiting.call)
+}
+
+/// Whether the parked calls of two numbers are reads that keep the same description.
+pub fn are_alike<A: Allocator + Copy>(kernel: &KernelState<A>, number: u64, other: u64) -> bool
+    ensures { TellsAlike {A = A} kernel.now number other result }
+{
+    // A proof learns here what holds of the kernel.
+    let _ = &kernel.descs;
+    let Some(one) = waiting_read(kernel, number) else {
+        return false;
+    };
+    let Some(two) = waiting_read(kernel, other) else {
+        return false;
+    };
+    one.key == two.key
 }

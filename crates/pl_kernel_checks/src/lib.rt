@@ -1,7 +1,9 @@
 //! What the kernel answers where no script can say it: packets, large bytes and files of few bytes, a hundred rounds, what memory bytes
-//! take, runs, replies that are given twice, and the kernel as a newcomer uses it.
+//! take, runs, replies that are given twice, which calls are alike, and the kernel as a newcomer uses it.
 #![tactic(auto)]
 
+#[cfg(test)]
+mod alike;
 #[cfg(test)]
 mod first_use;
 #[cfg(test)]

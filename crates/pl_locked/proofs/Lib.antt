@@ -18,3 +18,7 @@ pub mod Waiting
 pub mod Quiet
 -- What is left of a journal behind the entries that were handed out.
 pub mod Rests
+-- Reads of one description that wait can get on together.
+pub mod Alike
+-- Who sleeps together with others, and what becomes of them in a step.
+pub mod Sleeping

@@ -5,7 +5,7 @@ use Rattle.std.specs.List.{list_any, position, position_or_len}
 use Rattle.std.proofs.lemmas.Bool.{le-ltb}
 use Rattle.pl_model.specs.Numbered.{State}
 use Rattle.pl_locked.specs.declared.desk.Waiting.{Waiting}
-use Rattle.pl_locked.specs.declared.desk.Waiting.TheVariants.{Nothing, Awake, Asleep}
+use Rattle.pl_locked.specs.declared.desk.Waiting.TheVariants.{Nothing, Awake, Asleep, Together}
 use Rattle.pl_locked.specs.Waking.{waits, is_helped_awake, is_helped_asleep, to_wake}
 
 -- at first none waits
@@ -19,12 +19,14 @@ module _ {A : Type 0} (s : State A) where
   no_awake (Nothing ∷ ws) h = no_awake ws h
   no_awake (Awake call ∷ ws) h = absurd (cc)
   no_awake (Asleep call ∷ ws) h = absurd (cc)
+  no_awake (Together call ∷ ws) h = absurd (cc)
 
   all_passed : (ws : List Waiting) → list_any waits ws ≡ false → position_or_len (is_helped_asleep s) ws ≡ length ws
   all_passed [] h = refl
   all_passed (Nothing ∷ ws) h = let rest = all_passed ws h in omega (arith, rest)
   all_passed (Awake call ∷ ws) h = absurd (cc)
   all_passed (Asleep call ∷ ws) h = absurd (cc)
+  all_passed (Together call ∷ ws) h = absurd (cc)
 
   no_asleep : (ws : List Waiting) → list_any waits ws ≡ false → position (is_helped_asleep s) ws ≡ None
   no_asleep ws h =

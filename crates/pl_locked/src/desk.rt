@@ -1,11 +1,12 @@
 //! What lies under the lock.
-ghost use Rattle.std.specs.Prelude.{◌≡◌, ℕ, ◌<◌, ◌≤◌, ◌^◌, [], ◌∷◌, ◌++◌, ◌+◌, length, IfOk, IfSome, OnErr, IsErrOf, ◌↔◌, replicate, slice_set};
-ghost use Rattle.std.specs.List.{list_any, position};
+ghost use Rattle.std.specs.Prelude.{◌≡◌, ℕ, ◌<◌, ◌≤◌, ◌^◌, [], ◌∷◌, ◌++◌, ◌+◌, ◌⊎◌, length, true, false, IfOk, IfSome, OnErr, IsErrOf, ◌↔◌, replicate, slice_set};
+ghost use Rattle.std.specs.List.{list_any, position, All};
 ghost use Rattle.pl_model.specs.History.{entry, of, state_of_history};
 ghost use Rattle.pl_locked.specs.Views.{Ends, Full, Gains, HasCaller, IsRest, Shown};
 ghost use Rattle.pl_locked.specs.Journals.{Owes, KeepsItsNumber};
-ghost use Rattle.pl_locked.specs.declared.desk.Waiting.TheVariants.{Nothing as Idle};
-ghost use Rattle.pl_locked.specs.Waking.{waits, is_helped_awake, is_helped_asleep, to_wake};
+ghost use Rattle.pl_locked.specs.declared.desk.Waiting.TheVariants.{Nothing as Idle, Asleep as Alone, Together as WithOthers};
+ghost use Rattle.pl_locked.specs.Waking.{waits, is_together, is_together_for, call_together, first_together, is_helped_awake, is_helped_asleep, is_helped_but, AreStuck, SleepAlikeWith, is_of_together, to_wake};
+ghost use Rattle.pl_model.specs.Touching.{is_exit};
 ghost use Rattle.pl_model.specs.Waking.{can_progress};
 
 use crate::caller::{Caller, gather};
@@ -14,7 +15,7 @@ use crate::journal::JournalPart;
 use crate::recorded::Recorded;
 use pl_history::{Layer, Word};
 use pl_kernel::Kernel;
-use pl_model::{Reply, Step};
+use pl_model::{Call, Reply, Step};
 use std::alloc::{Allocator, Global};
 use std::marker::Model;
 use std::sync::ledger::{Book, Share};
@@ -28,6 +29,8 @@ pub(crate) enum Waiting {
     Awake(u64),
     /// It sleeps until it is woken.
     Asleep(u64),
+    /// It sleeps until it is woken, and its call is a read of the same description as those of the others that sleep so.
+    Together(u64),
 }
 
 impl Waiting {
@@ -39,7 +42,49 @@ impl Waiting {
             Waiting::Nothing => false,
             Waiting::Awake(_) => true,
             Waiting::Asleep(_) => true,
+            Waiting::Together(_) => true,
         }
+    }
+
+    // Whether it sleeps together with others.
+    fn is_together(&self) -> bool
+        ensures { result ≡ is_together self.now }
+    {
+        match self {
+            Waiting::Together(_) => true,
+            _ => false,
+        }
+    }
+
+    // The call for which it does so.
+    fn call_together(&self) -> Option<u64>
+        ensures { result ≡ call_together self.now }
+    {
+        match self {
+            Waiting::Together(call) => Some(*call),
+            _ => None,
+        }
+    }
+
+    // Whether it does so for the call of a number.
+    fn is_together_for(&self, number: u64) -> bool
+        ensures { result ≡ is_together_for number self.now }
+    {
+        match self {
+            Waiting::Together(call) => number == *call,
+            _ => false,
+        }
+    }
+}
+
+// Whether a call ends its process.
+#[inline(always)]
+fn is_exit<A: Allocator>(call: &Call<A>) -> bool
+    ensures { result ≡ is_exit call.now }
+{
+    match call {
+        Call::Exit => true,
+        _ => false,
     }
 }
 
@@ -59,6 +104,8 @@ pub(crate) struct Desk<N: Layer, A: Allocator = Global> {
     waiting: Vec<Waiting, A>,
     /// Whether no caller waits. It may be `false` for one step longer.
     idle: bool,
+    /// Whether all that sleep together wait for reads of one description, of which it is enough to ask one.
+    alike: bool,
 }
 
 impl<N: Layer, A: Allocator> Model for Desk<N, A> {
@@ -66,13 +113,14 @@ impl<N: Layer, A: Allocator> Model for Desk<N, A> {
     ghost use Rattle.std.specs.List.{list_any};
     ghost use Rattle.pl_locked.specs.Views.{Held};
     ghost use Rattle.pl_locked.specs.Journals.{Tallies, Owes};
-    ghost use Rattle.pl_locked.specs.Waking.{waits};
+    ghost use Rattle.pl_model.specs.History.{state_of_history};
+    ghost use Rattle.pl_locked.specs.Waking.{waits, SleepAlike};
 
     ghost Value = { Held A };
 
     ghost view = { λ d. record { journal = d.recorded.journal; first = d.recorded.first; waiting = d.waiting.items } };
 
-    ghost invariant = { λ d. Tallies N.callers N.max_steps d.recorded.journal d.counts.items × Owes N.callers (length d.recorded.journal) d.book.total d.rest.parts d.rest.amount × (d.most ≡ N.max_steps) × (N.parts ≡ 64) × (length d.waiting.items ≡ N.callers) × (N.max_steps ≤ 2 ^ 62) × (d.idle ≡ true → list_any waits d.waiting.items ≡ false) };
+    ghost invariant = { λ d. Tallies N.callers N.max_steps d.recorded.journal d.counts.items × Owes N.callers (length d.recorded.journal) d.book.total d.rest.parts d.rest.amount × (d.most ≡ N.max_steps) × (N.parts ≡ 64) × (length d.waiting.items ≡ N.callers) × (N.max_steps ≤ 2 ^ 62) × (d.idle ≡ true → list_any waits d.waiting.items ≡ false) × (d.alike ≡ true → SleepAlike (state_of_history N.limits d.recorded.journal) d.waiting.items) };
 }
 
 impl<N: Layer, A: Allocator + Copy> Desk<N, A> {
@@ -100,6 +148,7 @@ impl<N: Layer, A: Allocator + Copy> Desk<N, A> {
             most,
             waiting,
             idle: true,
+            alike: true,
         }
     }
 
@@ -116,7 +165,106 @@ impl<N: Layer, A: Allocator + Copy> Desk<N, A> {
         ensures { self.new ≡ record self.old { waiting = slice_set self.old.waiting caller waiting } }
     {
         self.idle = false;
+        self.alike = self.alike && !waiting.is_together();
         self.waiting[caller as usize] = waiting;
+    }
+
+    /// Notes that a caller sleeps until a call can get on: together with others whose calls can get on just where this one can, if it is known
+    /// that there are some.
+    pub(crate) fn fall_asleep(&mut self, caller: u32, call: u64)
+        requires { caller < N.callers }
+        ensures { (self.new ≡ record self.old { waiting = slice_set self.old.waiting caller (Alone call) }) ⊎ (self.new ≡ record self.old { waiting = slice_set self.old.waiting caller (WithOthers call) }) }
+    {
+        let asleep = if self.joins(call) {
+            Waiting::Together(call)
+        } else {
+            Waiting::Asleep(call)
+        };
+        self.idle = false;
+        self.waiting[caller as usize] = asleep;
+    }
+
+    // Whether a call can get on just where those can for which callers sleep together. If nobody sleeps so, it becomes the first.
+    fn joins(&mut self, call: u64) -> bool
+        ensures joins { result ≡ true → SleepAlikeWith (state_of_history {A = A} N.limits self.old.journal) call self.old.waiting }
+        ensures same { self.new ≡ self.old }
+    {
+        match self.first_together() {
+            Some(other) => self.alike && self.recorded.are_alike(other, call),
+            None => {
+                self.alike = true;
+                self.recorded.are_alike(call, call)
+            }
+        }
+    }
+
+    // The first caller that sleeps together with others.
+    fn place_together(&self) -> Option<usize>
+        ensures place { result ≡ position is_together self.now.waiting }
+        ensures within { IfSome result (λ place. place < length self.now.waiting) }
+    {
+        self.waiting
+            .iter()
+            .position(|waiting| waiting.is_together())
+    }
+
+    // Its call.
+    fn first_together(&self) -> Option<u64>
+        ensures { result ≡ first_together self.now.waiting }
+    {
+        let place = self.place_together()?;
+        self.waiting[place].call_together()
+    }
+
+    // Whether it is known that none can get on of those for which callers sleep together.
+    fn are_stuck(&self) -> bool
+        ensures { result ≡ true → AreStuck (state_of_history {A = A} N.limits self.now.journal) self.now.waiting }
+    {
+        match self.first_together() {
+            Some(call) => self.alike && !self.can_progress(call),
+            None => false,
+        }
+    }
+
+    // Whether a step is of a call for which a caller sleeps together with others: then these are no more alike.
+    #[inline(always)]
+    fn is_of_together(&self, step: &Step<A>) -> bool
+        ensures { result ≡ false → list_any (is_of_together (state_of_history {A = A} N.limits self.now.journal) step.now) self.now.waiting ≡ false }
+    {
+        match step {
+            Step::Start => false,
+            Step::Begin(pid, call) => is_exit(call) && self.sleep_together_of(*pid),
+            Step::Resume(call) => self.sleep_together_for(*call),
+            Step::Interrupt(call) => self.sleep_together_for(*call),
+        }
+    }
+
+    // Whether a caller sleeps together with others for a call of a process.
+    #[inline(never)]
+    fn sleep_together_of(&self, pid: u32) -> bool
+        ensures { result ≡ list_any (is_of_together (state_of_history {A = A} N.limits self.now.journal) (Step.Begin pid Call.Exit)) self.now.waiting }
+    {
+        self.waiting
+            .iter()
+            .any(|waiting| self.is_of_process(waiting, pid))
+    }
+
+    // Whether one does so for the call of a number.
+    fn sleep_together_for(&self, call: u64) -> bool
+        ensures { result ≡ list_any (is_together_for call) self.now.waiting }
+    {
+        self.waiting
+            .iter()
+            .any(|waiting| waiting.is_together_for(call))
+    }
+
+    fn is_of_process(&self, waiting: &Waiting, pid: u32) -> bool
+        ensures { result ≡ is_of_together (state_of_history {A = A} N.limits self.now.journal) (Step.Begin pid Call.Exit) waiting.now }
+    {
+        match waiting {
+            Waiting::Together(call) => self.recorded.is_of_process(*call, pid),
+            _ => false,
+        }
     }
 
     /// Whether the parked call of a number can get on.
@@ -136,12 +284,13 @@ impl<N: Layer, A: Allocator + Copy> Desk<N, A> {
         }
     }
 
-    // Whether a caller sleeps until a call can get on that now can.
-    fn is_helped_asleep(&self, waiting: &Waiting) -> bool
-        ensures { result ≡ is_helped_asleep (state_of_history {A = A} N.limits self.now.journal) waiting.now }
+    // Whether a caller sleeps until a call can get on that now can. It may be known that those who sleep together can't.
+    fn is_helped_but(&self, waiting: &Waiting, stuck: bool) -> bool
+        ensures { result ≡ is_helped_but (state_of_history {A = A} N.limits self.now.journal) stuck waiting.now }
     {
         match waiting {
             Waiting::Asleep(call) => self.can_progress(*call),
+            Waiting::Together(call) => !stuck && self.can_progress(*call),
             _ => false,
         }
     }
@@ -155,14 +304,22 @@ impl<N: Layer, A: Allocator + Copy> Desk<N, A> {
             .any(|waiting| self.is_helped_awake(waiting))
     }
 
+    // The first caller that sleeps though its call can get on. It may be known that those who sleep together can't.
+    fn first_but(&self, stuck: bool) -> Option<usize>
+        ensures first { result ≡ position (is_helped_but (state_of_history {A = A} N.limits self.now.journal) stuck) self.now.waiting }
+        ensures caller { IfSome result (λ caller. caller < N.callers) }
+    {
+        self.waiting
+            .iter()
+            .position(|waiting| self.is_helped_but(waiting, stuck))
+    }
+
     // The first caller that sleeps though its call can get on.
     fn first_asleep(&self) -> Option<usize>
         ensures first { result ≡ position (is_helped_asleep (state_of_history {A = A} N.limits self.now.journal)) self.now.waiting }
         ensures caller { IfSome result (λ caller. caller < N.callers) }
     {
-        self.waiting
-            .iter()
-            .position(|waiting| self.is_helped_asleep(waiting))
+        self.first_but(self.are_stuck())
     }
 
     /// Whom to wake: the first caller that sleeps though its call can get on. It is nobody while a caller that is awake can get on: that one
@@ -233,9 +390,11 @@ impl<N: Layer, A: Allocator + Copy> Desk<N, A> {
         }
         let place = me.number as usize;
         let number = self.counts[place];
+        let ends = self.is_of_together(&step);
         let reply = self
             .recorded
             .step(word, &mut me.made, &mut me.eye, me.number, number, step)?;
+        self.alike = self.alike && !ends;
         self.book.add(&mut me.share, 1);
         self.counts[place] = number + 1;
         Ok(reply)
@@ -271,6 +430,7 @@ impl<N: Layer, A: Allocator + Copy> Desk<N, A> {
             most: _,
             waiting: _,
             idle: _,
+            alike: _,
         } = self;
         let mut all = rest;
         gather(callers, &mut all, word, &mut recorded);

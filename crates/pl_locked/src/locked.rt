@@ -18,18 +18,28 @@ use pl_history::{Layer, Word};
 use pl_kernel::{Kernel, NoMemory};
 use pl_model::{Limits, Reply, Step};
 use std::alloc::{Allocator, Global};
+use std::hint;
 use std::sync::{Condvar, Mutex, MutexGuard, Wait};
-use std::thread;
 use std::time::Duration;
 
 /// How often a caller tries to lock the desk before it sleeps.
-const TRIES: u32 = 64;
+const TRIES: u32 = 16;
 
-/// How often it lets other threads run, and finds new steps each time, before it knows that they make step after step.
-const BUSY: u32 = 4;
+/// How often it spins between two tries, or until there is a new step: for one to three microseconds.
+const SPINS: u32 = 64;
+
+/// How many new steps it finds, one soon after another, before it knows that others make step after step.
+const BUSY: u32 = 16;
 
 /// For how many microseconds it then leaves the lock to them.
 const AWAY: u64 = 50;
+
+// Lets a moment pass. No caller yields: where other programs run too, a yield gives them the processor for milliseconds.
+fn pause() {
+    for _ in 0..SPINS {
+        hint::spin_loop();
+    }
+}
 
 /// A caller of the layer was not handed in: all that was is handed back.
 #[derive(Drop)]
@@ -219,14 +229,27 @@ impl<N: Layer, A: Allocator + Copy> Locked<N, A> {
         self.word.look(&mut eye)
     }
 
-    // Whether others make step after step: it finds new ones each time that it let them run.
+    // Spins until there are other steps than so many, for a moment at most, and tells how many there are.
+    fn spin(&self, me: &mut Caller<N, A>, seen: u64) -> u64
+        ensures { me.new ≡ me.old }
+    {
+        for _ in 0..SPINS {
+            let steps = self.steps(me);
+            if steps != seen {
+                return steps;
+            }
+            hint::spin_loop();
+        }
+        seen
+    }
+
+    // Whether others make step after step: it finds new ones each time that it spins.
     fn is_busy(&self, me: &mut Caller<N, A>) -> bool
         ensures { me.new ≡ me.old }
     {
         let mut seen = self.steps(me);
         for _ in 0..BUSY {
-            thread::yield_now();
-            let steps = self.steps(me);
+            let steps = self.spin(me, seen);
             if steps == seen {
                 return false;
             }
@@ -285,7 +308,7 @@ impl<N: Layer, A: Allocator + Copy> Locked<N, A> {
             if let Some(desk) = self.desk.try_lock() {
                 return desk;
             }
-            thread::yield_now();
+            pause();
         }
         self.desk.lock(rt)
     }

@@ -1,11 +1,15 @@
 //! A kernel whose every step is kept.
-ghost use Rattle.std.specs.Prelude.{◌≡◌, ◌<◌, ◌≤◌, ◌^◌, [], ◌∷◌, ◌++◌, length, true, false, IfOk, OnErr};
+ghost use Rattle.std.specs.Prelude.{◌≡◌, ◌<◌, ◌≤◌, ◌^◌, [], ◌∷◌, ◌++◌, length, true, false, nat_eq, IfOk, OnErr};
 ghost use Rattle.pl_locked.specs.Views.{IsRest};
 ghost use mathlib.Core.List.{IsPrefix};
 ghost use Rattle.pl_model.specs.Numbers.{most_file_bytes};
 ghost use Rattle.pl_model.specs.History.{entry, of, IsLegal, state_of_history};
 ghost use Rattle.pl_state.specs.Makes.{Stands};
+ghost use Rattle.pl_model.specs.declared.calls.Call.TheVariants.{Exit};
+ghost use Rattle.pl_model.specs.Map.{get};
 ghost use Rattle.pl_model.specs.Waking.{can_progress};
+ghost use Rattle.pl_kernel.specs.ToldCalls.{AreAlike};
+ghost use Rattle.pl_locked.specs.Waking.{is_of_parked};
 ghost use Rattle.pl_locked.specs.Journals.{KeepsItsNumber};
 
 use crate::journal::{Journal, JournalPart};
@@ -127,6 +131,23 @@ impl<N: Layer, A: Allocator + Copy> Recorded<N, A> {
         ensures { result ≡ can_progress (state_of_history {A = A} N.limits self.now.journal).core call }
     {
         self.kernel.can_progress(call)
+    }
+
+    /// Whether the parked calls of two numbers are reads of the same description. `false` promises nothing.
+    pub(crate) fn are_alike(&self, call: u64, other: u64) -> bool
+        ensures { result ≡ true → AreAlike (state_of_history {A = A} N.limits self.now.journal).core call other }
+    {
+        self.kernel.are_alike(call, other)
+    }
+
+    /// Whether the parked call of a number is of a process, which would end it.
+    pub(crate) fn is_of_process(&self, call: u64, pid: u32) -> bool
+        ensures { result ≡ is_of_parked (state_of_history {A = A} N.limits self.now.journal) (Step.Begin pid Exit) call (get nat_eq (state_of_history {A = A} N.limits self.now.journal).core.parked call) }
+    {
+        match self.kernel.call_facts(call) {
+            Some(facts) => facts.pid == pid,
+            None => false,
+        }
     }
 
     /// Hands out the entries that weren't handed out yet. It takes no memory, and keeps none of theirs.

@@ -1,7 +1,7 @@
 -- A ring as contracts see it.
-use Rattle.std.specs.Prelude.{◌≡◌, ◌≢◌, ◌≤◌, ℕ, ◌%◌, List, [], Option, None, Some}
+use Rattle.std.specs.Prelude.{◌≡◌, ◌≤◌, ℕ, ◌*◌, ◌%◌, List, [], Option, None, Some}
 use Rattle.circular_buffer.specs.Buffer.{Buffer, buffer}
-use Rattle.pl_model.specs.Numbers.{first_capacity, most_capacity}
+use Rattle.pl_model.specs.Numbers.{most_capacity}
 use Rattle.pl_segments.specs.declared.slice.Slice.{Slice}
 use Rattle.pl_segments.specs.Segments.{segment_size}
 
@@ -10,7 +10,7 @@ pub record Ring : Type 0 where
   pub slots : List Slice
   pub capacity : ℕ
 
--- the bytes of capacity for each place: two places for a segment
+-- the bytes for each place: two places for a segment
 abbrev pub place_size : ℕ
 place_size = 2048
 
@@ -20,7 +20,16 @@ pub record IsCapacity (capacity : ℕ) : Type 0 where
   pub least : segment_size ≤ capacity
   pub most : capacity ≤ most_capacity
 
--- the places of a new pipe, with no slots, are kept beside those of any other capacity
-abbrev pub IsBeside : ℕ → Option (Buffer Slice) → Type 0
-IsBeside capacity None = capacity ≡ first_capacity
-IsBeside capacity (Some b) = (capacity ≢ first_capacity) × (b ≡ buffer [] 32)
+-- how many places a ring may have: two for each segment, at most as many as the greatest capacity wants
+pub record HasPlaces (places : ℕ) : Type 0 where
+  pub even : places % 2 ≡ 0
+  pub most : place_size * places ≤ most_capacity
+
+-- the places of an idle pipe
+abbrev pub few_places : ℕ
+few_places = 2
+
+-- a ring with other places keeps so few beside them, with no slots
+abbrev pub IsBeside : (places : ℕ) → Option (Buffer Slice) → Type 0
+IsBeside places None = places ≡ few_places
+IsBeside places (Some b) = b ≡ buffer [] few_places

@@ -1,5 +1,5 @@
 //! The ring of a pipe.
-ghost use Rattle.std.specs.Prelude.{◌≡◌, ℕ, ◌+◌, ◌-◌, ◌*◌, ◌/◌, ◌<◌, ◌≤◌, ◌^◌, ◌↔◌, [], ◌++◌, length, take, drop, IfOk, OnOk, OnErr, Err};
+ghost use Rattle.std.specs.Prelude.{◌≡◌, ℕ, ◌+◌, ◌-◌, ◌*◌, ◌/◌, ◌<◌, ◌≤◌, ◌^◌, ◌↔◌, [], ◌++◌, length, take, drop, IfOk, IsOk, OnOk, OnErr, Err};
 ghost use Rattle.pl_model.specs.Numbers.{first_capacity};
 ghost use Rattle.pl_segments.specs.Segments.{segment_size, most_spare, segment_at, holders, live_count};
 ghost use Rattle.pl_segments.specs.Slices.{AllLie, all_read};
@@ -7,7 +7,8 @@ ghost use Rattle.pl_segments.specs.Turns.{Holds, Turns};
 ghost use Rattle.pl_segments.specs.Slots.{total, AllSolid, solid_of, drop_bytes, front_of};
 ghost use Rattle.pl_ring.specs.Merging.{lens, AreMerged, merges_onto, IsFront};
 ghost use Rattle.pl_ring.specs.Parts.{fresh};
-ghost use Rattle.pl_ring.specs.Ring.{IsCapacity, IsBeside};
+ghost use Rattle.circular_buffer.specs.Buffer.{buffer};
+ghost use Rattle.pl_ring.specs.Ring.{place_size, few_places, IsCapacity, HasPlaces, IsBeside};
 
 use crate::fault::CapacityFault;
 use crate::front::{copy_front, drop_front, front_slices, pop_into, pop_only};
@@ -18,19 +19,23 @@ use pl_segments::{NoMemory, Slice, SliceList, Store};
 use std::alloc::{Allocator, Global};
 use std::marker::Model;
 
-/// The bytes of capacity for each place: two places for a segment.
+/// The bytes for each place: two places for a segment.
 const PLACE_SIZE: usize = 2_048;
+
+/// How many places the bytes of one segment want.
+const FEW_PLACES: usize = 2;
 
 /// The slots of one pipe, from the front to the back: slices of the segments of a store, each of which it holds. With the store
 /// it is a list of bytes. Two neighbouring slots, the first pair excepted, have more than 4,096 bytes together, so the slots
-/// never need more than `2 * capacity / 4096` places.
+/// never need more than `2 * capacity / 4096` places. A ring has two places until more bytes want others, so that an idle pipe is small.
 #[derive(Drop)]
 pub struct Ring<A: Allocator = Global> {
     alloc: A,
     slots: HeapCircularBuffer<Slice, A>,
+    capacity: usize,
     held: usize,
-    // No slots, and the places of a new pipe, where `slots` has others: so `reset` takes no memory.
-    first: Option<HeapCircularBuffer<Slice, A>>,
+    // No slots, and two places, where `slots` has others: so `reset` takes no memory.
+    few: Option<HeapCircularBuffer<Slice, A>>,
 }
 
 impl<A: Allocator> Model for Ring<A> {
@@ -46,18 +51,18 @@ impl<A: Allocator> Model for Ring<A> {
 }
 
 impl<A: Allocator + Copy> Ring<A> {
-    /// No slots. A capacity is a multiple of 4,096, from 4,096 to 1,048,576.
+    /// No slots, and two places. A capacity is a multiple of 4,096, from 4,096 to 1,048,576.
     pub fn new(alloc: A, capacity: usize) -> Result<Ring<A>, NoMemory>
         requires { IsCapacity capacity }
         ensures { IfOk result (λ ring. ring ≡ record { slots = []; capacity = capacity }) }
     {
-        let first = places_beside(alloc, capacity)?;
-        let slots = HeapCircularBuffer::with_capacity(alloc, capacity / PLACE_SIZE)?;
+        let slots = HeapCircularBuffer::with_capacity(alloc, FEW_PLACES)?;
         Ok(Ring {
             alloc,
             slots,
+            capacity,
             held: 0,
-            first,
+            few: None,
         })
     }
 
@@ -75,14 +80,14 @@ impl<A: Allocator + Copy> Ring<A> {
         ensures value { result ≡ self.now.capacity }
         ensures range { IsCapacity result }
     {
-        self.slots.capacity() * PLACE_SIZE
+        self.capacity
     }
 
     /// How many more bytes fit.
     pub fn room(&self) -> usize
         ensures { result ≡ self.now.capacity - total self.now.slots }
     {
-        self.capacity() - self.held
+        self.capacity - self.held
     }
 
     /// How many slots there are.
@@ -107,8 +112,16 @@ impl<A: Allocator + Copy> Ring<A> {
         ensures spare { store.old.room ≤ most_spare → store.new.room ≤ most_spare }
         ensures store_err { OnErr result (store.new ≡ store.old) }
     {
+        let held = self.held + bytes.len();
+        make_places(
+            self.alloc,
+            &mut self.slots,
+            &mut self.few,
+            self.capacity,
+            held,
+        )?;
         push_bytes(store, &mut self.slots, bytes)?;
-        self.held += bytes.len();
+        self.held = held;
         Ok(())
     }
 
@@ -137,6 +150,13 @@ impl<A: Allocator + Copy> Ring<A> {
         ensures spare { store.old.room ≤ most_spare → store.new.room ≤ most_spare }
         ensures store_err { OnErr result (store.new ≡ store.old) }
     {
+        make_places(
+            self.alloc,
+            &mut self.slots,
+            &mut self.few,
+            self.capacity,
+            self.capacity,
+        )?;
         let bytes = push_slices(store, &mut self.slots, slices.as_slice())?;
         self.held += bytes;
         Ok(())
@@ -215,48 +235,78 @@ impl<A: Allocator + Copy> Ring<A> {
     {
         let held = self.held;
         drop_front(store, &mut self.slots, held);
-        if let Some(first) = self.first.take() {
-            self.slots = first;
+        if let Some(few) = self.few.take() {
+            self.slots = few;
         }
         self.held = 0;
+        self.capacity = FIRST_CAPACITY;
     }
 
-    /// Sets how many bytes may be held: a multiple of 4,096, from 4,096 to 1,048,576. An error leaves all as it was.
+    /// Sets how many bytes may be held: a multiple of 4,096, from 4,096 to 1,048,576. It takes no memory. An error leaves all as it was.
     ///
     /// # Errors
     ///
-    /// - `Busy` exactly where more bytes are held.
-    /// - `NoMemory` where no more are held, and there is no memory for so many places.
+    /// `Busy` exactly where more bytes are held; there is no other.
     pub fn set_capacity(&mut self, capacity: usize) -> Result<(), CapacityFault>
         requires { IsCapacity capacity }
         ensures ok { OnOk result (self.new ≡ record self.old { capacity = capacity }) }
         ensures busy { (result ≡ Err CapacityFault.Busy) ↔ (capacity < total self.old.slots) }
+        ensures fits { total self.old.slots ≤ capacity → IsOk result }
         ensures err { OnErr result (self.new ≡ self.old) }
     {
         if capacity < self.held {
             return Err(CapacityFault::Busy);
         }
-        let Ok(first) = places_beside(self.alloc, capacity) else {
-            return Err(CapacityFault::NoMemory);
-        };
-        if self.slots.resize(capacity / PLACE_SIZE).is_err() {
-            return Err(CapacityFault::NoMemory);
-        }
-        self.first = first;
+        self.capacity = capacity;
         Ok(())
     }
 }
 
-/// The places of a new pipe, to be kept beside those of another capacity.
-fn places_beside<A: Allocator + Copy>(
+/// Makes all places that the capacity may want, beside two that are kept for `reset`. An error leaves all as it was. Out of line, since most
+/// pipes never want more than two.
+#[inline(never)]
+fn make_all_places<A: Allocator + Copy>(
     alloc: A,
+    slots: &mut HeapCircularBuffer<Slice, A>,
+    few: &mut Option<HeapCircularBuffer<Slice, A>>,
     capacity: usize,
-) -> Result<Option<HeapCircularBuffer<Slice, A>>, NoMemory>
-    ensures { IfOk result (IsBeside capacity) }
+) -> Result<(), NoMemory>
+    requires { length slots.old.items ≤ capacity / place_size }
+    ensures slots { OnOk result (slots.new ≡ record slots.old { capacity = capacity / place_size }) }
+    ensures beside { OnOk result (few.new ≡ Some (buffer [] few_places)) }
+    ensures err { OnErr result ((slots.new ≡ slots.old) × (few.new ≡ few.old)) }
 {
-    if capacity == FIRST_CAPACITY {
-        return Ok(None);
+    let beside = HeapCircularBuffer::with_capacity(alloc, FEW_PLACES)?;
+    slots.resize(capacity / PLACE_SIZE)?;
+    *few = Some(beside);
+    Ok(())
+}
+
+/// Makes places for the slots of so many bytes, within a capacity, among them those of the slots that are there: all that the capacity may
+/// want, if there are too few. An error leaves all as it was.
+#[inline(always)]
+fn make_places<A: Allocator + Copy>(
+    alloc: A,
+    slots: &mut HeapCircularBuffer<Slice, A>,
+    few: &mut Option<HeapCircularBuffer<Slice, A>>,
+    capacity: usize,
+    bytes: usize,
+) -> Result<(), NoMemory>
+    requires capacity { IsCapacity capacity }
+    requires fits { bytes ≤ capacity }
+    requires among { total slots.old.items ≤ bytes }
+    requires solid { AllSolid slots.old.items }
+    requires merged { AreMerged (lens slots.old.items) }
+    requires places { HasPlaces slots.old.capacity }
+    requires beside { IsBeside slots.old.capacity few.old }
+    ensures items { slots.new.items ≡ slots.old.items }
+    ensures places { HasPlaces slots.new.capacity }
+    ensures beside { IsBeside slots.new.capacity few.new }
+    ensures enough { OnOk result (bytes ≤ place_size * slots.new.capacity) }
+    ensures err { OnErr result ((slots.new ≡ slots.old) × (few.new ≡ few.old)) }
+{
+    if bytes <= slots.capacity() * PLACE_SIZE {
+        return Ok(());
     }
-    let first = HeapCircularBuffer::with_capacity(alloc, FIRST_CAPACITY / PLACE_SIZE)?;
-    Ok(Some(first))
+    make_all_places(alloc, slots, few, capacity)
 }

@@ -1,10 +1,12 @@
 //! Which calls that wait can get on.
 ghost use Rattle.std.specs.Prelude.{◌≡◌};
 ghost use Rattle.pl_kernel.specs.Progress.{TellsProgress, OrWaitsInVain, TellsNextReady, ready_entries};
+ghost use Rattle.pl_kernel.specs.ToldCalls.{TellsAlike};
 
 use super::Kernel;
 use crate::ready::next_ready;
 use crate::steps::can_progress;
+use crate::told_calls::are_alike;
 use pl_polls::masks_to_resume;
 use std::alloc::Allocator;
 
@@ -19,6 +21,14 @@ impl<A: Allocator + Copy> Kernel<A> {
         ensures vain { OrWaitsInVain {A = A} self.now number result }
     {
         can_progress(&self.state, number)
+    }
+
+    /// Whether the parked calls of two numbers are reads that keep the same description. As long as both are parked, one can get on just where
+    /// the other can: so of many such calls it is enough to ask one. `false` promises nothing. It changes nothing and takes no memory.
+    pub fn are_alike(&self, number: u64, other: u64) -> bool
+        ensures { TellsAlike {A = A} self.now number other result }
+    {
+        are_alike(&self.state, number, other)
     }
 
     /// Whether no call waits of which a step would have to tell the index: then a step costs no more than without one. A caller may ask it to

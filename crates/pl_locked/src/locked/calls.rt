@@ -10,14 +10,15 @@ use crate::fault::{CallFault, StepFault};
 use pl_history::Layer;
 use pl_model::{Call, Reply, Step};
 use std::alloc::Allocator;
+use std::hint;
 use std::sync::{MutexGuard, Wait};
-use std::thread;
 
-/// How often a caller looks before it sleeps.
+/// How often a caller looks, each time that there are new steps, before it sleeps.
 const LOOKS: u32 = 32;
 
-/// How often it glances before it lets other threads run. A partner on another processor mostly answers meanwhile.
-const GLANCES: u32 = 64;
+/// How often it glances before it sleeps if there are none: for four to twelve microseconds. A partner on another processor mostly answers
+/// meanwhile.
+const GLANCES: u32 = 256;
 
 impl<N: Layer, A: Allocator + Copy> Locked<N, A> {
     /// Begins a call of a process. Where it is parked it waits, without the lock, until the call can get on, and tries it again, until it is
@@ -99,12 +100,12 @@ impl<N: Layer, A: Allocator + Copy> Locked<N, A> {
             if steps > seen {
                 return steps;
             }
+            hint::spin_loop();
         }
         seen
     }
 
-    // Looks for a short time whether the call can get on, and lets other threads run meanwhile. Where it can, the desk is locked: a partner
-    // that answers soon then costs no sleep.
+    // Looks for a short time whether the call can get on. Where it can, the desk is locked: a partner that answers soon then costs no sleep.
     fn look<'a, R: Wait>(
         &'a self,
         rt: &R,
@@ -118,21 +119,21 @@ impl<N: Layer, A: Allocator + Copy> Locked<N, A> {
         for _ in 0..LOOKS {
             // Without a new step the call can't have got on.
             let steps = self.watch(me, seen);
-            if steps > seen {
-                // At its first look it finds the steps from before it waited.
-                if seen > 0 {
-                    self.give_way(rt, me);
-                }
-                if let Some(mut desk) = self.desk.try_lock() {
-                    if desk.can_progress(number) {
-                        desk.wait_for(me.number(), Waiting::Nothing);
-                        return Some(desk);
-                    }
-                    desk.wait_for(me.number(), Waiting::Awake(number));
-                    seen = steps;
-                }
+            if steps <= seen {
+                return None;
             }
-            thread::yield_now();
+            // At its first look it finds the steps from before it waited.
+            if seen > 0 {
+                self.give_way(rt, me);
+            }
+            if let Some(mut desk) = self.desk.try_lock() {
+                if desk.can_progress(number) {
+                    desk.wait_for(me.number(), Waiting::Nothing);
+                    return Some(desk);
+                }
+                desk.wait_for(me.number(), Waiting::Awake(number));
+                seen = steps;
+            }
         }
         None
     }
@@ -148,7 +149,7 @@ impl<N: Layer, A: Allocator + Copy> Locked<N, A> {
     {
         let caller = me.number();
         let mut desk = self.lock_at_once(rt);
-        desk.wait_for(caller, Waiting::Asleep(number));
+        desk.fall_asleep(caller, number);
         let mut desk = self.turns[caller as usize].wait_while(
             rt,
             desk,

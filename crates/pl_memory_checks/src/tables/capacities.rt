@@ -15,7 +15,7 @@ const BUSY: Want = Fault(EBUSY);
 
 /// Each of them is refused memory in turn.
 const CAPACITIES: &[Steps] = &[
-    // A capacity that finds no memory is as it was, with the room that it leaves.
+    // A capacity takes no memory. What finds none are the write and its next try.
     Steps {
         name: "raised_under_a_write",
         rows: &[
@@ -44,19 +44,6 @@ const CAPACITIES: &[Steps] = &[
                     NOT_OPEN, NOT_OPEN, NOT_OPEN, NOT_OPEN, NoCall, NOT_OPEN, NoCall, NOT_OPEN,
                 ],
             ),
-            // There is room for all of the write.
-            (
-                2,
-                &[
-                    Count(10_000),
-                    BUSY,
-                    Size(65_536),
-                    NoCall,
-                    BUSY,
-                    NoCall,
-                    Bytes(Many(b'a', 9_000)),
-                ],
-            ),
             (
                 3,
                 &[
@@ -66,16 +53,6 @@ const CAPACITIES: &[Steps] = &[
                     Size(4_096),
                     NoCall,
                     Parked(1),
-                ],
-            ),
-            (
-                4,
-                &[
-                    Size(4_096),
-                    Parked(1),
-                    Size(4_096),
-                    Count(4_096),
-                    Bytes(Many(b'a', 4_096)),
                 ],
             ),
             (6, &[Size(4_096), Count(4_096), Bytes(Many(b'a', 4_096))]),
@@ -112,18 +89,6 @@ const CAPACITIES: &[Steps] = &[
                     NOT_OPEN, NOT_OPEN, NOT_OPEN, NOT_OPEN, NOT_OPEN, NOT_OPEN, NoCall,
                 ],
             ),
-            // The write of 100,000 bytes waits, with 65,536 of them taken.
-            (
-                2,
-                &[
-                    Parked(1),
-                    Size(65_536),
-                    Bytes(Many(b'a', 40_000)),
-                    Size(65_536),
-                    Count(5_537),
-                    Count(65_536),
-                ],
-            ),
             (
                 3,
                 &[
@@ -135,7 +100,6 @@ const CAPACITIES: &[Steps] = &[
                 ],
             ),
             (5, &[BUSY, Count(5_537), NoCall]),
-            (6, &[Count(5_537), NoCall]),
             (7, &[NoCall]),
         ],
         names: &[],

@@ -63,7 +63,6 @@ const POLLS: &[Steps] = &[
                 ],
             ),
             (5, &[Size(4_096), Masks(0, &[EMPTY])]),
-            (6, &[Masks(1, &[OUT])]),
             (7, &[]),
         ],
         names: &[],

@@ -1,6 +1,8 @@
-use Rattle.std.proofs.Common.{◌≡◌, List, length, sym, ap, subst}
+use Rattle.std.proofs.Common.{◌≡◌, true, List, length, sym, ap, subst}
 use Rattle.pl_model.specs.declared.history.Entry.{Entry}
+use Rattle.pl_model.specs.History.{state_of_history}
 use Rattle.pl_locked.specs.Journals.{Tallies, Owes}
+use Rattle.pl_locked.specs.Waking.{SleepAlike}
 use Rattle.pl_locked.specs.Views.{Kept}
 use Rattle.pl_locked.proofs.desk.Desk.hand_out.Goals as goal
 
@@ -16,4 +18,5 @@ invariant_of-self g c =
       inv.4,
       inv.5,
       inv.6,
+      subst (λ (h : List (Entry g.row.A.Denot)). desk.alike ≡ true → SleepAlike (state_of_history g.N.Layer.limits h) desk.waiting.items) (sym same) inv.7,
     )

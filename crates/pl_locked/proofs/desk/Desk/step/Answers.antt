@@ -1,15 +1,22 @@
-use Rattle.std.proofs.Common.{◌≡◌, ℕ, ◌+◌, ◌<◌, ◌≤◌, List, [], ◌∷◌, ◌++◌, length, ap, sym, refl, ◌∙◌, subst, arith, length-append}
+use Rattle.std.proofs.Common.{true, false, ◌≡◌, ℕ, ◌+◌, ◌<◌, ◌≤◌, List, [], ◌∷◌, ◌++◌, length, ap, sym, refl, ◌∙◌, subst, arith, length-append}
 use Rattle.std.specs.Prelude.{slice_index}
+use Rattle.std.proofs.lemmas.Bool.{not-true}
+use Rattle.std.proofs.lemmas.Grind.{common_steps}
 use Rattle.std.proofs.lemmas.List.{get_or_read}
 use mathlib.Core.List.{IsPrefix}
 use Rattle.pl_model.specs.declared.history.Entry.{Entry}
-use Rattle.pl_model.specs.History.{entry, of, IsLegal}
+use Rattle.pl_model.specs.History.{entry, of, IsLegal, state_of_history}
+use Rattle.pl_model.specs.Numbered.{State, step}
+use Rattle.pl_model.proofs.Journals.{state-push}
+use Rattle.std.specs.List.{list_any}
+use Rattle.pl_locked.specs.Waking.{is_of_together, SleepAlike}
+use Rattle.pl_locked.proofs.Sleeping.{sleep_on}
 use Rattle.pl_locked.specs.Views.{CallerView, Held, IsSub}
 use Rattle.pl_locked.proofs.Subs.{sub_made}
 use Rattle.pl_locked.proofs.Tallying.{tally_small}
 use Rattle.pl_locked.proofs.Waiting.{gains}
 use Rattle.pl_locked.proofs.desk.Desk.step.Given.{Over}
-use Rattle.pl_locked.proofs.desk.Desk.step.Goals.{After-add}
+use Rattle.pl_locked.proofs.desk.Desk.step.Goals.{After-add, then-self, else-self}
 use Rattle.pl_locked.proofs.desk.Desk.step.Goals as goal
 
 -- the journal before the step, and the entry that comes
@@ -96,3 +103,28 @@ returns-clause-made g c =
     (c.in_ok-reply.ensures.made ∙ (λ i. (me-is g w i).made ++ entry (k-is g w i) n c.args.step c.in_ok-reply.reply ∷ []))
     (k-is g w)
     record { legal = subst (IsLegal g.N.Layer.limits) (sym c.in_ok-reply.ensures.seen) c.in_ok-reply.ensures.legal; room = less; own = own g w }
+
+pub invariant_of-self-2 : goal.invariant_of-self-2
+invariant_of-self-2 g c =
+    let inv = c.self.invariant in
+    let w = (goal.at.invariant_of-self-2 g c).After-add in
+    let limits = g.N.Layer.limits in
+    let s = state_of_history limits (before g w) in
+    let ws = c.self.inside.waiting.items in
+    let pushed : state_of_history limits c.step.new.self.journal ≡ (step s c.args.step).state =
+    ap (state_of_history limits) c.in_ok-reply.ensures.kept ∙ state-push limits (before g w) (now g w) in (
+      grind (arith, common_steps),
+      grind (arith, common_steps),
+      inv.2,
+      inv.3,
+      inv.4,
+      inv.5,
+      inv.6,
+      λ alike. elim c.if-self.branch [
+        | then-self b ↦
+            let other : c.is_of_together-ends.result ≡ false = not-true c.is_of_together-ends.result (sym b.self-is ∙ alike) in
+            let none : list_any (is_of_together s c.args.step) ws ≡ false = subst (λ (z : Held g.row.A.Denot). list_any (is_of_together (state_of_history limits z.journal) c.args.step) z.waiting ≡ false) (sym c.self.view_is) (c.is_of_together-ends.ensures other) in
+            subst (λ (u : State (A g w)). SleepAlike u ws) (sym pushed) (sleep_on s c.args.step ws none (inv.7 b.if-self.true))
+        | else-self b ↦ absurd (cc)
+      ],
+    )

@@ -1,66 +1,68 @@
-use Rattle.std.proofs.Common.{◌≡◌, ◌∙◌, ◌*◌, [], ap, sym, subst, arith, List, ℕ, Option, Some, None}
+use Rattle.std.proofs.Common.{◌≡◌, ◌∙◌, [], ap, sym, subst, arith, List, ℕ, Option, Some, None}
 use Rattle.circular_buffer.specs.Buffer.{Buffer, buffer}
-use Rattle.pl_model.specs.Numbers.{first_capacity}
 use Rattle.pl_segments.specs.declared.slice.Slice.{Slice}
 use Rattle.pl_segments.specs.Segments.{segment_at}
 use Rattle.pl_segments.specs.Turns.{Turns}
-use Rattle.pl_ring.specs.Ring.{place_size, Ring, IsCapacity, IsBeside}
+use Rattle.pl_ring.specs.Ring.{Ring, HasPlaces, IsBeside, few_places}
 use Rattle.pl_segments.specs.Slots.{total, AllSolid, drop_bytes}
 use Rattle.pl_ring.specs.Merging.{lens, AreMerged}
 use Rattle.pl_segments.proofs.Fronting.{drop-all}
 use Rattle.pl_ring.proofs.ring.Ring.reset.Goals.{in-Some, in_default}
 use Rattle.pl_ring.proofs.ring.Ring.reset.Goals as goal
 
+-- all bytes are gone
 gone : (xs ys : List Slice) (held : ℕ) → held ≡ total xs → ys ≡ drop_bytes held xs → ys ≡ []
 gone xs ys held e d = d ∙ ap (λ k. drop_bytes k xs) e ∙ drop-all xs
 
--- the places of a new pipe are kept beside, or were there
-fresh : (capacity : ℕ) (o : Option (Buffer Slice)) (b : Buffer Slice) → IsBeside capacity o → o ≡ Some b → b ≡ buffer [] 32
-fresh capacity o b h e = (subst (IsBeside capacity) e h).1
+-- the few places are kept beside, or were there
+fresh : (places : ℕ) (o : Option (Buffer Slice)) (b : Buffer Slice) → IsBeside places o → o ≡ Some b → b ≡ buffer [] few_places
+fresh places o b h e = subst (IsBeside places) e h
 
-there : (places : ℕ) (o : Option (Buffer Slice)) → IsBeside (place_size * places) o → o ≡ None → places ≡ 32
-there places o h e = let c : place_size * places ≡ first_capacity = subst (IsBeside (place_size * places)) e h in omega (arith, c)
+there : (places : ℕ) (o : Option (Buffer Slice)) → IsBeside places o → o ≡ None → places ≡ few_places
+there places o h e = subst (IsBeside places) e h
 
 pub invariant_of-self : goal.invariant_of-self
 invariant_of-self g c =
     let k = c.self.inside in
     let none = gone k.slots.items c.drop_front.new.slots.items k.held c.self.invariant.held c.drop_front.ensures.slots in
-    let new = c.match-take.self-inside in
-    let slots : new.slots ≡ buffer [] 32 =
+    let slots : c.match-take.self-inside.slots ≡ buffer [] few_places =
     elim c.match-take.branch [
-      | in-Some w ↦ (λ i. (w.self-inside-is i).slots) ∙ fresh (place_size * k.slots.capacity) k.first w.in-Some.first c.self.invariant.beside (sym c.take.ensures.value ∙ w.in-Some.is)
+      | in-Some w ↦ (λ i. (w.self-inside-is i).slots) ∙ fresh k.slots.capacity k.few w.in-Some.few c.self.invariant.beside (sym c.take.ensures.value ∙ w.in-Some.is)
       | in_default w ↦
-          let places = c.drop_front.ensures.capacity ∙ there k.slots.capacity k.first c.self.invariant.beside (sym c.take.ensures.value ∙ w.in_default.is) in
+          let places = c.drop_front.ensures.capacity ∙ there k.slots.capacity k.few c.self.invariant.beside (sym c.take.ensures.value ∙ w.in_default.is) in
           (λ i. (w.self-inside-is i).slots) ∙ (λ i. buffer (none i) (places i))
     ] in
-    let first : new.first ≡ None =
+    let new = c.match-take.self-inside in
+    let few : new.few ≡ None =
     elim c.match-take.branch [
-      | in-Some w ↦ (λ i. (w.self-inside-is i).first) ∙ c.take.ensures.after
-      | in_default w ↦ (λ i. (w.self-inside-is i).first) ∙ c.take.ensures.after
+      | in-Some w ↦ (λ i. (w.self-inside-is i).few) ∙ c.take.ensures.after
+      | in_default w ↦ (λ i. (w.self-inside-is i).few) ∙ c.take.ensures.after
     ] in
     let items : new.slots.items ≡ [] = (λ i. (slots i).items) in
-    let places : new.slots.capacity ≡ 32 = (λ i. (slots i).capacity) in
+    let places : new.slots.capacity ≡ few_places = (λ i. (slots i).capacity) in
     record {
       held = sym (ap total items);
       fits = omega arith;
-      range = subst (λ p. IsCapacity (place_size * p)) (sym places) (record { whole = omega arith; least = omega arith; most = omega arith });
+      enough = omega arith;
+      places = subst HasPlaces (sym places) (record { even = omega arith; most = omega arith });
+      beside = subst (IsBeside new.slots.capacity) (sym few) places;
+      range = record { whole = omega arith; least = omega arith; most = omega arith };
       solid = subst AllSolid (sym items) tt;
       merged = subst (λ zs. AreMerged (lens zs)) (sym items) tt;
-      beside = subst (IsBeside (place_size * new.slots.capacity)) (sym first) (omega (arith, places));
     }
 
 pub returns-clause-value : goal.returns-clause-value
 returns-clause-value g c =
     let k = c.self.inside in
     let none = gone k.slots.items c.drop_front.new.slots.items k.held c.self.invariant.held c.drop_front.ensures.slots in
-    let slots : c.match-take.self-inside.slots ≡ buffer [] 32 =
+    let slots : c.match-take.self-inside.slots ≡ buffer [] few_places =
     elim c.match-take.branch [
-      | in-Some w ↦ (λ i. (w.self-inside-is i).slots) ∙ fresh (place_size * k.slots.capacity) k.first w.in-Some.first c.self.invariant.beside (sym c.take.ensures.value ∙ w.in-Some.is)
+      | in-Some w ↦ (λ i. (w.self-inside-is i).slots) ∙ fresh k.slots.capacity k.few w.in-Some.few c.self.invariant.beside (sym c.take.ensures.value ∙ w.in-Some.is)
       | in_default w ↦
-          let places = c.drop_front.ensures.capacity ∙ there k.slots.capacity k.first c.self.invariant.beside (sym c.take.ensures.value ∙ w.in_default.is) in
+          let places = c.drop_front.ensures.capacity ∙ there k.slots.capacity k.few c.self.invariant.beside (sym c.take.ensures.value ∙ w.in_default.is) in
           (λ i. (w.self-inside-is i).slots) ∙ (λ i. buffer (none i) (places i))
     ] in
-    (λ i. record { slots = (slots i).items; capacity = place_size * (slots i).capacity })
+    (λ i. record { slots = (slots i).items; capacity = 65536 })
 
 pub returns-clause-turns : goal.returns-clause-turns
 returns-clause-turns g c =
