@@ -70,6 +70,10 @@ static void a_splice_without_memory(long count)
     bindingclay clay = kernel_with_process();
     fill_by_bytes(clay, count);
     bindingclay_ends ends = NEW_PIPE(clay, 1, false);
+    /* the places of the pipe's slots, which stay with it if the call that made them is refused */
+    static const uint8_t more_than_a_segment[SEGMENT + 1];
+    DONE(bindingclay_write(clay, 1, ends.write_end, more_than_a_segment, SEGMENT + 1), SEGMENT + 1);
+    DONE(take(clay, 1, ends.read_end, SEGMENT + 1), SEGMENT + 1);
     /* a slot, so that the second slice of the file on becomes one with what stands before it */
     DONE(put(clay, 1, ends.write_end, "a"), 1);
     const uint64_t first = 0;
