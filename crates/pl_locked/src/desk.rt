@@ -1,5 +1,5 @@
 //! What lies under the lock.
-ghost use Rattle.std.specs.Prelude.{◌≡◌, ℕ, ◌<◌, ◌≤◌, ◌^◌, [], ◌∷◌, ◌++◌, ◌+◌, ◌⊎◌, length, true, false, IfOk, IfSome, OnErr, IsErrOf, ◌↔◌, replicate, slice_set};
+ghost use Rattle.std.specs.Prelude.{◌≡◌, ℕ, ◌<◌, ◌≤◌, ◌^◌, [], ◌∷◌, ◌++◌, ◌+◌, ◌⊎◌, length, not, true, false, IfOk, IfSome, OnErr, IsErrOf, ◌↔◌, replicate, slice_set};
 ghost use Rattle.std.specs.List.{list_any, position, All};
 ghost use Rattle.pl_model.specs.History.{entry, of, state_of_history};
 ghost use Rattle.pl_locked.specs.Views.{Ends, Full, Gains, HasCaller, IsRest, Shown};
@@ -106,6 +106,8 @@ pub(crate) struct Desk<N: Layer, A: Allocator = Global> {
     idle: bool,
     /// Whether all that sleep together wait for reads of one description, of which it is enough to ask one.
     alike: bool,
+    /// Who was woken last, until it looks.
+    woken: Option<usize>,
 }
 
 impl<N: Layer, A: Allocator> Model for Desk<N, A> {
@@ -149,6 +151,7 @@ impl<N: Layer, A: Allocator + Copy> Desk<N, A> {
             waiting,
             idle: true,
             alike: true,
+            woken: None,
         }
     }
 
@@ -337,6 +340,30 @@ impl<N: Layer, A: Allocator + Copy> Desk<N, A> {
         self.whom_of_all()
     }
 
+    /// Whom to wake that wasn't woken already: who was, and didn't look yet, would only be told again.
+    pub(crate) fn whom_to_tell(&mut self) -> Option<usize>
+        ensures caller { IfSome result (λ caller. caller < N.callers) }
+        ensures same { self.new ≡ self.old }
+    {
+        let whom = self.whom_to_wake()?;
+        if self.woken == Some(whom) {
+            return None;
+        }
+        self.woken = Some(whom);
+        Some(whom)
+    }
+
+    /// Whether a caller that looks, and sleeps else, waits on, as its call can't get on.
+    pub(crate) fn waits_on(&mut self, caller: u32, call: u64) -> bool
+        ensures waits { result ≡ not (can_progress (state_of_history {A = A} N.limits self.old.journal).core call) }
+        ensures same { self.new ≡ self.old }
+    {
+        if self.woken == Some(caller as usize) {
+            self.woken = None;
+        }
+        !self.can_progress(call)
+    }
+
     // Whether some caller waits.
     fn has_waiting(&self) -> bool
         ensures { result ≡ list_any waits self.now.waiting }
@@ -431,6 +458,7 @@ impl<N: Layer, A: Allocator + Copy> Desk<N, A> {
             waiting: _,
             idle: _,
             alike: _,
+            woken: _,
         } = self;
         let mut all = rest;
         gather(callers, &mut all, word, &mut recorded);

@@ -332,7 +332,7 @@ impl<N: Layer, A: Allocator + Copy> Locked<N, A> {
         let made = desk.step(&self.word, me, step);
         let steps = desk.len();
         // Also where the step failed: whom an earlier step woke may be the caller that gives up now.
-        let sleeper = desk.whom_to_wake();
+        let sleeper = desk.whom_to_tell();
         drop(desk);
         if let Some(caller) = sleeper {
             self.turns[caller].notify_one();

@@ -153,7 +153,7 @@ impl<N: Layer, A: Allocator + Copy> Locked<N, A> {
         let mut desk = self.turns[caller as usize].wait_while(
             rt,
             desk,
-            |desk| !desk.can_progress(number),
+            |desk| desk.waits_on(caller, number),
         );
         desk.wait_for(caller, Waiting::Nothing);
         desk
