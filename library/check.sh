@@ -97,7 +97,7 @@ build() {
 
 # build_in_rust NAME: builds the tests rust/tests/NAME.rs over the wrapper.
 build_in_rust() {
-    check "building $1.rs" "$rustc" --edition 2021 -D warnings -O --test -o "$work/$1" "$here/rust/tests/$1.rs" \
+    check "building $1.rs" "$rustc" --edition 2021 -D warnings -O --test -o "$work/$1" "$here/../rust/shared/tests/$1.rs" \
         --extern "bindingclay=$work/libbindingclay.rlib" -L "$work/prefix/lib" -l static=bindingclay
 }
 

@@ -23,7 +23,8 @@ mod raw;
 mod recording;
 // A program that has this file as a module may use none of it.
 #[allow(dead_code, unused_imports)]
-#[path = "bindingclay/shared/mod.rs"]
+// library/release puts it beside the others
+#[path = "../../rust/shared/src/mod.rs"]
 pub mod shared;
 #[allow(dead_code)]
 #[path = "bindingclay/sharing.rs"]
@@ -34,16 +35,16 @@ mod values;
 mod waiting;
 
 // A program that has this file as a module may use only some of these.
+use self::raw::{Handle, bindingclay_end, bindingclay_version, free};
 #[allow(unused_imports)]
 pub use self::{
     answers::{Answer, Done, NotDone, ParkedCall, Result},
     facts::{CallFacts, CallKind, Memory, NodeFacts, NodeKind, SegmentUse},
     values::*,
 };
-use self::raw::{Handle, bindingclay_end, bindingclay_version, free};
 
 /// The version that this wrapper is of, as `version`.
-pub const VERSION: u32 = 7_000;
+pub const VERSION: u32 = 8_000;
 
 /// The version of the library: 1,000,000 times the first number, 1,000 times the second, and the third.
 pub fn version() -> u32 {

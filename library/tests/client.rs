@@ -27,7 +27,10 @@ impl Checks {
     fn is<T: PartialEq + Debug>(&mut self, got: T, wanted: T) {
         if got != wanted {
             self.failed += 1;
-            println!("client.rs:{}: {got:?}, and not {wanted:?}", std::panic::Location::caller().line());
+            println!(
+                "client.rs:{}: {got:?}, and not {wanted:?}",
+                std::panic::Location::caller().line()
+            );
         }
     }
 }
@@ -52,24 +55,45 @@ fn call(number: CallNumber) -> ParkedCall {
 }
 
 fn short<T>(number: CallNumber, wants: u64) -> Result<T> {
-    Err(NotDone::Short { call: call(number), wants })
+    Err(NotDone::Short {
+        call: call(number),
+        wants,
+    })
 }
 
 fn pipes(checks: &mut Checks) {
     let mut clay = with_process();
     let mut into = [0xa5; 16];
-    checks.is(clay.pipe(1, false), Ok(Ends { read_end: 0, write_end: 1 }));
+    checks.is(
+        clay.pipe(1, false),
+        Ok(Ends {
+            read_end: 0,
+            write_end: 1,
+        }),
+    );
     checks.is(clay.read(1, 0, &mut into), parked(1));
     checks.is(clay.owner(&call(1)), Ok(1));
     checks.is(clay.owner(&call(2)), Err(NotDone::NoCall));
-    checks.is((clay.can_progress(&call(1)), clay.taken(&call(1))), (false, Ok(0)));
-    checks.is((clay.can_progress(&call(2)), clay.taken(&call(2))), (true, Err(NotDone::NoCall)));
+    checks.is(
+        (clay.can_progress(&call(1)), clay.taken(&call(1))),
+        (false, Ok(0)),
+    );
+    checks.is(
+        (clay.can_progress(&call(2)), clay.taken(&call(2))),
+        (true, Err(NotDone::NoCall)),
+    );
     checks.is(clay.next_ready(0), None);
     checks.is(clay.resume_read(call(1), &mut into), parked(1));
     checks.is(clay.resume(call(1)), parked(1));
     checks.is(clay.write(1, 1, b"from rust"), done(9));
-    checks.is((clay.next_ready(0), clay.next_ready(1), clay.next_ready(2)), (Some(1), Some(1), None));
-    checks.is((clay.can_progress(&call(1)), clay.taken(&call(1))), (true, Ok(0)));
+    checks.is(
+        (clay.next_ready(0), clay.next_ready(1), clay.next_ready(2)),
+        (Some(1), Some(1), None),
+    );
+    checks.is(
+        (clay.can_progress(&call(1)), clay.taken(&call(1))),
+        (true, Ok(0)),
+    );
     checks.is(clay.resume_of(2, 1), Err(NotDone::NoCall));
     checks.is(clay.resume_read_of(2, 1, &mut into), Err(NotDone::NoCall));
     checks.is(clay.interrupt_of(2, 1), Err(NotDone::NoCall));
@@ -77,9 +101,15 @@ fn pipes(checks: &mut Checks) {
     checks.is(clay.resume_read(call(1), &mut into[..8]), short(1, 9));
     checks.is(clay.resume(call(1)), short(1, 9));
     checks.is(clay.resume_of(1, 1), short(1, 9));
-    let waits = clay.resume_poll(call(1), &mut []).expect_err("no room").into_parked();
+    let waits = clay
+        .resume_poll(call(1), &mut [])
+        .expect_err("no room")
+        .into_parked();
     checks.is(waits.as_ref().map(ParkedCall::number), Some(1));
-    checks.is(clay.resume_read_of(1, waits.map_or(0, ParkedCall::into_number), &mut into), done(9));
+    checks.is(
+        clay.resume_read_of(1, waits.map_or(0, ParkedCall::into_number), &mut into),
+        done(9),
+    );
     checks.is(&into, b"from rust\xa5\xa5\xa5\xa5\xa5\xa5\xa5");
     checks.is(clay.resume_read(call(1), &mut into), Err(NotDone::NoCall));
     checks.is(clay.resume(call(1)), Err(NotDone::NoCall));
@@ -90,15 +120,27 @@ fn pipes(checks: &mut Checks) {
     checks.is(clay.write(2, 1, b"a"), Err(NotDone::NoProcess));
     checks.is(clay.write(1, 1, &[7; 70_000]), parked(2));
     checks.is(clay.write(1, 1, b"a"), parked(3));
-    checks.is((clay.can_progress(&call(2)), clay.taken(&call(2))), (false, Ok(65_536)));
-    checks.is((clay.can_progress(&call(3)), clay.taken(&call(3))), (false, Ok(0)));
+    checks.is(
+        (clay.can_progress(&call(2)), clay.taken(&call(2))),
+        (false, Ok(65_536)),
+    );
+    checks.is(
+        (clay.can_progress(&call(3)), clay.taken(&call(3))),
+        (false, Ok(0)),
+    );
     checks.is(clay.interrupt_of(1, 3), Err(NotDone::Fault(EINTR)));
     checks.is(clay.fork(1), Ok(2));
     checks.is(clay.close(1, 0), Ok(()));
     checks.is(clay.exit(2), Ok(()));
     checks.is((clay.next_ready(0), clay.next_ready(3)), (Some(2), None));
     // no reader is left, and 65,536 bytes went in
-    checks.is(clay.resume(call(2)), done(Done { value: 65_536, sigpipe: true }));
+    checks.is(
+        clay.resume(call(2)),
+        done(Done {
+            value: 65_536,
+            sigpipe: true,
+        }),
+    );
     checks.is(clay.write(1, 1, b"a"), Err(NotDone::Fault(EPIPE)));
 }
 
@@ -113,7 +155,13 @@ fn moved<T>(answer: Result<Answer<T>>) -> Option<bool> {
 /// The handle of a write that waits tells whether the step put some of its bytes into the pipe.
 fn moves(checks: &mut Checks) {
     let mut clay = with_process();
-    checks.is(clay.pipe(1, false), Ok(Ends { read_end: 0, write_end: 1 }));
+    checks.is(
+        clay.pipe(1, false),
+        Ok(Ends {
+            read_end: 0,
+            write_end: 1,
+        }),
+    );
     checks.is(moved(clay.read(1, 0, &mut [0])), Some(false));
     checks.is(moved(clay.write(1, 1, &[7; 65_539])), Some(true));
     checks.is(moved(clay.write(1, 1, b"a")), Some(false));
@@ -142,7 +190,10 @@ fn write_through_a_full_pipe(clay: &mut Clay, ends: Ends, bytes: &[u8]) -> Resul
             Answer::Parked(call) => call,
         };
         waited += 1;
-        assert_eq!(clay.read(1, ends.read_end, &mut [0; PACKET_BYTES])?, Answer::Done(PACKET_BYTES));
+        assert_eq!(
+            clay.read(1, ends.read_end, &mut [0; PACKET_BYTES])?,
+            Answer::Done(PACKET_BYTES)
+        );
         answer = clay.resume(call)?.map(Done::count);
     }
 }
@@ -152,7 +203,10 @@ fn question_marks(checks: &mut Checks) {
     let mut clay = with_process();
     let ends = clay.pipe(1, false).expect("memory for a pipe");
     let count = 65_536 + 3 * PACKET_BYTES;
-    checks.is(write_through_a_full_pipe(&mut clay, ends, &vec![7; count]), Ok((count, 3)));
+    checks.is(
+        write_through_a_full_pipe(&mut clay, ends, &vec![7; count]),
+        Ok((count, 3)),
+    );
     let mut into = vec![0; 100_000];
     checks.is(clay.read(1, 0, &mut into), done(65_536));
     checks.is(clay.close(1, 1), Ok(()));
@@ -161,39 +215,78 @@ fn question_marks(checks: &mut Checks) {
 
 /// A write that finds no memory as it is resumed comes back in the error, and goes on once there is some.
 fn memory_to_resume(checks: &mut Checks) {
-    let mut clay = Clay::open_within(&Limits { memory: 200_000, ..Limits::default() }).expect("memory for a kernel");
+    let mut clay = Clay::open_within(&Limits {
+        memory: 200_000,
+        ..Limits::default()
+    })
+    .expect("memory for a kernel");
     checks.is(clay.start(), Ok(1));
-    checks.is(clay.pipe(1, false), Ok(Ends { read_end: 0, write_end: 1 }));
-    let Ok(Answer::Parked(large)) = clay.write(1, 1, &[7; 70_000]) else { panic!("no wait") };
+    checks.is(
+        clay.pipe(1, false),
+        Ok(Ends {
+            read_end: 0,
+            write_end: 1,
+        }),
+    );
+    let Ok(Answer::Parked(large)) = clay.write(1, 1, &[7; 70_000]) else {
+        panic!("no wait")
+    };
     checks.is((large.number(), large.moved()), (1, true));
     checks.is(clay.read(1, 0, &mut [0; 4_096]), done(4_096));
     // a file and another pipe take all segments that are left
     checks.is(clay.open_name(1, b"f", O_WRONLY | O_CREAT), done(2));
-    checks.is(clay.pipe(1, true), Ok(Ends { read_end: 3, write_end: 4 }));
+    checks.is(
+        clay.pipe(1, true),
+        Ok(Ends {
+            read_end: 3,
+            write_end: 4,
+        }),
+    );
     for fd in [2, 4] {
         while clay.write(1, fd, &[0; 4_096]) == done(4_096) {}
         checks.is(clay.write(1, fd, &[0; 4_096]), Err(NotDone::NoMemory));
     }
-    checks.is((clay.can_progress(&call(1)), clay.taken(&call(1))), (true, Ok(65_536)));
+    checks.is(
+        (clay.can_progress(&call(1)), clay.taken(&call(1))),
+        (true, Ok(65_536)),
+    );
     let not_done = clay.resume(large).expect_err("no memory");
     checks.is(&not_done, &NotDone::NoMemoryToResume(call(1)));
     let large = not_done.into_parked().expect("a handle");
     checks.is(large.moved(), false);
-    checks.is((clay.can_progress(&call(1)), clay.taken(&call(1))), (true, Ok(65_536)));
+    checks.is(
+        (clay.can_progress(&call(1)), clay.taken(&call(1))),
+        (true, Ok(65_536)),
+    );
     checks.is(clay.open_name(1, b"f", O_WRONLY | O_TRUNC), done(5));
     checks.is(moved(clay.resume(large)), Some(true));
     checks.is(clay.taken(&call(1)), Ok(69_632));
     checks.is(clay.read(1, 0, &mut [0; 4_096]), done(4_096));
-    checks.is(clay.resume(call(1)), done(Done { value: 70_000, sigpipe: false }));
+    checks.is(
+        clay.resume(call(1)),
+        done(Done {
+            value: 70_000,
+            sigpipe: false,
+        }),
+    );
 }
 
 fn packets(checks: &mut Checks) {
     let mut clay = with_process();
     let mut into = [0xa5; PACKET_BYTES + 4];
-    checks.is(clay.pipe2(1, 1 << 31 | O_DIRECT), Err(NotDone::Fault(EINVAL)));
+    checks.is(
+        clay.pipe2(1, 1 << 31 | O_DIRECT),
+        Err(NotDone::Fault(EINVAL)),
+    );
     checks.is(clay.pipe2(9, O_APPEND), Err(NotDone::Fault(EINVAL)));
     checks.is(clay.pipe2(9, O_DIRECT), Err(NotDone::NoProcess));
-    checks.is(clay.pipe2(1, O_DIRECT), Ok(Ends { read_end: 0, write_end: 1 }));
+    checks.is(
+        clay.pipe2(1, O_DIRECT),
+        Ok(Ends {
+            read_end: 0,
+            write_end: 1,
+        }),
+    );
     checks.is(clay.get_fl(1, 0), Ok(O_RDONLY));
     checks.is(clay.get_fl(1, 1), Ok(O_WRONLY | O_DIRECT));
     checks.is(clay.write(1, 1, b"abc"), done(3));
@@ -205,7 +298,10 @@ fn packets(checks: &mut Checks) {
     checks.is(clay.write(1, 1, &[7; 5_000]), done(5_000));
     checks.is(clay.set_pipe_sz(1, 1, 4_096), Err(NotDone::Fault(EBUSY)));
     checks.is(clay.read(1, 0, &mut into), done(PACKET_BYTES));
-    checks.is(into[PACKET_BYTES - 1..].to_vec(), vec![7, 0xa5, 0xa5, 0xa5, 0xa5]);
+    checks.is(
+        into[PACKET_BYTES - 1..].to_vec(),
+        vec![7, 0xa5, 0xa5, 0xa5, 0xa5],
+    );
     checks.is(clay.read(1, 0, &mut into), done(904));
     checks.is(clay.read(1, 0, &mut into), parked(1));
     checks.is(clay.write(1, 1, b"hello"), done(5));
@@ -213,14 +309,29 @@ fn packets(checks: &mut Checks) {
     checks.is(clay.resume_read(call(1), &mut into), done(5));
     checks.is(&into[..5], b"hello");
     // without the flags, and with both
-    checks.is(clay.pipe2(1, 0), Ok(Ends { read_end: 2, write_end: 3 }));
-    checks.is(clay.pipe2(1, O_NONBLOCK | O_DIRECT), Ok(Ends { read_end: 4, write_end: 5 }));
+    checks.is(
+        clay.pipe2(1, 0),
+        Ok(Ends {
+            read_end: 2,
+            write_end: 3,
+        }),
+    );
+    checks.is(
+        clay.pipe2(1, O_NONBLOCK | O_DIRECT),
+        Ok(Ends {
+            read_end: 4,
+            write_end: 5,
+        }),
+    );
     checks.is(clay.get_fl(1, 3), Ok(O_WRONLY));
     checks.is(clay.get_fl(1, 4), Ok(O_RDONLY | O_NONBLOCK));
     checks.is(clay.get_fl(1, 5), Ok(O_WRONLY | O_NONBLOCK | O_DIRECT));
     checks.is(clay.write(1, 5, &[7; 70_000]), done(65_536));
     checks.is(clay.write(1, 5, b"a"), Err(NotDone::Fault(EAGAIN)));
-    checks.is(clay.splice(1, (4, None), (3, None), 1, 0), Err(NotDone::Fault(EINVAL)));
+    checks.is(
+        clay.splice(1, (4, None), (3, None), 1, 0),
+        Err(NotDone::Fault(EINVAL)),
+    );
     checks.is(clay.tee(1, 4, 3, 1, 0), Err(NotDone::Fault(EINVAL)));
     checks.is(clay.set_fl(1, 5, O_NONBLOCK), Ok(()));
     checks.is(clay.get_fl(1, 5), Ok(O_WRONLY | O_NONBLOCK | O_DIRECT));
@@ -228,7 +339,13 @@ fn packets(checks: &mut Checks) {
 
 fn descriptors(checks: &mut Checks) {
     let mut clay = with_process();
-    checks.is(clay.pipe(1, true), Ok(Ends { read_end: 0, write_end: 1 }));
+    checks.is(
+        clay.pipe(1, true),
+        Ok(Ends {
+            read_end: 0,
+            write_end: 1,
+        }),
+    );
     checks.is(clay.read(1, 0, &mut [0]), Err(NotDone::Fault(EAGAIN)));
     checks.is(clay.dup(1, 1), Ok(2));
     checks.is(clay.dup2(1, 1, 200), Ok(200));
@@ -238,7 +355,11 @@ fn descriptors(checks: &mut Checks) {
     checks.is(clay.get_fl(1, 201), Ok(O_WRONLY | O_APPEND));
     checks.is(clay.get_pipe_sz(1, 0), Ok(65_536));
     checks.is(clay.set_pipe_sz(1, 0, 70_000), Ok(131_072));
-    let mut entries = [PollEntry::new(0, POLLIN), PollEntry::new(1, POLLIN | POLLOUT), PollEntry::new(9, 0)];
+    let mut entries = [
+        PollEntry::new(0, POLLIN),
+        PollEntry::new(1, POLLIN | POLLOUT),
+        PollEntry::new(9, 0),
+    ];
     checks.is(clay.poll(1, &mut entries, true), done(2));
     checks.is(entries.map(|entry| entry.revents), [0, POLLOUT, POLLNVAL]);
     checks.is(clay.poll(1, &mut entries[..1], true), parked(1));
@@ -255,13 +376,25 @@ fn descriptors(checks: &mut Checks) {
     }
     checks.is(clay.poll(1, &mut entries[..1], false), done(1));
     checks.is(entries[0].revents, POLLIN | POLLHUP);
-    checks.is(clay.pipe(1, false), Ok(Ends { read_end: 1, write_end: 2 }));
+    checks.is(
+        clay.pipe(1, false),
+        Ok(Ends {
+            read_end: 1,
+            write_end: 2,
+        }),
+    );
     checks.is(clay.close(1, 1), Ok(()));
     entries[0] = PollEntry::new(2, 0);
     checks.is(clay.poll(1, &mut entries[..1], true), done(1));
     checks.is(entries[0].revents, POLLERR);
     // another call is resumed too, and its value comes back alone
-    checks.is(clay.pipe(1, false), Ok(Ends { read_end: 1, write_end: 3 }));
+    checks.is(
+        clay.pipe(1, false),
+        Ok(Ends {
+            read_end: 1,
+            write_end: 3,
+        }),
+    );
     checks.is(clay.write(1, 3, &[0; 65_537]), parked(2));
     checks.is(clay.close(1, 1), Ok(()));
     checks.is(clay.resume_poll(call(2), &mut []), done(65_536));
@@ -278,20 +411,38 @@ fn names(checks: &mut Checks) {
     checks.is(clay.lseek(1, 0, -1, SEEK_END), Ok(4));
     checks.is(clay.lseek(1, 0, -1, SEEK_CUR), Ok(3));
     checks.is(clay.lseek(1, 0, 0, SEEK_SET), Ok(0));
-    checks.is(clay.pipe(1, false), Ok(Ends { read_end: 1, write_end: 2 }));
-    checks.is(clay.pipe(1, false), Ok(Ends { read_end: 3, write_end: 4 }));
+    checks.is(
+        clay.pipe(1, false),
+        Ok(Ends {
+            read_end: 1,
+            write_end: 2,
+        }),
+    );
+    checks.is(
+        clay.pipe(1, false),
+        Ok(Ends {
+            read_end: 3,
+            write_end: 4,
+        }),
+    );
     checks.is(clay.splice(1, (0, Some(1)), (2, None), 3, 0), done(3));
     checks.is(clay.tee(1, 1, 4, 2, 0), done(2));
     checks.is(clay.splice(1, (1, None), (0, Some(6)), 9, 0), done(3));
     checks.is(clay.file_bytes(b"f"), Ok(b"hello\0ell".to_vec()));
-    checks.is(clay.splice(1, (1, None), (0, None), 9, SPLICE_F_NONBLOCK), Err(NotDone::Fault(EAGAIN)));
+    checks.is(
+        clay.splice(1, (1, None), (0, None), 9, SPLICE_F_NONBLOCK),
+        Err(NotDone::Fault(EAGAIN)),
+    );
     let mut into = [0; 9];
     checks.is(clay.read(1, 3, &mut into), done(2));
     checks.is(&into[..2], b"el");
     checks.is(clay.mkfifo(1, b"q"), Ok(()));
     checks.is(clay.open_name(1, b"q", O_RDONLY), parked(1));
     checks.is(clay.open_name(1, b"q", O_WRONLY), done(5));
-    checks.is(clay.resume(call(1)).map(|answer| answer.map(Done::fd)), done(6));
+    checks.is(
+        clay.resume(call(1)).map(|answer| answer.map(Done::fd)),
+        done(6),
+    );
     checks.is(clay.open_name(1, b"f", O_WRONLY | O_TRUNC), done(7));
     checks.is(clay.file_bytes(b"f"), Ok(vec![]));
     checks.is(clay.unlink(1, b"f"), Ok(()));
@@ -303,24 +454,72 @@ fn kernels(checks: &mut Checks) {
     checks.is(Clay::open(1, MOST_FILE_BYTES + 1).is_none(), true);
     let mut clay = Clay::open(u64::MAX, 0).expect("memory for a kernel");
     checks.is(clay.start(), Ok(1));
-    checks.is(clay.pipe(1, false), Ok(Ends { read_end: 0, write_end: 1 }));
+    checks.is(
+        clay.pipe(1, false),
+        Ok(Ends {
+            read_end: 0,
+            write_end: 1,
+        }),
+    );
     checks.is(clay.read(1, 0, &mut [0]), Err(NotDone::CallsSpent));
-    let texts = [NotDone::NoMemory, NotDone::NoMemoryToResume(call(7)), NotDone::Short { call: call(7), wants: 9 }];
-    let wanted = ["no memory", "no memory to resume call 7", "too little room: call 7 wants 9"];
-    checks.is(texts.map(|not_done| not_done.to_string()), wanted.map(str::to_string));
+    let texts = [
+        NotDone::NoMemory,
+        NotDone::NoMemoryToResume(call(7)),
+        NotDone::Short {
+            call: call(7),
+            wants: 9,
+        },
+    ];
+    let wanted = [
+        "no memory",
+        "no memory to resume call 7",
+        "too little room: call 7 wants 9",
+    ];
+    checks.is(
+        texts.map(|not_done| not_done.to_string()),
+        wanted.map(str::to_string),
+    );
 }
 
 fn limits(checks: &mut Checks) {
     let default = Limits::default();
-    checks.is(Clay::open_within(&Limits { capacity: MOST_CAPACITY + 1, ..default }).is_none(), true);
-    checks.is(Clay::open_within(&Limits { descriptors_max: MOST_DESCRIPTORS + 1, ..default }).is_none(), true);
-    let few = Limits { first_call: 7, names: 1, waiting_calls: 1, capacity: 65_536, file_max: 3, descriptors_max: 4, ..default };
+    checks.is(
+        Clay::open_within(&Limits {
+            capacity: MOST_CAPACITY + 1,
+            ..default
+        })
+        .is_none(),
+        true,
+    );
+    checks.is(
+        Clay::open_within(&Limits {
+            descriptors_max: MOST_DESCRIPTORS + 1,
+            ..default
+        })
+        .is_none(),
+        true,
+    );
+    let few = Limits {
+        first_call: 7,
+        names: 1,
+        waiting_calls: 1,
+        capacity: 65_536,
+        file_max: 3,
+        descriptors_max: 4,
+        ..default
+    };
     let mut clay = Clay::open_within(&few).expect("memory for a kernel");
     checks.is(clay.start(), Ok(1));
     checks.is(clay.open_name(1, b"f", O_RDWR | O_CREAT), done(0));
     checks.is(clay.mkfifo(1, b"q"), Err(NotDone::Fault(ENOSPC)));
     checks.is(clay.write(1, 0, b"hello"), done(3));
-    checks.is(clay.pipe(1, false), Ok(Ends { read_end: 1, write_end: 2 }));
+    checks.is(
+        clay.pipe(1, false),
+        Ok(Ends {
+            read_end: 1,
+            write_end: 2,
+        }),
+    );
     checks.is(clay.set_pipe_sz(1, 1, 65_537), Err(NotDone::Fault(EPERM)));
     checks.is(clay.read(1, 1, &mut [0]), parked(7));
     checks.is(clay.read(1, 1, &mut [0]), Err(NotDone::Fault(EAGAIN)));
@@ -329,20 +528,53 @@ fn limits(checks: &mut Checks) {
     checks.is(clay.dup_fd(1, 0, 4), Err(NotDone::Fault(EINVAL)));
     checks.is(clay.dup(1, 0), Ok(3));
 
-    let mut clay = Clay::open_within(&Limits { memory: 65_536, ..default }).expect("memory for a kernel");
-    checks.is(clay.memory(), Memory { held: 0, peak: 0, most: 65_536, spare: 0 });
+    let mut clay = Clay::open_within(&Limits {
+        memory: 65_536,
+        ..default
+    })
+    .expect("memory for a kernel");
+    checks.is(
+        clay.memory(),
+        Memory {
+            held: 0,
+            peak: 0,
+            most: 65_536,
+            spare: 0,
+        },
+    );
     checks.is(clay.start(), Ok(1));
-    checks.is(clay.pipe(1, true), Ok(Ends { read_end: 0, write_end: 1 }));
+    checks.is(
+        clay.pipe(1, true),
+        Ok(Ends {
+            read_end: 0,
+            write_end: 1,
+        }),
+    );
     checks.is(clay.write(1, 1, &[0; 65_536]), Err(NotDone::NoMemory));
     let memory = clay.memory();
-    checks.is(0 < memory.held && memory.held <= memory.peak && memory.peak <= memory.most, true);
+    checks.is(
+        0 < memory.held && memory.held <= memory.peak && memory.peak <= memory.most,
+        true,
+    );
     checks.is(clay.write(1, 1, &[0; 4_096]), done(4_096));
 }
 
 fn facts(checks: &mut Checks) {
     let mut clay = with_process();
-    checks.is(clay.pipe(1, false), Ok(Ends { read_end: 0, write_end: 1 }));
-    checks.is(clay.pipe2(1, O_DIRECT), Ok(Ends { read_end: 2, write_end: 3 }));
+    checks.is(
+        clay.pipe(1, false),
+        Ok(Ends {
+            read_end: 0,
+            write_end: 1,
+        }),
+    );
+    checks.is(
+        clay.pipe2(1, O_DIRECT),
+        Ok(Ends {
+            read_end: 2,
+            write_end: 3,
+        }),
+    );
     checks.is(clay.open_name(1, b"f", O_RDWR | O_CREAT), done(4));
     checks.is(clay.stats(), SegmentUse { used: 0, spare: 0 });
     checks.is(clay.write(1, 4, b"hello"), done(5));
@@ -352,9 +584,18 @@ fn facts(checks: &mut Checks) {
     checks.is(clay.held(1, 4), Err(NotDone::Fault(EBADF)));
     checks.is(clay.held(2, 3), Err(NotDone::NoProcess));
     let kind_and_size = |facts: NodeFacts| (facts.kind, facts.size);
-    checks.is(clay.fd_facts(1, 0).map(kind_and_size), Ok((NodeKind::Pipe, 0)));
-    checks.is(clay.fd_facts(1, 2).map(kind_and_size), Ok((NodeKind::PacketPipe, 3)));
-    checks.is(clay.fd_facts(1, 4).map(kind_and_size), Ok((NodeKind::File, 5)));
+    checks.is(
+        clay.fd_facts(1, 0).map(kind_and_size),
+        Ok((NodeKind::Pipe, 0)),
+    );
+    checks.is(
+        clay.fd_facts(1, 2).map(kind_and_size),
+        Ok((NodeKind::PacketPipe, 3)),
+    );
+    checks.is(
+        clay.fd_facts(1, 4).map(kind_and_size),
+        Ok((NodeKind::File, 5)),
+    );
     checks.is(clay.fd_facts(1, 0), clay.fd_facts(1, 1));
     checks.is(clay.fd_facts(1, 4), clay.name_facts(b"f"));
     checks.is(clay.fd_facts(1, 5), Err(NotDone::Fault(EBADF)));
@@ -362,12 +603,39 @@ fn facts(checks: &mut Checks) {
     checks.is(clay.name_facts(b"g"), Err(NotDone::Fault(ENOENT)));
     checks.is(clay.tee(1, 0, 1, 9, 0), Err(NotDone::Fault(EINVAL)));
     checks.is(clay.splice(1, (0, None), (4, None), 9, 0), parked(1));
-    checks.is(clay.poll(1, &mut [PollEntry::new(0, POLLIN)], true), parked(2));
+    checks.is(
+        clay.poll(1, &mut [PollEntry::new(0, POLLIN)], true),
+        parked(2),
+    );
     checks.is(clay.mkfifo(1, b"p"), Ok(()));
     checks.is(clay.open_name(1, b"p", O_RDONLY), parked(3));
-    checks.is(clay.call_facts(&call(1)), Ok(CallFacts { kind: CallKind::Splice, pid: 1, first: 0, second: 4 }));
-    checks.is(clay.call_facts(&call(2)), Ok(CallFacts { kind: CallKind::Poll, pid: 1, first: 0, second: -1 }));
-    checks.is(clay.call_facts(&call(3)), Ok(CallFacts { kind: CallKind::Open, pid: 1, first: -1, second: -1 }));
+    checks.is(
+        clay.call_facts(&call(1)),
+        Ok(CallFacts {
+            kind: CallKind::Splice,
+            pid: 1,
+            first: 0,
+            second: 4,
+        }),
+    );
+    checks.is(
+        clay.call_facts(&call(2)),
+        Ok(CallFacts {
+            kind: CallKind::Poll,
+            pid: 1,
+            first: 0,
+            second: -1,
+        }),
+    );
+    checks.is(
+        clay.call_facts(&call(3)),
+        Ok(CallFacts {
+            kind: CallKind::Open,
+            pid: 1,
+            first: -1,
+            second: -1,
+        }),
+    );
     checks.is(clay.call_facts(&call(4)), Err(NotDone::NoCall));
 }
 
@@ -427,20 +695,34 @@ fn records(checks: &mut Checks) {
     checks.is(clay.start(), Ok(1));
     checks.is(clay.exit(1), Ok(()));
     let mut record = Vec::new();
-    checks.is(clay.write_record(&mut record).ok(), Some(record.len() as u64));
-    checks.is(record.ends_with(b"--descriptors-max 256\nstart\n# => pid 1\n1 exit\n# => ok\n"), true);
+    checks.is(
+        clay.write_record(&mut record).ok(),
+        Some(record.len() as u64),
+    );
+    checks.is(
+        record.ends_with(b"--descriptors-max 256\nstart\n# => pid 1\n1 exit\n# => ok\n"),
+        true,
+    );
     checks.is(clay.recorded(&mut piece), Ok(0));
     clay.end_record();
     checks.is(clay.recorded(&mut []), Err(NotDone::Fault(EINVAL)));
     checks.is(with_process().record(), Err(NotDone::Fault(EINVAL)));
     // the memory is full of the record: a call that waits can't be ended, and comes back
-    let mut clay = Clay::open_within(&Limits { memory: 40_000, ..Limits::default() }).expect("memory for a kernel");
+    let mut clay = Clay::open_within(&Limits {
+        memory: 40_000,
+        ..Limits::default()
+    })
+    .expect("memory for a kernel");
     checks.is(clay.record(), Ok(()));
     checks.is(clay.start(), Ok(1));
     let ends = clay.pipe(1, false).expect("a pipe");
-    let Ok(Answer::Parked(call)) = clay.read(1, ends.read_end, &mut piece) else { panic!("no wait") };
+    let Ok(Answer::Parked(call)) = clay.read(1, ends.read_end, &mut piece) else {
+        panic!("no wait")
+    };
     while clay.close(1, 99) != Err(NotDone::NoMemory) {}
-    let Err(NotDone::NoMemoryToResume(call)) = clay.interrupt(call) else { panic!("memory") };
+    let Err(NotDone::NoMemoryToResume(call)) = clay.interrupt(call) else {
+        panic!("memory")
+    };
     clay.end_record();
     checks.is(clay.interrupt(call), Err(NotDone::Fault(EINTR)));
 }

@@ -31,7 +31,7 @@ const fn values() -> [u8; 256] {
 
 /// The byte of two digits.
 #[inline(always)]
-fn byte_of(digits: &[u8; 2]) -> Option<u8> {
+fn byte_of(digits: &[u8]) -> Option<u8> {
     let (high, low) = (
         VALUES[usize::from(digits[0])],
         VALUES[usize::from(digits[1])],
@@ -44,13 +44,17 @@ fn byte_of(digits: &[u8; 2]) -> Option<u8> {
     }
 }
 
+/// Whether there are two digits for each byte.
+fn are_twice_as_many(digits: &[u8], bytes: &[u8]) -> bool {
+    digits.len() % 2 == 0 && digits.len() / 2 == bytes.len()
+}
+
 /// Writes the bytes that digits say, of which there have to be twice as many.
 pub fn decode_to_slice(digits: &[u8], bytes: &mut [u8]) -> Result<(), FromHexError> {
-    let (pairs, rest) = digits.as_chunks::<2>();
-    if !rest.is_empty() || pairs.len() != bytes.len() {
+    if !are_twice_as_many(digits, bytes) {
         return Err(FromHexError::NotDigits);
     }
-    for (byte, pair) in bytes.iter_mut().zip(pairs) {
+    for (byte, pair) in bytes.iter_mut().zip(digits.chunks_exact(2)) {
         *byte = byte_of(pair).ok_or(FromHexError::NotDigits)?;
     }
     Ok(())
@@ -58,7 +62,7 @@ pub fn decode_to_slice(digits: &[u8], bytes: &mut [u8]) -> Result<(), FromHexErr
 
 /// The bytes that digits say.
 pub fn decode<A: Allocator>(alloc: A, digits: &[u8]) -> Result<Vec<u8, A>, FromHexError> {
-    if !digits.len().is_multiple_of(2) {
+    if digits.len() % 2 != 0 {
         return Err(FromHexError::NotDigits);
     }
     let Ok(mut bytes) = Vec::from_elem(alloc, 0, digits.len() / 2) else {
@@ -70,12 +74,11 @@ pub fn decode<A: Allocator>(alloc: A, digits: &[u8]) -> Result<Vec<u8, A>, FromH
 
 /// Writes the digits of bytes, in lower case, to a list that has to be twice as long.
 pub fn encode_to_slice(bytes: &[u8], digits: &mut [u8]) -> Result<(), FromHexError> {
-    let (pairs, rest) = digits.as_chunks_mut::<2>();
-    if !rest.is_empty() || pairs.len() != bytes.len() {
+    if !are_twice_as_many(digits, bytes) {
         return Err(FromHexError::NotDigits);
     }
-    for (pair, byte) in pairs.iter_mut().zip(bytes) {
-        *pair = [digit(byte >> 4), digit(byte & 15)];
+    for (pair, byte) in digits.chunks_exact_mut(2).zip(bytes) {
+        pair.copy_from_slice(&[digit(byte >> 4), digit(byte & 15)]);
     }
     Ok(())
 }

@@ -23,6 +23,11 @@ fn spread(byte: u8) -> u64 {
     u64::from(byte) * LOW_BITS
 }
 
+/// Eight bytes as a word, in which the first one is the least.
+fn word_of(bytes: &[u8]) -> u64 {
+    u64::from_le_bytes(bytes.try_into().expect("eight bytes"))
+}
+
 /// Not 0 exactly where a byte of the word is 0 (the least such byte is marked by its high bit).
 fn zeros(word: u64) -> u64 {
     word.wrapping_sub(LOW_BITS) & !word & HIGH_BITS
@@ -30,11 +35,9 @@ fn zeros(word: u64) -> u64 {
 
 /// Passes over the words that have none of what is searched, and looks at the others byte by byte.
 fn first_of(text: &[u8], marks: impl Fn(u64) -> u64, is_it: impl Fn(u8) -> bool) -> Option<usize> {
-    let (words, _) = text.as_chunks::<WIDTH>();
-    let passed = words
-        .iter()
-        .position(|word| marks(u64::from_le_bytes(*word)) != 0);
-    let from = passed.unwrap_or(words.len()) * WIDTH;
+    let mut words = text.chunks_exact(WIDTH).map(word_of);
+    let passed = words.position(|word| marks(word) != 0);
+    let from = passed.unwrap_or(text.len() / WIDTH) * WIDTH;
     let place = text[from..].iter().position(|c| is_it(*c))?;
     Some(from + place)
 }

@@ -10,6 +10,7 @@ pub mod collections;
 pub mod hex;
 pub mod itoa;
 pub mod memchr;
+pub mod numbers;
 pub mod slab;
 pub mod string;
 pub mod vec;

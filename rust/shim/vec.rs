@@ -154,6 +154,7 @@ impl<T, A: Allocator> Vec<T, A> {
         }
     }
 
+    /// Adds an item behind the others. Without memory for it, the error gives it back.
     #[inline]
     pub fn push(&mut self, item: T) -> Result<(), AllocFailed<T>> {
         if self.try_reserve(1).is_err() {

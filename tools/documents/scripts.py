@@ -7,7 +7,7 @@ import markdown
 import pages
 
 # What a session runs a script by. It stands for piperun, and if there is none for the output that is kept beside the script.
-RUN = "rust/run"
+RUN = "cargo run -q --"
 # What can be run so without piperun: an example, no argument besides, and nothing that asks for its status.
 KEPT = re.compile(rf"(?!.*\$\?)(?:(?!{RUN}).|{RUN} examples/\w+\.script\b)*")
 FULL_TABLE = ["1 pipe"] * 128

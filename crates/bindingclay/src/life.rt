@@ -14,12 +14,12 @@ use pl_numbers::Answer;
 use std::alloc::Global;
 
 /// The version of these functions: 1,000,000 times the first number, 1,000 times the second, and the third.
-const VERSION: u32 = 7_000;
+const VERSION: u32 = 8_000;
 
 /// Tells the version of these functions: 1,000,000 times the first number, 1,000 times the second, and the third.
 #[unsafe(no_mangle)]
 pub extern "C" fn bindingclay_version() -> u32
-    ensures { result ≡ 7000 }
+    ensures { result ≡ 8000 }
 {
     VERSION
 }

@@ -35,7 +35,7 @@ IsRunWithin explain limits script result written =
 
 -- the line of the version
 abbrev pub version_line : List ℕ
-version_line = codes "piperun 0.7.0" ++ 10 ∷ []
+version_line = codes "piperun 0.8.0" ++ 10 ∷ []
 
 -- the line that is written where no reply differs
 abbrev pub line_of_same : ℕ → List ℕ

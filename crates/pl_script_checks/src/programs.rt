@@ -61,7 +61,7 @@ const PROGRAMS: &[Program] = &[
     Program {
         words: &["--version"],
         input: "start\n",
-        output: "piperun 0.7.0\n",
+        output: "piperun 0.8.0\n",
         line: "",
         status: 0,
     },

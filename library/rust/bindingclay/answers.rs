@@ -66,7 +66,10 @@ impl ParkedCall {
     /// The handle of the call of a number, for a program that keeps numbers itself. If no call of the number waits, `resume` and
     /// `interrupt` are `NoCall`. It doesn't look whose call it is: for a number that a guest gave, `Clay::resume_of` and its like do.
     pub const fn from_number(number: CallNumber) -> ParkedCall {
-        ParkedCall { number, moved: false }
+        ParkedCall {
+            number,
+            moved: false,
+        }
     }
 
     /// Its number. A kernel gives each number once.
@@ -152,8 +155,12 @@ impl fmt::Display for NotDone {
             NotDone::NoCall => write!(out, "no such call"),
             NotDone::CallsSpent => write!(out, "no number is left for a call that waits"),
             NotDone::NoMemory => write!(out, "no memory"),
-            NotDone::NoMemoryToResume(call) => write!(out, "no memory to resume call {}", call.number),
-            NotDone::Short { call, wants } => write!(out, "too little room: call {} wants {wants}", call.number),
+            NotDone::NoMemoryToResume(call) => {
+                write!(out, "no memory to resume call {}", call.number)
+            }
+            NotDone::Short { call, wants } => {
+                write!(out, "too little room: call {} wants {wants}", call.number)
+            }
         }
     }
 }

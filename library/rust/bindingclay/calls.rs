@@ -14,7 +14,11 @@ impl Clay {
     ///
     /// As `open_within`.
     pub fn open(first_call: CallNumber, file_max: u32) -> Option<Clay> {
-        Clay::open_within(&Limits { first_call, file_max, ..Limits::default() })
+        Clay::open_within(&Limits {
+            first_call,
+            file_max,
+            ..Limits::default()
+        })
     }
 
     /// A kernel without processes, within limits. `None` where there is no memory, or a pipe or a file might have more bytes than any may, or
@@ -24,14 +28,36 @@ impl Clay {
     ///
     /// Where the library that was linked declares other calls: its version differs from `VERSION` by more than the third number.
     pub fn open_within(limits: &Limits) -> Option<Clay> {
-        assert_eq!(version() / 1_000, VERSION / 1_000, "the library is of another version than its wrapper");
-        let Limits { first_call, memory, names, waiting_calls, capacity, file_max, descriptors_max } = *limits;
+        assert_eq!(
+            version() / 1_000,
+            VERSION / 1_000,
+            "the library is of another version than its wrapper"
+        );
+        let Limits {
+            first_call,
+            memory,
+            names,
+            waiting_calls,
+            capacity,
+            file_max,
+            descriptors_max,
+        } = *limits;
         let sizes = u64::from(file_max) << 32 | u64::from(capacity);
         // the words of bindingclay_limits, whose first one is its size
-        let words = [56, first_call, memory, names, waiting_calls, sizes, u64::from(descriptors_max)];
+        let words = [
+            56,
+            first_call,
+            memory,
+            names,
+            waiting_calls,
+            sizes,
+            u64::from(descriptors_max),
+        ];
         let mut kernel = std::ptr::null_mut();
         let mut budget = std::ptr::null_mut();
-        let open = unsafe { bindingclay_open_words(words.as_ptr(), words.len(), &mut kernel, &mut budget) };
+        let open = unsafe {
+            bindingclay_open_words(words.as_ptr(), words.len(), &mut kernel, &mut budget)
+        };
         if !open {
             unsafe { free(budget) }
             return None;
@@ -89,14 +115,22 @@ impl Clay {
         let mut bytes = Vec::new();
         loop {
             let given = unsafe {
-                bindingclay_file_bytes(self.0, name.as_ptr(), name.len(), bytes.as_mut_ptr(), bytes.len())
+                bindingclay_file_bytes(
+                    self.0,
+                    name.as_ptr(),
+                    name.len(),
+                    bytes.as_mut_ptr(),
+                    bytes.len(),
+                )
             };
             // there is too little room
             if given.kind != 7 {
                 return given.done().map(|_| bytes);
             }
             let count = given.value as usize;
-            bytes.try_reserve_exact(count).map_err(|_| NotDone::NoMemory)?;
+            bytes
+                .try_reserve_exact(count)
+                .map_err(|_| NotDone::NoMemory)?;
             bytes.resize(count, 0);
         }
     }
@@ -148,12 +182,24 @@ impl Clay {
     }
 
     /// The value is how many bytes were copied. Without `SPLICE_F_NONBLOCK` it waits for bytes, and for room.
-    pub fn tee(&mut self, pid: Pid, from: Fd, to: Fd, len: u32, flags: u32) -> Result<Answer<usize>> {
+    pub fn tee(
+        &mut self,
+        pid: Pid,
+        from: Fd,
+        to: Fd,
+        len: u32,
+        flags: u32,
+    ) -> Result<Answer<usize>> {
         unsafe { bindingclay_tee(self.0, pid, from, to, len, flags) }.count()
     }
 
     /// The value is how many entries aren't empty. With `wait` it waits until one isn't; without, it never waits.
-    pub fn poll(&mut self, pid: Pid, entries: &mut [PollEntry], wait: bool) -> Result<Answer<usize>> {
+    pub fn poll(
+        &mut self,
+        pid: Pid,
+        entries: &mut [PollEntry],
+        wait: bool,
+    ) -> Result<Answer<usize>> {
         unsafe { bindingclay_poll(self.0, pid, entries.as_mut_ptr(), entries.len(), wait) }.count()
     }
 

@@ -110,7 +110,12 @@ pub(super) struct RawCall {
 
 impl RawCall {
     pub(super) fn facts(self) -> CallFacts {
-        let RawCall { kind, pid, first, second } = self;
+        let RawCall {
+            kind,
+            pid,
+            first,
+            second,
+        } = self;
         let kind = match kind {
             1 => CallKind::Read,
             2 => CallKind::Write,
@@ -120,7 +125,12 @@ impl RawCall {
             6 => CallKind::Poll,
             _ => unreachable!("a call of kind {kind}, of which this version knows nothing"),
         };
-        CallFacts { kind, pid, first, second }
+        CallFacts {
+            kind,
+            pid,
+            first,
+            second,
+        }
     }
 }
 
@@ -148,7 +158,8 @@ impl Clay {
     /// What a name stands for, which isn't opened. If it stands for nothing it is ENOENT.
     pub fn name_facts(&self, name: &[u8]) -> Result<NodeFacts> {
         let mut node = RawNode::default();
-        unsafe { bindingclay_name_facts(self.0, name.as_ptr(), name.len(), &mut node) }.nothing()?;
+        unsafe { bindingclay_name_facts(self.0, name.as_ptr(), name.len(), &mut node) }
+            .nothing()?;
         Ok(node.facts())
     }
 

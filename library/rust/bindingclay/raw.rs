@@ -25,29 +25,94 @@ pub(super) struct RawAnswer {
 
 unsafe extern "C" {
     pub(super) fn free(block: *mut c_void);
-    pub(super) fn bindingclay_open_words(limits: *const u64, count: usize, kernel: *mut *mut c_void, budget: *mut *mut c_void) -> bool;
+    pub(super) fn bindingclay_open_words(
+        limits: *const u64,
+        count: usize,
+        kernel: *mut *mut c_void,
+        budget: *mut *mut c_void,
+    ) -> bool;
     pub(super) fn bindingclay_end(clay: Handle, budget: *mut *mut c_void);
     pub(super) fn bindingclay_tell_memory(clay: Handle, memory: *mut Memory);
     pub(super) fn bindingclay_version() -> u32;
     pub(super) fn bindingclay_start(clay: Handle) -> RawAnswer;
     pub(super) fn bindingclay_fork(clay: Handle, pid: u32) -> RawAnswer;
     pub(super) fn bindingclay_exit(clay: Handle, pid: u32) -> RawAnswer;
-    pub(super) fn bindingclay_resume(clay: Handle, number: u64, into: *mut u8, size: usize) -> RawAnswer;
-    pub(super) fn bindingclay_resume_poll(clay: Handle, number: u64, entries: *mut PollEntry, count: usize) -> RawAnswer;
+    pub(super) fn bindingclay_resume(
+        clay: Handle,
+        number: u64,
+        into: *mut u8,
+        size: usize,
+    ) -> RawAnswer;
+    pub(super) fn bindingclay_resume_poll(
+        clay: Handle,
+        number: u64,
+        entries: *mut PollEntry,
+        count: usize,
+    ) -> RawAnswer;
     pub(super) fn bindingclay_can_progress(clay: Handle, number: u64) -> bool;
     pub(super) fn bindingclay_taken(clay: Handle, number: u64) -> RawAnswer;
     pub(super) fn bindingclay_next_ready(clay: Handle, from: u64) -> RawAnswer;
     pub(super) fn bindingclay_interrupt(clay: Handle, number: u64) -> RawAnswer;
     pub(super) fn bindingclay_owner(clay: Handle, number: u64) -> RawAnswer;
-    pub(super) fn bindingclay_pipe(clay: Handle, pid: u32, nonblock: bool, ends: *mut Ends) -> RawAnswer;
-    pub(super) fn bindingclay_pipe2(clay: Handle, pid: u32, flags: u32, ends: *mut Ends) -> RawAnswer;
-    pub(super) fn bindingclay_mkfifo(clay: Handle, pid: u32, name: *const u8, size: usize) -> RawAnswer;
-    pub(super) fn bindingclay_open_name(clay: Handle, pid: u32, name: *const u8, size: usize, flags: u32) -> RawAnswer;
-    pub(super) fn bindingclay_unlink(clay: Handle, pid: u32, name: *const u8, size: usize) -> RawAnswer;
-    pub(super) fn bindingclay_file_bytes(clay: Handle, name: *const u8, size: usize, into: *mut u8, room: usize) -> RawAnswer;
-    pub(super) fn bindingclay_read(clay: Handle, pid: u32, fd: i32, into: *mut u8, size: usize) -> RawAnswer;
-    pub(super) fn bindingclay_write(clay: Handle, pid: u32, fd: i32, bytes: *const u8, size: usize) -> RawAnswer;
-    pub(super) fn bindingclay_lseek(clay: Handle, pid: u32, fd: i32, offset: i64, whence: i32) -> RawAnswer;
+    pub(super) fn bindingclay_pipe(
+        clay: Handle,
+        pid: u32,
+        nonblock: bool,
+        ends: *mut Ends,
+    ) -> RawAnswer;
+    pub(super) fn bindingclay_pipe2(
+        clay: Handle,
+        pid: u32,
+        flags: u32,
+        ends: *mut Ends,
+    ) -> RawAnswer;
+    pub(super) fn bindingclay_mkfifo(
+        clay: Handle,
+        pid: u32,
+        name: *const u8,
+        size: usize,
+    ) -> RawAnswer;
+    pub(super) fn bindingclay_open_name(
+        clay: Handle,
+        pid: u32,
+        name: *const u8,
+        size: usize,
+        flags: u32,
+    ) -> RawAnswer;
+    pub(super) fn bindingclay_unlink(
+        clay: Handle,
+        pid: u32,
+        name: *const u8,
+        size: usize,
+    ) -> RawAnswer;
+    pub(super) fn bindingclay_file_bytes(
+        clay: Handle,
+        name: *const u8,
+        size: usize,
+        into: *mut u8,
+        room: usize,
+    ) -> RawAnswer;
+    pub(super) fn bindingclay_read(
+        clay: Handle,
+        pid: u32,
+        fd: i32,
+        into: *mut u8,
+        size: usize,
+    ) -> RawAnswer;
+    pub(super) fn bindingclay_write(
+        clay: Handle,
+        pid: u32,
+        fd: i32,
+        bytes: *const u8,
+        size: usize,
+    ) -> RawAnswer;
+    pub(super) fn bindingclay_lseek(
+        clay: Handle,
+        pid: u32,
+        fd: i32,
+        offset: i64,
+        whence: i32,
+    ) -> RawAnswer;
     pub(super) fn bindingclay_splice_at(
         clay: Handle,
         pid: u32,
@@ -60,8 +125,21 @@ unsafe extern "C" {
         len: u32,
         flags: u32,
     ) -> RawAnswer;
-    pub(super) fn bindingclay_tee(clay: Handle, pid: u32, from: i32, to: i32, len: u32, flags: u32) -> RawAnswer;
-    pub(super) fn bindingclay_poll(clay: Handle, pid: u32, entries: *mut PollEntry, count: usize, wait: bool) -> RawAnswer;
+    pub(super) fn bindingclay_tee(
+        clay: Handle,
+        pid: u32,
+        from: i32,
+        to: i32,
+        len: u32,
+        flags: u32,
+    ) -> RawAnswer;
+    pub(super) fn bindingclay_poll(
+        clay: Handle,
+        pid: u32,
+        entries: *mut PollEntry,
+        count: usize,
+        wait: bool,
+    ) -> RawAnswer;
     pub(super) fn bindingclay_dup(clay: Handle, pid: u32, fd: i32) -> RawAnswer;
     pub(super) fn bindingclay_dup2(clay: Handle, pid: u32, fd: i32, target: i32) -> RawAnswer;
     pub(super) fn bindingclay_dup_fd(clay: Handle, pid: u32, fd: i32, least: i32) -> RawAnswer;
@@ -71,9 +149,23 @@ unsafe extern "C" {
     pub(super) fn bindingclay_get_pipe_sz(clay: Handle, pid: u32, fd: i32) -> RawAnswer;
     pub(super) fn bindingclay_set_pipe_sz(clay: Handle, pid: u32, fd: i32, size: u32) -> RawAnswer;
     pub(super) fn bindingclay_held(clay: Handle, pid: u32, fd: i32) -> RawAnswer;
-    pub(super) fn bindingclay_fd_facts(clay: Handle, pid: u32, fd: i32, facts: *mut RawNode) -> RawAnswer;
-    pub(super) fn bindingclay_name_facts(clay: Handle, name: *const u8, size: usize, facts: *mut RawNode) -> RawAnswer;
-    pub(super) fn bindingclay_call_facts(clay: Handle, number: u64, facts: *mut RawCall) -> RawAnswer;
+    pub(super) fn bindingclay_fd_facts(
+        clay: Handle,
+        pid: u32,
+        fd: i32,
+        facts: *mut RawNode,
+    ) -> RawAnswer;
+    pub(super) fn bindingclay_name_facts(
+        clay: Handle,
+        name: *const u8,
+        size: usize,
+        facts: *mut RawNode,
+    ) -> RawAnswer;
+    pub(super) fn bindingclay_call_facts(
+        clay: Handle,
+        number: u64,
+        facts: *mut RawCall,
+    ) -> RawAnswer;
     pub(super) fn bindingclay_record(clay: Handle, on: bool) -> RawAnswer;
     pub(super) fn bindingclay_recorded(clay: Handle, into: *mut u8, size: usize) -> RawAnswer;
     pub(super) fn bindingclay_stats(clay: Handle, segments: *mut SegmentUse);
@@ -83,11 +175,20 @@ impl RawAnswer {
     /// Of a call that may wait.
     #[inline]
     pub(super) fn answer(self) -> Result<Answer<Done>> {
-        let RawAnswer { value, error, kind, sigpipe, moved } = self;
+        let RawAnswer {
+            value,
+            error,
+            kind,
+            sigpipe,
+            moved,
+        } = self;
         match kind {
             0 => Ok(Answer::Done(Done { value, sigpipe })),
             1 => Err(NotDone::Fault(error)),
-            2 => Ok(Answer::Parked(ParkedCall { number: value, moved })),
+            2 => Ok(Answer::Parked(ParkedCall {
+                number: value,
+                moved,
+            })),
             3 => Err(NotDone::NoProcess),
             4 => Err(NotDone::NoCall),
             5 => Err(NotDone::CallsSpent),
@@ -107,7 +208,10 @@ impl RawAnswer {
         let call = ParkedCall::from_number(call.number);
         match self.kind {
             6 => Err(NotDone::NoMemoryToResume(call)),
-            7 => Err(NotDone::Short { call, wants: self.value }),
+            7 => Err(NotDone::Short {
+                call,
+                wants: self.value,
+            }),
             _ => self.answer(),
         }
     }
@@ -116,7 +220,9 @@ impl RawAnswer {
     pub(super) fn done(self) -> Result<Done> {
         match self.answer()? {
             Answer::Done(done) => Ok(done),
-            Answer::Parked(call) => unreachable!("call {} waits, and its like never does", call.number),
+            Answer::Parked(call) => {
+                unreachable!("call {} waits, and its like never does", call.number)
+            }
         }
     }
 

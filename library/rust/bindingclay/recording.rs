@@ -35,7 +35,10 @@ impl Clay {
     /// `Fault` with EINVAL if no recording goes on. `NoMemory` if nothing is left but the reply of the last step, and there is no memory for its
     /// text.
     pub fn recorded(&mut self, into: &mut [u8]) -> Result<usize> {
-        Ok(unsafe { bindingclay_recorded(self.0, into.as_mut_ptr(), into.len()) }.value()? as usize)
+        Ok(
+            unsafe { bindingclay_recorded(self.0, into.as_mut_ptr(), into.len()) }.value()?
+                as usize,
+        )
     }
 
     /// Writes all of the record that wasn't handed out yet, and tells how many bytes that is. It doesn't flush.

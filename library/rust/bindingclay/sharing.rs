@@ -1,16 +1,31 @@
 //! What the shared kernel wants of this one beside its calls.
 
+use super::Clay;
 use super::answers::{ParkedCall, Result};
 use super::shared;
 use super::values::{Fd, Limits, PollEntry};
-use super::Clay;
 use std::io;
 
 impl Clay {
     /// The kernel that a shared one has.
     pub(super) fn of_shared(limits: &shared::Limits) -> io::Result<Clay> {
-        let shared::Limits { memory, names, waiting_calls, capacity, file_max, descriptors_max } = *limits;
-        let limits = Limits { memory, names, waiting_calls, capacity, file_max, descriptors_max, ..Limits::default() };
+        let shared::Limits {
+            memory,
+            names,
+            waiting_calls,
+            capacity,
+            file_max,
+            descriptors_max,
+        } = *limits;
+        let limits = Limits {
+            memory,
+            names,
+            waiting_calls,
+            capacity,
+            file_max,
+            descriptors_max,
+            ..Limits::default()
+        };
         Clay::open_within(&limits).ok_or_else(|| io::ErrorKind::OutOfMemory.into())
     }
 

@@ -99,6 +99,10 @@ pub struct PollEntry {
 
 impl PollEntry {
     pub fn new(fd: Fd, events: i16) -> PollEntry {
-        PollEntry { fd, events, revents: 0 }
+        PollEntry {
+            fd,
+            events,
+            revents: 0,
+        }
     }
 }

@@ -37,13 +37,20 @@ impl Clay {
     /// # Errors
     ///
     /// As of `resume`.
-    pub fn resume_poll(&mut self, call: ParkedCall, entries: &mut [PollEntry]) -> Result<Answer<usize>> {
-        let raw = unsafe { bindingclay_resume_poll(self.0, call.number, entries.as_mut_ptr(), entries.len()) };
+    pub fn resume_poll(
+        &mut self,
+        call: ParkedCall,
+        entries: &mut [PollEntry],
+    ) -> Result<Answer<usize>> {
+        let raw = unsafe {
+            bindingclay_resume_poll(self.0, call.number, entries.as_mut_ptr(), entries.len())
+        };
         Ok(raw.resumed(call)?.map(Done::count))
     }
 
     fn resume_into(&mut self, call: ParkedCall, into: &mut [u8]) -> Result<Answer<Done>> {
-        unsafe { bindingclay_resume(self.0, call.number, into.as_mut_ptr(), into.len()) }.resumed(call)
+        unsafe { bindingclay_resume(self.0, call.number, into.as_mut_ptr(), into.len()) }
+            .resumed(call)
     }
 
     /// Ends a call that waits, as a signal does. Of a write that took bytes it tells how many. It asks for no memory but to be recorded.
@@ -98,13 +105,23 @@ impl Clay {
     }
 
     /// `resume_read` of a call of one process, as `resume_of`.
-    pub fn resume_read_of(&mut self, pid: Pid, number: CallNumber, into: &mut [u8]) -> Result<Answer<usize>> {
+    pub fn resume_read_of(
+        &mut self,
+        pid: Pid,
+        number: CallNumber,
+        into: &mut [u8],
+    ) -> Result<Answer<usize>> {
         let call = self.call_of(pid, number)?;
         self.resume_read(call, into)
     }
 
     /// `resume_poll` of a call of one process, as `resume_of`.
-    pub fn resume_poll_of(&mut self, pid: Pid, number: CallNumber, entries: &mut [PollEntry]) -> Result<Answer<usize>> {
+    pub fn resume_poll_of(
+        &mut self,
+        pid: Pid,
+        number: CallNumber,
+        entries: &mut [PollEntry],
+    ) -> Result<Answer<usize>> {
         let call = self.call_of(pid, number)?;
         self.resume_poll(call, entries)
     }
@@ -117,6 +134,10 @@ impl Clay {
 
     fn call_of(&self, pid: Pid, number: CallNumber) -> Result<ParkedCall> {
         let call = ParkedCall::from_number(number);
-        if self.owner(&call)? == pid { Ok(call) } else { Err(NotDone::NoCall) }
+        if self.owner(&call)? == pid {
+            Ok(call)
+        } else {
+            Err(NotDone::NoCall)
+        }
     }
 }

@@ -1,6 +1,6 @@
 //! A parent and its child talk through a pipe, as in example.c.
 
-use bindingclay::{Answer, Clay, NotDone, MOST_FILE_BYTES};
+use bindingclay::{Answer, Clay, MOST_FILE_BYTES, NotDone};
 
 fn main() -> Result<(), NotDone> {
     let mut clay = Clay::open(1, MOST_FILE_BYTES).ok_or(NotDone::NoMemory)?;
@@ -13,7 +13,10 @@ fn main() -> Result<(), NotDone> {
     let mut into = [0; 16];
     let mut answer = clay.read(child, ends.read_end, &mut into)?;
     while let Answer::Parked(call) = answer {
-        assert_eq!(clay.write(parent, ends.write_end, b"hello")?, Answer::Done(5));
+        assert_eq!(
+            clay.write(parent, ends.write_end, b"hello")?,
+            Answer::Done(5)
+        );
         answer = clay.resume_read(call, &mut into)?;
     }
     if let Answer::Done(count) = answer {

@@ -139,6 +139,8 @@ fn a_list_that_goes_on_as_one_of_std_is_gone() {
 #[test]
 fn too_great_a_list_is_refused_by_the_host() {
     assert!(Vec::<u64>::with_capacity(Global, usize::MAX).is_err());
+    // a host of 32 bits may have half of what it can address
+    #[cfg(target_pointer_width = "64")]
     assert!(Vec::<u64>::with_capacity(Global, usize::MAX / 16).is_err());
     let mut ours = Vec::from_slice(Global, &[1, 2]).unwrap();
     assert!(ours.try_reserve(usize::MAX).is_err());

@@ -8,7 +8,7 @@ use std::collections;
 
 /// Adds more than it takes out, and then less, by turns, so that chunks are split and go.
 fn grows(draws: &mut Draws, round: u64) -> bool {
-    draws.below(3) < 1 + u64::from((round / 20_000).is_multiple_of(2))
+    draws.below(3) < 1 + u64::from(round / 20_000 % 2 == 0)
 }
 
 #[test]
@@ -95,7 +95,11 @@ fn a_refused_insertion_changes_nothing() {
         }
         assert_eq!(ours.get(&key), theirs.get(&key));
     }
-    assert!(refused > 20 && theirs.len() > 3_000, "{refused} {}", theirs.len());
+    assert!(
+        refused > 20 && theirs.len() > 3_000,
+        "{refused} {}",
+        theirs.len()
+    );
     for key in 0..5_000 {
         assert_eq!(ours.get(&key), theirs.get(&key));
         ours.remove(&key);

@@ -167,7 +167,10 @@ fn a_number_has_the_digits_of_std() {
             Buffer::new().format(number as i8),
             (number as i8).to_string()
         );
-        assert_eq!(Buffer::new().format(number as usize), number.to_string());
+        assert_eq!(
+            Buffer::new().format(number as usize),
+            (number as usize).to_string()
+        );
     }
 }
 

@@ -76,7 +76,12 @@ fn the_first_word_that_is_not_taken_ends_it() {
 
 #[test]
 fn a_command_with_a_version_tells_it() {
-    let by = |words| read_by(Command::new(Global, "a").no_binary_name(true).version("1"), words);
+    let by = |words| {
+        read_by(
+            Command::new(Global, "a").no_binary_name(true).version("1"),
+            words,
+        )
+    };
     assert_eq!(by(&["-V"]), Err(DisplayVersion));
     assert_eq!(by(&["--version", "--other"]), Err(DisplayVersion));
     assert_eq!(by(&["-Vh"]), Err(DisplayVersion));

@@ -8,7 +8,7 @@ abbrev program : List ℕ
 program = codes "piperun "
 
 abbrev number : List ℕ
-number = codes "0.7.0"
+number = codes "0.8.0"
 
 abbrev feed : List ℕ
 feed = 10 ∷ []
