@@ -18,6 +18,8 @@
  * EINTR, ETIMEDOUT, and with EAGAIN if as many calls wait as the limit waiting_calls allows. All other errors are those of the function of
  * bindingclay.h that it is named for.
  *
+ * A size above 2,147,479,552 (BINDINGCLAY_MOST_SIZE) fails with EINVAL before all else, and nothing is read or written.
+ *
  * Make no call from a signal handler, nor in the forked child of a host that has threads. A thread must not be cancelled in a call.
  */
 #ifndef BINDINGCLAY_SHARED_H
@@ -138,7 +140,7 @@ int bc_unlink(const bc_process *process, const char *name);
 ssize_t bc_read(const bc_process *process, int fd, void *into, size_t size);
 
 /* Reads into count buffers, one after another, as one read does (readv). May wait. Returns how many bytes, or -1. Fails with EINVAL if count isn't
- * within 0 to 1,024, or if the sum of the sizes overflows ssize_t. */
+ * within 0 to 1,024, or if the sum of the sizes is above BINDINGCLAY_MOST_SIZE. */
 ssize_t bc_readv(const bc_process *process, int fd, const struct iovec *buffers, int count);
 
 /* Writes size bytes (write). May wait. Returns how many went in, or -1. At most 4,096 bytes go into a pipe whole or not at all. */

@@ -136,6 +136,34 @@ static void several_buffers(void)
     HOLDS(bc_exit(&process) == 0);
 }
 
+/* The -1 of a call that failed, taken for a size, and the least that is none: nothing is read, written or moved, whoever asks. */
+static void sizes_that_are_none(void)
+{
+    static const size_t no_sizes[] = { SIZE_MAX, (size_t)BINDINGCLAY_MOST_SIZE + 1, (size_t)UINT32_MAX + 1 };
+    bc_process process = new_process(shared), gone = new_process(shared);
+    char bytes[8] = "";
+    int ends[2], held = 0;
+    HOLDS(bc_pipe2(&process, ends, 0) == 0 && bc_pipe2(&process, ends, 0) == 0 && bc_write(&process, 1, "hello", 5) == 5);
+    HOLDS(bc_exit(&gone) == 0);
+    for (int i = 0; i < 3; i++) {
+        volatile size_t size = no_sizes[i];
+        struct iovec one = { .iov_base = bytes, .iov_len = size }, two[] = { { .iov_base = bytes, .iov_len = 1 }, { .iov_base = bytes, .iov_len = size - 1 } };
+        FAILS(bc_write(&process, 1, bytes, size), EINVAL);
+        FAILS(bc_read(&process, 0, bytes, size), EINVAL);
+        FAILS(bc_writev(&process, 1, &one, 1), EINVAL);
+        FAILS(bc_readv(&process, 0, two, 2), EINVAL);
+        FAILS(bc_splice(&process, 0, NULL, 3, NULL, size, 0), EINVAL);
+        FAILS(bc_tee(&process, 0, 3, size, 0), EINVAL);
+        FAILS(bc_write(&gone, 1, bytes, size), EINVAL);
+        FAILS(bc_read(&gone, 0, bytes, size), EINVAL);
+        FAILS(bc_tee(&gone, 0, 3, size, 0), EINVAL);
+        FAILS(bc_recorded(shared, bytes, size), EINVAL);
+    }
+    HOLDS(strcmp(bytes, "") == 0 && bc_ioctl(&process, 0, FIONREAD, &held) == 0 && held == 5);
+    HOLDS(bc_tee(&process, 0, 3, BINDINGCLAY_MOST_SIZE, 0) == 5 && bc_ioctl(&process, 2, FIONREAD, &held) == 0 && held == 5);
+    HOLDS(bc_exit(&process) == 0);
+}
+
 /* poll: "If none of the defined events have occurred .. poll() shall wait at least timeout milliseconds". */
 static void polls(void)
 {
@@ -205,6 +233,7 @@ int main(void)
     descriptors();
     files();
     several_buffers();
+    sizes_that_are_none();
     polls();
     processes();
     limits();
