@@ -69,100 +69,138 @@ pub enum Call<A: Allocator = Global> {
     /// Makes a pipe, its read end and its write end (POSIX.1-2017, pipe). With `nonblock` both ends have `NONBLOCK`, as by Linux's
     /// pipe2(2) with `O_NONBLOCK`. With `direct` it is a packet pipe, and its write end has `DIRECT` (pipe(2), O_DIRECT).
     Pipe {
+        /// Whether both ends have `NONBLOCK`.
         nonblock: bool,
+        /// Whether it is a packet pipe.
         direct: bool,
     },
     /// Makes a FIFO: a pipe that the name stands for (POSIX.1-2017, mkfifo).
     Mkfifo {
+        /// The name of the FIFO: 1 to 255 bytes, without a slash or a NUL.
         name: Name<A>,
     },
     /// Opens what the name stands for, by the least free descriptor. With `CREAT` a name that stands for nothing comes to stand
     /// for an empty regular file (POSIX.1-2017, open).
     OpenName {
+        /// The name: 1 to 255 bytes, without a slash or a NUL.
         name: Name<A>,
+        /// What the description may be used for.
         mode: Mode,
+        /// How it is opened. `DIRECT` is ignored.
         flags: OpenFlags,
     },
     /// Reads at most `n` bytes (POSIX.1-2017, read).
     Read {
+        /// The descriptor to read from.
         fd: i32,
+        /// The most bytes to read.
         n: u32,
     },
     /// Writes the bytes (POSIX.1-2017, write).
     Write {
+        /// The descriptor to write to.
         fd: i32,
+        /// The bytes to write, at most 16,777,216.
         bytes: Bytes8<A>,
     },
     /// Moves at most `len` bytes from what `from` names to what `to` names, of which one at least is a pipe. A file gives or takes
     /// them at the offset that is given for it; where none is, at its own, which advances (splice(2)).
     Splice {
+        /// The descriptor that gives the bytes.
         from: i32,
+        /// Where in the file the bytes begin; `None` for a pipe, and for the offset of the description.
         from_offset: Option<u64>,
+        /// The descriptor that takes the bytes.
         to: i32,
+        /// Where in the file the bytes go; `None` for a pipe, and for the offset of the description.
         to_offset: Option<u64>,
+        /// The most bytes to move.
         len: u32,
+        /// Whether the call may wait.
         flags: SpliceFlags,
     },
     /// Copies at most `len` bytes from a pipe to another, and leaves them in the first (tee(2)).
     Tee {
+        /// The read end of the pipe whose bytes are copied.
         from: i32,
+        /// The write end of the pipe that takes the copies.
         to: i32,
+        /// The most bytes to copy.
         len: u32,
+        /// Whether the call may wait.
         flags: SpliceFlags,
     },
     /// Tells what each descriptor is ready for. With `wait` it waits until one of them is ready for anything (POSIX.1-2017, poll,
     /// with no time-out, and without `wait` with one of 0).
     Poll {
+        /// The descriptors, and the events that are asked of each; at most 256.
         entries: PollList<A>,
+        /// Whether to wait where no descriptor is ready.
         wait: bool,
     },
     /// Names what a descriptor names by the least free descriptor too (POSIX.1-2017, dup).
     Dup {
+        /// The descriptor to duplicate.
         fd: i32,
     },
     /// Names what `fd` names by `target` too, which is closed first. Where `target` is `fd` itself nothing changes
     /// (POSIX.1-2017, dup, dup2).
     Dup2 {
+        /// The descriptor to duplicate.
         fd: i32,
+        /// The descriptor that names the same afterwards.
         target: i32,
     },
     /// Names what `fd` names by the least free descriptor from `least` on too (POSIX.1-2017, fcntl, `F_DUPFD`).
     DupFd {
+        /// The descriptor to duplicate.
         fd: i32,
+        /// The least descriptor that may be the duplicate.
         least: i32,
     },
     /// Closes a descriptor (POSIX.1-2017, close).
     Close {
+        /// The descriptor to close.
         fd: i32,
     },
     /// Sets the offset of what a descriptor names, a regular file (POSIX.1-2017, lseek).
     Lseek {
+        /// A descriptor of a regular file.
         fd: i32,
+        /// The new offset in bytes, counted from `whence`.
         offset: i64,
+        /// Where the new offset is counted from.
         whence: Whence,
     },
     /// Tells the mode and the status flags of what a descriptor names (POSIX.1-2017, fcntl, `F_GETFL`).
     GetFl {
+        /// The descriptor that is asked about.
         fd: i32,
     },
     /// Sets `APPEND` and `NONBLOCK` of what a descriptor names as they are in `flags`, and ignores all other flags
     /// (POSIX.1-2017, fcntl, `F_SETFL`).
     SetFl {
+        /// A descriptor of the description whose flags are set.
         fd: i32,
+        /// The flags, of which `APPEND` and `NONBLOCK` count.
         flags: OpenFlags,
     },
     /// Tells how many bytes the pipe that a descriptor names can hold (Linux, fcntl(2), `F_GETPIPE_SZ`).
     GetPipeSz {
+        /// Either end of the pipe.
         fd: i32,
     },
     /// Sets how many bytes the pipe that a descriptor names, by either end, can hold: `size`, rounded up (Linux, fcntl(2),
     /// `F_SETPIPE_SZ`).
     SetPipeSz {
+        /// Either end of the pipe.
         fd: i32,
+        /// The bytes that the pipe is to hold at least.
         size: u32,
     },
     /// Takes a name away. What it stood for lives on while a description is open on it (POSIX.1-2017, unlink).
     Unlink {
+        /// The name to take away.
         name: Name<A>,
     },
     /// Starts a process whose descriptors name what those of this one do (POSIX.1-2017, fork).
