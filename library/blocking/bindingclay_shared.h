@@ -68,7 +68,9 @@ typedef int (*bc_sleep_hook)(void *context, sem_t *answered);
  * a limit lets a pipe or a file have more bytes than any may, or a process more descriptors. Close it with bc_shared_close. */
 int bc_shared_open(const bindingclay_limits *limits, bc_shared **shared);
 
-/* Frees a kernel and all that it holds. Nothing may use it from then on. Returns 0, or -1 with EBUSY if a call waits: then nothing changed. */
+/* Frees a kernel and all that it holds. Nothing may use it from then on. Returns 0, or -1 with EBUSY if a call waits, or a thread hasn't come back
+ * from a call yet: then nothing changed. A call that is answered may still be on its way out, or in a hook. So join the threads that make calls,
+ * or close again. No call may begin while a kernel is closed, and none finds out. */
 int bc_shared_close(bc_shared *shared);
 
 /* Sets what is called where SIGPIPE is due. Without a hook, or with a null one, such a call only fails with EPIPE. Set it before other threads make

@@ -34,9 +34,13 @@ static bool yielded_for(const bc_process *process, int fd)
     had_nothing = answer.kind == BINDINGCLAY_DONE && facts.kind != BINDINGCLAY_FILE && facts.size == 0;
     if (!had_nothing || process->has_deadline || !bc_may_yield(shared, &yield))
         return true;
+    bc_stay(shared);
     bc_unlock(shared);
     bc_yield(shared, &yield);
-    return bc_in(process);
+    bool is_in = bc_in(process);
+    /* it may have the lock: none yields who would take it here */
+    bc_go(shared);
+    return is_in;
 }
 
 /* Under the lock, with the answer of a read or a write that waits: waits to the deadline of the handle, and tells what the call returns. Out of
@@ -145,7 +149,7 @@ static ssize_t write_whole(const bc_process *process, int fd, const void *bytes,
     bindingclay_answer answer = bindingclay_write(process->shared->clay, process->pid, fd, bytes, size);
     if (answer.kind == BINDINGCLAY_PARKED)
         return waited(process, answer, (struct bc_room){ .kind = BC_WRITES, .fd = fd });
-    bc_out_behind(process->shared, bc_helped(process, BC_WRITES, fd));
+    bc_out_with(process->shared, answer, bc_helped(process, BC_WRITES, fd));
     return (ssize_t)bc_concluded(process, answer);
 }
 
@@ -153,27 +157,32 @@ static ssize_t write_by_pieces(const bc_process *process, int fd, const void *by
 {
     const struct bc_room room = { .kind = BC_WRITES, .fd = fd };
     struct bc_pieces pieces = { .pid = process->pid, .fd = fd };
-    bindingclay_answer answer = { .kind = BINDINGCLAY_NO_PROCESS };
+    bc_shared *shared = process->shared;
+    bindingclay_answer answer;
     size_t written = 0, last;
     if (size > BINDINGCLAY_MOST_BYTES)
         size = BINDINGCLAY_MOST_BYTES;
+    if (!bc_in(process))
+        return -1;
+    /* between two pieces it has no lock */
+    bc_stay(shared);
     do {
-        if (!in_for(process, &pieces))
-            break;
         answer = begun(process, fd, bytes, size, &written, &last);
         if (answer.kind == BINDINGCLAY_PARKED && written + last < size)
-            list_pieces(process->shared, &pieces);
+            list_pieces(shared, &pieces);
         answer = bc_awaited(process, answer, &room, bc_deadline(process));
         if (answer.kind == BINDINGCLAY_DONE)
             written += answer.value;
-    } while (answer.kind == BINDINGCLAY_DONE && answer.value == last && !answer.sigpipe && written < size);
+    } while (answer.kind == BINDINGCLAY_DONE && answer.value == last && !answer.sigpipe && written < size && in_for(process, &pieces));
     if (pieces.is_listed)
-        unlist_pieces(process->shared, &pieces);
+        unlist_pieces(shared, &pieces);
     if (written > 0)
         answer.kind = BINDINGCLAY_DONE;
     if (answer.kind == BINDINGCLAY_DONE)
         answer.value = written;
-    return (ssize_t)bc_concluded(process, answer);
+    ssize_t put = (ssize_t)bc_concluded(process, answer);
+    bc_go(shared);
+    return put;
 }
 
 ssize_t bc_write(const bc_process *process, int fd, const void *bytes, size_t size)
