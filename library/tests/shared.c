@@ -73,6 +73,8 @@ static void descriptors(void)
     HOLDS(bc_fcntl(&process, 0, F_GETPIPE_SZ) == 65536);
     HOLDS(bc_fcntl(&process, 0, F_SETPIPE_SZ, 5000) == 8192);
     FAILS(bc_fcntl(&process, 0, F_SETPIPE_SZ, 1048577), EPERM);
+    /* docs/LINUX.md, Numbers at the edge */
+    FAILS(bc_fcntl(&process, 0, F_SETPIPE_SZ, -1), EPERM);
     FAILS(bc_fcntl(&process, 0, F_GETLK), EINVAL);
     char byte;
     FAILS(bc_read(&process, 0, &byte, 1), EAGAIN);
