@@ -4,6 +4,8 @@
 #   PREFIX/include/bindingclay.h, bindingclay_shared.h
 #   PREFIX/lib/libbindingclay.a            with the three functions by which it takes memory from malloc
 #   PREFIX/lib/libbindingclay_shared.a     the front for threads of blocking/, if there is a C compiler
+#   PREFIX/lib/libbindingclay_shared_helgrind.a    the same for helgrind and drd, which find no false race in it; and what else helgrind is not to
+#       tell, in PREFIX/share/bindingclay/helgrind.supp
 #   PREFIX/include/bindingclay_allocator.h, and PREFIX/lib/libbindingclay_allocator.a, which is both archives with memory from an allocator of
 #       the program, if there are a C compiler and objcopy
 #   PREFIX/lib/pkgconfig/bindingclay.pc
@@ -49,15 +51,25 @@ mkdir "$work/memory"
 install -m 644 "$work/libbindingclay.a" "$prefix/lib/libbindingclay.a"
 install -m 644 "$here/include/bindingclay.h" "$here/blocking/bindingclay_shared.h" "$prefix/include"
 
-# The front for threads. Its objects name no folder, so the same compiler gives the same bytes.
-if command -v "${CC:-cc}" > /dev/null 2>&1; then
-    mkdir "$work/blocking"
+# build_front FOLDER ARCHIVE FLAG..: the front for threads. Its objects name no folder, so the same compiler gives the same bytes.
+build_front() {
+    front=$work/$1
+    archive_of_front=$2
+    shift 2
+    mkdir "$front"
     for source in "$here"/blocking/*.c; do
         name=${source##*/}
-        (cd "$here/blocking" && "${CC:-cc}" -std=c11 -O2 -fPIC -Wall -Wextra -I../include -c -o "$work/blocking/${name%.c}.o" "$name")
+        (cd "$here/blocking" && "${CC:-cc}" -std=c11 -O2 -fPIC -Wall -Wextra "$@" -I../include -c -o "$front/${name%.c}.o" "$name")
     done
-    (cd "$work/blocking" && "$ar" qcsD ../libbindingclay_shared.a ./*.o)
-    install -m 644 "$work/libbindingclay_shared.a" "$prefix/lib/libbindingclay_shared.a"
+    (cd "$front" && "$ar" qcsD "../$archive_of_front" ./*.o)
+    install -m 644 "$work/$archive_of_front" "$prefix/lib/$archive_of_front"
+}
+
+if command -v "${CC:-cc}" > /dev/null 2>&1; then
+    build_front blocking libbindingclay_shared.a
+    build_front helgrind libbindingclay_shared_helgrind.a -DBC_FOR_HELGRIND
+    mkdir -p -- "$prefix/share/bindingclay"
+    install -m 644 "$here/tests/helgrind.supp" "$prefix/share/bindingclay/helgrind.supp"
 else
     echo "passed over: libbindingclay_shared.a, as there is no ${CC:-cc}"
 fi

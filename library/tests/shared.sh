@@ -45,6 +45,12 @@ without_races_of_front() {
         "$here/tests/$1.c" "$here"/blocking/*.c "-L$work/prefix/lib" -lbindingclay -pthread $wraps && without_races "races_in_$1"
 }
 
+# silent_under TOOL: whether a tool of valgrind's says nothing of a program without races, over what is installed for it.
+silent_under() {
+    timeout 300 "$valgrind" -q "--tool=$1" --error-exitcode=99 "--log-file=$work/said" "$work/clean" || { cat "$work/said"; return 1; }
+    [ ! -s "$work/said" ]
+}
+
 # over_both NAME ARGUMENT..: whether a program over the host prints what it prints over the front.
 over_both() {
     name=$1
@@ -109,6 +115,16 @@ try_front() {
         sanitized shared_storm thread 5
         sanitized shared_storm address,undefined 1
     fi
+    # shellcheck disable=SC2086
+    check "building shared_clean" "$cc" $strict -O1 "-I$work/prefix/include" -o "$work/clean" "$here/tests/shared_clean.c" \
+        "-L$work/prefix/lib" -lbindingclay_shared_helgrind -lbindingclay -pthread && check "shared_clean" timeout 120 "$work/clean" &&
+        for tool in helgrind drd; do
+            if is_there "$valgrind"; then
+                check "what $tool says of a program without races" silent_under "$tool"
+            else
+                echo "passed over: what $tool says of a program without races"
+            fi
+        done
     if is_there "$cxx"; then
         printf '#include <bindingclay_shared.h>\nint main() { bc_shared *shared; return bc_shared_open(nullptr, &shared); }\n' > "$work/front.cpp"
         check "the header of the front in C++" "$cxx" -Wall -Wextra -Werror -std=c++11 "-I$work/prefix/include" -o "$work/front" \

@@ -29,6 +29,12 @@ static void new_stop(struct stop *stop)
     sem_init(&stop->may_go, 0, 0);
 }
 
+static void forget(struct stop *stop)
+{
+    sem_destroy(&stop->is_there);
+    sem_destroy(&stop->may_go);
+}
+
 static void stop_at(struct stop *stop)
 {
     sem_post(&stop->is_there);
@@ -99,6 +105,7 @@ static void in_the_hook_of_sigpipe(bool has_waited)
     sem_post(&stop.may_go);
     pthread_join(thread, NULL);
     HOLDS(caller.answer == (has_waited ? 65536 : -1) && bc_shared_close(shared) == 0);
+    forget(&stop);
 }
 
 /* Sleeps until the call is answered, and stops then. */
@@ -129,6 +136,7 @@ static void behind_an_answer(void)
     sem_post(&stop.may_go);
     pthread_join(thread, NULL);
     HOLDS(caller.answer == 1 && bc_shared_close(shared) == 0);
+    forget(&stop);
 }
 
 /* Closes a kernel whose threads are on their way out. */
