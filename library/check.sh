@@ -201,6 +201,8 @@ check "installing" "$here/install.sh" "$work/prefix" || end
 . "$here/tests/shared.sh"
 # shellcheck disable=SC1091
 . "$here/tests/preload.sh"
+# shellcheck disable=SC1091
+. "$here/tests/machines.sh"
 if [ "${1:-}" = preload ]; then
     try_preload
     end
@@ -244,6 +246,7 @@ done
 
 try_front
 try_preload
+try_machines
 
 if is_there python3; then
     check "the documents" env "PREFIX=$work/prefix" "PIPERUN=$piperun" "CC=$cc" python3 -B "$here/../docs/check" \

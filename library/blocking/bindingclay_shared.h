@@ -122,8 +122,8 @@ int bc_waiting(const bc_process *process);
 
 /* ---- Pipes and names ---- */
 
-/* Makes a pipe, and writes its read end to ends[0] and its write end to ends[1] (pipe2(2)). flags: O_NONBLOCK, BINDINGCLAY_O_DIRECT, and
- * O_CLOEXEC, which has no effect since there is no exec. Returns 0, or -1. */
+/* Makes a pipe, and writes its read end to ends[0] and its write end to ends[1] (pipe2(2)). flags: O_NONBLOCK, O_DIRECT of fcntl.h or
+ * BINDINGCLAY_O_DIRECT, and O_CLOEXEC, which has no effect since there is no exec. Returns 0, or -1. */
 int bc_pipe2(const bc_process *process, int ends[2], int flags);
 
 /* Opens a name (open). flags are those of bindingclay_open_name. A mode behind them is ignored. The open of one end of a FIFO waits for the other
@@ -181,8 +181,8 @@ int bc_dup2(const bc_process *process, int fd, int target);
 /* Does what bc_dup2 does, and fails with EINVAL if both are the same, or if flags has another flag than O_CLOEXEC, which has no effect (dup3(2)). */
 int bc_dup3(const bc_process *process, int fd, int target, int flags);
 
-/* Does one of F_DUPFD, F_DUPFD_CLOEXEC, F_GETFL, F_SETFL, F_GETPIPE_SZ and F_SETPIPE_SZ (fcntl). F_DUPFD_CLOEXEC does what F_DUPFD does. Returns
- * what fcntl does, or -1. Fails with EINVAL if the command is another one. */
+/* Does one of F_DUPFD, F_DUPFD_CLOEXEC, F_GETFL, F_SETFL, F_GETPIPE_SZ and F_SETPIPE_SZ (fcntl). F_DUPFD_CLOEXEC does what F_DUPFD does. F_GETFL
+ * tells O_DIRECT of fcntl.h of a packet pipe. Returns what fcntl does, or -1. Fails with EINVAL if the command is another one. */
 int bc_fcntl(const bc_process *process, int fd, int command, ...);
 
 /* With FIONREAD, writes to the int behind it how many bytes a pipe holds, or how many a file has behind its offset (ioctl_tty(2)). Returns 0, or

@@ -56,6 +56,7 @@
 #include <stddef.h>
 #include <stdint.h>
 #include <stdlib.h>
+#include <string.h>
 
 #ifdef __cplusplus
 extern "C" {
@@ -201,8 +202,9 @@ typedef struct {
     uint64_t spare;
 } bindingclay_memory_use;
 
-/* Does what bindingclay_open_within does, with count words of limits. *budget is written once a block for the budget was taken from malloc.
- * Give that block to free after bindingclay_end, or at once if the answer is false. */
+/* Does what bindingclay_open_within does, with count words of limits: the fields in their order, where file_max is the upper half of the
+ * word whose lower half is capacity. *budget is written once a block for the budget was taken from malloc. Give that block to free after
+ * bindingclay_end, or at once if the answer is false. */
 bool bindingclay_open_words(const uint64_t *limits, size_t count, void **kernel, void **budget);
 
 /* Does what bindingclay_free does, except that the block of the budget stays. Its pointer is written to *budget. */
@@ -217,10 +219,15 @@ void bindingclay_tell_memory(bindingclay clay, bindingclay_memory_use *memory);
 static inline bool bindingclay_open_within(const bindingclay_limits *limits, void **kernel)
 {
     void *budget = NULL;
-    if (limits->size % sizeof(uint64_t) != 0)
+    uint64_t words[sizeof(bindingclay_limits) / sizeof(uint64_t)];
+    size_t count = (size_t)(limits->size / sizeof(uint64_t));
+    if (limits->size % sizeof(uint64_t) != 0 || limits->size > sizeof words)
         return false;
-    /* its fields are words, except that capacity and file_max share one */
-    if (bindingclay_open_words((const uint64_t *)(const void *)limits, limits->size / sizeof(uint64_t), kernel, &budget))
+    /* its fields are words, except that capacity and file_max share one: the lower half and the upper one, whatever the processor's order is */
+    memcpy(words, limits, (size_t)limits->size);
+    if (limits->size > offsetof(bindingclay_limits, file_max))
+        words[offsetof(bindingclay_limits, capacity) / sizeof(uint64_t)] = (uint64_t)limits->file_max << 32 | limits->capacity;
+    if (bindingclay_open_words(words, count, kernel, &budget))
         return true;
     BINDINGCLAY_FREE(budget);
     return false;

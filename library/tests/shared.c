@@ -38,6 +38,21 @@ static void pipes(void)
     FAILS(bc_exit(&process), ESRCH);
 }
 
+/* pipe2(2), O_DIRECT; the number of the library's own does the same, which is another one on some processors. */
+static void packets(void)
+{
+    static const int flags[] = { O_DIRECT, BINDINGCLAY_O_DIRECT };
+    for (int i = 0; i < 2; i++) {
+        bc_process process = new_process(shared);
+        int ends[2];
+        char into[8];
+        HOLDS(bc_pipe2(&process, ends, flags[i] | O_NONBLOCK | O_CLOEXEC) == 0);
+        HOLDS(bc_write(&process, 1, "ab", 2) == 2 && bc_write(&process, 1, "cd", 2) == 2 && bc_read(&process, 0, into, sizeof into) == 2);
+        HOLDS(bc_fcntl(&process, 1, F_GETFL) == (O_WRONLY | O_DIRECT | O_NONBLOCK) && bc_fcntl(&process, 0, F_GETFL) == (O_RDONLY | O_NONBLOCK));
+        HOLDS(bc_exit(&process) == 0);
+    }
+}
+
 /* write: "EPIPE: An attempt is made to write to a pipe or FIFO that is not open for reading by any process". */
 static void broken_pipes(void)
 {
@@ -231,6 +246,7 @@ int main(void)
 {
     shared = new_shared();
     pipes();
+    packets();
     broken_pipes();
     descriptors();
     files();
