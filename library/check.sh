@@ -233,6 +233,7 @@ for name in processes pipes packets packet_waits descriptors files fifos splices
     build "$name" && run "$name"
 done
 build memory "$counted" && run memory
+build index_memory "$counted" && run index_memory
 build storms "$counted" && run storms 500 && plainly storms 20000
 if build growth "$counted"; then
     plainly growth 65536 && sed 's/^/growth: /' "$work/log"

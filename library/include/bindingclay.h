@@ -190,7 +190,7 @@ typedef struct {
         BINDINGCLAY_MOST_DESCRIPTORS }
 
 /* How much memory a kernel takes, in bytes as they were asked of malloc and realloc. The block that holds the kernel itself and the block
- * that holds this count, some hundred bytes, are no part of it. */
+ * that holds this count, about a kilobyte together, are no part of it. */
 typedef struct {
     /* The bytes that it holds now. */
     uint64_t held;
