@@ -153,7 +153,7 @@ static void after_fork(void)
 static void after_fork_in_child(void)
 {
     if (layer.shared != NULL) {
-        (void)!bc_shared_close(layer.shared);
+        bc_shared_close(layer.shared);
         open_layer();
     }
     for (struct poller *poller = pollers; poller != NULL; poller = poller->next)

@@ -46,10 +46,8 @@ words_of() {
     compiler=$2
     shift 2
     if is_there "$compiler" && { [ $# -eq 0 ] || is_there "$1"; }; then
-        # the functions of the header that nobody calls are there at -O1 too
-        check "building limits_words for $processor" "$compiler" -Wall -Wextra -Werror -std=c11 -O1 -static "-I$work/prefix/include" \
-            -o "$work/limits_words" "$here/tests/limits_words.c" -Wl,--unresolved-symbols=ignore-all &&
-            check "limits_words on $processor" timeout 60 "$@" "$work/limits_words"
+        check "building limits_words for $processor" "$compiler" -Wall -Wextra -Werror -std=c11 -O1 ${1:+-static} "-I$work/prefix/include" \
+            -o "$work/limits_words" "$here/tests/limits_words.c" && check "limits_words on $processor" timeout 60 "$@" "$work/limits_words"
     else
         echo "passed over: limits_words on $processor"
     fi
