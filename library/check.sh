@@ -111,30 +111,41 @@ build_archive() {
     return "$built"
 }
 
-# Whether the archive defines the functions that the header declares, and else only the three that take memory, and wants nothing of the C
-# library but memory and what copies, sets and compares it.
+# functions_of HEADER..: the functions that headers of what is installed declare, and don't define.
 # shellcheck disable=SC2317
-defines_what_is_declared() {
-    {
-        sed -n 's/^[a-z0-9_]* \(bindingclay_[a-z0-9_]*\)(.*/\1/p' "$here/include/bindingclay.h"
-        printf 'rattle_alloc\nrattle_dealloc\nrattle_realloc\n'
-    } | sort -u > "$work/declared"
-    nm -g --defined-only "$work/prefix/lib/libbindingclay.a" | awk 'NF == 3 { print $3 }' | sort -u > "$work/defined"
-    diff "$work/declared" "$work/defined" || return 1
-    printf '%s\n' free malloc memcmp memcpy memmove memset realloc | sort -u - "$work/defined" > "$work/may_be_wanted"
-    nm -g --undefined-only "$work/prefix/lib/libbindingclay.a" | awk 'NF == 2 { print $2 }' | sort -u > "$work/wanted"
-    [ -z "$(comm -13 "$work/may_be_wanted" "$work/wanted" | tee /dev/stderr)" ]
+functions_of() {
+    (cd "$work/prefix/include" && grep -hE '^[a-z].*[ *](bc|bindingclay)_[a-z0-9_]*\(' "$@") | grep -vE '^(static|typedef) ' |
+        sed 's/(.*//; s/.*[ *]//' | sort -u
 }
 
-# Whether the archive with an allocator has each function of the library under its name once, and behind it the library's own under another name,
-# except of the two that take no kernel. Without the other name a function wouldn't find the allocator that a kernel keeps.
+# defines_only ARCHIVE HEADER..: whether an archive that is installed defines the functions that headers declare, each once, and no other name that a
+# program could meet.
+# shellcheck disable=SC2317
+defines_only() {
+    name=$1
+    shift
+    functions_of "$@" > "$work/declared"
+    [ -s "$work/declared" ] || return 1
+    nm -g --defined-only "$work/prefix/lib/$name" | awk 'NF == 3 { print $3 }' | sort > "$work/defined"
+    diff "$work/declared" "$work/defined"
+}
+
+# Whether the library wants nothing of the C library but memory and what copies, sets and compares it.
+# shellcheck disable=SC2317
+wants_little() {
+    printf '%s\n' free malloc memcmp memcpy memmove memset realloc > "$work/may_be_wanted"
+    nm -g --undefined-only "$work/prefix/lib/libbindingclay.a" | awk 'NF == 2 { print $2 }' | sort -u > "$work/wanted"
+    [ -s "$work/wanted" ] && [ -z "$(comm -13 "$work/may_be_wanted" "$work/wanted" | tee /dev/stderr)" ]
+}
+
+# Whether the archive with an allocator has the library's own functions behind those of the header, under other names, except of the two that take no
+# kernel. Without the other name a function wouldn't find the allocator that a kernel keeps.
 # shellcheck disable=SC2317
 finds_each_allocator() {
-    nm -g --defined-only "$work/prefix/lib/libbindingclay_allocator.a" | awk 'NF == 3 { print $3 }' | sort > "$work/with_allocator"
-    [ -z "$(uniq -d "$work/with_allocator" | tee /dev/stderr)" ] || return 1
-    sed -n '/^bindingclay_open_words$/d; /^bindingclay_version$/d; s/^bindingclay_/bindingclay_inner_/p' "$work/defined" > "$work/inner"
+    nm --defined-only "$work/prefix/lib/libbindingclay_allocator.a" | awk 'NF == 3 { print $3 }' | sort > "$work/with_allocator"
+    functions_of bindingclay.h | sed -n '/^bindingclay_open_words$/d; /^bindingclay_version$/d; s/^bindingclay_/bindingclay_inner_/p' > "$work/inner"
     [ -s "$work/inner" ] || return 1
-    [ -z "$(sort "$work/defined" "$work/inner" | comm -23 - "$work/with_allocator" | tee /dev/stderr)" ]
+    [ -z "$(comm -23 "$work/inner" "$work/with_allocator" | tee /dev/stderr)" ]
 }
 
 # Whether the list of scripts names exactly those that are there, and whether no other files are there. Those of programs and of harnesses
@@ -201,17 +212,28 @@ check "installing" "$here/install.sh" "$work/prefix" || end
 . "$here/tests/shared.sh"
 # shellcheck disable=SC1091
 . "$here/tests/preload.sh"
+# shellcheck disable=SC1091
+. "$here/tests/machines.sh"
 if [ "${1:-}" = preload ]; then
     try_preload
     end
 fi
-check "the names of the archive" defines_what_is_declared
+check "the names of the archive" defines_only libbindingclay.a bindingclay.h
+check "what the archive wants" wants_little
+for front in shared shared_helgrind; do
+    if [ -f "$work/prefix/lib/libbindingclay_$front.a" ]; then
+        check "the names of libbindingclay_$front.a" defines_only "libbindingclay_$front.a" bindingclay_shared.h
+    else
+        echo "passed over: the names of libbindingclay_$front.a"
+    fi
+done
 
 counted=-Wl,--wrap=malloc,--wrap=realloc,--wrap=free
 for name in processes pipes packets packet_waits descriptors files fifos splices polls waiting progress progress_cases facts sizes limits; do
     build "$name" && run "$name"
 done
 build memory "$counted" && run memory
+build index_memory "$counted" && run index_memory
 build storms "$counted" && run storms 500 && plainly storms 20000
 if build growth "$counted"; then
     plainly growth 65536 && sed 's/^/growth: /' "$work/log"
@@ -222,7 +244,9 @@ if build budget "$counted"; then
     under_valgrind budget 2000
 fi
 if [ -f "$work/prefix/lib/libbindingclay_allocator.a" ]; then
-    check "the names of the archive with an allocator" finds_each_allocator
+    check "the names of the archive with an allocator" \
+        defines_only libbindingclay_allocator.a bindingclay.h bindingclay_shared.h bindingclay_allocator.h
+    check "what is behind the archive with an allocator" finds_each_allocator
     # helgrind doesn't know the lock of the front
     check "building allocator" "$cc" -Wall -Wextra -Werror -std=c11 -O1 -g "-I$work/prefix/include" -o "$work/allocator" \
         "$here/tests/allocator.c" "-L$work/prefix/lib" -lbindingclay_allocator -pthread "$counted" && run allocator &&
@@ -244,6 +268,7 @@ done
 
 try_front
 try_preload
+try_machines
 
 if is_there python3; then
     check "the documents" env "PREFIX=$work/prefix" "PIPERUN=$piperun" "CC=$cc" python3 -B "$here/../docs/check" \

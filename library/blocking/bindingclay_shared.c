@@ -54,9 +54,10 @@ int bc_shared_open(const bindingclay_limits *limits, bc_shared **shared)
 int bc_shared_close(bc_shared *shared)
 {
     bc_lock(shared);
-    bool waits = shared->waiting > 0;
+    /* who is answered waits no more, but may not have gone yet */
+    bool is_used = shared->waiting > 0 || bc_is_queued(&shared->lock) || atomic_load_explicit(&shared->inside, memory_order_acquire) > 0;
     bc_unlock(shared);
-    if (waits) {
+    if (is_used) {
         errno = EBUSY;
         return -1;
     }
@@ -237,8 +238,12 @@ static int error_of(bindingclay_answer answer)
 
 int64_t bc_concluded_otherwise(const bc_process *process, bindingclay_answer answer)
 {
-    if (answer.sigpipe && process->shared->hook != NULL)
-        process->shared->hook(process->shared->context, process);
+    if (answer.sigpipe) {
+        bc_shared *shared = process->shared;
+        if (shared->hook != NULL)
+            shared->hook(shared->context, process);
+        bc_go(shared);
+    }
     if (answer.kind == BINDINGCLAY_DONE)
         return (int64_t)answer.value;
     errno = error_of(answer);
@@ -313,6 +318,7 @@ bindingclay_answer bc_wait(
     bc_shared *shared = process->shared;
     struct bc_waiter waiter = { .number = parked.value, .pid = process->pid, .thread = pthread_self(), .room = *room };
     waiter.has_deadline = deadline != NULL;
+    bc_stay(shared);
     if (room->kind == BC_READS || room->kind == BC_WRITES)
         waiter.group = bc_group_of(process, room->fd);
     /* neither fails: they take no memory, and nobody has them */
@@ -333,6 +339,9 @@ bindingclay_answer bc_wait(
         sleep_on(shared, &waiter);
         sem_destroy(&waiter.answered);
     }
+    /* else bc_concluded does */
+    if (!waiter.answer.sigpipe)
+        bc_go(shared);
     return waiter.answer;
 }
 

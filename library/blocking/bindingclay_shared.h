@@ -18,6 +18,8 @@
  * EINTR, ETIMEDOUT, and with EAGAIN if as many calls wait as the limit waiting_calls allows. All other errors are those of the function of
  * bindingclay.h that it is named for.
  *
+ * A size above 2,147,479,552 (BINDINGCLAY_MOST_SIZE) fails with EINVAL before all else, and nothing is read or written.
+ *
  * Make no call from a signal handler, nor in the forked child of a host that has threads. A thread must not be cancelled in a call.
  */
 #ifndef BINDINGCLAY_SHARED_H
@@ -66,7 +68,9 @@ typedef int (*bc_sleep_hook)(void *context, sem_t *answered);
  * a limit lets a pipe or a file have more bytes than any may, or a process more descriptors. Close it with bc_shared_close. */
 int bc_shared_open(const bindingclay_limits *limits, bc_shared **shared);
 
-/* Frees a kernel and all that it holds. Nothing may use it from then on. Returns 0, or -1 with EBUSY if a call waits: then nothing changed. */
+/* Frees a kernel and all that it holds. Nothing may use it from then on. Returns 0, or -1 with EBUSY if a call waits, or a thread hasn't come back
+ * from a call yet: then nothing changed. A call that is answered may still be on its way out, or in a hook. So join the threads that make calls,
+ * or close again. No call may begin while a kernel is closed, and none finds out. */
 int bc_shared_close(bc_shared *shared);
 
 /* Sets what is called where SIGPIPE is due. Without a hook, or with a null one, such a call only fails with EPIPE. Set it before other threads make
@@ -118,8 +122,8 @@ int bc_waiting(const bc_process *process);
 
 /* ---- Pipes and names ---- */
 
-/* Makes a pipe, and writes its read end to ends[0] and its write end to ends[1] (pipe2(2)). flags: O_NONBLOCK, BINDINGCLAY_O_DIRECT, and
- * O_CLOEXEC, which has no effect since there is no exec. Returns 0, or -1. */
+/* Makes a pipe, and writes its read end to ends[0] and its write end to ends[1] (pipe2(2)). flags: O_NONBLOCK, O_DIRECT of fcntl.h or
+ * BINDINGCLAY_O_DIRECT, and O_CLOEXEC, which has no effect since there is no exec. Returns 0, or -1. */
 int bc_pipe2(const bc_process *process, int ends[2], int flags);
 
 /* Opens a name (open). flags are those of bindingclay_open_name. A mode behind them is ignored. The open of one end of a FIFO waits for the other
@@ -138,7 +142,7 @@ int bc_unlink(const bc_process *process, const char *name);
 ssize_t bc_read(const bc_process *process, int fd, void *into, size_t size);
 
 /* Reads into count buffers, one after another, as one read does (readv). May wait. Returns how many bytes, or -1. Fails with EINVAL if count isn't
- * within 0 to 1,024, or if the sum of the sizes overflows ssize_t. */
+ * within 0 to 1,024, or if the sum of the sizes is above BINDINGCLAY_MOST_SIZE. */
 ssize_t bc_readv(const bc_process *process, int fd, const struct iovec *buffers, int count);
 
 /* Writes size bytes (write). May wait. Returns how many went in, or -1. At most 4,096 bytes go into a pipe whole or not at all. */
@@ -177,8 +181,8 @@ int bc_dup2(const bc_process *process, int fd, int target);
 /* Does what bc_dup2 does, and fails with EINVAL if both are the same, or if flags has another flag than O_CLOEXEC, which has no effect (dup3(2)). */
 int bc_dup3(const bc_process *process, int fd, int target, int flags);
 
-/* Does one of F_DUPFD, F_DUPFD_CLOEXEC, F_GETFL, F_SETFL, F_GETPIPE_SZ and F_SETPIPE_SZ (fcntl). F_DUPFD_CLOEXEC does what F_DUPFD does. Returns
- * what fcntl does, or -1. Fails with EINVAL if the command is another one. */
+/* Does one of F_DUPFD, F_DUPFD_CLOEXEC, F_GETFL, F_SETFL, F_GETPIPE_SZ and F_SETPIPE_SZ (fcntl). F_DUPFD_CLOEXEC does what F_DUPFD does. F_GETFL
+ * tells O_DIRECT of fcntl.h of a packet pipe. Returns what fcntl does, or -1. Fails with EINVAL if the command is another one. */
 int bc_fcntl(const bc_process *process, int fd, int command, ...);
 
 /* With FIONREAD, writes to the int behind it how many bytes a pipe holds, or how many a file has behind its offset (ioctl_tty(2)). Returns 0, or

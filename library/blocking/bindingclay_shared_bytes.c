@@ -4,11 +4,19 @@
 
 #include <errno.h>
 #include <fcntl.h>
-#include <limits.h>
 #include <string.h>
 
 /* Up to so many bytes go into a pipe whole (pipe(7), PIPE_BUF), and the least write that may go in by parts. */
 enum { WHOLE = 4096, BY_PARTS = WHOLE + 1, MOST_BUFFERS = 1024 };
+
+/* Whether a size is one that a call takes. If it isn't, the call fails with EINVAL, before all else. */
+static bool is_size(size_t size)
+{
+    bool is_one = bindingclay_c_is_size(size);
+    if (!is_one)
+        errno = EINVAL;
+    return is_one;
+}
 
 /* Whether the last read of this thread waited, or had nothing to read at first. */
 static _Thread_local bool had_nothing;
@@ -26,9 +34,13 @@ static bool yielded_for(const bc_process *process, int fd)
     had_nothing = answer.kind == BINDINGCLAY_DONE && facts.kind != BINDINGCLAY_FILE && facts.size == 0;
     if (!had_nothing || process->has_deadline || !bc_may_yield(shared, &yield))
         return true;
+    bc_stay(shared);
     bc_unlock(shared);
     bc_yield(shared, &yield);
-    return bc_in(process);
+    bool is_in = bc_in(process);
+    /* it may have the lock: none yields who would take it here */
+    bc_go(shared);
+    return is_in;
 }
 
 /* Under the lock, with the answer of a read or a write that waits: waits to the deadline of the handle, and tells what the call returns. Out of
@@ -40,7 +52,7 @@ static ssize_t waited(const bc_process *process, bindingclay_answer parked, stru
 
 ssize_t bc_read(const bc_process *process, int fd, void *into, size_t size)
 {
-    if (!bc_in(process) || (had_nothing && !yielded_for(process, fd)))
+    if (!is_size(size) || !bc_in(process) || (had_nothing && !yielded_for(process, fd)))
         return -1;
     bindingclay_answer answer = bindingclay_read(process->shared->clay, process->pid, fd, into, size);
     had_nothing = had_nothing || answer.kind == BINDINGCLAY_PARKED;
@@ -137,7 +149,7 @@ static ssize_t write_whole(const bc_process *process, int fd, const void *bytes,
     bindingclay_answer answer = bindingclay_write(process->shared->clay, process->pid, fd, bytes, size);
     if (answer.kind == BINDINGCLAY_PARKED)
         return waited(process, answer, (struct bc_room){ .kind = BC_WRITES, .fd = fd });
-    bc_out_behind(process->shared, bc_helped(process, BC_WRITES, fd));
+    bc_out_with(process->shared, answer, bc_helped(process, BC_WRITES, fd));
     return (ssize_t)bc_concluded(process, answer);
 }
 
@@ -145,43 +157,50 @@ static ssize_t write_by_pieces(const bc_process *process, int fd, const void *by
 {
     const struct bc_room room = { .kind = BC_WRITES, .fd = fd };
     struct bc_pieces pieces = { .pid = process->pid, .fd = fd };
-    bindingclay_answer answer = { .kind = BINDINGCLAY_NO_PROCESS };
+    bc_shared *shared = process->shared;
+    bindingclay_answer answer;
     size_t written = 0, last;
     if (size > BINDINGCLAY_MOST_BYTES)
         size = BINDINGCLAY_MOST_BYTES;
+    if (!bc_in(process))
+        return -1;
+    /* between two pieces it has no lock */
+    bc_stay(shared);
     do {
-        if (!in_for(process, &pieces))
-            break;
         answer = begun(process, fd, bytes, size, &written, &last);
         if (answer.kind == BINDINGCLAY_PARKED && written + last < size)
-            list_pieces(process->shared, &pieces);
+            list_pieces(shared, &pieces);
         answer = bc_awaited(process, answer, &room, bc_deadline(process));
         if (answer.kind == BINDINGCLAY_DONE)
             written += answer.value;
-    } while (answer.kind == BINDINGCLAY_DONE && answer.value == last && !answer.sigpipe && written < size);
+    } while (answer.kind == BINDINGCLAY_DONE && answer.value == last && !answer.sigpipe && written < size && in_for(process, &pieces));
     if (pieces.is_listed)
-        unlist_pieces(process->shared, &pieces);
+        unlist_pieces(shared, &pieces);
     if (written > 0)
         answer.kind = BINDINGCLAY_DONE;
     if (answer.kind == BINDINGCLAY_DONE)
         answer.value = written;
-    return (ssize_t)bc_concluded(process, answer);
+    ssize_t put = (ssize_t)bc_concluded(process, answer);
+    bc_go(shared);
+    return put;
 }
 
 ssize_t bc_write(const bc_process *process, int fd, const void *bytes, size_t size)
 {
-    return size <= WHOLE ? write_whole(process, fd, bytes, size) : write_by_pieces(process, fd, bytes, size);
+    if (size <= WHOLE)
+        return write_whole(process, fd, bytes, size);
+    return is_size(size) ? write_by_pieces(process, fd, bytes, size) : -1;
 }
 
 /* ---- Several buffers ---- */
 
-/* The bytes of some buffers in all, at most BINDINGCLAY_MOST_BYTES. Fails with EINVAL if their sum overflows ssize_t, or their number is none. */
+/* The bytes of some buffers in all, at most BINDINGCLAY_MOST_BYTES. Fails with EINVAL if their sum is no size, or their number is none. */
 static ssize_t sum_of(const struct iovec *buffers, int count)
 {
     size_t sum = 0;
     bool fits = count >= 0 && count <= MOST_BUFFERS;
     for (int i = 0; i < count && fits; i++) {
-        fits = buffers[i].iov_len <= SSIZE_MAX - sum;
+        fits = buffers[i].iov_len <= BINDINGCLAY_MOST_SIZE - sum;
         sum += fits ? buffers[i].iov_len : 0;
     }
     if (!fits) {
@@ -251,20 +270,14 @@ ssize_t bc_writev(const bc_process *process, int fd, const struct iovec *buffers
 
 /* ---- Splices and tees ---- */
 
-/* The most bytes of a splice or a tee. */
-static uint32_t at_most(size_t size)
-{
-    return size < UINT32_MAX ? (uint32_t)size : UINT32_MAX;
-}
-
 ssize_t bc_splice(const bc_process *process, int from, off_t *from_offset, int to, off_t *to_offset, size_t size, unsigned flags)
 {
     uint64_t first = from_offset != NULL ? (uint64_t)*from_offset : 0;
     uint64_t second = to_offset != NULL ? (uint64_t)*to_offset : 0;
-    if (!bc_in(process))
+    if (!is_size(size) || !bc_in(process))
         return -1;
     bindingclay_answer answer = bindingclay_splice(process->shared->clay, process->pid, from, from_offset != NULL ? &first : NULL, to,
-        to_offset != NULL ? &second : NULL, at_most(size), flags);
+        to_offset != NULL ? &second : NULL, (uint32_t)size, flags);
     ssize_t moved = (ssize_t)bc_concluded(process, bc_awaited(process, answer, &of_move, bc_deadline(process)));
     if (moved > 0 && from_offset != NULL)
         *from_offset += moved;
@@ -275,8 +288,8 @@ ssize_t bc_splice(const bc_process *process, int from, off_t *from_offset, int t
 
 ssize_t bc_tee(const bc_process *process, int from, int to, size_t size, unsigned flags)
 {
-    if (!bc_in(process))
+    if (!is_size(size) || !bc_in(process))
         return -1;
-    bindingclay_answer answer = bindingclay_tee(process->shared->clay, process->pid, from, to, at_most(size), flags);
+    bindingclay_answer answer = bindingclay_tee(process->shared->clay, process->pid, from, to, (uint32_t)size, flags);
     return (ssize_t)bc_concluded(process, bc_awaited(process, answer, &of_move, bc_deadline(process)));
 }

@@ -9,7 +9,9 @@
 #include <string.h>
 #include <sys/ioctl.h>
 
-_Static_assert(O_DIRECT == BINDINGCLAY_O_DIRECT, "the library has the numbers of x86-64");
+/* O_DIRECT is another number on some processors, and is turned below. The library has the others, and the errors, as most processors have them. */
+_Static_assert(O_CREAT == 0100 && O_EXCL == 0200 && O_TRUNC == 01000 && O_APPEND == 02000 && O_NONBLOCK == 04000, "the library's flags");
+_Static_assert(EAGAIN == 11 && EINVAL == 22 && EPIPE == 32 && ENAMETOOLONG == 36 && EOVERFLOW == 75, "the library's errors");
 
 /* ---- Records ---- */
 
@@ -84,11 +86,11 @@ bc_process bc_until(const bc_process *process, const struct timespec *deadline)
 
 int bc_pipe2(const bc_process *process, int ends[2], int flags)
 {
+    uint32_t wanted = (uint32_t)(flags & ~(O_CLOEXEC | O_DIRECT)) | ((flags & O_DIRECT) != 0 ? BINDINGCLAY_O_DIRECT : 0);
     if (!bc_in(process))
         return -1;
     bindingclay_ends made_ends = { -1, -1 };
-    bindingclay_answer answer =
-        bindingclay_pipe2(process->shared->clay, process->pid, (uint32_t)(flags & ~O_CLOEXEC), &made_ends);
+    bindingclay_answer answer = bindingclay_pipe2(process->shared->clay, process->pid, wanted, &made_ends);
     if (answer.kind == BINDINGCLAY_DONE) {
         ends[0] = made_ends.read_end;
         ends[1] = made_ends.write_end;
@@ -172,6 +174,15 @@ int bc_dup3(const bc_process *process, int fd, int target, int flags)
     return bc_dup2(process, fd, target);
 }
 
+/* The mode and the flags of a descriptor, with the host's number of O_DIRECT. */
+static bindingclay_answer got_flags(bindingclay clay, uint32_t pid, int fd)
+{
+    bindingclay_answer answer = bindingclay_get_fl(clay, pid, fd);
+    if (answer.kind == BINDINGCLAY_DONE && (answer.value & BINDINGCLAY_O_DIRECT) != 0)
+        answer.value = (answer.value & ~(uint64_t)BINDINGCLAY_O_DIRECT) | O_DIRECT;
+    return answer;
+}
+
 /* The answer of a command of fcntl. */
 static bindingclay_answer commanded(bindingclay clay, uint32_t pid, int fd, int command, int argument)
 {
@@ -180,7 +191,7 @@ static bindingclay_answer commanded(bindingclay clay, uint32_t pid, int fd, int 
     case F_DUPFD_CLOEXEC:
         return bindingclay_dup_fd(clay, pid, fd, argument);
     case F_GETFL:
-        return bindingclay_get_fl(clay, pid, fd);
+        return got_flags(clay, pid, fd);
     case F_SETFL:
         return bindingclay_set_fl(clay, pid, fd, (uint32_t)argument);
     case F_GETPIPE_SZ:

@@ -97,6 +97,8 @@ struct bc_shared {
     struct bc_waiter *later;
     /* The writes of which pieces are to follow. */
     struct bc_pieces *pieces;
+    /* How many times a thread looks at the kernel again after it gave the lock back, as it sleeps, runs a hook or leaves the queue. */
+    atomic_uint inside;
     /* How many processes were made, and which of them has each pid; 0 is none. */
     uint64_t born;
     uint64_t births[BC_MOST_PID + 1];
@@ -116,6 +118,15 @@ void bc_unlock_by_queue(bc_shared *shared);
 
 /* Without the lock: wakes threads whose calls are answered, and that have no deadline. */
 void bc_wake(struct bc_waiter *answered);
+
+/* Under the lock: the thread looks at the kernel after it gives the lock back, so that may not go. */
+static inline void bc_stay(bc_shared *shared)
+{
+    atomic_fetch_add_explicit(&shared->inside, 1, memory_order_relaxed);
+}
+
+/* Without the lock: the thread looks at the kernel no more. */
+void bc_go(bc_shared *shared);
 
 static inline bool bc_is_taken(struct bc_lock *lock)
 {
@@ -232,6 +243,14 @@ static inline void bc_out(bc_shared *shared)
     bc_out_behind(shared, shared->waiting);
 }
 
+/* Does what bc_out_behind does, of a call that is answered so. If SIGPIPE is due, its thread stays until bc_concluded called the hook. */
+static inline void bc_out_with(bc_shared *shared, bindingclay_answer answer, uint32_t helped)
+{
+    if (answer.sigpipe)
+        bc_stay(shared);
+    bc_out_behind(shared, helped);
+}
+
 /* What a call returns that was answered so: its value, or -1 with errno. Calls the hook of SIGPIPE first where it is due. */
 static inline int64_t bc_concluded(const bc_process *process, bindingclay_answer answer)
 {
@@ -240,10 +259,10 @@ static inline int64_t bc_concluded(const bc_process *process, bindingclay_answer
     return bc_concluded_otherwise(process, answer);
 }
 
-/* bc_out, and then bc_concluded. */
+/* bc_out_with, after a step that may help all, and then bc_concluded. */
 static inline int64_t bc_done(const bc_process *process, bindingclay_answer answer)
 {
-    bc_out(process->shared);
+    bc_out_with(process->shared, answer, process->shared->waiting);
     return bc_concluded(process, answer);
 }
 
@@ -254,7 +273,7 @@ static inline bindingclay_answer bc_awaited(
 {
     if (answer.kind == BINDINGCLAY_PARKED)
         return bc_wait(process, answer, room, deadline);
-    bc_out_behind(process->shared, bc_helped(process, room->kind, room->fd));
+    bc_out_with(process->shared, answer, bc_helped(process, room->kind, room->fd));
     return answer;
 }
 

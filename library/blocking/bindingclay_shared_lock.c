@@ -92,9 +92,23 @@ void bc_unlock_by_queue(bc_shared *shared)
     struct bc_waiter *later = shared->later;
     shared->later = NULL;
     shared->lock.is_from_queue = false;
+    /* if none knows atomics, who closes the kernel waits at the queue too */
+    if (BC_KNOWS_ATOMICS)
+        bc_stay(shared);
     bc_unlock_mutex(shared);
     pthread_mutex_unlock(&shared->lock.queue);
+    if (BC_KNOWS_ATOMICS)
+        bc_go(shared);
     bc_wake(later);
+}
+
+void bc_go(bc_shared *shared)
+{
+    if (!BC_KNOWS_ATOMICS)
+        bc_lock(shared);
+    atomic_fetch_sub_explicit(&shared->inside, 1, memory_order_release);
+    if (!BC_KNOWS_ATOMICS)
+        bc_unlock(shared);
 }
 
 /* ---- Yields ---- */

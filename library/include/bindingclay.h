@@ -35,6 +35,12 @@
  * pointer of yours after a call: a write that is parked has a copy of its bytes. It is undefined behaviour to use a handle that was freed,
  * a handle that neither bindingclay_open nor bindingclay_open_within gave, or one handle in two calls at once. No call detects it.
  *
+ * Sizes. A call that is given a size above 2,147,479,552 (BINDINGCLAY_MOST_SIZE) fails with EINVAL, before all else. No step is made, and nothing
+ * is read or written: a call that waits still waits. So the -1 of a call that failed, taken for a size, does no harm. Linux transfers no more
+ * than that in one call, and cuts a larger size or fails with EFAULT. Sizes are of bytes, of room for them, of names, and of entries; and the len
+ * of a splice or a tee. The functions below check them in the program. So a caller that makes the calls of the library without this header,
+ * from another language, checks them itself.
+ *
  * Errors. Errors and flags have Linux's numbers, as errno.h, fcntl.h and poll.h define them there. Each call below lists its errors in the
  * order in which it checks them. A page that is named below is one of POSIX.1-2017. With (2) or (7) behind its name it is one of Linux.
  * docs/RULES.md of the project has each rule, and the order of the refusals.
@@ -45,10 +51,12 @@
 #ifndef BINDINGCLAY_H
 #define BINDINGCLAY_H
 
+#include <errno.h>
 #include <stdbool.h>
 #include <stddef.h>
 #include <stdint.h>
 #include <stdlib.h>
+#include <string.h>
 
 #ifdef __cplusplus
 extern "C" {
@@ -76,6 +84,9 @@ extern "C" {
 
 /* The most bytes of one read or write. A larger one is cut to this many of its bytes, the first ones, and counts only these. */
 #define BINDINGCLAY_MOST_BYTES 16777216
+
+/* The greatest size that a call takes, the most that Linux transfers in one call (read(2)). A greater one fails with EINVAL, before all else. */
+#define BINDINGCLAY_MOST_SIZE 2147479552
 
 /* The flag of a packet pipe, for bindingclay_pipe2 and in what bindingclay_get_fl tells: O_DIRECT of fcntl.h on x86-64. On other processors
  * O_DIRECT may be another number, and a program without _GNU_SOURCE has none. */
@@ -123,6 +134,19 @@ typedef struct {
     bool moved;
 } bindingclay_answer;
 
+/* Whether a size is one that a call takes. */
+static inline bool bindingclay_c_is_size(size_t size)
+{
+    return size <= BINDINGCLAY_MOST_SIZE;
+}
+
+/* The answer to a size that is none. */
+static inline bindingclay_answer bindingclay_c_no_size(void)
+{
+    bindingclay_answer refused = { 0, EINVAL, BINDINGCLAY_FAULT, false, false };
+    return refused;
+}
+
 /* The descriptors of a pipe. */
 typedef struct {
     int32_t read_end;
@@ -166,7 +190,7 @@ typedef struct {
         BINDINGCLAY_MOST_DESCRIPTORS }
 
 /* How much memory a kernel takes, in bytes as they were asked of malloc and realloc. The block that holds the kernel itself and the block
- * that holds this count, some hundred bytes, are no part of it. */
+ * that holds this count, about a kilobyte together, are no part of it. */
 typedef struct {
     /* The bytes that it holds now. */
     uint64_t held;
@@ -178,8 +202,9 @@ typedef struct {
     uint64_t spare;
 } bindingclay_memory_use;
 
-/* Does what bindingclay_open_within does, with count words of limits. *budget is written once a block for the budget was taken from malloc.
- * Give that block to free after bindingclay_end, or at once if the answer is false. */
+/* Does what bindingclay_open_within does, with count words of limits: the fields in their order, where file_max is the upper half of the
+ * word whose lower half is capacity. *budget is written once a block for the budget was taken from malloc. Give that block to free after
+ * bindingclay_end, or at once if the answer is false. */
 bool bindingclay_open_words(const uint64_t *limits, size_t count, void **kernel, void **budget);
 
 /* Does what bindingclay_free does, except that the block of the budget stays. Its pointer is written to *budget. */
@@ -194,10 +219,15 @@ void bindingclay_tell_memory(bindingclay clay, bindingclay_memory_use *memory);
 static inline bool bindingclay_open_within(const bindingclay_limits *limits, void **kernel)
 {
     void *budget = NULL;
-    if (limits->size % sizeof(uint64_t) != 0)
+    uint64_t words[sizeof(bindingclay_limits) / sizeof(uint64_t)];
+    size_t count = (size_t)(limits->size / sizeof(uint64_t));
+    if (limits->size % sizeof(uint64_t) != 0 || limits->size > sizeof words)
         return false;
-    /* its fields are words, except that capacity and file_max share one */
-    if (bindingclay_open_words((const uint64_t *)(const void *)limits, limits->size / sizeof(uint64_t), kernel, &budget))
+    /* its fields are words, except that capacity and file_max share one: the lower half and the upper one, whatever the processor's order is */
+    memcpy(words, limits, (size_t)limits->size);
+    if (limits->size > offsetof(bindingclay_limits, file_max))
+        words[offsetof(bindingclay_limits, capacity) / sizeof(uint64_t)] = (uint64_t)limits->file_max << 32 | limits->capacity;
+    if (bindingclay_open_words(words, count, kernel, &budget))
         return true;
     BINDINGCLAY_FREE(budget);
     return false;
@@ -260,7 +290,7 @@ bindingclay_answer bindingclay_exit(bindingclay clay, uint32_t pid);
  *
  * Other calls leave all bytes at into alone, and size may be 0. A poll that can get on isn't ended, since its revents have no room here:
  * BINDINGCLAY_SHORT tells how many entries it has, and bindingclay_resume_poll resumes it. If no call of this number waits, the answer is
- * BINDINGCLAY_NO_CALL. */
+ * BINDINGCLAY_NO_CALL. If size is above BINDINGCLAY_MOST_SIZE, it is EINVAL before all else, and the call still waits. */
 bindingclay_answer bindingclay_resume(bindingclay clay, uint64_t number, uint8_t *into, size_t size);
 
 /* Tries again the poll that waits under a number. It answers as bindingclay_poll does, or BINDINGCLAY_PARKED with the same number. It looks
@@ -363,6 +393,7 @@ bindingclay_answer bindingclay_file_bytes(
 
 /* Reads at most size bytes (read), into the first of the bytes at into. The others there stay as they are. Value: how many; 0 at the end.
  * In this order:
+ * - EINVAL, before all else: size is above BINDINGCLAY_MOST_SIZE.
  * - EBADF: fd isn't open for reading.
  * - 0: size is 0.
  * - EAGAIN, or a wait: the pipe is empty and has a writer. With O_NONBLOCK the read fails with EAGAIN. Without it the read waits.
@@ -372,6 +403,7 @@ bindingclay_answer bindingclay_file_bytes(
 bindingclay_answer bindingclay_read(bindingclay clay, uint32_t pid, int32_t fd, uint8_t *into, size_t size);
 
 /* Writes size bytes (write). Value: how many went in. In this order:
+ * - EINVAL, before all else: size is above BINDINGCLAY_MOST_SIZE.
  * - EBADF: fd isn't open for writing.
  * - 0: size is 0.
  * - EPIPE: the pipe has no reader.
@@ -398,11 +430,21 @@ bindingclay_answer bindingclay_lseek(bindingclay clay, uint32_t pid, int32_t fd,
 bindingclay_answer bindingclay_splice_at(bindingclay clay, uint32_t pid, int32_t from, bool has_from_offset,
     uint64_t from_offset, int32_t to, bool has_to_offset, uint64_t to_offset, uint32_t len, uint32_t flags);
 
+/* What calls of bindingclay_splice_at go through, as those below do that have a size. */
+static inline bindingclay_answer bindingclay_c_splice_at(bindingclay clay, uint32_t pid, int32_t from, bool has_from_offset,
+    uint64_t from_offset, int32_t to, bool has_to_offset, uint64_t to_offset, uint32_t len, uint32_t flags)
+{
+    if (!bindingclay_c_is_size(len))
+        return bindingclay_c_no_size();
+    return bindingclay_splice_at(
+        clay, pid, from, has_from_offset, from_offset, to, has_to_offset, to_offset, len, flags);
+}
+
 /* Moves at most len bytes from one descriptor to another (splice(2)). At least one of them is a pipe. Value: how many; 0 at the end of the
  * source. An offset is one in a regular file. If it is null, the file's own offset is used. If one is given, the file's own offset stays as
  * it is, and so do *from_offset and *to_offset. flags: SPLICE_F_NONBLOCK. SPLICE_F_MOVE, SPLICE_F_MORE and SPLICE_F_GIFT have no effect. In
  * this order:
- * - EINVAL, before all else: flags has another flag.
+ * - EINVAL, before all else: flags has another flag, or len is above BINDINGCLAY_MOST_SIZE.
  * - 0: len is 0, whatever the descriptors are.
  * - EBADF: the source isn't open for reading, or the target isn't open for writing.
  * - ESPIPE: an offset is given for a pipe.
@@ -416,12 +458,12 @@ bindingclay_answer bindingclay_splice_at(bindingclay clay, uint32_t pid, int32_t
 static inline bindingclay_answer bindingclay_splice(bindingclay clay, uint32_t pid, int32_t from,
     const uint64_t *from_offset, int32_t to, const uint64_t *to_offset, uint32_t len, uint32_t flags)
 {
-    return bindingclay_splice_at(clay, pid, from, from_offset != NULL, from_offset != NULL ? *from_offset : 0, to,
+    return bindingclay_c_splice_at(clay, pid, from, from_offset != NULL, from_offset != NULL ? *from_offset : 0, to,
         to_offset != NULL, to_offset != NULL ? *to_offset : 0, len, flags);
 }
 
 /* Copies at most len bytes from the front of one pipe to another, and leaves them in the first (tee(2)). Value: how many; 0 if the source
- * is empty and has no writer. flags, and a len of 0, are as in bindingclay_splice. Then, in this order:
+ * is empty and has no writer. flags, and a len of 0 or above BINDINGCLAY_MOST_SIZE, are as in bindingclay_splice. Then, in this order:
  * - EBADF: the source isn't open for reading, or the target isn't open for writing.
  * - EINVAL: they aren't two pipes, both are the same one, or one of them is a packet pipe.
  * - EPIPE: the target has no reader.
@@ -571,10 +613,11 @@ bindingclay_answer bindingclay_record(bindingclay clay, bool on);
  * longer. Fails with EINVAL if no recording goes on. */
 bindingclay_answer bindingclay_recorded(bindingclay clay, uint8_t *into, size_t size);
 
-/* ---- Buffers of no bytes ---- */
+/* ---- Buffers of no bytes, and sizes that are none ---- */
 
 /* The functions of the library take no null pointer. So in C and C++ the calls with a buffer go through the functions below. They put
- * another pointer in the place of one to nothing. What such a pointer points to is neither read nor written. */
+ * another pointer in the place of one to nothing. What such a pointer points to is neither read nor written. And they refuse a size that is
+ * above BINDINGCLAY_MOST_SIZE. */
 static inline const uint8_t *bindingclay_c_bytes(const uint8_t *bytes, size_t size)
 {
     static const uint8_t nothing = 0;
@@ -595,63 +638,93 @@ static inline bindingclay_pollfd *bindingclay_c_entries(bindingclay_pollfd *entr
 
 static inline bindingclay_answer bindingclay_c_resume(bindingclay clay, uint64_t number, uint8_t *into, size_t size)
 {
+    if (!bindingclay_c_is_size(size))
+        return bindingclay_c_no_size();
     return bindingclay_resume(clay, number, bindingclay_c_room(into, size), size);
 }
 
 static inline bindingclay_answer bindingclay_c_resume_poll(
     bindingclay clay, uint64_t number, bindingclay_pollfd *entries, size_t count)
 {
+    if (!bindingclay_c_is_size(count))
+        return bindingclay_c_no_size();
     return bindingclay_resume_poll(clay, number, bindingclay_c_entries(entries, count), count);
 }
 
 static inline bindingclay_answer bindingclay_c_mkfifo(bindingclay clay, uint32_t pid, const uint8_t *name, size_t size)
 {
+    if (!bindingclay_c_is_size(size))
+        return bindingclay_c_no_size();
     return bindingclay_mkfifo(clay, pid, bindingclay_c_bytes(name, size), size);
 }
 
 static inline bindingclay_answer bindingclay_c_open_name(
     bindingclay clay, uint32_t pid, const uint8_t *name, size_t size, uint32_t flags)
 {
+    if (!bindingclay_c_is_size(size))
+        return bindingclay_c_no_size();
     return bindingclay_open_name(clay, pid, bindingclay_c_bytes(name, size), size, flags);
 }
 
 static inline bindingclay_answer bindingclay_c_unlink(bindingclay clay, uint32_t pid, const uint8_t *name, size_t size)
 {
+    if (!bindingclay_c_is_size(size))
+        return bindingclay_c_no_size();
     return bindingclay_unlink(clay, pid, bindingclay_c_bytes(name, size), size);
 }
 
 static inline bindingclay_answer bindingclay_c_file_bytes(
     bindingclay clay, const uint8_t *name, size_t size, uint8_t *into, size_t room)
 {
+    if (!bindingclay_c_is_size(size) || !bindingclay_c_is_size(room))
+        return bindingclay_c_no_size();
     return bindingclay_file_bytes(clay, bindingclay_c_bytes(name, size), size, bindingclay_c_room(into, room), room);
 }
 
 static inline bindingclay_answer bindingclay_c_name_facts(
     bindingclay clay, const uint8_t *name, size_t size, bindingclay_node_facts *facts)
 {
+    if (!bindingclay_c_is_size(size))
+        return bindingclay_c_no_size();
     return bindingclay_name_facts(clay, bindingclay_c_bytes(name, size), size, facts);
 }
 
 static inline bindingclay_answer bindingclay_c_read(
     bindingclay clay, uint32_t pid, int32_t fd, uint8_t *into, size_t size)
 {
+    if (!bindingclay_c_is_size(size))
+        return bindingclay_c_no_size();
     return bindingclay_read(clay, pid, fd, bindingclay_c_room(into, size), size);
 }
 
 static inline bindingclay_answer bindingclay_c_write(
     bindingclay clay, uint32_t pid, int32_t fd, const uint8_t *bytes, size_t size)
 {
+    if (!bindingclay_c_is_size(size))
+        return bindingclay_c_no_size();
     return bindingclay_write(clay, pid, fd, bindingclay_c_bytes(bytes, size), size);
+}
+
+static inline bindingclay_answer bindingclay_c_tee(
+    bindingclay clay, uint32_t pid, int32_t from, int32_t to, uint32_t len, uint32_t flags)
+{
+    if (!bindingclay_c_is_size(len))
+        return bindingclay_c_no_size();
+    return bindingclay_tee(clay, pid, from, to, len, flags);
 }
 
 static inline bindingclay_answer bindingclay_c_poll(
     bindingclay clay, uint32_t pid, bindingclay_pollfd *entries, size_t count, bool wait)
 {
+    if (!bindingclay_c_is_size(count))
+        return bindingclay_c_no_size();
     return bindingclay_poll(clay, pid, bindingclay_c_entries(entries, count), count, wait);
 }
 
 static inline bindingclay_answer bindingclay_c_recorded(bindingclay clay, uint8_t *into, size_t size)
 {
+    if (!bindingclay_c_is_size(size))
+        return bindingclay_c_no_size();
     return bindingclay_recorded(clay, bindingclay_c_room(into, size), size);
 }
 
@@ -664,6 +737,8 @@ static inline bindingclay_answer bindingclay_c_recorded(bindingclay clay, uint8_
 #define bindingclay_name_facts bindingclay_c_name_facts
 #define bindingclay_read bindingclay_c_read
 #define bindingclay_write bindingclay_c_write
+#define bindingclay_splice_at bindingclay_c_splice_at
+#define bindingclay_tee bindingclay_c_tee
 #define bindingclay_poll bindingclay_c_poll
 #define bindingclay_recorded bindingclay_c_recorded
 

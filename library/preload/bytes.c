@@ -2,13 +2,26 @@
 #include "preload.h"
 
 #include <errno.h>
+#include <limits.h>
+
+/* What is asked of the layer, of a size that the host cuts (read(2)): the layer would refuse it. It refuses what is no ssize_t, as the host does. */
+static size_t cut(size_t size)
+{
+    return size > BINDINGCLAY_MOST_SIZE && size <= SSIZE_MAX ? BINDINGCLAY_MOST_SIZE : size;
+}
+
+/* The same of a splice or a tee, which the host refuses for no size: none of its bytes is the program's own. */
+static size_t cut_move(size_t size)
+{
+    return size > BINDINGCLAY_MOST_SIZE ? BINDINGCLAY_MOST_SIZE : size;
+}
 
 ssize_t read(int fd, void *into, size_t size)
 {
     struct visit visit;
     while (enter_for(fd, &visit)) {
         counts[READS]++;
-        ssize_t count = bc_read(&layer, layers(fd), into, size);
+        ssize_t count = bc_read(&layer, layers(fd), into, cut(size));
         if (!leave_to_repeat(&visit, count))
             return count;
     }
@@ -38,6 +51,7 @@ ssize_t write(int fd, const void *bytes, size_t size)
     struct visit visit;
     size_t done = 0;
     ssize_t count;
+    size = cut(size);
     while (enter_for(fd, &visit)) {
         counts[WRITES]++;
         count = bc_write(&layer, layers(fd), (const char *)bytes + done, size - done);
@@ -101,7 +115,7 @@ ssize_t splice(int from, off64_t *from_offset, int to, off64_t *to_offset, size_
     struct visit visit;
     while (enter_for_both(from, to, &visit)) {
         counts[SPLICES]++;
-        ssize_t moved = bc_splice(&layer, layers(from), from_offset, layers(to), to_offset, size, flags);
+        ssize_t moved = bc_splice(&layer, layers(from), from_offset, layers(to), to_offset, cut_move(size), flags);
         if (!leave_to_repeat(&visit, moved))
             return moved;
     }
@@ -113,7 +127,7 @@ ssize_t tee(int from, int to, size_t size, unsigned flags)
     struct visit visit;
     while (enter_for_both(from, to, &visit)) {
         counts[TEES]++;
-        ssize_t copied = bc_tee(&layer, layers(from), layers(to), size, flags);
+        ssize_t copied = bc_tee(&layer, layers(from), layers(to), cut_move(size), flags);
         if (!leave_to_repeat(&visit, copied))
             return copied;
     }

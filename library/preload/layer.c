@@ -117,6 +117,21 @@ static void note_sigpipe(void *context, const bc_process *process)
     current->is_broken = true;
 }
 
+/* ---- The kernel ---- */
+
+/* Makes the kernel and its process. If there is no memory for them, all calls are the host's. */
+static void open_layer(void)
+{
+    bc_shared *shared;
+    layer.shared = NULL;
+    if (bc_shared_open(NULL, &shared) < 0)
+        return;
+    bc_on_sigpipe(shared, note_sigpipe, NULL);
+    bc_on_sleep(shared, sleep_with_signals, NULL);
+    if (bc_start(shared, &layer) < 0)
+        layer.shared = NULL;
+}
+
 /* ---- Forks ---- */
 
 /* The visit of a thread that forks. */
@@ -133,9 +148,14 @@ static void after_fork(void)
     leave(&forking);
 }
 
-/* In the child there is the thread that forked, and no other. */
+/* In the child there is the thread that forked, and no other. All pipes are the host's, so the child begins with a new kernel: what is listed in
+ * the one of its parent may be on the stacks of threads that are gone. That one stays as it is if a thread of the parent was in a call. */
 static void after_fork_in_child(void)
 {
+    if (layer.shared != NULL) {
+        bc_shared_close(layer.shared);
+        open_layer();
+    }
     for (struct poller *poller = pollers; poller != NULL; poller = poller->next)
         host()->close(poller->event);
     pollers = NULL;
@@ -147,17 +167,12 @@ static void after_fork_in_child(void)
 
 __attribute__((constructor)) static void begin(void)
 {
-    bc_shared *shared;
     host();
     sigfillset(&all_signals);
     count_file = getenv("BINDINGCLAY_PRELOAD_COUNT");
     find_folder();
-    if (bc_shared_open(NULL, &shared) < 0)
-        return;
-    bc_on_sigpipe(shared, note_sigpipe, NULL);
-    bc_on_sleep(shared, sleep_with_signals, NULL);
-    if (pthread_atfork(before_fork, after_fork, after_fork_in_child) == 0 && bc_start(shared, &layer) < 0)
-        layer.shared = NULL;
+    if (pthread_atfork(before_fork, after_fork, after_fork_in_child) == 0)
+        open_layer();
 }
 
 __attribute__((destructor)) static void end(void)

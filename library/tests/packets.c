@@ -352,7 +352,7 @@ static void refuse_all_moves(bindingclay clay)
     };
     for (size_t i = 0; i < sizeof PAIRS / sizeof *PAIRS; i++) {
         FAULT(splice_plainly(clay, PAIRS[i].from, PAIRS[i].to, 1), EINVAL);
-        FAULT(splice_plainly(clay, PAIRS[i].from, PAIRS[i].to, UINT32_MAX), EINVAL);
+        FAULT(splice_plainly(clay, PAIRS[i].from, PAIRS[i].to, BINDINGCLAY_MOST_SIZE), EINVAL);
         FAULT(bindingclay_splice(clay, 1, PAIRS[i].from, NULL, PAIRS[i].to, NULL, 1, SPLICE_F_NONBLOCK), EINVAL);
         FAULT(tee_plainly(clay, PAIRS[i].from, PAIRS[i].to, 1), EINVAL);
         FAULT(bindingclay_tee(clay, 1, PAIRS[i].from, PAIRS[i].to, 1, SPLICE_F_NONBLOCK), EINVAL);

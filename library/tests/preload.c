@@ -1,8 +1,10 @@
 /* bindingclay_preload: numbers, bytes, flags, polls, and moves to the host. */
 #include "preload.h"
 
+#include <limits.h>
 #include <spawn.h>
 #include <sys/epoll.h>
+#include <sys/mman.h>
 
 extern char **environ;
 
@@ -131,6 +133,31 @@ static void polls(void)
     HOLDS(close(sockets[0]) == 0 && close(sockets[1]) == 0);
 }
 
+/* A size that is no ssize_t is refused: the host says EFAULT, as no buffer is so large. tee(2) asks for INT_MAX bytes in its own example. */
+static void sizes(void)
+{
+    int one[2], two[2];
+    char bytes[8] = "", into[16];
+    volatile size_t none = SIZE_MAX;
+    const int error = is_over_layer ? EINVAL : EFAULT;
+    new_pipe(one, 0);
+    new_pipe(two, O_NONBLOCK);
+    FAILS(write(one[1], bytes, none), error);
+    HOLDS(writes(one[1], "hello"));
+    FAILS(read(one[0], bytes, none), error);
+    HOLDS(strcmp(bytes, "") == 0 && tee(one[0], two[1], INT_MAX, 0) == 5 && tee(one[0], two[1], none, 0) == 5);
+    HOLDS(splice(one[0], NULL, two[1], NULL, none, 0) == 5 && read(two[0], into, sizeof into) == 15);
+    OURS(one[0]);
+    /* the host cuts a size that a buffer may have (read(2), NOTES) */
+    size_t room = (size_t)INT_MAX + 4096;
+    char *large = mmap(NULL, room, PROT_READ | PROT_WRITE, MAP_PRIVATE | MAP_ANONYMOUS | MAP_NORESERVE, -1, 0);
+    need(large != MAP_FAILED, "room");
+    HOLDS(writes(one[1], "hello") && read(one[0], large, room) == 5 && memcmp(large, "hello", 5) == 0);
+    HOLDS(write(two[1], large, room) == 65536 && munmap(large, room) == 0);
+    close_pipe(one);
+    close_pipe(two);
+}
+
 /* What a pipe is after a call that moved it: the same bytes, flags and duplicates. */
 static void moved(void)
 {
@@ -249,6 +276,7 @@ int main(int count, char **words)
     signal(SIGPIPE, SIG_IGN);
     numbers();
     bytes();
+    sizes();
     flags();
     pipes_to_pipes();
     polls();

@@ -1,10 +1,11 @@
 /* bindingclay_preload: calls that wait, signals, forks beside them, and FIFOs. */
 #include "preload.h"
 
+#include <sys/mman.h>
 #include <sys/syscall.h>
 #include <sys/time.h>
 
-enum { LARGE = 300000, TICKS = 300, FORKS = 25, PIECES = 400 };
+enum { LARGE = 300000, TICKS = 300, FORKS = 25, PIECES = 400, STACK = 1 << 23 };
 
 /* A call that a thread makes. */
 struct job {
@@ -28,15 +29,20 @@ static void *work(void *argument)
     return NULL;
 }
 
-/* Begins a call in a thread, and waits until that sleeps. */
-static void begin(struct job *job, ssize_t (*call)(struct job *))
+/* Begins a call in a thread with attributes, or null for none, and waits until that sleeps. */
+static void begin_with(struct job *job, ssize_t (*call)(struct job *), const pthread_attr_t *attributes)
 {
     job->call = call;
     job->id = 0;
-    job->thread = thread_of(work, job);
+    need(pthread_create(&job->thread, attributes, work, job) == 0, "a thread");
     while (job->id == 0)
         usleep(100);
     until_asleep(job->id);
+}
+
+static void begin(struct job *job, ssize_t (*call)(struct job *))
+{
+    begin_with(job, call, NULL);
 }
 
 static bool ends_so(struct job *job, ssize_t answer, int error)
@@ -247,6 +253,34 @@ static void forked(void)
     close_pipe(full);
 }
 
+/* A child has none of the threads whose calls wait, and nothing may look at their stacks there. Its own pipes are the layer's. */
+static void forked_without_threads(void)
+{
+    int full[2], own[2];
+    struct job writer = { .fd = 0 };
+    pthread_attr_t attributes;
+    void *stack = mmap(NULL, STACK, PROT_READ | PROT_WRITE, MAP_PRIVATE | MAP_ANONYMOUS | MAP_STACK, -1, 0);
+    need(stack != MAP_FAILED && pthread_attr_init(&attributes) == 0 && pthread_attr_setstack(&attributes, stack, STACK) == 0, "a stack");
+    for (int i = 0; i < 2; i++) {
+        new_pipe(full, 0);
+        writer.fd = full[1];
+        begin_with(&writer, a_write, &attributes);
+        pid_t child = fork();
+        if (child == 0) {
+            HOLDS(munmap(stack, STACK) == 0);
+            new_pipe(own, 0);
+            HOLDS(writes(own[1], "own") && reads(own[0], "own"));
+            close_pipe(own);
+            _exit(end());
+        }
+        end_child(child);
+        HOLDS(reads_all(full[0]) && ends_so(&writer, LARGE, 0));
+        close_pipe(full);
+    }
+    pthread_attr_destroy(&attributes);
+    HOLDS(munmap(stack, STACK) == 0);
+}
+
 static void *write_pieces(void *argument)
 {
     const int *ends = argument;
@@ -354,6 +388,7 @@ int main(int count, char **words)
     written_by_a_handler();
     names_behind_a_fork();
     forked();
+    forked_without_threads();
     storm_of_forks();
     return end();
 }

@@ -44,6 +44,13 @@ static size_t room_of(const char *word)
     return size < MOST_FILE ? size : MOST_FILE;
 }
 
+/* How many bytes a splice or a tee is asked for. C refuses a greater number, and no more move. */
+static uint32_t len_of(const char *word)
+{
+    uint32_t len = (uint32_t)number(word);
+    return len < BINDINGCLAY_MOST_SIZE ? len : BINDINGCLAY_MOST_SIZE;
+}
+
 static int hex_digit(char digit)
 {
     const char *digits = "0123456789abcdef", *at = strchr(digits, digit | 0x20);
@@ -187,14 +194,14 @@ static enum told call_splice(uint32_t pid)
 {
     uint64_t from = strtoull(words[1], NULL, 10), to = strtoull(words[3], NULL, 10);
     answer = bindingclay_splice(clay, pid, number(words[0]), strcmp(words[1], "-") == 0 ? NULL : &from, number(words[2]),
-        strcmp(words[3], "-") == 0 ? NULL : &to, (uint32_t)number(words[4]), flags_at(SPLICE_FLAGS, 5));
+        strcmp(words[3], "-") == 0 ? NULL : &to, len_of(words[4]), flags_at(SPLICE_FLAGS, 5));
     return COUNT;
 }
 
 static enum told call_tee(uint32_t pid)
 {
     answer = bindingclay_tee(
-        clay, pid, number(words[0]), number(words[1]), (uint32_t)number(words[2]), flags_at(SPLICE_FLAGS, 3));
+        clay, pid, number(words[0]), number(words[1]), len_of(words[2]), flags_at(SPLICE_FLAGS, 3));
     return COUNT;
 }
 

@@ -38,6 +38,21 @@ static void pipes(void)
     FAILS(bc_exit(&process), ESRCH);
 }
 
+/* pipe2(2), O_DIRECT; the number of the library's own does the same, which is another one on some processors. */
+static void packets(void)
+{
+    static const int flags[] = { O_DIRECT, BINDINGCLAY_O_DIRECT };
+    for (int i = 0; i < 2; i++) {
+        bc_process process = new_process(shared);
+        int ends[2];
+        char into[8];
+        HOLDS(bc_pipe2(&process, ends, flags[i] | O_NONBLOCK | O_CLOEXEC) == 0);
+        HOLDS(bc_write(&process, 1, "ab", 2) == 2 && bc_write(&process, 1, "cd", 2) == 2 && bc_read(&process, 0, into, sizeof into) == 2);
+        HOLDS(bc_fcntl(&process, 1, F_GETFL) == (O_WRONLY | O_DIRECT | O_NONBLOCK) && bc_fcntl(&process, 0, F_GETFL) == (O_RDONLY | O_NONBLOCK));
+        HOLDS(bc_exit(&process) == 0);
+    }
+}
+
 /* write: "EPIPE: An attempt is made to write to a pipe or FIFO that is not open for reading by any process". */
 static void broken_pipes(void)
 {
@@ -73,6 +88,8 @@ static void descriptors(void)
     HOLDS(bc_fcntl(&process, 0, F_GETPIPE_SZ) == 65536);
     HOLDS(bc_fcntl(&process, 0, F_SETPIPE_SZ, 5000) == 8192);
     FAILS(bc_fcntl(&process, 0, F_SETPIPE_SZ, 1048577), EPERM);
+    /* docs/LINUX.md, Numbers at the edge */
+    FAILS(bc_fcntl(&process, 0, F_SETPIPE_SZ, -1), EPERM);
     FAILS(bc_fcntl(&process, 0, F_GETLK), EINVAL);
     char byte;
     FAILS(bc_read(&process, 0, &byte, 1), EAGAIN);
@@ -133,6 +150,34 @@ static void several_buffers(void)
     HOLDS(bc_writev(&process, 1, many, 2) == 10000);
     memset(large, 0, sizeof large);
     HOLDS(bc_readv(&process, 0, many, 2) == 10000 && large[0] == 'x' && large[9999] == 'x');
+    HOLDS(bc_exit(&process) == 0);
+}
+
+/* The -1 of a call that failed, taken for a size, and the least that is none: nothing is read, written or moved, whoever asks. */
+static void sizes_that_are_none(void)
+{
+    static const size_t no_sizes[] = { SIZE_MAX, (size_t)BINDINGCLAY_MOST_SIZE + 1, (size_t)UINT32_MAX + 1 };
+    bc_process process = new_process(shared), gone = new_process(shared);
+    char bytes[8] = "";
+    int ends[2], held = 0;
+    HOLDS(bc_pipe2(&process, ends, 0) == 0 && bc_pipe2(&process, ends, 0) == 0 && bc_write(&process, 1, "hello", 5) == 5);
+    HOLDS(bc_exit(&gone) == 0);
+    for (int i = 0; i < 3; i++) {
+        volatile size_t size = no_sizes[i];
+        struct iovec one = { .iov_base = bytes, .iov_len = size }, two[] = { { .iov_base = bytes, .iov_len = 1 }, { .iov_base = bytes, .iov_len = size - 1 } };
+        FAILS(bc_write(&process, 1, bytes, size), EINVAL);
+        FAILS(bc_read(&process, 0, bytes, size), EINVAL);
+        FAILS(bc_writev(&process, 1, &one, 1), EINVAL);
+        FAILS(bc_readv(&process, 0, two, 2), EINVAL);
+        FAILS(bc_splice(&process, 0, NULL, 3, NULL, size, 0), EINVAL);
+        FAILS(bc_tee(&process, 0, 3, size, 0), EINVAL);
+        FAILS(bc_write(&gone, 1, bytes, size), EINVAL);
+        FAILS(bc_read(&gone, 0, bytes, size), EINVAL);
+        FAILS(bc_tee(&gone, 0, 3, size, 0), EINVAL);
+        FAILS(bc_recorded(shared, bytes, size), EINVAL);
+    }
+    HOLDS(strcmp(bytes, "") == 0 && bc_ioctl(&process, 0, FIONREAD, &held) == 0 && held == 5);
+    HOLDS(bc_tee(&process, 0, 3, BINDINGCLAY_MOST_SIZE, 0) == 5 && bc_ioctl(&process, 2, FIONREAD, &held) == 0 && held == 5);
     HOLDS(bc_exit(&process) == 0);
 }
 
@@ -201,10 +246,12 @@ int main(void)
 {
     shared = new_shared();
     pipes();
+    packets();
     broken_pipes();
     descriptors();
     files();
     several_buffers();
+    sizes_that_are_none();
     polls();
     processes();
     limits();

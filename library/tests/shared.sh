@@ -5,14 +5,16 @@
 # shellcheck disable=SC2317,SC2154
 
 strict='-std=c11 -Wall -Wextra -Werror -g'
+# the functions that a test wraps, as a flag of the linker
+wraps=
 
 # build_front NAME FLAG..: builds tests/NAME.c over what is installed.
 build_front() {
     built=$1
     shift
-    # shellcheck disable=SC2086 # $strict is several words
+    # shellcheck disable=SC2086 # $strict is several words, and $wraps may be none
     check "building $built" "$cc" $strict -O1 "-I$work/prefix/include" -o "$work/$built" "$here/tests/$built.c" \
-        "-L$work/prefix/lib" -lbindingclay_shared -lbindingclay -pthread "$@"
+        "-L$work/prefix/lib" -lbindingclay_shared -lbindingclay -pthread $wraps "$@"
 }
 
 # can_sanitize WORD: whether what the compiler builds with -fsanitize=WORD runs here.
@@ -32,7 +34,7 @@ sanitized() {
     fi
     # shellcheck disable=SC2086
     check "building $name with -fsanitize=$word" "$cc" $strict -O1 "-fsanitize=$word" "-I$work/prefix/include" -o "$work/sanitized" \
-        "$here/tests/$name.c" "$here"/blocking/*.c "-L$work/prefix/lib" -lbindingclay -pthread &&
+        "$here/tests/$name.c" "$here"/blocking/*.c "-L$work/prefix/lib" -lbindingclay -pthread $wraps &&
         check "$name with -fsanitize=$word" timeout 300 "$work/sanitized" "$@"
 }
 
@@ -40,7 +42,13 @@ sanitized() {
 without_races_of_front() {
     # shellcheck disable=SC2086
     check "building $1 for helgrind" "$cc" $strict -O1 -DBC_FOR_HELGRIND "-I$work/prefix/include" -o "$work/races_in_$1" \
-        "$here/tests/$1.c" "$here"/blocking/*.c "-L$work/prefix/lib" -lbindingclay -pthread && without_races "races_in_$1"
+        "$here/tests/$1.c" "$here"/blocking/*.c "-L$work/prefix/lib" -lbindingclay -pthread $wraps && without_races "races_in_$1"
+}
+
+# silent_under TOOL: whether a tool of valgrind's says nothing of a program without races, over what is installed for it.
+silent_under() {
+    timeout 300 "$valgrind" -q "--tool=$1" --error-exitcode=99 "--log-file=$work/said" "$work/clean" || { cat "$work/said"; return 1; }
+    [ ! -s "$work/said" ]
 }
 
 # over_both NAME ARGUMENT..: whether a program over the host prints what it prints over the front.
@@ -78,6 +86,15 @@ try_front() {
             sanitized "$name" "$word"
         done
     done
+    wraps=-Wl,--wrap=pthread_mutex_unlock
+    if build_front shared_close; then
+        plainly shared_close
+        under_valgrind shared_close 5
+        without_races_of_front shared_close
+        sanitized shared_close thread
+        sanitized shared_close address,undefined
+    fi
+    wraps=
     build_front shared_memory "$counted,--wrap=calloc" && run shared_memory
     if build_front shared_crowd; then
         plainly shared_crowd 200
@@ -98,6 +115,16 @@ try_front() {
         sanitized shared_storm thread 5
         sanitized shared_storm address,undefined 1
     fi
+    # shellcheck disable=SC2086
+    check "building shared_clean" "$cc" $strict -O1 "-I$work/prefix/include" -o "$work/clean" "$here/tests/shared_clean.c" \
+        "-L$work/prefix/lib" -lbindingclay_shared_helgrind -lbindingclay -pthread && check "shared_clean" timeout 120 "$work/clean" &&
+        for tool in helgrind drd; do
+            if is_there "$valgrind"; then
+                check "what $tool says of a program without races" silent_under "$tool"
+            else
+                echo "passed over: what $tool says of a program without races"
+            fi
+        done
     if is_there "$cxx"; then
         printf '#include <bindingclay_shared.h>\nint main() { bc_shared *shared; return bc_shared_open(nullptr, &shared); }\n' > "$work/front.cpp"
         check "the header of the front in C++" "$cxx" -Wall -Wextra -Werror -std=c++11 "-I$work/prefix/include" -o "$work/front" \

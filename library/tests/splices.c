@@ -104,7 +104,7 @@ static void splices_of_pipes(void)
     DONE(put(clay, 1, WRITE_END, "hello"), 5);
     DONE(splice_plainly(clay, READ_END, OTHER_WRITE_END, 2), 2);
     READS(clay, 1, OTHER_READ_END, 9, "he");
-    DONE(splice_plainly(clay, READ_END, OTHER_WRITE_END, UINT32_MAX), 3);
+    DONE(splice_plainly(clay, READ_END, OTHER_WRITE_END, BINDINGCLAY_MOST_SIZE), 3);
     READS(clay, 1, OTHER_READ_END, 9, "llo");
     /* as much as there is room for; then none */
     DONE(put_many(clay, 1, WRITE_END, 65536), 65536);

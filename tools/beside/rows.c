@@ -185,6 +185,11 @@ static bool of_far_seek(const struct known *known)
     return known->call.call == LSEEK && are(known, "EOVERFLOW", "EINVAL");
 }
 
+static bool of_size_of_minus_one(const struct known *known)
+{
+    return known->call.call == SET_SZ && known->call.length == UINT32_MAX && are(known, "EPERM", "EINVAL");
+}
+
 static bool of_great_size(const struct known *known)
 {
     return known->call.call == SET_SZ && are(known, "EPERM", "EINVAL");
@@ -246,6 +251,7 @@ static const struct {
     { of_capacity, "A capacity is refused if the pipe holds more bytes." },
     { of_hung, "The pipe itself keeps whether it is hung, so a poll tells it of every reader." },
     { of_far_seek, "a seek past the greatest offset" },
+    { of_size_of_minus_one, "a size of -1, which `F_SETPIPE_SZ` takes as 4,294,967,295" },
     { of_great_size, "a size above 2,147,483,648" },
     { of_far_read, "a read or a splice that reaches past the greatest offset" },
     { of_far_write, "a write or a splice that reaches past it" },
