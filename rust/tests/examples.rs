@@ -1,4 +1,4 @@
-//! The program `piperun` prints for each script of `examples/` what stands beside it.
+//! The program `piperun` prints for each script of `examples/` what stands beside it, and reports a stream that can't be read or written.
 
 mod program;
 
@@ -71,4 +71,30 @@ fn each_script_prints_what_stands_beside_it() {
             script.display()
         );
     }
+}
+
+#[cfg(unix)]
+#[test]
+fn a_stream_that_is_not_open_for_it_is_reported() {
+    use std::fs::File;
+    use std::process::Command;
+
+    let ends = |program: &mut Command, complaint: &str| {
+        let ran = program.output().expect("the program runs");
+        assert_eq!(ran.stderr, complaint.as_bytes());
+        assert_eq!(ran.status.code(), Some(1));
+    };
+    let nothing = || {
+        File::options()
+            .write(true)
+            .open("/dev/null")
+            .expect("it can be written")
+    };
+    ends(piperun().stdin(nothing()), "piperun: cannot read\n");
+    let folder = Path::new(env!("CARGO_MANIFEST_DIR")).join("crates/pl_examples/data");
+    let empty = File::open("/dev/null").expect("it can be read");
+    ends(
+        piperun().arg(folder.join("session.script")).stdout(empty),
+        "piperun: cannot write\n",
+    );
 }
