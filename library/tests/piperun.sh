@@ -351,7 +351,11 @@ piperun_checks_a_record() {
     complaint="piperun: $differ of $(wc -l < "$examples/session.out" | tr -d ' ') replies differ"
     piperun_answers 5 "$work/changed.out" "$complaint" --check --all "$work/changed.record" || return 1
     head -n 3 "$work/changed.out" > "$work/first.out"
-    piperun_answers 5 "$work/first.out" "$complaint" --check "$work/changed.record"
+    piperun_answers 5 "$work/first.out" "$complaint" --check "$work/changed.record" || return 1
+    # what expects nothing is no record
+    : > "$work/empty.record"
+    piperun_answers 5 /dev/null 'piperun: no reply is expected' --check "$work/empty.record" || return 1
+    piperun_answers 5 /dev/null 'piperun: no reply is expected' --check "$examples/session.script"
 }
 
 # Whether a record's header sets the limits of its check, and is a comment to a run, and whether one that says what it can't is a bad line.

@@ -9,7 +9,7 @@ use Rattle.pl_script.specs.Header.{limits_of_header, IsCheckWithin}
 use Rattle.pl_script.specs.declared.comparing.Checked.{Checked}
 use Rattle.pl_script.specs.declared.fault.ScriptFault.TheVariants as script
 use Rattle.pl_run.specs.Program.{InBudget, IsCheckedWithin, line_of_same}
-use Rattle.pl_run.specs.declared.fault.Fault.TheVariants.{CannotWrite, NoMemory, Differs}
+use Rattle.pl_run.specs.declared.fault.Fault.TheVariants.{CannotWrite, NoMemory, NothingExpected, Differs}
 use Rattle.pl_run.proofs.Fronts.{WritesSome}
 
 module _ (all explain : Bool) (limits : Limits) where
@@ -22,22 +22,31 @@ module _ (all explain : Bool) (limits : Limits) where
         by : (told : Option (List ℕ)) → IfSome told (λ record_of. (text : List ℕ) × Appends old mid text × IsCheckWithin InBudget all (limits_of_header limits record_of) record_of (Ok checked) text)
             → IfSome told (λ record_of. (text : List ℕ) × Appends old mid text × IsCheckedWithin all explain limits record_of (Err (Differs checked.different checked.compared)) text)
         by None known = tt
-        by (Some bytes) known = (known.0, known.1, (Ok checked, known.0, [], sym (append-nil known.0), known.2, inr (some, refl, refl)))
+        by (Some bytes) known = (known.0, known.1, (Ok checked, known.0, [], sym (append-nil known.0), known.2, inr (inr (some, refl, refl))))
+
+    -- no reply is expected
+    pub nothing : checked.different ≡ 0 → checked.compared ≡ 0 → IfSome input (λ record_of. (text : List ℕ) × Appends old mid text × IsCheckedWithin all explain limits record_of (Err NothingExpected) text)
+    nothing none compared = by input check
+      where
+        by : (told : Option (List ℕ)) → IfSome told (λ record_of. (text : List ℕ) × Appends old mid text × IsCheckWithin InBudget all (limits_of_header limits record_of) record_of (Ok checked) text)
+            → IfSome told (λ record_of. (text : List ℕ) × Appends old mid text × IsCheckedWithin all explain limits record_of (Err NothingExpected) text)
+        by None known = tt
+        by (Some bytes) known = (known.0, known.1, (Ok checked, known.0, [], sym (append-nil known.0), known.2, inl (none, compared, refl, refl)))
 
     -- none does, and the line that says so was written
-    pub as_recorded : (new : Option (List ℕ)) → checked.different ≡ 0 → Appends mid new (line_of_same checked.compared)
+    pub as_recorded : (new : Option (List ℕ)) → checked.different ≡ 0 → 0 < checked.compared → Appends mid new (line_of_same checked.compared)
         → IfSome input (λ record_of. (text : List ℕ) × Appends old new text × IsCheckedWithin all explain limits record_of (Ok tt) text)
-    as_recorded new none written = by input check
+    as_recorded new none some written = by input check
       where
         by : (told : Option (List ℕ)) → IfSome told (λ record_of. (text : List ℕ) × Appends old mid text × IsCheckWithin InBudget all (limits_of_header limits record_of) record_of (Ok checked) text)
             → IfSome told (λ record_of. (text : List ℕ) × Appends old new text × IsCheckedWithin all explain limits record_of (Ok tt) text)
         by None known = tt
-        by (Some bytes) known = (known.0 ++ line_of_same checked.compared, Appends-trans old mid new known.0 (line_of_same checked.compared) known.1 written, (Ok checked, known.0, line_of_same checked.compared, refl, known.2, inl (none, refl)))
+        by (Some bytes) known = (known.0 ++ line_of_same checked.compared, Appends-trans old mid new known.0 (line_of_same checked.compared) known.1 written, (Ok checked, known.0, line_of_same checked.compared, refl, known.2, inr (inl (none, some, refl))))
 
     -- none does, and a front of that line was written
-    pub cut : (new : Option (List ℕ)) → checked.different ≡ 0 → WritesSome mid new (line_of_same checked.compared)
+    pub cut : (new : Option (List ℕ)) → checked.different ≡ 0 → 0 < checked.compared → WritesSome mid new (line_of_same checked.compared)
         → IfSome input (λ record_of. (text : List ℕ) × Appends old new text × IsCheckedWithin all explain limits record_of (Err CannotWrite) text)
-    cut new none some = by input check
+    cut new none compared some = by input check
       where
         by : (told : Option (List ℕ)) → IfSome told (λ record_of. (text : List ℕ) × Appends old mid text × IsCheckWithin InBudget all (limits_of_header limits record_of) record_of (Ok checked) text)
             → IfSome told (λ record_of. (text : List ℕ) × Appends old new text × IsCheckedWithin all explain limits record_of (Err CannotWrite) text)
@@ -45,7 +54,7 @@ module _ (all explain : Bool) (limits : Limits) where
         by (Some bytes) known = (
           known.0 ++ take some.0 (line_of_same checked.compared),
           Appends-trans old mid new known.0 (take some.0 (line_of_same checked.compared)) known.1 some.2,
-          (Ok checked, known.0, take some.0 (line_of_same checked.compared), refl, known.2, inl (none, (drop some.0 (line_of_same checked.compared), sym (take-append-drop some.0 (line_of_same checked.compared))))),
+          (Ok checked, known.0, take some.0 (line_of_same checked.compared), refl, known.2, inr (inl (none, compared, (drop some.0 (line_of_same checked.compared), sym (take-append-drop some.0 (line_of_same checked.compared)))))),
         )
 
 -- whatever the input gives, nothing was checked and nothing written

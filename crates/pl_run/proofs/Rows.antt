@@ -13,7 +13,7 @@ use Rattle.pl_run.specs.declared.choice.Choice.{Choice}
 use Rattle.pl_run.specs.declared.choice.Choice.TheVariants.{Run, Check, Live, Help, Version}
 use Rattle.pl_run.specs.declared.choice.LiveChoice.{LiveChoice}
 use Rattle.pl_run.specs.declared.fault.Fault.{Fault}
-use Rattle.pl_run.specs.declared.fault.Fault.TheVariants.{CannotRead, CannotWrite, CommandLine, BadLine, BadLines, TooLong, Endless, NoMemory, Differs}
+use Rattle.pl_run.specs.declared.fault.Fault.TheVariants.{CannotRead, CannotWrite, CommandLine, BadLine, BadLines, TooLong, Endless, NoMemory, NothingExpected, Differs}
 use Rattle.pl_run.specs.Words.{piperun, rows, faults, Told, told_of, told_by, IsLimit, IsNoLimit, AreLimits, AreNoLimits, IsMemory, IsNoNumber, IsGiven, IsSet, AreAtOdds, are_at_odds, AreGiven, GiveValues, HoldsMatches, Refuses, Chooses, AskOfInput, AskForInput, AskForCheck, AskForLive}
 
 has_plain_rules : is_simple_and_free piperun ≡ true
@@ -58,6 +58,7 @@ taken words told (Err (BadLine m why)) same none holds = absurd holds
 taken words told (Err (BadLines m)) same none holds = absurd holds
 taken words told (Err TooLong) same none holds = absurd holds
 taken words told (Err Endless) same none holds = absurd holds
+taken words told (Err NothingExpected) same none holds = absurd holds
 taken words told (Err (Differs m k)) same none holds = absurd holds
 
 -- what words tell of the options and of FILE is one, where it is one of each
@@ -133,6 +134,7 @@ refused words kind (Err (BadLine m why)) among made = absurd made
 refused words kind (Err (BadLines m)) among made = absurd made
 refused words kind (Err TooLong) among made = absurd made
 refused words kind (Err Endless) among made = absurd made
+refused words kind (Err NothingExpected) among made = absurd made
 refused words kind (Err (Differs m k)) among made = absurd made
 
 no_limit_given : (most none : ℕ) (value : Option Text) (n : ℕ) → IsNoLimit most value → IsLimit most none value n → ⊥
@@ -172,6 +174,7 @@ refused_for_memory words limits bytes (BadLine m why) asked some chosen = absurd
 refused_for_memory words limits bytes (BadLines m) asked some chosen = absurd chosen
 refused_for_memory words limits bytes TooLong asked some chosen = absurd chosen
 refused_for_memory words limits bytes Endless asked some chosen = absurd chosen
+refused_for_memory words limits bytes NothingExpected asked some chosen = absurd chosen
 refused_for_memory words limits bytes (Differs m k) asked some chosen = absurd chosen
 
 pub run_refused : (words : List Text) (explain : Bool) (limits : Limits) (bytes : Option ℕ) (fault : Fault) → AskForInput words explain limits bytes → Chooses words (Err fault) → fault ≡ NoMemory

@@ -11,7 +11,7 @@ use Rattle.pl_script.specs.declared.fault.ScriptFault.TheVariants as script
 use Rattle.pl_script.specs.declared.peer.LiveFault.{LiveFault}
 use Rattle.pl_script.specs.declared.peer.LiveFault.TheVariants as live
 use Rattle.pl_run.specs.declared.fault.Fault.{Fault}
-use Rattle.pl_run.specs.declared.fault.Fault.TheVariants.{CannotRead, CannotWrite, CommandLine, BadLine, BadLines, TooLong, Endless, NoMemory, Differs}
+use Rattle.pl_run.specs.declared.fault.Fault.TheVariants.{CannotRead, CannotWrite, CommandLine, BadLine, BadLines, TooLong, Endless, NoMemory, NothingExpected, Differs}
 
 -- what is told beside the number of a line that isn't a command: nothing
 abbrev pub nothing_more : ℕ → Option Explanation
@@ -52,6 +52,7 @@ explained_by why (BadLines count) = BadLines count
 explained_by why TooLong = TooLong
 explained_by why Endless = Endless
 explained_by why NoMemory = NoMemory
+explained_by why NothingExpected = NothingExpected
 explained_by why (Differs n compared) = Differs n compared
 
 abbrev pub status_of : Fault → ℕ
@@ -63,6 +64,7 @@ status_of (BadLines count) = 3
 status_of TooLong = 3
 status_of Endless = 3
 status_of NoMemory = 4
+status_of NothingExpected = 5
 status_of (Differs n compared) = 5
 
 -- what is wrong with a word, and a line feed
@@ -85,6 +87,7 @@ line_of (BadLines count) = codes "piperun: " ++ (decimal count ++ (codes " bad l
 line_of TooLong = codes "piperun: script longer than 16777216 bytes" ++ 10 ∷ []
 line_of Endless = codes "piperun: input without end" ++ 10 ∷ []
 line_of NoMemory = codes "piperun: no memory" ++ 10 ∷ []
+line_of NothingExpected = codes "piperun: no reply is expected" ++ 10 ∷ []
 line_of (Differs n compared) = codes "piperun: " ++ (decimal n ++ (codes " of " ++ (decimal compared ++ (codes " replies differ" ++ 10 ∷ []))))
 
 -- what came of a line: all of it was written, or a front of it

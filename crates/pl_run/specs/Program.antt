@@ -17,7 +17,7 @@ use Rattle.pl_script.specs.declared.peer.LiveTotals.{LiveTotals}
 use Rattle.pl_script.specs.declared.peer.LiveFault.{LiveFault}
 use Rattle.pl_run.specs.declared.choice.LiveChoice.{LiveChoice}
 use Rattle.pl_run.specs.declared.fault.Fault.{Fault}
-use Rattle.pl_run.specs.declared.fault.Fault.TheVariants.{CannotWrite, BadLines, NoMemory, Differs}
+use Rattle.pl_run.specs.declared.fault.Fault.TheVariants.{CannotWrite, BadLines, NoMemory, NothingExpected, Differs}
 use Rattle.pl_run.specs.Fault.{fault_of, fault_of_live, told_of_script, told_of_heard, status_of}
 
 abbrev pub as_fault : (ℕ → Option Explanation) → Result Totals ScriptFault → Result (Unit {0}) Fault
@@ -41,17 +41,19 @@ version_line = codes "piperun 0.8.0" ++ 10 ∷ []
 abbrev pub line_of_same : ℕ → List ℕ
 line_of_same compared = decimal compared ++ (codes " replies as recorded" ++ 10 ∷ [])
 
--- What a check that came to its end answers, and what is written behind what it told: the line that no reply differs, if none does, as far
--- as it goes.
+-- What a check answers that compared replies and found none that differs, and what is written after what it told: the line that says so, as
+-- far as it goes.
 abbrev pub EndsSame : ℕ → Result (Unit {0}) Fault → List ℕ → Type 0
 EndsSame compared (Ok done) line = line ≡ line_of_same compared
 EndsSame compared (Err CannotWrite) line = (more : List ℕ) × (line_of_same compared ≡ line ++ more)
 EndsSame compared (Err fault) line = ⊥
 
+-- what a check that came to its end answers: it is a fault if no reply is expected, or if one differs
 abbrev pub EndsCheck : (ℕ → Option Explanation) → Result Checked ScriptFault → Result (Unit {0}) Fault → List ℕ → Type 0
 EndsCheck why (Ok checked) result line =
-    ((checked.different ≡ 0) × EndsSame checked.compared result line)
-    ⊎ ((0 < checked.different) × (result ≡ Err (Differs checked.different checked.compared)) × (line ≡ []))
+    ((checked.different ≡ 0) × (checked.compared ≡ 0) × (result ≡ Err NothingExpected) × (line ≡ []))
+    ⊎ (((checked.different ≡ 0) × (0 < checked.compared) × EndsSame checked.compared result line)
+    ⊎ ((0 < checked.different) × (result ≡ Err (Differs checked.different checked.compared)) × (line ≡ [])))
 EndsCheck why (Err fault) result line = (result ≡ Err (fault_of why fault)) × (line ≡ [])
 
 -- what a check of the record within the limits answers, and what it writes: what it tells of the differences, and the line behind that

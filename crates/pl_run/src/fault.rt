@@ -27,6 +27,8 @@ pub enum Fault {
     Endless,
     /// There was no memory for the run.
     NoMemory,
+    /// A check came to the end of a script that expects no reply.
+    NothingExpected,
     /// So many texts of a record differ from what was answered, of so many that were compared.
     Differs(u32, u32),
 }
@@ -88,7 +90,7 @@ pub fn status(fault: &Fault) -> u8
         Fault::CommandLine => 2,
         Fault::BadLine(..) | Fault::BadLines(_) | Fault::TooLong | Fault::Endless => 3,
         Fault::NoMemory => 4,
-        Fault::Differs(..) => 5,
+        Fault::NothingExpected | Fault::Differs(..) => 5,
     }
 }
 
@@ -180,6 +182,7 @@ fn write_line<T: Sink>(writer: &mut T, fault: &Fault) -> Result<(), ScriptFault>
         Fault::TooLong => write_whole(writer, b"piperun: script longer than 16777216 bytes\n"),
         Fault::Endless => write_whole(writer, b"piperun: input without end\n"),
         Fault::NoMemory => write_whole(writer, b"piperun: no memory\n"),
+        Fault::NothingExpected => write_whole(writer, b"piperun: no reply is expected\n"),
         Fault::Differs(different, compared) => write_differs(writer, *different, *compared),
     }
 }

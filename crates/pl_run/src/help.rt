@@ -98,5 +98,6 @@ example, this script prints what stands beside it:
 
 Status: 0; 1 where the script can't be read or the output can't be written; 2
 for a bad command line; 3 for a bad line, or a script of more than 16777216
-bytes; 4 where there is no memory; 5 where replies differ from a record.
+bytes; 4 where there is no memory; 5 where replies differ from a record, or
+where it expects none.
 ";

@@ -75,7 +75,7 @@ fn write_same<T: Sink>(writer: &mut T, compared: u32) -> Result<(), ScriptFault>
 }
 
 /// Checks the record that the reader gives, within the limits, where its header names no others, and so many bytes of memory. Writes the
-/// differences that are to be told, or the line that there is none. With `explain` the fault of a bad line tells what is wrong with it.
+/// differences that are to be told, or the line that there is none. A script that expects no reply is a fault. With `explain` the fault of a bad line tells what is wrong with it.
 fn check_from<S: Source, T: Sink>(
     alloc: Global,
     all: bool,
@@ -104,6 +104,9 @@ fn check_from<S: Source, T: Sink>(
     };
     if checked.different > 0 {
         return Err(Fault::Differs(checked.different, checked.compared));
+    }
+    if checked.compared == 0 {
+        return Err(Fault::NothingExpected);
     }
     write_same(writer, checked.compared)?;
     Ok(())
@@ -178,7 +181,8 @@ fn write_version<T: Sink>(writer: &mut T) -> Result<(), ScriptFault>
 /// # Errors
 ///
 /// Those of `words`, and then nothing was read or written; `CannotRead` where FILE can't be opened; `CannotWrite` where the
-/// help text, the version, or the line that nothing differs can't be written; `Differs` where a check found that replies differ; else those of
+/// help text, the version, or the line that nothing differs can't be written; `Differs` where a check found that replies differ, and
+/// `NothingExpected` where it found no expectation; else those of
 /// `run_script` and of `check_script`.
 pub fn run<R: Files + AllocGlobal, S: Source, T: Sink>(
     rt: &R,

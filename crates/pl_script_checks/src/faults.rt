@@ -60,6 +60,7 @@ const FAULTS: &[(Fault, &str, u8)] = &[
     ),
     (Fault::Endless, "piperun: input without end\n", 3),
     (Fault::NoMemory, "piperun: no memory\n", 4),
+    (Fault::NothingExpected, "piperun: no reply is expected\n", 5),
     (Fault::Differs(2, 5), "piperun: 2 of 5 replies differ\n", 5),
 ];
 

@@ -151,9 +151,9 @@ const PROGRAMS: &[Program] = &[
     Program {
         words: &["--check"],
         input: "start\n",
-        output: "0 replies as recorded\n",
-        line: "",
-        status: 0,
+        output: "",
+        line: "piperun: no reply is expected\n",
+        status: 5,
     },
     Program {
         words: &["--check"],

@@ -50,15 +50,10 @@ fn check(script: &Path) {
         .collect();
     assert!(
         done.status.success(),
-        "\n{}\n{}",
+        "{}\n{}\n{}",
+        script.display(),
         told.join("\n"),
         String::from_utf8_lossy(&done.stderr)
-    );
-    assert_ne!(
-        said,
-        "0 replies as recorded\n",
-        "{} expects no reply",
-        script.display()
     );
 }
 

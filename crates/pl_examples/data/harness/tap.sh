@@ -16,7 +16,7 @@ fi
 echo "1..$#"
 for script; do
     number=$((number + 1))
-    if said=$("$piperun" --check --all "$script" 2>&1) && [ "$said" != "0 replies as recorded" ]; then
+    if said=$("$piperun" --check --all "$script" 2>&1); then
         echo "ok $number - $script"
         continue
     fi

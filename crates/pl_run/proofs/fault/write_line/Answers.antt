@@ -23,3 +23,6 @@ returns-in-Endless-clause-front g c = rw c.in-Endless.is c.write_whole-in-Endles
 
 pub returns-in-NoMemory-clause-front : goal.returns-in-NoMemory-clause-front
 returns-in-NoMemory-clause-front g c = rw c.in-NoMemory.is c.write_whole-in-NoMemory.ensures.front
+
+pub returns-in-NothingExpected-clause-front : goal.returns-in-NothingExpected-clause-front
+returns-in-NothingExpected-clause-front g c = rw c.in-NothingExpected.is c.write_whole-in-NothingExpected.ensures.front
