@@ -6,5 +6,5 @@ mod layer;
 mod rule;
 mod word;
 
-pub use layer::Layer;
+pub use layer::{Handing, Layer};
 pub use word::{Eye, History, HistorySeat, Word, history};

@@ -37,7 +37,7 @@ impl<N: Layer, A: Allocator> Model for Word<N, A> {
 
     ghost view = { λ _. tt };
 
-    ghost invariant = { λ w. (w.table.shared.table_id ≡ N.table) × (N.table.words ≡ 1) };
+    ghost invariant = { λ w. (w.table.shared.table_id ≡ N.table.word) × (N.table.word.words ≡ 1) };
 }
 
 /// What one has seen of the history of a layer. Contracts see whether it is the recorder's, which has seen all of it, and what was
@@ -56,14 +56,14 @@ impl<N: Layer, A: Allocator> Model for Eye<N, A> {
 
     ghost view = { λ e. record { recorder = e.seat.me.0.recorder; seen = e.seat.me.0.seen } };
 
-    ghost invariant = { λ e. (e.seat.table_id ≡ N.table) × (e.seat.me.1 ≡ []) };
+    ghost invariant = { λ e. (e.seat.table_id ≡ N.table.word) × (e.seat.me.1 ≡ []) };
 }
 
 impl<N: Layer, A: Allocator> Word<N, A> {
     /// The word of a layer, and the recorder's eye. It takes no memory, and neither does anything else here.
     pub fn named(table: History<A>, seat: HistorySeat<A>) -> (Word<N, A>, Eye<N, A>)
-        requires table { (table.shared.table_id ≡ N.table) × (N.table.words ≡ 1) }
-        requires seat { (seat.table_id ≡ N.table) × (seat.me.1 ≡ []) }
+        requires table { (table.shared.table_id ≡ N.table.word) × (N.table.word.words ≡ 1) }
+        requires seat { (seat.table_id ≡ N.table.word) × (seat.me.1 ≡ []) }
         ensures recorder { result.1.recorder ≡ seat.me.0.recorder }
         ensures seen { result.1.seen ≡ seat.me.0.seen }
     {

@@ -18,13 +18,14 @@ module _ {A : Type 0} where
   -- a step that was put behind a history
   pub gains : (limits : Limits) (most : ℕ) (old new : CallerView A) (h : List (Entry A)) (n : ℕ) (x : Step A) (r : Reply A)
       → IsPrefix old.seen h → n ≡ length (of old.number h) → new.seen ≡ h ++ entry old.number n x r ∷ [] → new.made ≡ old.made ++ entry old.number n x r ∷ []
-      → new.number ≡ old.number → Knows limits most new → Gains limits most old new x r
-  gains limits most old new h n x r earlier number seen made same knows = record {
+      → new.number ≡ old.number → new.handed ≡ old.handed → Knows limits most new → Gains limits most old new x r
+  gains limits most old new h n x r earlier number seen made same handed knows = record {
     before = h;
     earlier = earlier;
     seen = seen ∙ ap (λ (m : ℕ). h ++ entry old.number m x r ∷ []) number;
     made = made ∙ ap (λ (m : ℕ). old.made ++ entry old.number m x r ∷ []) number;
     number = same;
+    handed = handed;
     knows = knows;
   }
 
@@ -44,6 +45,7 @@ module _ {A : Type 0} where
   abbrev pub begun : (limits : Limits) (most pid : ℕ) (call : Call A) (c : ℕ) (old new : CallerView A) → Gains limits most old new (Begin pid call) (Parked c) → Waits limits most pid call c old new
   begun limits most pid call c old new g = record {
     number = g.number;
+    handed = g.handed;
     earlier = goes-on limits most old new (Begin pid call) (Parked c) g;
     first = length (of old.number g.before);
     began = last-of limits most old new (Begin pid call) (Parked c) g;
@@ -58,6 +60,7 @@ module _ {A : Type 0} where
       let e : Entry A = entry mid.number (length (of mid.number g.before)) (Resume c) (Parked c) in
       let first : Entry A = entry old.number w.first (Begin pid call) (Parked c) in record {
         number = g.number ∙ w.number;
+        handed = g.handed ∙ w.handed;
         earlier = prefix_trans old.seen mid.seen new.seen w.earlier (goes-on limits most mid new (Resume c) (Parked c) g);
         first = w.first;
         began = w.began;
@@ -70,6 +73,7 @@ module _ {A : Type 0} where
   abbrev pub waits_sees : (limits : Limits) (most pid : ℕ) (call : Call A) (c : ℕ) (old mid new : CallerView A) → Waits limits most pid call c old mid → Sees mid new → Waits limits most pid call c old new
   waits_sees limits most pid call c old mid new w s = record {
     number = s.number ∙ w.number;
+    handed = s.handed ∙ w.handed;
     earlier = prefix_trans old.seen mid.seen new.seen w.earlier s.earlier;
     first = w.first;
     began = w.began;

@@ -30,9 +30,9 @@ module _ {A : Type 0} where
     pub counts : (k : ℕ) → k < callers → slice_index tally k ≡ length (of k journal)
     pub room : length journal ≤ most
 
--- The ledger: its total is the length of the journal, and of its 64 parts each caller has one, the desk the rest, on which nothing
--- was made.
-pub record Owes (callers journal total held owed : ℕ) : Type 0 where
-  pub total_made : total ≡ journal
+-- A ledger, of what was made or of what was handed out: its total is as many entries, and of its 64 parts each caller has one, the desk the
+-- rest, which has none of them.
+pub record Owes (callers count total held owed : ℕ) : Type 0 where
+  pub counted : total ≡ count
   pub parts : held + callers ≡ 64
   pub amount : owed ≡ 0

@@ -1,8 +1,8 @@
 -- What contracts see of a layer and its callers, and what becomes of a call.
-use Rattle.std.specs.Prelude.{◌≡◌, ◌==◌, ℕ, zero, suc, ◌<◌, ◌≤◌, List, [], ◌∷◌, ◌++◌, length, true, Option, Some, None, ◌⊎◌}
+use Rattle.std.specs.Prelude.{◌≡◌, ◌==◌, ℕ, zero, suc, ◌+◌, ◌<◌, ◌≤◌, List, [], ◌∷◌, ◌++◌, length, true, Option, Some, None, ◌⊎◌}
 use Rattle.std.specs.List.{sum_by, list_any, All}
 use mathlib.Core.List.{IsPrefix}
-use Rattle.atomic_table.specs.Seated.{TableId}
+use Rattle.pl_history.specs.Sights.{Tables}
 use Rattle.pl_model.specs.declared.calls.Call.{Call}
 use Rattle.pl_model.specs.declared.calls.Limits.{Limits}
 use Rattle.pl_model.specs.declared.calls.Step.{Step}
@@ -16,17 +16,18 @@ use Rattle.pl_state.specs.Contents.{Contents}
 use Rattle.pl_state.specs.Makes.{Stands}
 use Rattle.pl_locked.specs.declared.desk.Waiting.{Waiting}
 
--- What a layer is made on: the name of its ledger, into how many parts that is cut, and its history word.
+-- What a layer is made on: the name of its ledger, into how many parts that is cut, and its history word, with the name of its second ledger.
 pub record GroundId : Type 0 where
   pub name : ℕ
   pub parts : ℕ
-  pub table : TableId
+  pub table : Tables
 
--- A caller: its number, the history that it has seen, and the entries that it made.
+-- A caller: its number, the history that it has seen, the entries that it made, and how many it was handed.
 pub record CallerView (A : Type 0) : Type 0 where
   pub number : ℕ
   pub seen : List (Entry A)
   pub made : List (Entry A)
+  pub handed : ℕ
 
 -- What is kept of a kernel's steps: the journal of all of them, of which so many first entries were handed out.
 pub record Kept (A : Type 0) : Type 0 where
@@ -40,11 +41,11 @@ pub record Held (A : Type 0) : Type 0 where
   pub waiting : List Waiting
 
 module _ {A : Type 0} where
-  -- a caller that has seen and made nothing
+  -- a caller that has seen and made nothing, and was handed nothing
   abbrev pub newcomer : ℕ → CallerView A
-  newcomer k = record { number = k; seen = []; made = [] }
+  newcomer k = record { number = k; seen = []; made = []; handed = 0 }
 
-  -- the callers below n, none of which has seen or made anything
+  -- the callers below n, none of which has seen or made anything, or was handed any
   abbrev pub newcomers : ℕ → List (CallerView A)
   newcomers zero = []
   newcomers (suc n) = newcomers n ++ newcomer n ∷ []
@@ -60,6 +61,10 @@ module _ {A : Type 0} where
   -- how many entries these callers made
   abbrev pub total_made : List (CallerView A) → ℕ
   total_made callers = sum_by (λ c. length c.made) callers
+
+  -- how many entries they were handed
+  abbrev pub total_handed : List (CallerView A) → ℕ
+  total_handed callers = sum_by (λ c. c.handed) callers
 
   -- the entries xs stand among ys, in this order
   abbrev pub IsSub : List (Entry A) → List (Entry A) → Type 0
@@ -78,19 +83,22 @@ module _ {A : Type 0} where
   IsDone journal c = IsPrefix c.seen journal × (of c.number journal ≡ c.made)
 
   -- A layer ended so: its journal is legal, with as many entries as these callers made. It begins with what each has seen, and has just
-  -- what each made. These entries are its rest behind the first ones, and the kernel stands for the state that it leads to.
+  -- what each made. These entries are its rest behind the first ones, which are as many as the callers were handed. The kernel stands for
+  -- the state that the journal leads to.
   pub record Ends (limits : Limits) (callers : List (CallerView A)) (first : ℕ) (rest : List (Entry A)) (k : Contents A) : Type 0 where
     pub journal : List (Entry A)
     pub part : IsRest first journal rest
     pub legal : IsLegal limits journal
     pub count : length journal ≡ total_made callers
+    pub handed : first ≡ total_handed callers
     pub each : All (IsDone journal) callers
     pub kernel : Stands k (state_of_history limits journal)
 
-  -- The caller made nothing. It may have seen more.
+  -- The caller made nothing, and was handed nothing. It may have seen more.
   pub record Sees (old new : CallerView A) : Type 0 where
     pub number : new.number ≡ old.number
     pub made : new.made ≡ old.made
+    pub handed : new.handed ≡ old.handed
     pub earlier : IsPrefix old.seen new.seen
 
   -- The caller has seen a legal history of at most so many entries, in which what it made stands in order among its own.
@@ -99,9 +107,20 @@ module _ {A : Type 0} where
     pub room : length c.seen ≤ most
     pub own : IsSub c.made (of c.number c.seen)
 
-  -- The caller made nothing, and has seen all that had happened.
+  -- The caller made nothing, was handed nothing, and has seen all that had happened.
   abbrev pub Shown : Limits → ℕ → CallerView A → CallerView A → Type 0
   Shown limits most old new = Sees old new × Knows limits most new
+
+  -- The caller made nothing, and has seen all that had happened. Of that it was handed these entries, behind as many first ones. It was
+  -- handed no more than so many before.
+  pub record IsHanded (limits : Limits) (most : ℕ) (old new : CallerView A) (first : ℕ) (entries : List (Entry A)) : Type 0 where
+    pub number : new.number ≡ old.number
+    pub made : new.made ≡ old.made
+    pub earlier : IsPrefix old.seen new.seen
+    pub knows : Knows limits most new
+    pub part : IsRest first new.seen entries
+    pub handed : new.handed ≡ old.handed + length entries
+    pub before : old.handed ≤ first
 
   -- The caller has seen a history that is full.
   abbrev pub Full : ℕ → CallerView A → Type 0
@@ -121,6 +140,7 @@ module _ {A : Type 0} where
     pub seen : new.seen ≡ before ++ entry old.number (length (of old.number before)) x r ∷ []
     pub made : new.made ≡ old.made ++ entry old.number (length (of old.number before)) x r ∷ []
     pub number : new.number ≡ old.number
+    pub handed : new.handed ≡ old.handed
     pub knows : Knows limits most new
 
   -- The caller has seen one entry behind the history.
@@ -139,6 +159,7 @@ module _ {A : Type 0} where
   -- The caller began the call of process pid, which was parked as c. It tried it again, maybe often, and it waits on.
   pub record Waits (limits : Limits) (most pid : ℕ) (call : Call A) (c : ℕ) (old new : CallerView A) : Type 0 where
     pub number : new.number ≡ old.number
+    pub handed : new.handed ≡ old.handed
     pub earlier : IsPrefix old.seen new.seen
     pub first : ℕ
     pub began : IsLastOf limits most (entry old.number first (Begin pid call) (Parked c))

@@ -2,7 +2,7 @@
 ghost use Rattle.std.specs.Prelude.{◌≡◌, ℕ, ◌<◌, ◌≤◌, ◌^◌, [], ◌∷◌, ◌++◌, ◌+◌, ◌⊎◌, length, not, true, false, IfOk, IfSome, OnErr, IsErrOf, ◌↔◌, replicate, slice_set};
 ghost use Rattle.std.specs.List.{list_any, position, All};
 ghost use Rattle.pl_model.specs.History.{entry, of, state_of_history};
-ghost use Rattle.pl_locked.specs.Views.{Ends, Full, Gains, HasCaller, IsRest, Shown};
+ghost use Rattle.pl_locked.specs.Views.{Ends, Full, Gains, HasCaller, IsHanded, Shown};
 ghost use Rattle.pl_locked.specs.Journals.{Owes, KeepsItsNumber};
 ghost use Rattle.pl_locked.specs.declared.desk.Waiting.TheVariants.{Nothing as Idle, Asleep as Alone, Together as WithOthers};
 ghost use Rattle.pl_locked.specs.Waking.{waits, is_together, is_together_for, call_together, first_together, is_helped_awake, is_helped_asleep, is_helped_but, AreStuck, SleepAlikeWith, is_of_together, to_wake};
@@ -13,7 +13,7 @@ use crate::caller::{Caller, gather};
 use crate::fault::StepFault;
 use crate::journal::JournalPart;
 use crate::recorded::Recorded;
-use pl_history::{Layer, Word};
+use pl_history::{Handing, Layer, Word};
 use pl_kernel::Kernel;
 use pl_model::{Call, Reply, Step};
 use std::alloc::{Allocator, Global};
@@ -98,6 +98,9 @@ pub(crate) struct Desk<N: Layer, A: Allocator = Global> {
     book: Book<N>,
     /// The parts of the ledger that no caller has.
     rest: Share<N>,
+    /// The same of the ledger of what was handed out.
+    handed: Book<Handing<N>>,
+    spare: Share<Handing<N>>,
     /// How many steps are made at most.
     most: u64,
     /// For which call each caller waits, by the caller's number.
@@ -122,7 +125,7 @@ impl<N: Layer, A: Allocator> Model for Desk<N, A> {
 
     ghost view = { λ d. record { journal = d.recorded.journal; first = d.recorded.first; waiting = d.waiting.items } };
 
-    ghost invariant = { λ d. Tallies N.callers N.max_steps d.recorded.journal d.counts.items × Owes N.callers (length d.recorded.journal) d.book.total d.rest.parts d.rest.amount × (d.most ≡ N.max_steps) × (N.parts ≡ 64) × (length d.waiting.items ≡ N.callers) × (N.max_steps ≤ 2 ^ 62) × (d.idle ≡ true → list_any waits d.waiting.items ≡ false) × (d.alike ≡ true → SleepAlike (state_of_history N.limits d.recorded.journal) d.waiting.items) };
+    ghost invariant = { λ d. Tallies N.callers N.max_steps d.recorded.journal d.counts.items × Owes N.callers (length d.recorded.journal) d.book.total d.rest.parts d.rest.amount × (d.most ≡ N.max_steps) × (N.parts ≡ 64) × (length d.waiting.items ≡ N.callers) × (N.max_steps ≤ 2 ^ 62) × (d.idle ≡ true → list_any waits d.waiting.items ≡ false) × (d.alike ≡ true → SleepAlike (state_of_history N.limits d.recorded.journal) d.waiting.items) × Owes N.callers d.recorded.first d.handed.total d.spare.parts d.spare.amount };
 }
 
 impl<N: Layer, A: Allocator + Copy> Desk<N, A> {
@@ -132,12 +135,15 @@ impl<N: Layer, A: Allocator + Copy> Desk<N, A> {
         counts: Vec<u64, A>,
         book: Book<N>,
         rest: Share<N>,
+        handed: Book<Handing<N>>,
+        spare: Share<Handing<N>>,
         most: u64,
         waiting: Vec<Waiting, A>,
     ) -> Desk<N, A>
         requires recorded { recorded ≡ record { journal = []; first = 0 } }
         requires counts { counts.items ≡ replicate N.callers 0 }
         requires shares { Owes N.callers 0 book.total rest.parts rest.amount }
+        requires spare { Owes N.callers 0 handed.total spare.parts spare.amount }
         requires most { (most ≡ N.max_steps) × (N.parts ≡ 64) × (most ≤ 2 ^ 62) }
         requires waiting { waiting.items ≡ replicate N.callers Idle }
         ensures { result ≡ record { journal = []; first = 0; waiting = replicate N.callers Idle } }
@@ -147,6 +153,8 @@ impl<N: Layer, A: Allocator + Copy> Desk<N, A> {
             counts,
             book,
             rest,
+            handed,
+            spare,
             most,
             waiting,
             idle: true,
@@ -430,13 +438,15 @@ impl<N: Layer, A: Allocator + Copy> Desk<N, A> {
     /// Hands out the entries that weren't handed out yet, to a caller who has then seen the whole journal. It takes no memory.
     pub(crate) fn hand_out(&mut self, word: &Word<N, A>, me: &mut Caller<N, A>) -> JournalPart<A>
         ensures first { result.first ≡ self.old.first }
-        ensures part { IsRest result.first self.old.journal result.journal }
         ensures kept { self.new ≡ record self.old { first = length self.old.journal } }
-        ensures seen { me.new ≡ record me.old { seen = self.old.journal } }
-        ensures shown { Shown N.limits N.max_steps me.old me.new }
+        ensures seen { me.new.seen ≡ self.old.journal }
+        ensures handed { IsHanded N.limits N.max_steps me.old me.new result.first result.journal }
     {
         self.show(word, me);
-        self.recorded.hand_out()
+        self.handed.audit(&mut me.handed);
+        let part = self.recorded.hand_out();
+        self.handed.add(&mut me.handed, part.journal.len() as u64);
+        part
     }
 
     /// What wasn't handed out of the journal, and the kernel, where all callers are here. It takes no memory.
@@ -454,6 +464,8 @@ impl<N: Layer, A: Allocator + Copy> Desk<N, A> {
             counts: _,
             mut book,
             rest,
+            mut handed,
+            spare,
             most: _,
             waiting: _,
             idle: _,
@@ -461,8 +473,10 @@ impl<N: Layer, A: Allocator + Copy> Desk<N, A> {
             woken: _,
         } = self;
         let mut all = rest;
-        gather(callers, &mut all, word, &mut recorded);
+        let mut out = spare;
+        gather(callers, &mut all, &mut out, word, &mut recorded);
         book.audit(&mut all);
+        handed.audit(&mut out);
         recorded.into_parts()
     }
 }

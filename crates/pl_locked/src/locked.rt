@@ -3,7 +3,7 @@ ghost use Rattle.std.specs.Prelude.{◌≡◌, ℕ, ◌<◌, ◌≤◌, ◌^◌,
 ghost use Rattle.pl_locked.specs.declared.desk.Waiting.TheVariants.{Nothing as Idle};
 ghost use Rattle.pl_model.specs.Numbers.{most_file_bytes};
 ghost use Rattle.std.specs.Sync.Mutex.{mutex_guard_value};
-ghost use Rattle.pl_locked.specs.Views.{Ends, Full, Gains, IsBehind, IsRest, Sees, Shown, newcomers, HasCaller, IsLeastMissing};
+ghost use Rattle.pl_locked.specs.Views.{Ends, Full, Gains, IsBehind, IsHanded, Sees, Shown, newcomers, HasCaller, IsLeastMissing};
 ghost use Rattle.pl_locked.specs.Journals.{KeepsItsNumber};
 
 mod calls;
@@ -14,11 +14,12 @@ use crate::fault::{OpenFault, StepFault};
 use crate::ground::Ground;
 use crate::journal::JournalPart;
 use crate::recorded::Recorded;
-use pl_history::{Layer, Word};
+use pl_history::{Handing, Layer, Word};
 use pl_kernel::{Kernel, NoMemory};
 use pl_model::{Limits, Reply, Step};
 use std::alloc::{Allocator, Global};
 use std::hint;
+use std::marker::PhantomData;
 use std::sync::{Condvar, Mutex, MutexGuard, Wait};
 use std::time::Duration;
 
@@ -75,17 +76,23 @@ fn turns_of<A: Allocator + Copy>(alloc: A, callers: u32) -> Result<Vec<Condvar, 
     Ok(turns)
 }
 
+/// How many callers there are, and what each waits at, by its number.
+#[derive(Drop)]
+struct Turns<N: Layer, A: Allocator = Global> {
+    count: u32,
+    each: Vec<Condvar, A>,
+    layer: PhantomData<N>,
+    ghost known: { (count ≡ N.callers) × (length each.items ≡ N.callers) },
+}
+
 /// A kernel under one lock, with a journal of its steps. Threads share it by reference, each with a `Caller` of its own.
 #[derive(Drop)]
 pub struct Locked<N: Layer, A: Allocator = Global> {
-    count: u32,
     desk: Mutex<Desk<N, A>>,
-    /// What each caller waits at, by its number.
-    turns: Vec<Condvar, A>,
+    turns: Turns<N, A>,
     /// Where callers are that leave the lock to others.
     away: Condvar,
     word: Word<N, A>,
-    ghost known: { (count ≡ N.callers) × (length turns.items ≡ N.callers) },
 }
 
 impl<N: Layer, A: Allocator + Copy> Locked<N, A> {
@@ -134,17 +141,21 @@ impl<N: Layer, A: Allocator + Copy> Locked<N, A> {
     {
         let Ground {
             blank,
+            handing,
             history,
             seat,
         } = ground;
         let (word, mut recorder) = Word::<N, A>::named(history, seat);
         let (book, mut rest) = blank.open::<N>();
+        let (handed, mut spare) = handing.open::<Handing<N>>();
         let counts = Vec::from_elem(alloc, 0, callers as usize)?;
         let waiting = no_calls(alloc, callers)?;
         let turns = turns_of(alloc, callers)?;
-        let tokens = deal(alloc, callers, &mut rest, &word, &mut recorder)?;
+        let tokens = deal(alloc, callers, &mut rest, &mut spare, &word, &mut recorder)?;
         let recorded = Recorded::new(alloc, limits, recorder);
-        let desk = Desk::new(recorded, counts, book, rest, max_steps, waiting);
+        let desk = Desk::new(
+            recorded, counts, book, rest, handed, spare, max_steps, waiting,
+        );
         Ok((Locked::over(callers, desk, turns, word), tokens))
     }
 
@@ -152,8 +163,12 @@ impl<N: Layer, A: Allocator + Copy> Locked<N, A> {
         requires count { count ≡ N.callers }
         requires turns { length turns.items ≡ N.callers }
     {
-        Locked {
+        let turns = Turns {
             count,
+            each: turns,
+            layer: PhantomData,
+        };
+        Locked {
             desk: Mutex::new(desk),
             turns,
             away: Condvar::new(),
@@ -175,7 +190,7 @@ impl<N: Layer, A: Allocator + Copy> Locked<N, A> {
         ensures here { OnOk result ((k : ℕ) → k < N.callers → HasCaller callers.items k) }
         ensures missing { IfErr result (λ fault. IsLeastMissing N.callers callers.items fault.number × (fault.callers.items ≡ callers.items)) }
     {
-        match missing(callers.as_slice(), self.count) {
+        match missing(callers.as_slice(), self.turns.count) {
             Some(number) => Err(CallerMissing {
                 number,
                 locked: self,
@@ -183,7 +198,6 @@ impl<N: Layer, A: Allocator + Copy> Locked<N, A> {
             }),
             None => {
                 let Locked {
-                    count: _,
                     desk,
                     turns: _,
                     away: _,
@@ -198,8 +212,7 @@ impl<N: Layer, A: Allocator + Copy> Locked<N, A> {
     /// keeps none of these entries, and goes on: so its memory hangs on what isn't handed out, however long it lives. Any caller may ask; the
     /// part tells how many entries were handed out before it. It waits for the lock, and takes no memory.
     pub fn hand_out<R: Wait>(&self, rt: &R, me: &mut Caller<N, A>) -> JournalPart<A>
-        ensures part { IsRest result.first me.new.seen result.journal }
-        ensures shown { Shown N.limits N.max_steps me.old me.new }
+        ensures { IsHanded N.limits N.max_steps me.old me.new result.first result.journal }
     {
         self.part_of(self.lock(rt, me), me)
     }
@@ -207,8 +220,7 @@ impl<N: Layer, A: Allocator + Copy> Locked<N, A> {
     // What the desk hands out.
     fn part_of(&self, mut desk: MutexGuard<'_, Desk<N, A>>, me: &mut Caller<N, A>) -> JournalPart<A>
         ensures first { result.first ≡ (mutex_guard_value desk.entry).first }
-        ensures part { IsRest result.first me.new.seen result.journal }
-        ensures shown { Shown N.limits N.max_steps me.old me.new }
+        ensures handed { IsHanded N.limits N.max_steps me.old me.new result.first result.journal }
     {
         desk.hand_out(&self.word, me)
     }
@@ -335,7 +347,7 @@ impl<N: Layer, A: Allocator + Copy> Locked<N, A> {
         let sleeper = desk.whom_to_tell();
         drop(desk);
         if let Some(caller) = sleeper {
-            self.turns[caller].notify_one();
+            self.turns.each[caller].notify_one();
         }
         match made {
             Ok(reply) => {

@@ -74,7 +74,8 @@ fn talk<N: Layer + Send + Sync, R: Threads + Wait + Sync>(
     let (locked, mut callers) = Locked::<N>::open(alloc, ground, limits, count, max_steps).ok()?;
     let read = read_and_write(rt, alloc, &locked, &mut callers);
     let (part, _kernel) = locked.close(callers).ok()?;
-    Some((read?, part.journal.replay(alloc, limits).ok()?))
+    let journal = part.into_whole()?;
+    Some((read?, journal.replay(alloc, limits).ok()?))
 }
 
 fn main(rt: HostRuntime) -> io::Result<ExitCode> {

@@ -150,7 +150,7 @@ impl<N: Layer, A: Allocator + Copy> Locked<N, A> {
         let caller = me.number();
         let mut desk = self.lock_at_once(rt);
         desk.fall_asleep(caller, number);
-        let mut desk = self.turns[caller as usize].wait_while(
+        let mut desk = self.turns.each[caller as usize].wait_while(
             rt,
             desk,
             |desk| desk.waits_on(caller, number),

@@ -10,5 +10,7 @@ invariant-loop-number g l = record {
   room : l.fn.count ≤ vec_capacity l.callers;
   parts : l.rest.parts + l.number ≡ l.fn.rest.parts;
   amount : l.rest.amount ≡ 0;
+  spare : l.spare.parts + l.number ≡ l.fn.spare.parts;
+  none : l.spare.amount ≡ 0;
   recorder : l.recorder ≡ l.fn.recorder;
 }

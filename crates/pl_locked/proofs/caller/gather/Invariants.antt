@@ -2,7 +2,7 @@ use Rattle.std.proofs.Common.{◌≡◌, ◌+◌, ◌≤◌, ◌++◌, List, len
 use Rattle.std.specs.List.{All}
 use mathlib.Core.List.{IsPrefix}
 use Rattle.pl_model.specs.History.{of}
-use Rattle.pl_locked.specs.Views.{CallerView, IsSub, total_made}
+use Rattle.pl_locked.specs.Views.{CallerView, IsSub, total_handed, total_made}
 use Rattle.pl_locked.proofs.caller.gather.Given as goal
 
 -- the shares of the callers that are gone are in one, and the journal begins with what each of these has seen
@@ -11,6 +11,8 @@ invariant-loop-caller g l = record {
   parts : l.all.parts + length l.callers.items ≡ l.fn.all.parts + length l.fn.callers.items;
   amount : l.all.amount + total_made l.callers.items ≡ l.fn.all.amount + total_made l.fn.callers.items;
   bound : l.all.parts ≤ g.N.Ledger.parts;
+  out : l.out.parts + length l.callers.items ≡ l.fn.out.parts + length l.fn.callers.items;
+  handed : l.out.amount + total_handed l.callers.items ≡ l.fn.out.amount + total_handed l.fn.callers.items;
   recorded : l.recorded ≡ l.fn.recorded;
   gone : List (CallerView g.row.A.Denot);
   all : l.fn.callers.items ≡ l.callers.items ++ gone;

@@ -28,4 +28,5 @@ invariant_of-self g c =
             (sets_together s ws c.args.caller c.args.call (subst (λ (z : Held g.row.A.Denot). SleepAlikeWith (state_of_history g.N.Layer.limits z.journal) c.args.call z.waiting) same (c.joins.ensures.joins w.if-joins.true)))
         | else-joins w ↦ subst (λ x. SleepAlike s (slice_set ws c.args.caller x)) (sym w.asleep-is) (sets_other s ws c.args.caller (Asleep c.args.call) refl (inv.7 alike))
       ],
+      inv.8,
     )

@@ -10,7 +10,7 @@ pub invariant_of-self : goal.invariant_of-self
 invariant_of-self g c =
     let inv = c.self.invariant in
     let none : first_together c.self.inside.waiting.items ≡ None = ap (λ (z : Held g.row.A.Denot). first_together z.waiting) c.self.view_is ∙ sym c.first_together.ensures ∙ c.in-None.is in
-    (inv.0, inv.1, inv.2, inv.3, inv.4, inv.5, inv.6, λ _. alike_of_none (state_of_history g.N.Layer.limits c.self.inside.recorded.journal) c.self.inside.waiting.items none)
+    (inv.0, inv.1, inv.2, inv.3, inv.4, inv.5, inv.6, λ _. alike_of_none (state_of_history g.N.Layer.limits c.self.inside.recorded.journal) c.self.inside.waiting.items none, inv.8)
 
 pub returns-after-self-clause-joins : goal.returns-after-self-clause-joins
 returns-after-self-clause-joins g c = λ is.

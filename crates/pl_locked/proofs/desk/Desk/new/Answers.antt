@@ -11,4 +11,4 @@ pub invariant_of-result : goal.invariant_of-result
 invariant_of-result g c =
     let waiting = length-replicate g.N.Layer.callers Nothing in
     let few : g.N.Layer.max_steps ≤ 2 ^ 62 = omega (arith, c.requires.most.0, c.requires.most.2) in
-    rw (c.requires.recorded, c.requires.counts, c.requires.waiting) (tallies_none g.N.Layer.callers g.N.Layer.max_steps, c.requires.shares, c.requires.most.0, c.requires.most.1, waiting, few, λ _. none_waits g.N.Layer.callers, λ _. none_together {A = g.row.A.Denot} (opening g.N.Layer.limits) g.N.Layer.callers)
+    rw (c.requires.recorded, c.requires.counts, c.requires.waiting) (tallies_none g.N.Layer.callers g.N.Layer.max_steps, c.requires.shares, c.requires.most.0, c.requires.most.1, waiting, few, λ _. none_waits g.N.Layer.callers, λ _. none_together {A = g.row.A.Denot} (opening g.N.Layer.limits) g.N.Layer.callers, c.requires.spare)

@@ -17,14 +17,14 @@ own g c =
 pub invariant_of-me : goal.invariant_of-me
 invariant_of-me g c =
     let inv = c.me.invariant in
-    (inv.0, inv.1, inv.2, c.show.ensures.recorder, own g (goal.at.invariant_of-me g c).After-show)
+    (inv.0, inv.1, inv.2, c.show.ensures.recorder, own g (goal.at.invariant_of-me g c).After-show, inv.5)
 
 pub returns-clause-shown : goal.returns-clause-shown
 returns-clause-shown g c =
     let k = (goal.at.returns-clause-shown g c).After-show in
     let seen = sym c.show.ensures.seen in
     rw (← c.me.view_is) (
-      record { number = refl; made = refl; earlier = subst (IsPrefix c.me.inside.eye.seen) seen c.show.ensures.earlier },
+      record { number = refl; made = refl; handed = refl; earlier = subst (IsPrefix c.me.inside.eye.seen) seen c.show.ensures.earlier },
       record {
         legal = subst (IsLegal g.N.Layer.limits) seen c.show.ensures.legal;
         room = subst (λ (h : List (Entry g.row.A.Denot)). length h ≤ g.N.Layer.max_steps) seen c.self.invariant.0.room;

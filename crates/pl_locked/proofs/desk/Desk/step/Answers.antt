@@ -10,6 +10,7 @@ use Rattle.pl_model.specs.Numbered.{State, step}
 use Rattle.pl_model.proofs.Journals.{state-push}
 use Rattle.std.specs.List.{list_any}
 use Rattle.pl_locked.specs.Waking.{is_of_together, SleepAlike}
+use Rattle.pl_locked.specs.Journals.{Owes}
 use Rattle.pl_locked.proofs.Sleeping.{sleep_on}
 use Rattle.pl_locked.specs.Views.{CallerView, Held, IsSub}
 use Rattle.pl_locked.proofs.Subs.{sub_made}
@@ -37,7 +38,7 @@ module _ (g : Over) (c : After-add g) where
   journal-is : before ≡ c.args.self.now.journal
   journal-is = ap (λ (d : Held A). d.journal) (c.self.view_is ∙ c.show.ensures.same)
 
-  me-is : record { number = k; seen = c.me.inside.eye.seen; made = c.me.inside.made } ≡ record c.args.me.now { seen = c.args.self.now.journal }
+  me-is : record { number = k; seen = c.me.inside.eye.seen; made = c.me.inside.made; handed = c.me.inside.handed.amount } ≡ record c.args.me.now { seen = c.args.self.now.journal }
   me-is = c.me.view_is ∙ c.show.ensures.seen
 
   k-is : k ≡ c.args.me.now.number
@@ -85,7 +86,7 @@ invariant_of-me-2 g c =
     let more : length (c.me.inside.made ++ now g w ∷ []) ≡ length c.me.inside.made + 1 = length-append c.me.inside.made (now g w ∷ []) in
     let was : c.me.inside.share.amount ≡ length c.me.inside.made = inv.2 in
     let is = c.add.ensures.amount in
-    (inv.0, c.add.ensures.parts ∙ inv.1, omega arith, c.in_ok-reply.ensures.eye, own g w)
+    (inv.0, c.add.ensures.parts ∙ inv.1, omega arith, c.in_ok-reply.ensures.eye, own g w, inv.5)
 
 pub returns-clause-made : goal.returns-clause-made
 returns-clause-made g c =
@@ -102,6 +103,7 @@ returns-clause-made g c =
     (seen g w ∙ ap (λ (j : ℕ). h ++ entry j n c.args.step c.in_ok-reply.reply ∷ []) (k-is g w))
     (c.in_ok-reply.ensures.made ∙ (λ i. (me-is g w i).made ++ entry (k-is g w i) n c.args.step c.in_ok-reply.reply ∷ []))
     (k-is g w)
+    (ap (λ (v : CallerView (A g w)). v.handed) (me-is g w))
     record { legal = subst (IsLegal g.N.Layer.limits) (sym c.in_ok-reply.ensures.seen) c.in_ok-reply.ensures.legal; room = less; own = own g w }
 
 pub invariant_of-self-2 : goal.invariant_of-self-2
@@ -127,4 +129,5 @@ invariant_of-self-2 g c =
             subst (λ (u : State (A g w)). SleepAlike u ws) (sym pushed) (sleep_on s c.args.step ws none (inv.7 b.if-self.true))
         | else-self b ↦ absurd (cc)
       ],
+      subst (λ (n : ℕ). Owes g.N.Layer.callers n c.self.inside.handed.total c.self.inside.spare.parts c.self.inside.spare.amount) (sym c.in_ok-reply.ensures.first) inv.8,
     )
