@@ -600,8 +600,10 @@ void bindingclay_stats(bindingclay clay, bindingclay_segment_use *segments);
  *
  * A call that makes no step leaves nothing in the record. Such are the calls under "What is there", a call that is refused before all else,
  * and one that answers BINDINGCLAY_NO_MEMORY or BINDINGCLAY_SHORT. The record is held in the kernel's memory, within its limit, until it
- * is handed out. So while steps are recorded, any call that makes one may answer BINDINGCLAY_NO_MEMORY, also one that asks for no memory
- * otherwise. It has changed nothing then. A read asks for as much memory as there is room for its bytes. */
+ * is handed out. So while steps are recorded, a call that makes one may answer BINDINGCLAY_NO_MEMORY, also one that asks for no memory
+ * otherwise. It has changed nothing then. Hand out the record, and make the call again. Once all of it is handed out, the next 64 calls of
+ * bindingclay_close, bindingclay_exit and bindingclay_interrupt ask for no memory. A read asks for as much memory as there is room for its
+ * bytes, and for four times the bytes that it may give. */
 
 /* Begins to record the steps of a kernel, or ends that if on is false, which drops what wasn't handed out. Fails with EINVAL to begin if a
  * process was started or a recording begun before, as a record has all steps of its kernel. To end it never fails, and asks for no
@@ -610,7 +612,7 @@ bindingclay_answer bindingclay_record(bindingclay clay, bool on);
 
 /* Hands out the record: writes the first bytes that weren't handed out yet to the first of the size bytes at into. Value: how many. It is 0
  * only if none is left, or size is 0; so call it until it is 0. A line may be handed out in parts. Bytes that were handed out are kept no
- * longer. Fails with EINVAL if no recording goes on. */
+ * longer. No limit on the memory of the kernel makes it fail. Fails with EINVAL if no recording goes on. */
 bindingclay_answer bindingclay_recorded(bindingclay clay, uint8_t *into, size_t size);
 
 /* ---- Buffers of no bytes, and sizes that are none ---- */

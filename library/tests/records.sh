@@ -45,6 +45,12 @@ try_records() {
         under_valgrind records_memory "$work/records_under_valgrind"
     fi
     passes "records of calls" "$work/records_of_calls" 6
+    mkdir "$work/records_in_budgets"
+    if build records_budget "$counted"; then
+        plainly records_budget 2003 "$work/records_in_budgets" && sed 's/^/records_budget: /' "$work/log"
+        under_valgrind records_budget 40009 "$work/records_under_valgrind"
+    fi
+    passes "records in budgets" "$work/records_in_budgets" 40
     if [ -x "$piperun" ]; then
         check "records of C with changed digits" record_of_c_with_changed_digits
     fi

@@ -32,25 +32,40 @@ impl<A: Allocator> String<A> {
         Ok(made)
     }
 
+    pub fn with_capacity(alloc: A, capacity: usize) -> Result<Self, AllocError> {
+        let mut made = String::new(alloc);
+        made.grow(capacity)?;
+        Ok(made)
+    }
+
     /// The text of bytes that are ASCII, in their memory.
     pub(super) fn from_ascii(bytes: Vec<u8, A>, alloc: A) -> Self {
         let text = ::alloc::string::String::from_utf8(bytes.handed_on()).expect("ASCII");
         String { text, alloc }
     }
 
+    /// Takes memory for so many bytes, which are more than there is memory for.
+    fn grow(&mut self, most: usize) -> Result<(), AllocError> {
+        // just what is asked for, of which `std` would take more
+        let text = &mut self.text;
+        self.alloc.grows(text.capacity(), most, || {
+            text.try_reserve_exact(most - text.len()).is_ok()
+        })
+    }
+
+    #[inline]
+    pub fn reserve(&mut self, more: usize) -> Result<(), AllocError> {
+        if more > self.text.capacity() - self.text.len() {
+            let wanted = self.text.len().saturating_add(more);
+            let twice = self.text.capacity().saturating_mul(2);
+            self.grow(wanted.max(twice).max(FEWEST))?;
+        }
+        Ok(())
+    }
+
     #[inline]
     pub fn push_str(&mut self, more: &str) -> Result<(), AllocError> {
-        if more.len() > self.text.capacity() - self.text.len() {
-            let wanted = self.text.len().saturating_add(more.len());
-            let most = wanted
-                .max(self.text.capacity().saturating_mul(2))
-                .max(FEWEST);
-            // just what is asked for, of which `std` would take more
-            let text = &mut self.text;
-            self.alloc.grows(text.capacity(), most, || {
-                text.try_reserve_exact(most - text.len()).is_ok()
-            })?;
-        }
+        self.reserve(more.len())?;
         self.text.push_str(more);
         Ok(())
     }
@@ -88,6 +103,17 @@ impl<A: Allocator> String<A> {
 
     pub fn clear(&mut self) {
         self.text.clear();
+    }
+
+    /// Gives back memory, but for so many bytes, if there is memory to move what is left.
+    pub fn shrink_to(&mut self, least: usize) {
+        let (from, to) = (self.text.capacity(), self.text.len().max(least));
+        let mut smaller = ::alloc::string::String::new();
+        if to < from && smaller.try_reserve_exact(to).is_ok() {
+            smaller.push_str(&self.text);
+            self.text = smaller;
+            self.alloc.shrinks(from, to);
+        }
     }
 }
 

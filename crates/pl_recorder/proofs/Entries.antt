@@ -1,5 +1,5 @@
 -- How a step becomes part of the record.
-use Rattle.std.proofs.Common.{◌≡◌, ◌≤◌, ℕ, Bool, true, false, Option, List, [], ◌++◌, length, take, drop, refl, sym, ap, ◌∙◌, subst, append_assoc, take-append-drop, arith}
+use Rattle.std.proofs.Common.{◌≡◌, ◌≤◌, ℕ, false, Option, List, [], ◌++◌, length, take, drop, refl, sym, ap, ◌∙◌, subst, append_assoc, take-append-drop, arith}
 use Rattle.std.specs.Prelude.{⊤, MatchOption, is_some}
 use Rattle.std.specs.declared.option.Option.TheVariants.{None, Some}
 use Rattle.std.specs.Str.{IsUtf8}
@@ -8,7 +8,6 @@ use Rattle.std.proofs.lemmas.Str.{IsCharBoundary-from_take}
 use Rattle.std.proofs.lemmas.List.{append-nil, length-append}
 use Rattle.std.proofs.Math.Seq.{take-append_seam}
 use Rattle.pl_model.specs.declared.replies.Reply.{Reply}
-use Rattle.pl_recording.specs.Record.{ended, comment_text}
 use Rattle.pl_recorder.specs.Unread.{owed, text_before, line_in}
 
 -- a line begins where a character ends

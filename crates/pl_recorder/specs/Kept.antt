@@ -9,3 +9,7 @@ module _ {A : Type 0} where
   pub record IsKept (read : ℕ) (reading : List ℕ) (line : Option ℕ) (text : List ℕ) (last : Option (Reply A)) : Type 0 where
     pub within : read ≤ length reading
     pub begun : (start : ℕ) → line ≡ Some start → IsSplitPoint text start × (is_some last ≡ false)
+
+-- the bytes of room that only lines of Close, Exit and Interrupt may fill
+abbrev pub kept : ℕ
+kept = 4096

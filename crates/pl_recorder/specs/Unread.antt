@@ -1,5 +1,5 @@
 -- What a recorder has written and not handed out.
-use Rattle.std.specs.Prelude.{◌≡◌, ℕ, List, [], ◌++◌, length, take, drop, string_bytes, Option}
+use Rattle.std.specs.Prelude.{◌≡◌, ◌≤◌, ◌+◌, ℕ, List, [], ◌++◌, length, take, drop, string_bytes, string_len, string_capacity, Option}
 use Rattle.std.specs.declared.option.Option.TheVariants.{None, Some}
 use Rattle.pl_model.specs.declared.replies.Reply.{Reply}
 use Rattle.pl_recording.specs.Record.{ended, comment_text}
@@ -28,6 +28,14 @@ module _ {A : Type 0} where
   -- the line of a step that isn't made yet
   abbrev pub line_of : Recorder A → Option (List ℕ)
   line_of r = line_in r.line (string_bytes r.text)
+
+  -- so many bytes fit behind the text
+  abbrev pub HasRoom : Recorder A → ℕ → Type 0
+  HasRoom r n = string_len r.text + n ≤ string_capacity r.text
+
+  -- the text has the comment of each step, so that handing out writes none
+  abbrev pub IsTold : Recorder A → Type 0
+  IsTold r = r.last ≡ None
 
   -- the text has the comment of each step, and so many bytes
   pub record IsSettled (r : Recorder A) (len : ℕ) : Type 0 where

@@ -8,4 +8,4 @@
 mod reading;
 mod recorder;
 
-pub use recorder::Recorder;
+pub use recorder::{Most, Recorder};

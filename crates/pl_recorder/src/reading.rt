@@ -1,5 +1,5 @@
 //! How a record is handed out.
-use crate::recorder::Recorder;
+use crate::recorder::{KEPT, Recorder};
 use std::alloc::{AllocError, Allocator};
 use std::mem;
 
@@ -7,14 +7,15 @@ use std::mem;
 const MOST_KEPT: usize = 65_536;
 
 impl<A: Allocator + Copy> Recorder<A> {
-    ghost use Rattle.std.specs.Prelude.{◌≡◌, ◌≤◌, ◌⊎◌, ◌++◌, [], IfOk, OnOk, OnErr, length, take, drop, string_bytes};
-    ghost use Rattle.pl_recorder.specs.Unread.{unread, HasTurned};
+    ghost use Rattle.std.specs.Prelude.{◌≡◌, ◌≤◌, ◌⊎◌, ◌++◌, [], IfOk, IsOk, OnOk, OnErr, length, take, drop, string_bytes};
+    ghost use Rattle.pl_recorder.specs.Unread.{unread, HasTurned, IsTold};
 
     // Begins to hand out the text that was written since; if there is none, the comment that the last step still lacks.
     fn turn(&mut self) -> Result<(), AllocError>
         requires { self.old.read ≡ length (string_bytes self.old.reading) }
         ensures unread { unread self.new ≡ unread self.old }
         ensures done { OnOk result (HasTurned self.new) }
+        ensures frugal { IsTold self.old → IsOk result }
     {
         self.cancel();
         if self.text.len() == 0 {
@@ -23,7 +24,7 @@ impl<A: Allocator + Copy> Recorder<A> {
         mem::swap(&mut self.reading, &mut self.text);
         self.text.clear();
         if self.text.capacity() > MOST_KEPT {
-            self.text = String::new(self.alloc);
+            self.text.shrink_to(KEPT);
         }
         self.read = 0;
         Ok(())
@@ -34,7 +35,8 @@ impl<A: Allocator + Copy> Recorder<A> {
     ///
     /// # Errors
     ///
-    /// `AllocError` if nothing is left but the comment of the last step, and there is no memory for it. All stays as it was.
+    /// `AllocError` if nothing is left but the comment of the last step, for which no room was taken, and there is no memory for it. All stays as it
+    /// was.
     pub fn read(&mut self, into: &mut [u8]) -> Result<usize, AllocError>
         ensures within { IfOk result (λ count. count ≤ length into.old) }
         ensures bytes { IfOk result (λ count. into.new ≡ take count (unread self.old) ++ drop count into.old) }
@@ -42,6 +44,7 @@ impl<A: Allocator + Copy> Recorder<A> {
         ensures some { IfOk result (λ count. count ≡ 0 → (length into.old ≡ 0) ⊎ (unread self.old ≡ [])) }
         ensures same { OnErr result (unread self.new ≡ unread self.old) }
         ensures unwritten { OnErr result (into.new ≡ into.old) }
+        ensures frugal { IsTold self.old → IsOk result }
     {
         if self.read == self.reading.len() {
             self.turn()?;

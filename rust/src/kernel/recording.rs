@@ -1,6 +1,7 @@
 //! Records: when steps are recorded, how the record is handed out, and the steps that are recorded.
 //!
-//! The line of a step is written before the step is made, and with it room is taken for its reply. So nothing that follows a step takes memory.
+//! The line of a step is written before the step is made, and with it room is taken for its reply. So nothing that follows a step takes memory, and
+//! nor does handing out.
 
 use super::Kernel;
 use crate::faults::{NoMemory, NotDone};
@@ -8,7 +9,7 @@ use crate::memory::{Allocator, Vec};
 use crate::parts::kernel::{PollReply, ReadReply, Resumed, WriteReply};
 use crate::parts::model::numbers::MAX_BYTES;
 use crate::parts::polls::{asked_of, mark_entries};
-use crate::parts::recorder::Recorder;
+use crate::parts::recorder::{Most, Recorder};
 use crate::{Bytes8, Call, CallKind, Errno, MaskList, Outcome, PollEntry, PollMask, Reply, Step};
 
 /// More bytes than any pipe holds, so that no read that waited gives more.
@@ -204,6 +205,11 @@ fn reply_of_write<A: Allocator>(reply: WriteReply) -> Reply<A> {
     }
 }
 
+/// What the reply of a poll of so many entries has at most. Nobody has memory for more than can be told.
+fn most_polled(entries: usize) -> Most {
+    Most::Masks(u32::try_from(entries).unwrap_or(u32::MAX))
+}
+
 /// What a poll of the caller's entries told, by the reply of its step.
 fn poll_reply_of<A: Allocator>(reply: &Reply<A>) -> PollReply {
     match reply {
@@ -217,11 +223,32 @@ fn poll_reply_of<A: Allocator>(reply: &Reply<A>) -> PollReply {
 
 // The steps of a kernel that is recorded; without a recording they are the kernel's own.
 impl<A: Allocator + Copy> Kernel<A> {
-    /// Writes the line of a step that is to be made.
-    fn begin_line(&mut self, step: &Step<A>) -> Result<(), NoMemory> {
+    /// Writes the line of a step that is to be made, and takes room for a reply that has this at most.
+    fn begin_line(&mut self, step: &Step<A>, most: Most) -> Result<(), NoMemory> {
         match &mut self.recorder {
-            Some(recorder) => recorder.begin(step).map_err(|_| NoMemory),
+            Some(recorder) => recorder.begin(step, most).map_err(|_| NoMemory),
             None => Ok(()),
+        }
+    }
+
+    /// What the reply of a read of so many bytes has at most: those that its pipe holds, or its file has.
+    fn most_read(&self, pid: u32, fd: i32, n: u32) -> Most {
+        match self.inner.fd_facts(pid, fd) {
+            Some(facts) => Most::Bytes(facts.size.min(n)),
+            None => Most::Plain,
+        }
+    }
+
+    /// What the reply of a step has at most.
+    fn most_of(&self, step: &Step<A>) -> Most {
+        match step {
+            Step::Begin(pid, Call::Read { fd, n }) => self.most_read(*pid, *fd, *n),
+            Step::Begin(_, Call::Poll { entries, .. }) => most_polled(entries.as_slice().len()),
+            Step::Resume(number) => match self.inner.call_facts(*number) {
+                Some(facts) if facts.kind == CallKind::Read => Most::Bytes(MOST_CAPACITY as u32),
+                _ => most_polled(self.inner.ready_entries(*number)),
+            },
+            _ => Most::Plain,
         }
     }
 
@@ -249,7 +276,7 @@ impl<A: Allocator + Copy> Kernel<A> {
 
     #[cold]
     pub(super) fn step_recorded(&mut self, step: Step<A>) -> Result<Reply<A>, NoMemory> {
-        self.begin_line(&step)?;
+        self.begin_line(&step, self.most_of(&step))?;
         let answered = self.inner.step_pair(step);
         let (reply, again) = self.made(answered)?;
         self.end_line(again);
@@ -271,7 +298,7 @@ impl<A: Allocator + Copy> Kernel<A> {
             _ => (0, 0),
         };
         let room = Room::new(self.alloc, bytes, masks)?;
-        self.begin_line(&step)?;
+        self.begin_line(&step, self.most_of(&step))?;
         let answered = self.inner.step_pair(step);
         let (reply, again) = self.made(answered)?;
         self.end_line(room.copy_of(&reply));
@@ -319,7 +346,10 @@ impl<A: Allocator + Copy> Kernel<A> {
     ) -> Result<ReadReply, NoMemory> {
         let room = Room::new(self.alloc, MAX_BYTES.min(into.len()), 0)?;
         let n = into.len() as u32;
-        self.begin_line(&Step::Begin(pid, Call::Read { fd, n }))?;
+        self.begin_line(
+            &Step::Begin(pid, Call::Read { fd, n }),
+            self.most_read(pid, fd, n),
+        )?;
         let answered = self.inner.read_into(pid, fd, into);
         let reply = self.made(answered)?;
         self.end_line(room.reply_of_read(reply, into));
@@ -341,7 +371,7 @@ impl<A: Allocator + Copy> Kernel<A> {
                 wait,
             },
         );
-        self.begin_line(&step)?;
+        self.begin_line(&step, most_polled(entries.len()))?;
         let answered = self.inner.step(step);
         let reply = self.made(answered)?;
         mark_entries(&reply, entries);
@@ -360,7 +390,11 @@ impl<A: Allocator + Copy> Kernel<A> {
     ) -> Result<Resumed<A>, NoMemory> {
         let bytes = MOST_CAPACITY.min(into.len());
         let room = Room::new(self.alloc, bytes, masks)?;
-        self.begin_line(&Step::Resume(number))?;
+        let most = match masks {
+            0 => Most::Bytes(bytes as u32),
+            _ => most_polled(masks),
+        };
+        self.begin_line(&Step::Resume(number), most)?;
         let answered = self.inner.resume_into(number, &mut into[..bytes]);
         let resumed = self.made(answered)?;
         match &resumed {

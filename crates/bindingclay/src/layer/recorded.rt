@@ -23,7 +23,7 @@ use pl_kernel::{Kernel, NoMemory, PollEntry, ReadReply, Resumed, WriteReply};
 use pl_model::{Bytes8, Call, Reply, Step};
 use pl_numbers::{Answer, Ends, answer_of, tell_ends};
 use pl_polls::{asked_of, mark_entries};
-use pl_recorder::Recorder;
+use pl_recorder::{Most, Recorder};
 
 /// More bytes than any pipe holds, so that no read that waited gives more.
 const MOST_CAPACITY: usize = 1_048_576;
@@ -37,6 +37,19 @@ fn bytes_in(mut room: Vec<u8, Heap>, bytes: &[u8]) -> Bytes8<Heap>
 {
     room.extend_from_slice(bytes).unwrap();
     Bytes8::from_vec(room).unwrap()
+}
+
+// What the reply of a read of so many bytes has at most: those that its pipe holds, or its file has.
+fn most_read(kernel: &Kernel<Heap>, pid: u32, fd: i32, n: u32) -> Most {
+    match kernel.fd_facts(pid, fd) {
+        Some(facts) => Most::Bytes(facts.size.min(n)),
+        None => Most::Plain,
+    }
+}
+
+// What the reply of a poll of so many entries has at most. Nobody has memory for more than can be told.
+fn most_polled(entries: usize) -> Most {
+    Most::Masks(entries.min(u32::MAX as usize) as u32)
 }
 
 // The reply of a read into the caller's bytes, with room for those that it read.
@@ -80,7 +93,7 @@ pub(super) fn step(
     ensures makes { Makes kernel.old step.entry result kernel.new }
     ensures records { IsRecorded kernel.old (unread recorder.old) step.entry result (unread recorder.new) }
 {
-    if recorder.begin(&step).is_err() {
+    if recorder.begin(&step, Most::Plain).is_err() {
         return no_memory();
     }
     match kernel.step(step) {
@@ -112,7 +125,7 @@ pub(super) fn pipe(
     ensures records { IsRecorded kernel.old (unread recorder.old) (StepOf.Begin pid (CallOf.Pipe nonblock direct)) result (unread recorder.new) }
 {
     let step = Step::Begin(pid, Call::Pipe { nonblock, direct });
-    if recorder.begin(&step).is_err() {
+    if recorder.begin(&step, Most::Plain).is_err() {
         return no_memory();
     }
     match kernel.step(step) {
@@ -149,10 +162,9 @@ pub(super) fn read(
         return no_memory();
     };
     let n = into.len() as u32;
-    if recorder
-        .begin(&Step::Begin(pid, Call::Read { fd, n }))
-        .is_err()
-    {
+    let most = most_read(kernel, pid, fd, n);
+    let step = Step::Begin(pid, Call::Read { fd, n });
+    if recorder.begin(&step, most).is_err() {
         return no_memory();
     }
     match kernel.read_into(pid, fd, into) {
@@ -222,7 +234,7 @@ pub(super) fn poll(
             wait,
         },
     );
-    if recorder.begin(&step).is_err() {
+    if recorder.begin(&step, most_polled(entries.len())).is_err() {
         return no_memory();
     }
     match kernel.step(step) {
@@ -274,7 +286,8 @@ fn gather_few(
     let Ok(room) = Vec::with_capacity(heap, into.len()) else {
         return no_memory();
     };
-    if recorder.begin(&Step::Resume(number)).is_err() {
+    let most = Most::Bytes(into.len() as u32);
+    if recorder.begin(&Step::Resume(number), most).is_err() {
         return no_memory();
     }
     let before = taken_so_far(kernel, number);
@@ -316,7 +329,8 @@ pub(super) fn resume_poll(
     ensures entries { Notes kernel.old number entries.old result entries.new }
     ensures records { IsTryRecorded kernel.old (unread recorder.old) number result (unread recorder.new) }
 {
-    if recorder.begin(&Step::Resume(number)).is_err() {
+    let most = most_polled(kernel.ready_entries(number));
+    if recorder.begin(&Step::Resume(number), most).is_err() {
         return no_memory();
     }
     let before = taken_so_far(kernel, number);

@@ -1,6 +1,5 @@
-use Rattle.std.proofs.Common.{◌≡◌, Option, List, ℕ, false, refl, ap, sym, subst, string_bytes}
+use Rattle.std.proofs.Common.{ap, subst, string_bytes}
 use Rattle.std.specs.Prelude.{is_some}
-use Rattle.std.specs.declared.option.Option.TheVariants.{Some}
 use Rattle.std.specs.String.Boundary.{IsSplitPoint}
 use Rattle.pl_recorder.proofs.Entries.{begins}
 use Rattle.pl_recorder.proofs.recorder.Recorder.begin_write.Goals as goal
