@@ -105,13 +105,15 @@ type End = fn(&Process) -> Result<()>;
 
 #[test]
 fn a_call_ends_that_cannot_be_recorded() -> Result<()> {
-    let ends: [(End, ErrorKind); 3] = [
-        (Process::interrupt, ErrorKind::Interrupted),
-        (Process::exit, ErrorKind::Other),
+    let interrupted = "interrupt 1\n# => EINTR\n";
+    let ends: [(End, ErrorKind, &str); 3] = [
+        (Process::interrupt, ErrorKind::Interrupted, interrupted),
+        (Process::exit, ErrorKind::Other, "1 exit\n# => ok\n"),
         // it is over soon
-        (|_| Ok(()), ErrorKind::TimedOut),
+        (|_| Ok(()), ErrorKind::TimedOut, interrupted),
     ];
-    for (end, kind) in ends {
+    let mut unrecorded = 0;
+    for (end, kind, lines) in ends {
         let (kernel, process, mut reader) = filled()?;
         thread::scope(|scope| -> Result<()> {
             if kind == ErrorKind::TimedOut {
@@ -131,9 +133,17 @@ fn a_call_ends_that_cannot_be_recorded() -> Result<()> {
             );
             Ok(())
         })?;
-        is_refused(kernel.recorded(&mut [0; 8]));
+        // a short line may find the last bytes of the room
+        match kernel.recorded(&mut []) {
+            Ok(_) => assert!(handed_out(&kernel)?.ends_with(lines)),
+            Err(fault) => {
+                assert_eq!(fault.raw_os_error(), Some(EINVAL));
+                unrecorded += 1;
+            }
+        }
         assert_eq!(kernel.waiting(), 0);
     }
+    assert!(unrecorded > 0);
     Ok(())
 }
 
