@@ -38,11 +38,13 @@ sanitized() {
         check "$name with -fsanitize=$word" timeout 300 "$work/sanitized" "$@"
 }
 
-# without_races_of_front NAME: builds a test and the front for helgrind, and looks for races. There the lock goes without what helgrind doesn't know.
+# without_races_of_front NAME ARGUMENT..: builds a test and the front for helgrind, and looks for races. There the lock goes without what helgrind doesn't know.
 without_races_of_front() {
+    name=$1
+    shift
     # shellcheck disable=SC2086
-    check "building $1 for helgrind" "$cc" $strict -O1 -DBC_FOR_HELGRIND "-I$work/prefix/include" -o "$work/races_in_$1" \
-        "$here/tests/$1.c" "$here"/blocking/*.c "-L$work/prefix/lib" -lbindingclay -pthread $wraps && without_races "races_in_$1"
+    check "building $name for helgrind" "$cc" $strict -O1 -DBC_FOR_HELGRIND "-I$work/prefix/include" -o "$work/races_in_$name" \
+        "$here/tests/$name.c" "$here"/blocking/*.c "-L$work/prefix/lib" -lbindingclay -pthread $wraps && without_races "races_in_$name" "$@"
 }
 
 # silent_under TOOL: whether a tool of valgrind's says nothing of a program without races, over what is installed for it.
@@ -90,7 +92,7 @@ try_front() {
     if build_front shared_close; then
         plainly shared_close
         under_valgrind shared_close 5
-        without_races_of_front shared_close
+        without_races_of_front shared_close 5
         sanitized shared_close thread
         sanitized shared_close address,undefined
     fi
