@@ -6,17 +6,15 @@ and then other places of calls before it.
 """
 from __future__ import annotations
 
-import copy
-import itertools
-from dataclasses import dataclass, field, replace
-from typing import Dict, FrozenSet, Iterator, List, Optional, Tuple
+from dataclasses import dataclass
+from typing import Dict, Iterator, List, Optional, Tuple
 
-from machine import Machine
 from script import Version, parse_line, reply_text
 from state import Pipe
 from streams import filled, moved, read_through
 from tables import Line, Node, Process
 from turning import Operation
+from undoing import Journal, Layer, Table
 
 # how many calls may be tried before one that returns; how many places are gone back for a difference, and how many are tried
 MOST_BEFORE = 3
@@ -36,33 +34,54 @@ class Said:
     before: Optional["Said"] = None
 
 
-@dataclass
+# a step of the search: an operation that went on, or so many of its parts
+Action = Tuple[Operation, Optional[int]]
+
+
 class State:
-    """The layer at a moment, by the model, with what the script has until then."""
+    """The layer at a moment, by the model, with what the script has until then. A journal takes it back to a moment before."""
 
-    machine: Machine = field(default_factory=Machine)
-    pids: Dict[Process, int] = field(default_factory=dict)
-    parked: Dict[Operation, int] = field(default_factory=dict)
-    done: FrozenSet[Operation] = frozenset()
-    said: Optional[Said] = None
-    # what was read of each pipe on the host, and how much of it was taken by now
-    streams: Dict[Node, bytes] = field(default_factory=dict)
-    taken: Dict[Node, int] = field(default_factory=dict)
+    def __init__(self, streams: Dict[Node, bytes]) -> None:
+        self.journal = Journal()
+        self.machine = Layer(self.journal)
+        self.pids: Dict[Process, int] = Table(self.journal)
+        self.parked: Dict[Operation, int] = Table(self.journal)
+        self.done: Dict[Operation, bool] = Table(self.journal)
+        self.said: Optional[Said] = None
+        # what was read of each pipe on the host, and how much of it was taken by now
+        self.streams = streams
+        self.taken: Dict[Node, int] = Table(self.journal)
+        # what led to this moment
+        self.actions: List[Action] = []
 
-    def copied(self) -> "State":
-        """A state that changes on its own."""
-        machine = copy.deepcopy(self.machine)
-        return State(machine, dict(self.pids), dict(self.parked), self.done, self.said, self.streams, dict(self.taken))
+    def act(self, operation: Operation, count: Optional[int] = None) -> None:
+        """Notes what is done next."""
+        self.actions.append((operation, count))
+        self.journal.note(self.actions.pop)
+
+    def act_again(self, actions: List[Action]) -> None:
+        """Does what was done once at this very moment."""
+        for operation, count in actions:
+            if count is None:
+                self.go_on(operation)
+            else:
+                self.part(operation, count)
+
+    def have_said(self, said: Optional[Said]) -> None:
+        """The script has this from now on."""
+        before = self.said
+        self.journal.note(lambda: setattr(self, "said", before))
+        self.said = said
 
     def make(self, words: str) -> str:
         """Makes the step of a line, and tells its reply."""
         request = parse_line(words.encode("latin-1"), Version.TWO)
         assert request is not None
-        return reply_text(request.step(self.machine), Version.TWO)
+        return reply_text(self.machine.make(request), Version.TWO)
 
     def say(self, operation: Operation, words: str, reply: Optional[str]) -> None:
         """Adds to the script."""
-        self.said = Said(operation, words, reply, self.said)
+        self.have_said(Said(operation, words, reply, self.said))
 
     def step(self, operation: Operation, line: Line, words: str) -> Tuple[bool, str]:
         """Makes a step that ends a line of an operation: whether its reply is the host's, and its text."""
@@ -73,6 +92,7 @@ class State:
 
     def go_on(self, operation: Operation) -> str:
         """Takes an operation a step further: `done` as on the host, `parked`, `same` if it waits as before, or how it differs."""
+        self.act(operation)
         pipe = filled(self.machine, self.pids.get(operation.process, 0), self.parked.get(operation), operation)
         held = len(pipe.content) if pipe is not None else 0
         outcome = self._again(operation) if operation in self.parked else self._begin(operation)
@@ -92,12 +112,14 @@ class State:
         """Makes the lines of an operation."""
         if operation.comments:
             self.say(operation, "#", None)
+        if operation.process not in self.pids and operation.name != "start":
+            return "no process"
         for line in operation.lines:
             words = line.words if line.words == "start" else f"{self.pids[operation.process]} {line.words}"
             before = self.said
             agrees, text = self.step(operation, line, words)
             if text.startswith("parked "):
-                self.said = before
+                self.have_said(before)
                 self.say(operation, words, text)
                 self.parked[operation] = int(text.split()[1])
                 return "parked"
@@ -105,16 +127,17 @@ class State:
                 self.pids[operation.child] = int(text.split()[1])
             if not agrees:
                 return text
-        self.done |= {operation}
+        self.done[operation] = True
         return "done"
 
     def part(self, operation: Operation, count: int) -> None:
         """Makes the first parts of an operation: those that were made before aren't there any more."""
+        self.act(operation, count)
         for line in operation.parts[:count]:
             words = f"{self.pids[operation.process]} {line.words}"
             before = self.said
             if self.step(operation, line, words)[1] != line.reply:
-                self.said = before
+                self.have_said(before)
 
     def _again(self, operation: Operation) -> str:
         """A waiting call is tried again, or interrupted if a signal ended it on the host."""
@@ -124,17 +147,36 @@ class State:
         agrees, text = self.step(operation, line, f"{'interrupt' if operation.is_interrupted else 'resume'} {number}")
         if text == f"parked {number}":
             call = self.machine.waiting[number]
-            self.said = before
+            self.have_said(before)
             if getattr(call, "taken", None) == taken:
                 return "same"
             self.say(operation, f"resume {number}", text)
             return "parked"
         del self.parked[operation]
-        self.done |= {operation}
+        self.done[operation] = True
         return "done" if agrees else text
 
 
 Event = Tuple[int, int, Operation]
+
+
+@dataclass(frozen=True)
+class Choice:
+    """An event, the state before it by its place in the journal and how much was done, and the ways in which the event may go."""
+
+    at: int
+    mark: int
+    done: int
+    ways: Iterator[bool]
+
+
+@dataclass(frozen=True)
+class Reached:
+    """The event that comes next where a search has come to, and how one comes there again: what to do from a place in the journal on."""
+
+    at: int
+    mark: int
+    actions: List[Action]
 
 
 class Placer:
@@ -149,31 +191,43 @@ class Placer:
             if operation.last is not None:
                 self.events.append((operation.last, 1, operation))
         self.streams = read_through(operations)
+        self.state = State(self.streams)
         # a process is there before its first call
         self.events.sort(key=lambda event: (event[0], -1 if event[2].child is not None else event[1]))
         self.flying = list(self._in_flight())
 
     def place(self) -> State:
         """The last state, which has the script."""
-        state, at, tries = State(streams=self.streams), 0, 0
-        choices = [(0, self._next(state, 0))] if self.events else []
-        furthest = (0, state)
+        state, at, tries = self.state, 0, 0
+        choices = [self._choice(0)] if self.events else []
+        furthest = Reached(0, 0, [])
         while at < len(self.events):
-            found = next(choices[-1][1], None) if choices and tries < MOST_TRIES else None
-            if found is not None:
-                at, state = choices[-1][0] + 1, found
-                tries += 1
-            elif choices and tries < MOST_TRIES:
-                choices.pop()
-                continue
+            if choices and tries < MOST_TRIES:
+                if next(choices[-1].ways, None) is None:
+                    choices.pop()
+                    continue
+                at, tries = choices[-1].at + 1, tries + 1
             else:
-                at, state = furthest[0] + 1, self._differ(furthest[1], self.events[furthest[0]][2])
-                choices = []
-            if at > furthest[0]:
-                furthest, tries = (at, state), 0
+                state.journal.back_to(furthest.mark)
+                state.act_again(furthest.actions)
+                self._differ(self.events[furthest.at][2])
+                at, choices = furthest.at + 1, []
+            if at > furthest.at:
+                furthest, tries = self._reached(at, choices), 0
             if at < len(self.events):
-                choices = [*choices[-MOST_CHOICES:], (at, self._next(state, at))]
+                choices = [*choices[-MOST_CHOICES:], self._choice(at)]
         return state
+
+    def _choice(self, at: int) -> Choice:
+        """An event that comes next."""
+        return Choice(at, self.state.journal.mark, len(self.state.actions), self._next(at, self.state.journal.mark))
+
+    def _reached(self, at: int, choices: List[Choice]) -> Reached:
+        """Where the search has come to. It never goes back before its first choice."""
+        journal, actions = self.state.journal, self.state.actions
+        mark, done = (choices[0].mark, choices[0].done) if choices else (journal.mark, len(actions))
+        journal.forget(mark)
+        return Reached(at, mark, actions[done:])
 
     def _in_flight(self) -> Iterator[Tuple[Operation, ...]]:
         """For each event the calls that began before it and didn't return before it."""
@@ -184,24 +238,39 @@ class Placer:
             if kind == 0:
                 flying.append(operation)
 
-    def _next(self, state: State, at: int) -> Iterator[State]:
-        """The states behind an event, the likeliest first."""
-        _, kind, operation = self.events[at]
+    def _next(self, at: int, mark: int) -> Iterator[bool]:
+        """Takes the state behind an event, in each way that there is, the likeliest first."""
+        state, (_, kind, operation) = self.state, self.events[at]
         if kind == 0:
-            yield from self._begun(state, operation)
+            yield from self._begun(operation, mark)
             return
         if operation in state.done:
-            yield state
+            yield True
             return
         others = [other for other in self.flying[at] if other not in state.done and other.process in state.pids]
         for count in range(min(len(others), MOST_BEFORE) + 1):
-            for before in itertools.permutations(others, count):
-                yield from self._try(state.copied(), before, operation)
+            state.journal.back_to(mark)
+            yield from self._behind(others, count, operation)
         for other in others:
             for count in range(1, len(other.parts) + 1):
-                tried = state.copied()
-                tried.part(other, count)
-                yield from self._try(tried, (), operation)
+                state.journal.back_to(mark)
+                state.part(other, count)
+                yield from self._behind([], 0, operation)
+
+    def _behind(self, others: List[Operation], count: int, operation: Operation) -> Iterator[bool]:
+        """The states behind so many of these calls and then this one, if all of them are answered as on the host."""
+        state, mark = self.state, self.state.journal.mark
+        if count == 0:
+            outcome = state.go_on(operation)
+            if outcome == "parked" and operation.is_interrupted:
+                outcome = state.go_on(operation)
+            if outcome == "done":
+                yield True
+            return
+        for other in others:
+            state.journal.back_to(mark)
+            if (other.last is not None or other in state.parked) and state.go_on(other) in ("done", "parked"):
+                yield from self._behind([one for one in others if one is not other], count - 1, operation)
 
     def unordered(self) -> Iterator[Tuple[Operation, Operation]]:
         """Calls that overlap and both take from one pipe, or both put into it: the trace doesn't tell which came first."""
@@ -211,46 +280,36 @@ class Placer:
                 if operation.has_effect and other.has_effect and any(one is not None and one is two for one, two in pairs):
                     yield operation, other
 
-    @staticmethod
-    def _begun(state: State, operation: Operation) -> Iterator[State]:
+    def _begun(self, operation: Operation, mark: int) -> Iterator[bool]:
         """A call that would wait at its beginning is parked there. Any other had its effect later, as far as is known."""
+        state = self.state
         if operation.process in state.pids and operation.child is None and operation.name != "exit":
-            tried = state.copied()
-            if tried.go_on(operation) == "parked":
-                yield tried
-        yield state.copied()
+            if state.go_on(operation) == "parked":
+                yield True
+            state.journal.back_to(mark)
+        yield True
 
-    @staticmethod
-    def _try(state: State, before: Tuple[Operation, ...], operation: Operation) -> Iterator[State]:
-        """The state behind some calls and then this one, if all of them are answered as on the host."""
-        for other in before:
-            if (other.last is None and other not in state.parked) or state.go_on(other) not in ("done", "parked"):
-                return
-        outcome = state.go_on(operation)
-        if outcome == "parked" and operation.is_interrupted:
-            outcome = state.go_on(operation)
-        if outcome == "done":
-            yield state
-
-    def _differ(self, state: State, operation: Operation) -> State:
+    def _differ(self, operation: Operation) -> None:
         """No order makes the reply that the host gave: the call is placed where it returned, and what the layer answers is told."""
-        tried = replace(state.copied(), streams={})
+        state = self.state
         was_parked = operation in state.parked
-        text = tried.go_on(operation)
-        number = tried.parked.pop(operation, None)
-        if number is not None and tried.said is not None:
+        state.streams = {}
+        text = state.go_on(operation)
+        number = state.parked.pop(operation, None)
+        if number is not None and state.said is not None:
             text = f"parked {number}"
-            words = f"resume {number}" if was_parked else tried.said.words
+            words = f"resume {number}" if was_parked else state.said.words
             if not was_parked:
-                tried.said = tried.said.before
-            tried.say(operation, words, operation.lines[-1].reply)
-            tried.say(operation, f"interrupt {number}", tried.make(f"interrupt {number}"))
-        tried.done |= {operation}
+                state.have_said(state.said.before)
+            state.say(operation, words, operation.lines[-1].reply)
+            state.say(operation, f"interrupt {number}", state.make(f"interrupt {number}"))
+        state.done[operation] = True
         what = f"in no order of these calls does the layer answer so: it answers {text[:MOST_TOLD]}"
         if text == "done":
             what = "in no order of these calls does the layer put in the bytes that are read later"
         # from here on the pipe may have other bytes than on the host
-        self.streams = {node: stream for node, stream in self.streams.items() if node not in (operation.takes, operation.puts)}
-        tried.streams = self.streams
+        for node in (operation.takes, operation.puts):
+            if node is not None:
+                self.streams.pop(node, None)
+        state.streams = self.streams
         self.differences.append((operation, what))
-        return tried
