@@ -155,5 +155,5 @@ def parsed(text: str) -> Tuple[List[Any], Result]:
     parser = Parser(text, text.index("(") + 1)
     try:
         return parser.values(")"), result_of(text[parser.place :])
-    except (IndexError, ValueError) as fault:
+    except (IndexError, ValueError, RecursionError) as fault:
         raise Malformed from fault

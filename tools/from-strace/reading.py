@@ -7,7 +7,7 @@ from typing import Dict, List, Optional
 
 UNFINISHED = " <unfinished ...>"
 # a pid, and perhaps a time by -t, -r or -ttt
-LINE = re.compile(r"(?P<pid>[0-9]+) +(?:(?:[0-9]+:[0-9]+:)?[0-9]+(?:\.[0-9]+)? +)?(?P<rest>.*)")
+LINE = re.compile(r"(?P<pid>[0-9]{1,10}) +(?:(?:[0-9]+:[0-9]+:)?[0-9]+(?:\.[0-9]+)? +)?(?P<rest>.*)")
 CALL = re.compile(r"(?P<name>[a-z_][a-z0-9_]*)\(")
 RESUMED = re.compile(r"<\.\.\. (?P<name>\w+) resumed>(?P<rest>.*)")
 SIGNAL = re.compile(r"--- (?P<name>SIG\w+) ")
@@ -64,6 +64,7 @@ class Reader:
         self.open_calls: Dict[int, Call] = {}
         self.last_call: Dict[int, Call] = {}
         self.last_line: Dict[int, int] = {}
+        self.ended: Dict[int, int] = {}
 
     def read(self, text: str) -> Trace:
         """The events of a whole trace."""
@@ -74,6 +75,8 @@ class Reader:
             if found is None:
                 raise Unreadable(f"line {number} of the trace begins with no pid: take strace -f -o FILE")
             pid = int(found["pid"])
+            if pid in self.ended:
+                raise Unreadable(f"line {number} of the trace: thread {pid} ended at line {self.ended[pid]}, and no script has a pid of two")
             self.trace.first_of.setdefault(pid, number)
             self._take(pid, number, found["rest"])
             self.last_line[pid] = number
@@ -117,6 +120,7 @@ class Reader:
     def _end(self, pid: int, number: int) -> None:
         """A thread ends: its descriptors are closed between its last event, or the beginning of its exit, and this line."""
         self.open_calls.pop(pid, None)
+        self.ended[pid] = number
         self.trace.ends.append(End(pid, self.last_line.get(pid, number), number))
 
 

@@ -304,13 +304,15 @@ class Says:
         """An open. `node` is what the name stood for as the call began."""
         path, rest = self.named(process, given)
         flags = words_of(rest[0])
+        mode = next((short for long, short in MODES.items() if long in flags), None)
+        if mode is None:
+            raise Unsayable(f"{rest[0]} doesn't tell whether it reads or writes")
         if result.stands_for in self.pipes:
             return self._opened_again(process, call, path, result, "O_CLOEXEC" in flags)
         lines: List[Line] = []
         said = [word for flag, word in OPEN_FLAGS.items() if flag in flags]
         if node is None:
             node, said = self._new_file(call, path if result.stands_for is None else result.stands_for, flags, said, result)
-        mode = next(short for long, short in MODES.items() if long in flags)
         words = f"open {node.name} {mode}" + (" " + ",".join(said) if said else "")
         reply = failure(result)
         if reply is None and result.value is not None:

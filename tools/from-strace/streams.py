@@ -48,7 +48,8 @@ def filled(machine: Machine, pid: int, number: Optional[int], operation: Operati
         return None
     words = operation.lines[-1].words.split()
     if number is not None:
-        description = machine.waiting[number].kept[-1]
+        call = machine.waiting.get(number)
+        description = call.kept[-1] if call is not None else None
     else:
         process = machine.processes.get(pid)
         description = process.descriptors.get(int(words[TARGETS[words[0]]])) if process and words[0] in TARGETS else None

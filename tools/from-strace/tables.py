@@ -5,8 +5,6 @@ import posixpath
 from dataclasses import dataclass, field
 from typing import Callable, Dict, Iterator, List, Optional, Tuple, Union
 
-from reading import Unreadable
-
 # the name of the file that keeps a number
 HOLDER = "placeholder"
 MOST_DESCRIPTORS = 256
@@ -16,6 +14,10 @@ SYSTEM = (b"/dev/", b"/proc/", b"/sys/")
 
 class Unsayable(Exception):
     """A call that no line says, with the reason."""
+
+
+class OutOfTable(Exception):
+    """A descriptor that no process of a script has."""
 
 
 @dataclass(eq=False)
@@ -95,7 +97,7 @@ class Process:
     def make_sayable(self, number: int) -> None:
         """A descriptor has to be one that the layer has."""
         if number >= MOST_DESCRIPTORS:
-            raise Unreadable(f"process {self.pid} has descriptor {number}: a script has none above {MOST_DESCRIPTORS - 1}")
+            raise OutOfTable(f"process {self.pid} has descriptor {number}: a script has none above {MOST_DESCRIPTORS - 1}")
 
     def make_least(self, numbers: Tuple[int, ...], least: int = 0) -> List[Line]:
         """Lines behind which these numbers are the least free ones from `least` on, as they were on the host."""

@@ -10,7 +10,8 @@ from typing import Any, Dict, List, Optional, Tuple
 from arguments import Descriptor, Malformed, Result, Text, parsed
 from reading import Call, End, Trace, Unreadable
 from saying import Left, Says
-from tables import Line, Names, Node, Process, Unsayable
+from script import BadLine, Version, content_of_pieces, parse_line
+from tables import Line, Names, Node, OutOfTable, Process, Unsayable
 
 FORKS = ("fork", "vfork", "clone", "clone3")
 EXECS = ("execve", "execveat")
@@ -26,7 +27,9 @@ PUTS_INTO = {"write": 0, "writev": 0, "vmsplice": 0, "splice": 2, "tee": 1}
 NEVER = 2**62
 # what a program is started with
 FIRST_NUMBERS = (0, 1, 2)
-FIRST_DESCRIPTOR = re.compile(r"\w+\((\d+)<")
+FIRST_DESCRIPTOR = re.compile(r"\w+\((\d{1,10})<")
+# what a fork that returned made
+MADE = re.compile(r"\)\s*= (\d{1,10})$")
 
 
 @dataclass(eq=False)
@@ -65,11 +68,25 @@ class Operation:
         return reply is None or (reply.startswith(("data ", "count ")) and reply not in ("data -", "count 0"))
 
 
+def check_form(lines: List[Line]) -> None:
+    """The line of a call, the last one, and its reply have to be such as a script may have: numbers and lengths have an end there."""
+    if not lines:
+        return
+    kind, _, data = (lines[-1].reply or "").partition(" ")
+    try:
+        parse_line(f"1 {lines[-1].words}".encode("latin-1"), Version.TWO)
+        if kind == "data":
+            content_of_pieces(data)
+    except BadLine as fault:
+        raise Unsayable("a script has no such number, name or length") from fault
+
+
 class Turner:
     """Follows a trace, and makes its operations."""
 
     def __init__(self, trace: Trace) -> None:
         self.trace = trace
+        self.end_of = {end.pid: end.last for end in trace.ends}
         self.names = Names()
         self.told: List[Tuple[int, str]] = []
         self.says = Says(self.names, self.tell)
@@ -85,22 +102,25 @@ class Turner:
 
     def turn(self) -> List[Operation]:
         """The operations of the whole trace."""
-        for _, _, event, what in sorted(self._events(), key=lambda item: item[:2]):
-            event(what)
+        for line, _, _, event, what in sorted(self._events(), key=lambda item: item[:3]):
+            try:
+                event(what)
+            except OutOfTable as fault:
+                raise Unreadable(f"line {line} of the trace: {fault}") from fault
         return self.operations
 
-    def _events(self) -> List[Tuple[int, int, Any, Any]]:
-        """What happens at each line: forks come first, then beginnings, returns and ends."""
-        events: List[Tuple[int, int, Any, Any]] = []
+    def _events(self) -> List[Tuple[int, int, int, Any, Any]]:
+        """What happens at each line: a process comes first, then forks by their beginnings, then beginnings, returns and ends."""
         forks = self._forks()
+        events: List[Tuple[int, int, int, Any, Any]]
+        events = [(line, 0, 0, self._start, pid) for pid, line in self.trace.first_of.items() if pid not in forks]
         for child, call in forks.items():
-            events.append((self._made_by(call, child), 0, self._fork, (call, child)))
+            events.append((self._made_by(call, child), 1, call.first, self._fork, (call, child)))
         for call in self.trace.calls:
             if call.name not in FORKS:
-                events.append((call.first, 1, self._begin, call))
-                events.append((call.last or call.first, 2, self._return, call))
-        events += [(end.last, 3, self._end, end) for end in self.trace.ends]
-        events += [(line, 0, self._start, pid) for pid, line in self.trace.first_of.items() if pid not in forks]
+                events.append((call.first, 2, 0, self._begin, call))
+                events.append((call.last or call.first, 3, 0, self._return, call))
+        events += [(end.last, 4, 0, self._end, end) for end in self.trace.ends]
         return events
 
     def _forks(self) -> Dict[int, Call]:
@@ -108,8 +128,9 @@ class Turner:
         forks: Dict[int, Call] = {}
         unknown: List[Call] = []
         for call in self.trace.calls:
-            found = re.search(r"\)\s*= (\d+)$", call.text) if call.name in FORKS else None
+            found = MADE.search(call.text) if call.name in FORKS else None
             if found:
+                self._check_fork(call, int(found[1]), forks)
                 forks[int(found[1])] = call
             elif call.name in FORKS and " = -1 " not in call.text:
                 unknown.append(call)
@@ -120,9 +141,15 @@ class Turner:
                 forks[pid] = call
         return forks
 
+    def _check_fork(self, call: Call, child: int, forks: Dict[int, Call]) -> None:
+        """A fork makes a process that wasn't there."""
+        there = forks[child].first if child in forks else self.trace.first_of.get(child, NEVER)
+        if child in forks or there <= call.first:
+            raise Unreadable(f"line {call.first} of the trace makes process {child}, which was there at line {there}: no script has a pid of two")
+
     def _made_by(self, call: Call, child: int) -> int:
-        """The line by which a child was there: that where the fork returned, or the first of the child."""
-        return min(call.last or NEVER, self.trace.first_of.get(child, NEVER))
+        """The line by which a child was there: that where the fork returned, or the first of the child, or the end of who made it."""
+        return min(call.last or NEVER, self.trace.first_of.get(child, NEVER), self.end_of.get(call.pid, NEVER))
 
     # Processes
 
@@ -202,12 +229,13 @@ class Turner:
         """Makes the operation of a call."""
         try:
             lines = self._lines(process, call, arguments, result)
+            check_form(lines)
         except Left:
             return
         except Unsayable as reason:
             self._comment(process, call, str(reason))
             return
-        except (IndexError, KeyError, TypeError, AttributeError):
+        except (IndexError, KeyError, TypeError, AttributeError, ValueError):
             # an argument is lacking, or has another form than the call has
             self._unreturned(process, call)
             return

@@ -67,9 +67,10 @@ def heads(last: State, operation: Operation, notes: Dict[int, List[str]], is_aga
     """The comments before the lines of an operation."""
     process = operation.process
     if operation.name == "start":
-        return [f"# {operation.first}: process {last.pids[process]} is {process.pid} on the host"]
+        return [f"# {operation.first}: process {last.pids.get(process, 'none')} is {process.pid} on the host"]
     line = operation.last if is_again and operation.last is not None else operation.first
-    made = f" makes {operation.child.pid}, here process {last.pids[operation.child]}" if operation.child else ""
+    child = operation.child
+    made = f" makes {child.pid}, here process {last.pids.get(child, 'none')}" if child is not None else ""
     left = f": {', '.join(operation.comments)}" if operation.comments else ""
     found = [f"# {line}: {operation.program} {process.pid} {operation.name}{made}{left}"]
     for number in sorted({operation.first, line}):

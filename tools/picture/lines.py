@@ -6,6 +6,8 @@ from dataclasses import dataclass, field
 from typing import Iterator, List, Optional
 
 HEADER = "piperun 2"
+# the bytes of a write, and of a file
+MOST_BYTES = 16777216
 # a comment of a record: the reply that it expects stands beside the line as it is
 EXPECTED = "# => "
 # times, if there are any, and digits
@@ -45,18 +47,22 @@ def piece_length(text: str) -> int:
     """How many bytes a piece has: digits, or N*hh."""
     found = PIECE.fullmatch(text)
     if found is None:
-        raise Unreadable(f"no bytes: {text[:40]}")
+        raise ValueError("no bytes")
     return int(found[1] or 1) * (len(found[2]) // 2)
 
 
 def length_of(text: str) -> int:
     """How many bytes a word stands for: - for none, or pieces that + joins."""
-    return 0 if text == "-" else sum(piece_length(piece) for piece in text.split("+"))
+    length = 0 if text == "-" else sum(piece_length(piece) for piece in text.split("+"))
+    if length > MOST_BYTES:
+        raise ValueError("more bytes than a line may have")
+    return length
 
 
 def lines_of(script: str, output: str) -> Iterator[Line]:
     """The lines that ask something, each with its reply. Lines that printed nothing, as behind a bad line, aren't there."""
     replies = iter(output.splitlines())
+    answered = 0
     comments: List[str] = []
     for number, text in enumerate(script.split("\n"), 1):
         words = text.split()
@@ -70,9 +76,10 @@ def lines_of(script: str, output: str) -> Iterator[Line]:
         reply = next(replies, None)
         if reply is None:
             return
+        answered += 1
         if words[0].isdigit() and len(words) < 2:
             raise Unreadable(f"line {number} names no call")
         yield Line(number, words, reply.split() or [""], comments)
         comments = []
     if next(replies, None) is not None:
-        raise Unreadable("the output has more lines than the script asks for")
+        raise Unreadable(f"line {answered + 1} of the output answers no line of the script")

@@ -11,6 +11,10 @@ Lane = Union[int, Node]
 # a picture of more can't be looked at
 MOST_STEPS = 1000
 MOST_LANES = 100
+# how a reply begins that a process gets which isn't there: `no process`, or none for want of memory
+SAY_NO = ("no", "nomem")
+# lines that begin with no pid
+OF_NO_PROCESS = ("start", "resume", "interrupt", "file")
 
 
 @dataclass
@@ -42,6 +46,14 @@ class Step:
     waiting: List[Waiting] = field(default_factory=list)
 
 
+def count_of(reply: List[str], most: int) -> int:
+    """How many bytes a reply counts, of those that were asked for."""
+    count = int(reply[1])
+    if count > most:
+        raise ValueError("more bytes than were asked for")
+    return count
+
+
 class Story:
     """Follows a run. `steps` is what happened, and `lanes` are all processes and nodes in the order in which they came."""
 
@@ -52,15 +64,19 @@ class Story:
         self.pipes = 0
         for line in lines_of(script, output):
             if len(self.steps) == MOST_STEPS or len(self.lanes) > MOST_LANES:
-                raise Unreadable(f"more than {MOST_STEPS} steps or {MOST_LANES} lanes")
+                raise Unreadable(f"line {line.number} is behind more than {MOST_STEPS} steps or {MOST_LANES} lanes")
             try:
                 self.follow(line)
-            except (IndexError, KeyError, ValueError) as error:
-                raise Unreadable(f"line {line.number} and its reply don't belong together: {error!r}") from None
+            except (IndexError, KeyError, ValueError):
+                raise Unreadable(f"line {line.number} and its reply don't belong together") from None
 
     def follow(self, line: Line) -> None:
         """Takes in a line."""
         step = Step(line, line.pid)
+        if (step.pid is None) != (line.call in OF_NO_PROCESS):
+            raise ValueError("a call that no process makes")
+        if step.pid is not None and step.pid not in self.state.tables and line.reply[0] not in SAY_NO:
+            raise ValueError("a process that isn't there is answered")
         before = self.state.counted
         known = list(self.state.waiting.values())
         getattr(self, f"follow_{line.call}", self.follow_nothing)(step, line.reply)
@@ -115,14 +131,21 @@ class Story:
     def follow_start(self, step: Step, reply: List[str]) -> None:
         """A process starts."""
         if reply[0] == "pid":
-            step.pid = int(reply[1])
+            step.pid = self.new_pid(reply)
             self.state.tables[step.pid] = {}
             self.add(step, step.pid)
+
+    def new_pid(self, reply: List[str]) -> int:
+        """The pid of a process that wasn't there."""
+        pid = int(reply[1])
+        if pid in self.state.tables:
+            raise ValueError("a pid that another process has")
+        return pid
 
     def follow_fork(self, step: Step, reply: List[str]) -> None:
         """A child has what its parent has."""
         if reply[0] == "pid" and step.pid is not None:
-            child = int(reply[1])
+            child = self.new_pid(reply)
             self.state.tables[child] = dict(self.state.tables[step.pid])
             self.add(step, child)
             step.flows.append(Flow(step.pid, child, 0))
@@ -221,6 +244,8 @@ class Story:
 
     def park(self, step: Step, reply: List[str], descriptions: List[Description], length: int = 0) -> Waiting:
         """A call waits, under its number."""
+        if int(reply[1]) in self.state.waiting:
+            raise ValueError("a number that another call has")
         call = Waiting(int(reply[1]), step.pid or 0, step.line.call, step.line.number, descriptions, length)
         self.state.waiting[call.number] = call
         step.begins_to_wait = call
@@ -252,7 +277,7 @@ class Story:
             call = self.park(step, reply, [found], length_of(step.line.arguments[1]))
             self.take_turn(step, call)
         elif reply[0] == "count":
-            self.has_written(step, found, step.pid or 0, int(reply[1]))
+            self.has_written(step, found, step.pid or 0, count_of(reply, length_of(step.line.arguments[1])))
 
     def take_turn(self, step: Step, call: Waiting) -> None:
         """A large write puts in as many bytes as there is room for."""
@@ -306,6 +331,8 @@ class Story:
             raise ValueError("fewer bytes than none")
         if count == 0:
             return
+        if source.node.packets is not None or target.node.packets is not None:
+            raise ValueError("no splice or tee goes over a packet pipe")
         if source.node.is_pipe and not copies:
             source.node.take(count)
         elif not source.node.is_pipe and offsets[0] is None:
@@ -338,7 +365,7 @@ class Story:
         elif reply[0] == "data":
             self.has_read(step, call.descriptions[0], call.pid, length_of(reply[1]))
         elif reply[0] == "count" and call.call == "write":
-            self.has_written(step, call.descriptions[0], call.pid, int(reply[1]) - call.taken)
+            self.has_written(step, call.descriptions[0], call.pid, count_of(reply, call.length) - call.taken)
         elif reply[0] == "count":
             self.has_moved(step, call.descriptions, call.offsets, int(reply[1]), call.call == "tee")
 

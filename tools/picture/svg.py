@@ -9,7 +9,7 @@ from typing import Dict, List, Tuple
 
 from state import Node, Waiting
 from story import Flow, Lane, Step, Story
-from words import awaited, counted, lane_name, shortened
+from words import awaited, counted, lane_name, printable, shortened
 
 ROW, COMMENT_ROW, TOP = 34, 15, 66
 # below a call that begins to wait there are words on that
@@ -230,7 +230,7 @@ class Picture:
         height = self.bottom + 46
         size = f'width="{self.width:.0f}" height="{height:.0f}" viewBox="0 0 {self.width:.0f} {height:.0f}"'
         front = f'<svg xmlns="http://www.w3.org/2000/svg" {size}>\n<title>{escape(title)}</title>\n<style>{STYLE}</style>'
-        return "\n".join([front, '<rect width="100%" height="100%" fill="#fff"/>', *self.below, *self.above, "</svg>", ""])
+        return printable("\n".join([front, '<rect width="100%" height="100%" fill="#fff"/>', *self.below, *self.above, "</svg>", ""]))
 
 
 def id_of(lane: Lane) -> int:

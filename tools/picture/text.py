@@ -5,7 +5,7 @@ from typing import Dict, List, Set
 
 from state import Node
 from story import Lane, Step, Story
-from words import lane_name, notes, shortened
+from words import lane_name, notes, printable, shortened
 
 MOST_LINE = 34
 MOST_REPLY = 22
@@ -52,4 +52,4 @@ def as_text(story: Story) -> str:
     for place, row in enumerate(table):
         out += [f"      # {comment}" for comment in comments[place]]
         out.append(shown(row))
-    return "\n".join([*out, "", LEGEND])
+    return printable("\n".join([*out, "", LEGEND]))

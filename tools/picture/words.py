@@ -1,12 +1,20 @@
 """How a picture says what happened, in words: of lanes, of calls that wait, and of steps."""
 from __future__ import annotations
 
+import re
 from typing import List
 
 from state import Node, Waiting
 from story import Lane, Step
 
 MOST_NAME = 16
+# what XML has no character for (XML 1.0, 2.2), and a terminal takes for a command
+CONTROL = re.compile("[\x00-\x08\x0b-\x1f\x7f-\x9f]")
+
+
+def printable(text: str) -> str:
+    """A text without control characters."""
+    return CONTROL.sub("\ufffd", text)
 
 
 def counted(count: int) -> str:
