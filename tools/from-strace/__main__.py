@@ -17,8 +17,11 @@ A call that blocked is one that waits in the script, and is resumed where it ret
 which they returned, unless their replies tell another one. What no line says, and what the trace doesn't tell, stands in the script as a
 comment and on standard error.
 
-Status: 0 good; 1 TRACE can't be read, or nothing can be written; 2 a bad command line; 3 TRACE is none, lacks what is needed, or is longer
-than 67108864 bytes; 4 no memory.
+A trace that is cut or damaged becomes a script as far as what is left says so, or is refused: a line on standard error has the number of the
+line of the trace and what is wrong, and nothing is printed.
+
+Status: 0 good; 1 TRACE can't be read, or nothing can be written; 2 a bad command line, or TRACE is none, is damaged, or lacks what is needed;
+3 TRACE is longer than 67108864 bytes; 4 no memory.
 """
 from __future__ import annotations
 
@@ -53,7 +56,7 @@ def make(words: List[str]) -> int:
     try:
         script, told = script_and_notes(data.decode("latin-1"))
     except Unreadable as fault:
-        return complain(str(fault), 3)
+        return complain(str(fault), 2)
     for line, what in told:
         print(f"from-strace: line {line} of the trace: {what}", file=sys.stderr)
     try:

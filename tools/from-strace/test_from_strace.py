@@ -222,7 +222,7 @@ class Program(unittest.TestCase):
     def test_statuses(self) -> None:
         cut = f'{PIPE}\n10 write(4{A}, "a"..., 9) = 9\n'.encode()
         for words, text, status in (
-            (["--help"], b"", 0), ([], PIPE.encode(), 0), ([], b"", 0), (["--other"], b"", 2), (["a", "b"], b"", 2), (["no/such/file"], b"", 1), ([], cut, 3),
+            (["--help"], b"", 0), ([], PIPE.encode(), 0), ([], b"", 0), (["--other"], b"", 2), (["a", "b"], b"", 2), (["no/such/file"], b"", 1), ([], cut, 2),
         ):
             with self.subTest(words=words, text=text):
                 found = self.run_on(*words, text=text)

@@ -6,8 +6,10 @@ call waits, with its number and for what. An arrow is bytes that go from lane to
 area over what a pipe holds, both by the logarithm. Dashes go from the step that let a call go on to where it went on. Red is where a pipe
 has lost its last reader or writer.
 
-Status: 0 good; 1 a file can't be read, or nothing can be written; 2 a bad command line; 3 SCRIPT and OUTPUT don't belong together, or are
-longer than 16777216 bytes, or make more than 1000 steps or 100 lanes; 4 no memory.
+If a line of SCRIPT can't have had its reply, a line on standard error has its number and what is wrong, and nothing is drawn.
+
+Status: 0 good; 1 a file can't be read, or nothing can be written; 2 a bad command line, or SCRIPT and OUTPUT don't belong together; 3 they
+are longer than 16777216 bytes, or make more than 1000 steps or 100 lanes; 4 no memory.
 """
 from __future__ import annotations
 
@@ -15,7 +17,7 @@ import pathlib
 import sys
 from typing import List, Optional
 
-from lines import Unreadable
+from lines import TooLarge, Unreadable
 from story import Story
 from svg import as_svg
 from text import as_text
@@ -27,7 +29,7 @@ def read(path: pathlib.Path) -> str:
     """The text of a file. Its bytes are characters, one each."""
     data = path.read_bytes()
     if len(data) > MOST_BYTES:
-        raise Unreadable(f"{path} is longer than {MOST_BYTES} bytes")
+        raise TooLarge(f"{path} is longer than {MOST_BYTES} bytes")
     return data.decode("latin-1")
 
 
@@ -43,8 +45,10 @@ def draw(script: pathlib.Path, output: Optional[pathlib.Path], is_text: bool) ->
         story = Story(read(script), read(output or script.with_suffix(".out")))
     except OSError:
         return complain("cannot read", 1)
-    except Unreadable as fault:
+    except TooLarge as fault:
         return complain(str(fault), 3)
+    except Unreadable as fault:
+        return complain(str(fault), 2)
     except MemoryError:
         return complain("no memory", 4)
     try:

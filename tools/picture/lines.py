@@ -18,6 +18,10 @@ class Unreadable(Exception):
     """A script and an output that don't belong together, or a line that no script has."""
 
 
+class TooLarge(Unreadable):
+    """What would make a picture that can't be looked at."""
+
+
 @dataclass
 class Line:
     """A line that asks something: its number, its words, the comments before it, and its reply."""

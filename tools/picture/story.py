@@ -4,7 +4,7 @@ from __future__ import annotations
 from dataclasses import dataclass, field
 from typing import Dict, List, Optional, Tuple, Union
 
-from lines import Line, Unreadable, length_of, lines_of
+from lines import Line, TooLarge, Unreadable, length_of, lines_of
 from state import Description, Node, State, Waiting
 
 Lane = Union[int, Node]
@@ -64,7 +64,7 @@ class Story:
         self.pipes = 0
         for line in lines_of(script, output):
             if len(self.steps) == MOST_STEPS or len(self.lanes) > MOST_LANES:
-                raise Unreadable(f"line {line.number} is behind more than {MOST_STEPS} steps or {MOST_LANES} lanes")
+                raise TooLarge(f"line {line.number} is behind more than {MOST_STEPS} steps or {MOST_LANES} lanes")
             try:
                 self.follow(line)
             except (IndexError, KeyError, ValueError):

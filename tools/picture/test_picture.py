@@ -199,7 +199,8 @@ class Pictures(unittest.TestCase):
         session = str(EXAMPLES / "session.script")
         wanted: List[tuple[List[str], int]] = [
             (["--help"], 0), ([session], 0), (["--text", session], 0), ([], 2), (["--other", session], 2), (["none.script"], 1),
-            ([session, str(EXAMPLES / "tee.out")], 3),
+            ([session, str(EXAMPLES / "tee.out")], 2),
+            ([str(EXAMPLES / "limits.script")], 3),
         ]
         for words, status in wanted:
             with self.subTest(words):
