@@ -26,6 +26,7 @@ Status: 0 good; 1 TRACE can't be read, or nothing can be written; 2 a bad comman
 from __future__ import annotations
 
 import pathlib
+import re
 import sys
 from typing import List
 
@@ -40,8 +41,8 @@ MOST_BYTES = 67108864
 
 
 def complain(what: str, status: int) -> int:
-    """Tells a fault in one line."""
-    print(f"from-strace: {what}", file=sys.stderr)
+    """Tells a fault in one line. What comes of a trace may have bytes that a terminal takes for a command."""
+    print(f"from-strace: {re.sub(r'[^ -~]', '?', what)}", file=sys.stderr)
     return status
 
 
@@ -58,7 +59,7 @@ def make(words: List[str]) -> int:
     except Unreadable as fault:
         return complain(str(fault), 2)
     for line, what in told:
-        print(f"from-strace: line {line} of the trace: {what}", file=sys.stderr)
+        complain(f"line {line} of the trace: {what}", 0)
     try:
         sys.stdout.buffer.write(script.encode("latin-1"))
         sys.stdout.buffer.flush()

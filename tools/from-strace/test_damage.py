@@ -95,10 +95,12 @@ class Damage(unittest.TestCase):
         for name, changed in (
             ("cut in front", lines[40:]), ("cut behind", lines[:40]), ("twice", [*lines[:30], lines[29], *lines[30:]]),
             ("no pid", [*lines[:30], b"\xff\x1b[31m", *lines[30:]]), ("no trace", [b"\0" * 99]),
+            ("a name with bytes of a terminal", [*lines[:8], b"25353 write(9<pipe:[1\x1b[31m\xff]>, \"a\", 1) = 1", *lines[8:]]),
         ):
             with self.subTest(name):
                 found = subprocess.run([sys.executable, "-B", str(HERE)], input=b"\n".join(changed) + b"\n", capture_output=True, check=False, timeout=60)
                 self.assertIn(found.returncode, (0, 2), found.stderr)
+                self.assertNotRegex(found.stderr, rb"[^ -~\n]")
                 if found.returncode:
                     self.assertRegex(found.stderr.decode("ascii"), rf"\Afrom-strace: {REFUSED}[^\n]*\n\Z")
                     self.assertEqual(found.stdout, b"")
