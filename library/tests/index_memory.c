@@ -51,7 +51,7 @@ static uint64_t index_of_polls(size_t entries)
 /* A poll is in the index at each pipe at which it waits. */
 static void polls_are_indexed_by_entries(void)
 {
-    enum { KEY = 24, CALL = 36, MOST_KEYS = 2 * PIPES };
+    enum { KEY = 24, CALL = 37, MOST_KEYS = 2 * PIPES };
     static const size_t entries[] = { 1, 10, PIPES };
     for (int i = 0; i < 3; i++) {
         uint64_t index = index_of_polls(entries[i]);
