@@ -10,8 +10,8 @@ use Rattle.pl_model.specs.Keys.{Node, PipeNode, FileNode}
 use Rattle.pl_model.specs.State.{Core, Pipe, Open, Description, Waiting}
 use Rattle.pl_model.specs.Packets.{front}
 use Rattle.pl_model.specs.Live.{writers}
-use Rattle.pl_model.specs.Trial.{Trial, Wait, still, pipe_at}
-use Rattle.pl_model.specs.Transfer.{read_case, read_row, read_pipe, read_file, read_node}
+use Rattle.pl_model.specs.Trial.{pipe_at}
+use Rattle.pl_model.specs.Transfer.{read_row, read_pipe, read_file, read_node}
 use Rattle.pl_model.specs.Step.{with_kept, kept_at, try}
 use Rattle.pl_model.specs.Numbered.{numbers, State, step}
 use Rattle.pl_model.specs.Waking.{gets_on, progresses, can_progress}

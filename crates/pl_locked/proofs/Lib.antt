@@ -13,9 +13,11 @@ pub mod Subs
 -- Where the callers made as many entries as the journal has, each made just those that the journal has of it.
 pub mod Totals
 -- What a caller is told of the steps that it made.
-pub mod Waiting
+pub mod Calls
 -- Where no caller waits, nobody is woken.
 pub mod Quiet
+-- Once the first is woken that is to be, nobody sleeps in vain.
+pub mod Serving
 -- What is left of a journal behind the entries that were handed out.
 pub mod Rests
 -- Reads of one description that wait can get on together.

@@ -1,28 +1,33 @@
 -- Who sleeps together with others, and what becomes of them in a step.
-use Rattle.std.proofs.Common.{◌≡◌, ◌+◌, ◌≤◌, ℕ, Bool, true, false, List, [], ◌∷◌, ◌++◌, cond, nat_eq, refl, sym, ◌∙◌, ap, subst, arith, get_or}
-use Rattle.std.specs.Prelude.{not, ◌||◌, ◌&&◌, length, nat_lt, replicate, slice_get, slice_set, option_and_then, IsSome}
+use Rattle.std.proofs.Common.{◌≡◌, ◌+◌, ◌≤◌, ℕ, Bool, true, false, List, [], ◌∷◌, ◌++◌, cond, nat_eq, refl, sym, ◌∙◌, ap, subst, arith, get_or, Result, Ok, Err, IfOk, OnErr}
+use Rattle.std.specs.Prelude.{not, ◌||◌, ◌&&◌, length, nat_lt, replicate, slice_get, slice_set, option_and_then}
 use Rattle.std.specs.declared.option.Option.{Option}
 use Rattle.std.specs.declared.option.Option.TheVariants.{None, Some}
-use Rattle.std.specs.List.{All, find, list_any, position, position_or_len}
+use Rattle.std.specs.List.{All, list_any, position, position_or_len}
 use Rattle.std.proofs.lemmas.Bool.{ltb-false}
 use Rattle.std.proofs.lemmas.List.Folds.{find_at}
 use Rattle.std.proofs.lemmas.List.Quantifiers.{position-Some}
 use Rattle.std.proofs.lemmas.List.Sums.{position_or_len_is}
 use Rattle.std.proofs.lemmas.Option.{slice_get-get_or, slice_get_past}
 use Rattle.std.proofs.lemmas.List.Elements.{All-nil, All-cons, All-head, All-tail, All-replicate, All-set}
+use Rattle.pl_model.specs.declared.calls.Limits.{Limits}
 use Rattle.pl_model.specs.declared.calls.Call.{Call}
-use Rattle.pl_model.specs.declared.calls.Call.TheVariants as call
 use Rattle.pl_model.specs.declared.calls.Step.{Step}
-use Rattle.pl_model.specs.declared.calls.Step.TheVariants.{Start, Begin, Resume, Interrupt}
+use Rattle.pl_model.specs.declared.calls.Step.TheVariants.{Begin}
+use Rattle.pl_model.specs.declared.replies.Reply.{Reply}
+use Rattle.pl_model.specs.History.{entry, state_of_history}
+use Rattle.pl_model.proofs.Journals.{state-push}
+use Rattle.pl_locked.specs.declared.fault.StepFault.{StepFault}
+use Rattle.pl_locked.specs.Views.{Kept}
 use Rattle.pl_model.specs.Map.{get}
 use Rattle.pl_model.specs.State.{Waiting as ParkedCall}
 use Rattle.pl_model.specs.Numbered.{numbers, State, step}
 use Rattle.pl_model.specs.Waking.{can_progress}
 use Rattle.pl_model.specs.Touching.{is_of_call, is_exit}
 use Rattle.pl_kernel.specs.ToldCalls.{AreAlike, IsReadAt}
-use Rattle.pl_locked.specs.declared.desk.Waiting.{Waiting}
-use Rattle.pl_locked.specs.declared.desk.Waiting.TheVariants.{Nothing, Awake, Asleep, Together}
-use Rattle.pl_locked.specs.Waking.{is_together, is_together_for, call_together, first_together, is_helped_asleep, is_helped_but, AreStuck, SleepsBy, SleepAlike, SleepAlikeWith, is_of_parked, is_of_together}
+use Rattle.pl_locked.specs.declared.waiting.Waiting.{Waiting}
+use Rattle.pl_locked.specs.declared.waiting.Waiting.TheVariants.{Nothing, Awake, Asleep, Together}
+use Rattle.pl_locked.specs.Waking.{awake, woken, is_together, is_together_for, call_together, first_together, is_helped_asleep, is_helped_but, AreStuck, SleepsBy, SleepAlike, SleepAlikeWith, is_of_parked, is_of_together}
 use Rattle.pl_locked.proofs.Alike.{together, kept_once, reads_on}
 
 left_none : (a b : Bool) → (a || b) ≡ false → a ≡ false
@@ -61,6 +66,18 @@ first_none ws none = ap (option_and_then call_together) (find_at is_together ws 
     by true is none = absurd (cc)
     by false is none = ltb-false (position_or_len is_together ws) (length ws) is
 
+module _ (can : ℕ → Bool) where
+  -- one that is asked with the others or not
+  not_stuck : (w : Waiting) → is_helped_but can false w ≡ is_helped_asleep can w
+  not_stuck Nothing = refl
+  not_stuck (Awake call) = refl
+  not_stuck (Asleep call) = refl
+  not_stuck (Together call) = refl
+
+  pub first_is : (stuck : Bool) (ws : List Waiting) → (stuck ≡ true → AreStuck can ws) → position (is_helped_but can stuck) ws ≡ position (is_helped_asleep can) ws
+  first_is true ws h = same_position (is_helped_but can true) (is_helped_asleep can) ws (h refl)
+  first_is false ws h = same_position (is_helped_but can false) (is_helped_asleep can) ws (λ k d lt. not_stuck _)
+
 module _ {A : Type 0} (s : State A) where
   -- at first nobody sleeps
   pub none_together : (n : ℕ) → SleepAlike s (replicate n Nothing)
@@ -82,33 +99,26 @@ module _ {A : Type 0} (s : State A) where
   first_reads kept (Asleep other ∷ ws) call first all = first_reads kept ws call first (All-tail (SleepsBy s kept) (Asleep other) ws all)
   first_reads kept (Together other ∷ ws) call first all = let is : other ≡ call = cc in subst (IsReadAt s.core kept) is (All-head (SleepsBy s kept) (Together other) ws all)
 
-  -- so if that can't get on, none can
-  pub all_stuck : (ws : List Waiting) (call : ℕ) → SleepAlike s ws → first_together ws ≡ Some call → can_progress s.core call ≡ false → AreStuck s ws
-  all_stuck ws call alike first stuck = each ws alike.1
+  -- so if that can't end, none can: it can't get on, and more steps may be made
+  pub all_stuck : (full : Bool) (ws : List Waiting) (call : ℕ) → SleepAlike s ws → first_together ws ≡ Some call → (full || can_progress s.core call) ≡ false
+      → AreStuck (λ number. full || can_progress s.core number) ws
+  all_stuck full ws call alike first stuck = each ws alike.1
     where
       kept : List ℕ
       kept = alike.0
 
-      same : (w : Waiting) → SleepsBy s kept w → is_helped_but s true w ≡ is_helped_asleep s w
+      can : ℕ → Bool
+      can = λ number. full || can_progress s.core number
+
+      same : (w : Waiting) → SleepsBy s kept w → is_helped_but can true w ≡ is_helped_asleep can w
       same Nothing h = refl
       same (Awake other) h = refl
       same (Asleep other) h = refl
-      same (Together other) h = sym (together s.core kept other call h (first_reads kept ws call first alike.1) ∙ stuck)
+      same (Together other) h = sym (ap (λ b. full || b) (together s.core kept other call h (first_reads kept ws call first alike.1)) ∙ stuck)
 
-      each : (xs : List Waiting) → All (SleepsBy s kept) xs → AreStuck s xs
-      each [] all = All-nil (λ w. is_helped_but s true w ≡ is_helped_asleep s w)
-      each (w ∷ xs) all = All-cons (λ w. is_helped_but s true w ≡ is_helped_asleep s w) w xs (same w (All-head (SleepsBy s kept) w xs all)) (each xs (All-tail (SleepsBy s kept) w xs all))
-
-  -- one that is asked with the others or not
-  not_stuck : (w : Waiting) → is_helped_but s false w ≡ is_helped_asleep s w
-  not_stuck Nothing = refl
-  not_stuck (Awake call) = refl
-  not_stuck (Asleep call) = refl
-  not_stuck (Together call) = refl
-
-  pub first_is : (stuck : Bool) (ws : List Waiting) → (stuck ≡ true → AreStuck s ws) → position (is_helped_but s stuck) ws ≡ position (is_helped_asleep s) ws
-  first_is true ws h = same_position (is_helped_but s true) (is_helped_asleep s) ws (h refl)
-  first_is false ws h = same_position (is_helped_but s false) (is_helped_asleep s) ws (λ k d lt. not_stuck _)
+      each : (xs : List Waiting) → All (SleepsBy s kept) xs → AreStuck can xs
+      each [] all = All-nil (λ w. is_helped_but can true w ≡ is_helped_asleep can w)
+      each (w ∷ xs) all = All-cons (λ w. is_helped_but can true w ≡ is_helped_asleep can w) w xs (same w (All-head (SleepsBy s kept) w xs all)) (each xs (All-tail (SleepsBy s kept) w xs all))
 
   -- a call joins those that sleep together
   pub joins_first : (ws : List Waiting) (first call : ℕ) → SleepAlike s ws → first_together ws ≡ Some first → AreAlike s.core first call → SleepAlikeWith s call ws
@@ -135,6 +145,17 @@ module _ {A : Type 0} (s : State A) where
       alone (Awake call) other = tt
       alone (Asleep call) other = tt
       alone (Together call) other = absurd (cc)
+
+  -- whoever is woken sleeps with nobody
+  awake_alone : (w : Waiting) → is_together (awake w) ≡ false
+  awake_alone Nothing = refl
+  awake_alone (Awake call) = refl
+  awake_alone (Asleep call) = refl
+  awake_alone (Together call) = refl
+
+  pub woken_alike : (whom : Option ℕ) (ws : List Waiting) → SleepAlike s ws → SleepAlike s (woken whom ws)
+  woken_alike None ws alike = alike
+  woken_alike (Some k) ws alike = sets_other ws k (awake (get_or ws k Nothing)) (awake_alone (get_or ws k Nothing)) alike
 
   -- no step is of these calls but one that is of a call for which a caller sleeps together with others
   pub of_number : (x : Step A) (call : ℕ) → ((number : ℕ) (w : ParkedCall A numbers) → is_of_call x number w ≡ nat_eq call number) → (ws : List Waiting) → list_any (is_together_for call) ws ≡ false → list_any (is_of_together s x) ws ≡ false
@@ -198,3 +219,11 @@ module _ {A : Type 0} (s : State A) where
 
   pub of_exit : (pid : ℕ) (c : Call A) → is_exit c ≡ true → (ws : List Waiting) → list_any (is_of_together s (Begin pid c)) ws ≡ list_any (is_of_together s (Begin pid Call.Exit)) ws
   of_exit pid c is ws = ap (λ x. list_any (is_of_together s (Begin pid x)) ws) (exits c is)
+
+-- So does who sleeps together through a step that is of none of them, and through one that is refused.
+pub sleep_through : {A : Type 0} (limits : Limits) (k n : ℕ) (x : Step A) (ws : List Waiting) (old new : Kept A) (made : Result (Reply A) StepFault) (Q : Type 0)
+    → IfOk made (λ reply. new.journal ≡ old.journal ++ entry k n x reply ∷ []) → OnErr made ((new ≡ old) × Q)
+    → list_any (is_of_together (state_of_history limits old.journal) x) ws ≡ false → SleepAlike (state_of_history limits old.journal) ws → SleepAlike (state_of_history limits new.journal) ws
+sleep_through limits k n x ws old new (Ok reply) Q pushed unmade none alike =
+    subst (λ s. SleepAlike s ws) (sym (ap (state_of_history limits) pushed ∙ state-push limits old.journal (entry k n x reply))) (sleep_on (state_of_history limits old.journal) x ws none alike)
+sleep_through limits k n x ws old new (Err fault) Q pushed unmade none alike = subst (λ (z : Kept _). SleepAlike (state_of_history limits z.journal) ws) (sym unmade.0) alike

@@ -1,4 +1,4 @@
--- Lists of entries that only contracts see.
+-- Lists of entries, and counts, that only contracts see.
 pub mod Logs
 -- What contracts see of a layer and its callers, and what becomes of a call.
 pub mod Views

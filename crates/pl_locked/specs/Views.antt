@@ -14,7 +14,8 @@ use Rattle.pl_model.specs.History.{entry, of, IsLegal, state_of_history}
 use Rattle.pl_model.specs.Waking.{can_progress}
 use Rattle.pl_state.specs.Contents.{Contents}
 use Rattle.pl_state.specs.Makes.{Stands}
-use Rattle.pl_locked.specs.declared.desk.Waiting.{Waiting}
+use Rattle.pl_locked.specs.declared.waiting.Waiting.{Waiting}
+use Rattle.pl_locked.specs.Waking.{can_end}
 
 -- What a layer is made on: the name of its ledger, into how many parts that is cut, and its history word, with the name of its second ledger.
 pub record GroundId : Type 0 where
@@ -22,12 +23,13 @@ pub record GroundId : Type 0 where
   pub parts : ℕ
   pub table : Tables
 
--- A caller: its number, the history that it has seen, the entries that it made, and how many it was handed.
+-- A caller: its number, the history that it has seen, the entries that it made, how many it was handed, and how often it glanced.
 pub record CallerView (A : Type 0) : Type 0 where
   pub number : ℕ
   pub seen : List (Entry A)
   pub made : List (Entry A)
   pub handed : ℕ
+  pub glances : ℕ
 
 -- What is kept of a kernel's steps: the journal of all of them, of which so many first entries were handed out.
 pub record Kept (A : Type 0) : Type 0 where
@@ -43,7 +45,7 @@ pub record Held (A : Type 0) : Type 0 where
 module _ {A : Type 0} where
   -- a caller that has seen and made nothing, and was handed nothing
   abbrev pub newcomer : ℕ → CallerView A
-  newcomer k = record { number = k; seen = []; made = []; handed = 0 }
+  newcomer k = record { number = k; seen = []; made = []; handed = 0; glances = 0 }
 
   -- the callers below n, none of which has seen or made anything, or was handed any
   abbrev pub newcomers : ℕ → List (CallerView A)
@@ -100,6 +102,10 @@ module _ {A : Type 0} where
     pub made : new.made ≡ old.made
     pub handed : new.handed ≡ old.handed
     pub earlier : IsPrefix old.seen new.seen
+
+  -- The caller glanced once, and did nothing else.
+  abbrev pub Glances : CallerView A → CallerView A → Type 0
+  Glances old new = Sees old new × (new.glances ≡ old.glances + 1)
 
   -- The caller has seen a legal history of at most so many entries, in which what it made stands in order among its own.
   pub record Knows (limits : Limits) (most : ℕ) (c : CallerView A) : Type 0 where
@@ -196,14 +202,43 @@ module _ {A : Type 0} where
   Turned limits most old new c None = Gains limits most old new (Resume c) (Parked c)
   Turned limits most old new c (Some r) = IsAnswer r × Gains limits most old new (Resume c) r
 
-  -- A glance, and one more turn of call c if the history was longer.
+  -- The caller glanced, and saw more than before.
+  abbrev pub GlancesMore : CallerView A → CallerView A → Type 0
+  GlancesMore old new = Glances old new × (length old.seen < length new.seen)
+
+  -- It made this step with this reply, and didn't glance.
+  abbrev pub Makes : Limits → ℕ → CallerView A → CallerView A → Step A → Reply A → Type 0
+  Makes limits most old new x r = Gains limits most old new x r × (new.glances ≡ old.glances)
+
+  -- A turn of call c after which it waits on: a glance, and one more try exactly if there was more to see.
+  abbrev pub IsTurn : Limits → ℕ → ℕ → CallerView A → CallerView A → Type 0
+  IsTurn limits most c old new =
+      (Glances old new × (length new.seen ≡ length old.seen))
+      ⊎ ((glanced : CallerView A) × GlancesMore old glanced × Makes limits most glanced new (Resume c) (Parked c))
+
+  -- n such turns
+  abbrev pub AreTurns : ℕ → Limits → ℕ → ℕ → CallerView A → CallerView A → Type 0
+  AreTurns zero limits most c old new = new ≡ old
+  AreTurns (suc n) limits most c old new = (mid : CallerView A) × AreTurns n limits most c old mid × IsTurn limits most c mid new
+
+  -- The call was begun, and waits as c after all of n turns.
+  pub record UsesTurns (n : ℕ) (limits : Limits) (most pid : ℕ) (call : Call A) (c : ℕ) (old new : CallerView A) : Type 0 where
+    pub begun : CallerView A
+    pub began : Makes limits most old begun (Begin pid call) (Parked c)
+    pub turns : AreTurns n limits most c begun new
+
+  -- One turn of call c: it waits on, or the one more try answered it.
   abbrev pub Glanced : Limits → ℕ → CallerView A → CallerView A → ℕ → Option (Reply A) → Type 0
-  Glanced limits most old new c None = Sees old new ⊎ Gains limits most old new (Resume c) (Parked c)
-  Glanced limits most old new c (Some r) = IsAnswer r × Gains limits most old new (Resume c) r
+  Glanced limits most old new c None = IsTurn limits most c old new
+  Glanced limits most old new c (Some r) = IsAnswer r × (glanced : CallerView A) × GlancesMore old glanced × Makes limits most glanced new (Resume c) r
 
   -- The call could get on where the history stood so.
   abbrev pub CouldGetOn : Limits → List (Entry A) → ℕ → Type 0
   CouldGetOn limits history c = can_progress (state_of_history limits history).core c ≡ true
+
+  -- The call could end there: it could get on, or the next step was refused.
+  abbrev pub CouldEnd : Limits → ℕ → List (Entry A) → ℕ → Type 0
+  CouldEnd limits most history c = can_end limits most history c ≡ true
 
   -- If the entry tries a call again, that could get on.
   abbrev pub IsNotInVain : Limits → Entry A → Type 0

@@ -5,6 +5,7 @@ ghost use mathlib.Core.List.{IsPrefix};
 ghost use Rattle.pl_model.specs.History.{of};
 ghost use Rattle.pl_locked.specs.Views.{newcomer, newcomers, HasCaller, IsLeastMissing, IsSub, total_handed, total_made};
 
+use crate::count::Count;
 use crate::log::Log;
 use crate::recorded::Recorded;
 use pl_history::{Eye, Handing, Layer, Word};
@@ -14,7 +15,7 @@ use std::marker::Model;
 use std::sync::ledger::Share;
 
 /// One caller of a layer: a thread makes its steps by this token. Contracts see the caller's number, the history that it has seen, the
-/// entries that it made, in order, and how many entries it was handed.
+/// entries that it made, in order, how many entries it was handed, and how often it glanced.
 #[derive(Drop)]
 pub struct Caller<N: Layer, A: Allocator = Global> {
     pub(crate) number: u32,
@@ -22,6 +23,7 @@ pub struct Caller<N: Layer, A: Allocator = Global> {
     pub(crate) made: Log<A>,
     pub(crate) handed: Share<Handing<N>>,
     pub(crate) eye: Eye<N, A>,
+    pub(crate) glances: Count,
 }
 
 impl<N: Layer, A: Allocator> Model for Caller<N, A> {
@@ -31,7 +33,7 @@ impl<N: Layer, A: Allocator> Model for Caller<N, A> {
 
     ghost Value = { CallerView A };
 
-    ghost view = { λ c. record { number = c.number; seen = c.eye.seen; made = c.made; handed = c.handed.amount } };
+    ghost view = { λ c. record { number = c.number; seen = c.eye.seen; made = c.made; handed = c.handed.amount; glances = c.glances } };
 
     ghost invariant = { λ c. (c.number < N.callers) × (c.share.parts ≡ 1) × (c.share.amount ≡ length c.made) × (c.eye.recorder ≡ false) × IsSub c.made (of c.number c.eye.seen) × (c.handed.parts ≡ 1) };
 }
@@ -58,6 +60,7 @@ impl<N: Layer, A: Allocator> Caller<N, A> {
             made: Log::new(),
             handed,
             eye,
+            glances: Count::new(),
         }
     }
 
@@ -73,6 +76,7 @@ impl<N: Layer, A: Allocator> Caller<N, A> {
             made: _,
             handed,
             eye,
+            glances: _,
         } = self;
         (share, handed, eye)
     }

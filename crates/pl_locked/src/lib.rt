@@ -7,7 +7,9 @@
 //! `Caller`, in the contracts alone.
 #![tactic(auto)]
 
+mod books;
 mod caller;
+mod count;
 mod desk;
 mod fault;
 mod ground;
@@ -18,6 +20,8 @@ mod made;
 mod numbering;
 mod recorded;
 mod same;
+mod wait_queue;
+mod waiting;
 
 pub use caller::Caller;
 pub use fault::{CallFault, OpenFault, StepFault};

@@ -1,6 +1,5 @@
 //! The layer: one lock, and the steps of its callers.
-ghost use Rattle.std.specs.Prelude.{◌≡◌, ℕ, ◌<◌, ◌≤◌, ◌^◌, length, IfOk, IfErr, OnOk, OnErr, IsErrOf, ◌↔◌, ◌⊎◌, replicate};
-ghost use Rattle.pl_locked.specs.declared.desk.Waiting.TheVariants.{Nothing as Idle};
+ghost use Rattle.std.specs.Prelude.{◌≡◌, ℕ, ◌<◌, ◌≤◌, ◌^◌, length, IfOk, IfErr, OnOk, OnErr, IsErrOf, ◌+◌, ◌↔◌, ◌⊎◌, IfSome};
 ghost use Rattle.pl_model.specs.Numbers.{most_file_bytes};
 ghost use Rattle.std.specs.Sync.Mutex.{mutex_guard_value};
 ghost use Rattle.pl_locked.specs.Views.{Ends, Full, Gains, IsBehind, IsHanded, Sees, Shown, newcomers, HasCaller, IsLeastMissing};
@@ -8,12 +7,14 @@ ghost use Rattle.pl_locked.specs.Journals.{KeepsItsNumber};
 
 mod calls;
 
+use crate::books::Books;
 use crate::caller::{Caller, deal, missing};
-use crate::desk::{Desk, Waiting};
+use crate::desk::Desk;
 use crate::fault::{OpenFault, StepFault};
 use crate::ground::Ground;
 use crate::journal::JournalPart;
 use crate::recorded::Recorded;
+use crate::wait_queue::WaitQueue;
 use pl_history::{Handing, Layer, Word};
 use pl_kernel::{Kernel, NoMemory};
 use pl_model::{Limits, Reply, Step};
@@ -52,17 +53,6 @@ pub struct CallerMissing<N: Layer, A: Allocator = Global> {
     /// caller who made the last step.
     pub locked: Locked<N, A>,
     pub callers: Vec<Caller<N, A>, A>,
-}
-
-// For which calls so many callers wait at first: for none.
-fn no_calls<A: Allocator + Copy>(alloc: A, callers: u32) -> Result<Vec<Waiting, A>, NoMemory>
-    ensures { IfOk result (λ calls. calls.items ≡ replicate callers Idle) }
-{
-    let mut calls = Vec::with_capacity(alloc, callers as usize)?;
-    for _ in 0..callers {
-        calls.push_reserved(Waiting::Nothing);
-    }
-    Ok(calls)
 }
 
 // What so many callers wait at.
@@ -149,13 +139,12 @@ impl<N: Layer, A: Allocator + Copy> Locked<N, A> {
         let (book, mut rest) = blank.open::<N>();
         let (handed, mut spare) = handing.open::<Handing<N>>();
         let counts = Vec::from_elem(alloc, 0, callers as usize)?;
-        let waiting = no_calls(alloc, callers)?;
+        let queue = WaitQueue::new(alloc, callers)?;
         let turns = turns_of(alloc, callers)?;
         let tokens = deal(alloc, callers, &mut rest, &mut spare, &word, &mut recorder)?;
         let recorded = Recorded::new(alloc, limits, recorder);
-        let desk = Desk::new(
-            recorded, counts, book, rest, handed, spare, max_steps, waiting,
-        );
+        let books = Books::new(recorded, counts, book, rest, handed, spare, max_steps);
+        let desk = Desk::new(books, queue);
         Ok((Locked::over(callers, desk, turns, word), tokens))
     }
 
@@ -229,7 +218,9 @@ impl<N: Layer, A: Allocator + Copy> Locked<N, A> {
     pub fn glance(&self, me: &mut Caller<N, A>) -> u64
         ensures length { result ≡ length me.new.seen }
         ensures seen { Sees me.old me.new }
+        ensures counted { me.new.glances ≡ me.old.glances + 1 }
     {
+        me.glances.up();
         self.word.look(&mut me.eye)
     }
 
@@ -325,8 +316,17 @@ impl<N: Layer, A: Allocator + Copy> Locked<N, A> {
         self.desk.lock(rt)
     }
 
-    // One step on the desk, which is unlocked then: the reply, and how many steps there are. It wakes whom it helps behind the lock, so that
-    // nobody wakes to a lock that is held.
+    // Notifies a caller that was woken on the desk.
+    fn notify(&self, sleeper: Option<usize>)
+        requires { IfSome sleeper (λ caller. caller < N.callers) }
+    {
+        if let Some(caller) = sleeper {
+            self.turns.each[caller].notify_one();
+        }
+    }
+
+    // One step on the desk, which is unlocked then: the reply, and how many steps there are. It notifies whom it woke behind the lock, so
+    // that nobody wakes to a lock that is held.
     #[inline(always)]
     fn make(
         &self,
@@ -336,19 +336,17 @@ impl<N: Layer, A: Allocator + Copy> Locked<N, A> {
     ) -> Result<(Reply<A>, u64), StepFault>
         ensures made { IfOk result (λ r. Gains N.limits N.max_steps me.old me.new step r.0) }
         ensures behind { IfOk result (λ r. IsBehind (mutex_guard_value desk.entry).journal me.new) }
+        ensures steps { IfOk result (λ r. r.1 ≡ length me.new.seen) }
         ensures number { IfOk result (λ r. KeepsItsNumber step r.0) }
         ensures full { IsErrOf result StepFault.JournalFull → Full N.max_steps me.new }
         ensures wanted { IsErrOf result StepFault.NoMemory → ¬ Full N.max_steps me.new }
         ensures unmade { OnErr result (Shown N.limits N.max_steps me.old me.new) }
+        ensures glances { me.new.glances ≡ me.old.glances }
     {
-        let made = desk.step(&self.word, me, step);
+        let (made, sleeper) = desk.step(&self.word, me, step);
         let steps = desk.len();
-        // Also where the step failed: whom an earlier step woke may be the caller that gives up now.
-        let sleeper = desk.whom_to_tell();
         drop(desk);
-        if let Some(caller) = sleeper {
-            self.turns.each[caller].notify_one();
-        }
+        self.notify(sleeper);
         match made {
             Ok(reply) => {
                 self.recall(&reply);
@@ -367,10 +365,12 @@ impl<N: Layer, A: Allocator + Copy> Locked<N, A> {
         step: Step<A>,
     ) -> Result<(Reply<A>, u64), StepFault>
         ensures made { IfOk result (λ r. Gains N.limits N.max_steps me.old me.new step r.0) }
+        ensures steps { IfOk result (λ r. r.1 ≡ length me.new.seen) }
         ensures number { IfOk result (λ r. KeepsItsNumber step r.0) }
         ensures full { IsErrOf result StepFault.JournalFull → Full N.max_steps me.new }
         ensures wanted { IsErrOf result StepFault.NoMemory → ¬ Full N.max_steps me.new }
         ensures unmade { OnErr result (Shown N.limits N.max_steps me.old me.new) }
+        ensures glances { me.new.glances ≡ me.old.glances }
     {
         self.make(self.lock(rt, me), me, step)
     }

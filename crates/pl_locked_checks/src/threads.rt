@@ -141,7 +141,7 @@ const PONG: Acts = &[(
 )];
 
 /// A caller waits for a byte.
-const ONE_READ: Acts = &[(Act::Call(Ask::Read(1)), Came::OneByte)];
+const ONE_READ: Acts = &[(READS, Came::OneByte)];
 
 /// A byte that is written only once a read of it is known to wait, and read only once it is known to be written: so neither thread
 /// holds the lock while the other needs it.
@@ -218,6 +218,37 @@ const FILLS: Scene = Scene {
     kept: Kept::Of(&[3, 1]),
     left: Left::Anything,
 };
+
+/// Three callers wait for a byte each, and sleep, as the bytes for another pipe help none of them. The last of these is the last step that the
+/// journal takes: each read stays parked.
+const ASLEEP: Scene = Scene {
+    name: "three sleep as the journal fills",
+    callers: 4,
+    max_steps: 2_006,
+    in_turn: &[&[START, PIPE, (Act::Step(Ask::Pipe), Came::Fds(2, 3))]],
+    at_once: &[
+        &[
+            (Act::Sees(6), Came::Steps(6)),
+            (Act::Steps(2_000, Ask::WriteOther), Came::Count(1)),
+            (Act::Step(Ask::Write("a")), Came::Full),
+        ],
+        &[(READS, Came::Stays(StepFault::JournalFull, 1))],
+        &[
+            (Act::Sees(4), Came::Steps(4)),
+            (READS, Came::Stays(StepFault::JournalFull, 2)),
+        ],
+        &[
+            (Act::Sees(5), Came::Steps(5)),
+            (READS, Came::Stays(StepFault::JournalFull, 3)),
+        ],
+    ],
+    read: (0, 0),
+    kept: Kept::Of(&[2_003, 1, 1, 1]),
+    left: Left::Anything,
+};
+
+/// A read of a byte, which waits.
+const READS: Act = Act::Call(Ask::Read(1));
 
 /// A read and a write that are both longer than the pipe wait for each other: the write that begins to wait has put bytes in, of which
 /// the reader is told.
@@ -324,6 +355,14 @@ fn turns_that_come_too_late(rt: HostRuntime) -> Result<(), Fail> {
 fn callers_that_wait_are_told(rt: HostRuntime) -> Result<(), Fail> {
     for scene in [&LONG_READ, &LONG_WRITE, &TWO_PIPES, &BYTE_BY_BYTE] {
         assert!(rt; together(&rt, rt.alloc(), scene)? == 0);
+    }
+    Ok(())
+}
+
+#[test]
+fn nobody_sleeps_at_a_full_journal(rt: HostRuntime) -> Result<(), Fail> {
+    for _time in 0..20u8 {
+        assert!(rt; together(&rt, rt.alloc(), &ASLEEP)? == 0);
     }
     Ok(())
 }

@@ -1,12 +1,15 @@
 //! Whole calls: begun, and tried again until they are answered.
-ghost use Rattle.std.specs.Prelude.{◌≡◌, IfOk, IfErr, IfSome, OnErr, IsErrOf};
+ghost use Rattle.std.specs.Prelude.{◌≡◌, ℕ, ◌<◌, not, length, Ok, None, IfOk, IfErr, IfSome, OnErr, IsErrOf};
 ghost use Rattle.std.specs.Sync.Mutex.{mutex_guard_value};
-ghost use Rattle.pl_locked.specs.Views.{Called, CalledIn, CouldGetOn, Failed, Full, Glanced, NoneInVain, Sees, Shown, Turned};
+ghost use Rattle.pl_model.specs.declared.replies.Reply.TheVariants.{Parked};
+ghost use Rattle.pl_locked.specs.Views.{Called, CalledIn, CouldEnd, Failed, Full, Glanced, NoneInVain, Sees, Shown, Turned, UsesTurns};
+ghost use Rattle.pl_locked.specs.Waking.{can_end};
 
 use super::Locked;
 use crate::caller::Caller;
-use crate::desk::{Desk, Waiting};
+use crate::desk::Desk;
 use crate::fault::{CallFault, StepFault};
+use crate::waiting::Looked;
 use pl_history::Layer;
 use pl_model::{Call, Reply, Step};
 use std::alloc::Allocator;
@@ -26,7 +29,8 @@ impl<N: Layer, A: Allocator + Copy> Locked<N, A> {
     ///
     /// # Errors
     ///
-    /// As of `attempt`, at any of its steps: the call may stay parked, under the number that is told.
+    /// As of `attempt`, at any of its steps: the call may stay parked, under the number that is told. Nobody sleeps on at a journal that is
+    /// full: each call that waits then ends with `JournalFull`, one after another.
     pub fn call<R: Wait>(
         &self,
         rt: &R,
@@ -67,7 +71,7 @@ impl<N: Layer, A: Allocator + Copy> Locked<N, A> {
         unreachable!()
     }
 
-    // Waits until the call can get on, and tries it again.
+    // Waits until the call can end, and tries it again.
     fn turn<R: Wait>(
         &self,
         rt: &R,
@@ -105,7 +109,7 @@ impl<N: Layer, A: Allocator + Copy> Locked<N, A> {
         seen
     }
 
-    // Looks for a short time whether the call can get on. Where it can, the desk is locked: a partner that answers soon then costs no sleep.
+    // Looks for a short time whether the call can end. Where it can, the desk is locked: a partner that answers soon then costs no sleep.
     fn look<'a, R: Wait>(
         &'a self,
         rt: &R,
@@ -113,7 +117,7 @@ impl<N: Layer, A: Allocator + Copy> Locked<N, A> {
         number: u64,
     ) -> Option<MutexGuard<'a, Desk<N, A>>>
         ensures sees { Sees me.old me.new }
-        ensures helped { IfSome result (λ desk. CouldGetOn {A = A} N.limits (mutex_guard_value desk).journal number) }
+        ensures helped { IfSome result (λ desk. CouldEnd {A = A} N.limits N.max_steps (mutex_guard_value desk).journal number) }
     {
         let mut seen = 0;
         for _ in 0..LOOKS {
@@ -127,41 +131,53 @@ impl<N: Layer, A: Allocator + Copy> Locked<N, A> {
                 self.give_way(rt, me);
             }
             if let Some(mut desk) = self.desk.try_lock() {
-                if desk.can_progress(number) {
-                    desk.wait_for(me.number(), Waiting::Nothing);
-                    return Some(desk);
+                match desk.look(me.number(), number) {
+                    Looked::Ends => return Some(desk),
+                    Looked::Waits(sleeper) => {
+                        drop(desk);
+                        self.notify(sleeper);
+                        seen = steps;
+                    }
                 }
-                desk.wait_for(me.number(), Waiting::Awake(number));
-                seen = steps;
             }
         }
         None
     }
 
-    // Sleeps until the call can get on. The desk is locked then.
+    // Sleeps until the call can end. The desk is locked then.
     fn sleep<'a, R: Wait>(
         &'a self,
         rt: &R,
         me: &Caller<N, A>,
         number: u64,
     ) -> MutexGuard<'a, Desk<N, A>>
-        ensures { CouldGetOn {A = A} N.limits (mutex_guard_value result).journal number }
+        ensures { CouldEnd {A = A} N.limits N.max_steps (mutex_guard_value result).journal number }
     {
         let caller = me.number();
-        let mut desk = self.lock_at_once(rt);
-        desk.fall_asleep(caller, number);
-        let mut desk = self.turns.each[caller as usize].wait_while(
+        self.turns.each[caller as usize].wait_while(
             rt,
-            desk,
-            |desk| desk.waits_on(caller, number),
-        );
-        desk.wait_for(caller, Waiting::Nothing);
-        desk
+            self.lock_at_once(rt),
+            |desk| self.sleeps_on(desk, caller, number),
+        )
     }
 
-    /// Begins a call of a process, and then takes at most so many turns: a turn is a glance, and where there are more steps than after
-    /// the caller's last one it tries the call again. It waits for the lock alone. The answer is `Parked` where no turn is left: the
-    /// call waits on.
+    // Whether a caller sleeps on, as its call can't end.
+    fn sleeps_on(&self, desk: &mut Desk<N, A>, caller: u32, call: u64) -> bool
+        requires { caller < N.callers }
+        ensures { result ≡ not (can_end {A = A} N.limits N.max_steps desk.new.journal call) }
+    {
+        match desk.fall_asleep(caller, call) {
+            Looked::Ends => false,
+            Looked::Waits(sleeper) => {
+                self.notify(sleeper);
+                true
+            }
+        }
+    }
+
+    /// Begins a call of a process, and then takes at most so many turns: a turn is a glance, and exactly where there are more steps than
+    /// after the caller's last one it tries the call again. It waits for the lock alone. The answer is `Parked` only where all turns were
+    /// taken: the call waits on.
     ///
     /// # Errors
     ///
@@ -175,6 +191,7 @@ impl<N: Layer, A: Allocator + Copy> Locked<N, A> {
         turns: u32,
     ) -> Result<Reply<A>, CallFault>
         ensures made { IfOk result (λ reply. CalledIn turns N.limits N.max_steps me.old me.new pid call reply) }
+        ensures turns { (c : ℕ) → result ≡ Ok (Parked c) → UsesTurns turns N.limits N.max_steps pid call c me.old me.new }
         ensures full { IfErr result (λ fault. fault.cause ≡ StepFault.JournalFull → Full N.max_steps me.new) }
         ensures wanted { IfErr result (λ fault. fault.cause ≡ StepFault.NoMemory → ¬ Full N.max_steps me.new) }
         ensures fault { IfErr result (λ fault. Failed N.limits N.max_steps me.old me.new pid call fault.parked) }
@@ -214,7 +231,9 @@ impl<N: Layer, A: Allocator + Copy> Locked<N, A> {
         number: u64,
         seen: &mut u64,
     ) -> Result<Option<Reply<A>>, StepFault>
+        requires { seen.old ≡ length me.old.seen }
         ensures made { IfOk result (λ answer. Glanced N.limits N.max_steps me.old me.new number answer) }
+        ensures seen { IfOk result (λ answer. answer ≡ None → seen.new ≡ length me.new.seen) }
         ensures full { IsErrOf result StepFault.JournalFull → Full N.max_steps me.new }
         ensures wanted { IsErrOf result StepFault.NoMemory → ¬ Full N.max_steps me.new }
         ensures unmade { OnErr result (Shown N.limits N.max_steps me.old me.new) }

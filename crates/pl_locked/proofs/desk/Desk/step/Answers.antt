@@ -1,133 +1,65 @@
-use Rattle.std.proofs.Common.{true, false, ◌≡◌, ℕ, ◌+◌, ◌<◌, ◌≤◌, List, [], ◌∷◌, ◌++◌, length, ap, sym, refl, ◌∙◌, subst, arith, length-append}
-use Rattle.std.specs.Prelude.{slice_index}
-use Rattle.std.proofs.lemmas.Bool.{not-true}
-use Rattle.std.proofs.lemmas.Grind.{common_steps}
-use Rattle.std.proofs.lemmas.List.{get_or_read}
-use mathlib.Core.List.{IsPrefix}
-use Rattle.pl_model.specs.declared.history.Entry.{Entry}
-use Rattle.pl_model.specs.History.{entry, of, IsLegal, state_of_history}
-use Rattle.pl_model.specs.Numbered.{State, step}
-use Rattle.pl_model.proofs.Journals.{state-push}
-use Rattle.std.specs.List.{list_any}
-use Rattle.pl_locked.specs.Waking.{is_of_together, SleepAlike}
-use Rattle.pl_locked.specs.Journals.{Owes}
-use Rattle.pl_locked.proofs.Sleeping.{sleep_on}
-use Rattle.pl_locked.specs.Views.{CallerView, Held, IsSub}
-use Rattle.pl_locked.proofs.Subs.{sub_made}
-use Rattle.pl_locked.proofs.Tallying.{tally_small}
-use Rattle.pl_locked.proofs.Waiting.{gains}
+use Rattle.std.proofs.Common.{◌≡◌, true, false, List, length, ap, sym, refl, ◌∙◌, subst}
+use Rattle.std.proofs.lemmas.List.{length-set}
+use Rattle.pl_model.specs.History.{of, state_of_history}
+use Rattle.pl_model.specs.Numbered.{State}
+use Rattle.pl_locked.specs.declared.waiting.Waiting.{Waiting}
+use Rattle.pl_locked.specs.declared.waiting.Waiting.TheVariants.{Nothing}
+use Rattle.pl_locked.specs.Views.{Kept}
+use Rattle.pl_locked.specs.Waking.{Notes, SleepAlike, can_end}
+use Rattle.pl_locked.proofs.Sleeping.{sets_other, sleep_through}
+use Rattle.pl_locked.proofs.Serving.{settled}
 use Rattle.pl_locked.proofs.desk.Desk.step.Given.{Over}
-use Rattle.pl_locked.proofs.desk.Desk.step.Goals.{After-add, then-self, else-self}
+use Rattle.pl_locked.proofs.desk.Desk.step.Goals.{After-leave, then-ends, else-ends}
 use Rattle.pl_locked.proofs.desk.Desk.step.Goals as goal
 
--- the journal before the step, and the entry that comes
-module _ (g : Over) (c : After-add g) where
+module _ (g : Over) (c : After-leave g) where
   abbrev A : Type 0
   A = g.row.A.Denot
 
-  abbrev before : List (Entry A)
-  before = c.self.inside.recorded.journal
+  -- the journal, and who waits, after the step
+  abbrev books : Kept A
+  books = c.if-ends.self-inside.books
 
-  abbrev k : ℕ
-  k = c.me.inside.number
+  abbrev queue : Notes
+  queue = c.if-ends.self-inside.queue
 
-  abbrev now : Entry A
-  now = entry k c.index-number.result.now c.args.step c.in_ok-reply.reply
+  -- no note was changed yet
+  waiting : queue.waiting ≡ c.self.inside.queue.waiting
+  waiting = elim c.if-ends.branch [
+    | then-ends w ↦ ap (λ d. d.queue.waiting) w.self-inside-is ∙ ap (λ (z : Notes). z.waiting) w.part.ensures
+    | else-ends w ↦ ap (λ d. d.queue.waiting) w.self-inside-is
+  ]
 
-  -- the caller has been shown the journal
-  journal-is : before ≡ c.args.self.now.journal
-  journal-is = ap (λ (d : Held A). d.journal) (c.self.view_is ∙ c.show.ensures.same)
+  many : length c.leave.new.self.waiting ≡ g.N.Layer.callers
+  many = ap (λ (z : Notes). length z.waiting) c.leave.ensures ∙ (length-set queue.waiting c.number.result Nothing ∙ (ap length waiting ∙ c.self.invariant.0))
 
-  me-is : record { number = k; seen = c.me.inside.eye.seen; made = c.me.inside.made; handed = c.me.inside.handed.amount } ≡ record c.args.me.now { seen = c.args.self.now.journal }
-  me-is = c.me.view_is ∙ c.show.ensures.seen
+  -- those that sleep together sleep on
+  alike : c.leave.new.self.alike ≡ true → SleepAlike (state_of_history g.N.Layer.limits books.journal) c.leave.new.self.waiting
+  alike is = elim c.if-ends.branch [
+    | then-ends w ↦
+        let kept : c.leave.new.self.alike ≡ queue.alike = ap (λ (z : Notes). z.alike) c.leave.ensures in
+        let none : queue.alike ≡ false = ap (λ d. d.queue.alike) w.self-inside-is ∙ ap (λ (z : Notes). z.alike) w.part.ensures in
+        absurd (cc)
+    | else-ends w ↦
+        let s : State A = state_of_history g.N.Layer.limits books.journal in
+        let step : books ≡ c.step-made.new.self = ap (λ d. d.books) w.self-inside-is in
+        let was : c.self.inside.queue.alike ≡ true = sym (ap (λ (z : Notes). z.alike) c.leave.ensures ∙ ap (λ d. d.queue.alike) w.self-inside-is) ∙ is in
+        let none = c.is_of_together-ends.ensures w.if-ends.false in
+        let on : SleepAlike (state_of_history g.N.Layer.limits c.step-made.new.self.journal) c.self.inside.queue.waiting =
+        sleep_through g.N.Layer.limits c.args.me.now.number (length (of c.args.me.now.number c.self.inside.books.journal)) c.args.step c.self.inside.queue.waiting
+        c.self.inside.books c.step-made.new.self c.step-made.result _ c.step-made.ensures.journal c.step-made.ensures.unmade none (c.self.invariant.1 was) in
+        let here : SleepAlike s queue.waiting =
+        subst (λ (ws : List Waiting). SleepAlike s ws) (sym waiting) (subst (λ (z : Kept A). SleepAlike (state_of_history g.N.Layer.limits z.journal) c.self.inside.queue.waiting) (sym step) on) in
+        subst (λ (z : Notes). SleepAlike s z.waiting) (sym c.leave.ensures) (sets_other s queue.waiting c.number.result Nothing refl here)
+  ]
 
-  k-is : k ≡ c.args.me.now.number
-  k-is = ap (λ (v : CallerView A). v.number) me-is
+pub wake-whom-requires : goal.wake-whom-requires
+wake-whom-requires g c = record { alike = alike g (goal.at.wake-whom-requires g c).After-leave }
 
-  shown : c.me.inside.eye.seen ≡ before
-  shown = ap (λ (v : CallerView A). v.seen) me-is ∙ sym journal-is
-
-  earlier : IsPrefix c.args.me.now.seen before
-  earlier = subst (IsPrefix c.args.me.now.seen) (ap (λ (v : CallerView A). v.seen) c.show.ensures.seen ∙ sym journal-is) c.show.ensures.shown.0.earlier
-
-  -- how many entries it has there
-  number : c.index-number.result.now ≡ length (of k before)
-  number =
-      let tallies = c.self.invariant.0 in
-      let lt : k < g.N.Layer.callers = c.me.invariant.0 in
-      let many : length c.self.inside.counts.items ≡ g.N.Layer.callers = tallies.many in
-      get_or_read c.self.inside.counts.items k c.index-number.result.now (omega arith) c.index-number.ensures 0 ∙ tallies.counts k lt
-
-  seen : c.step.new.eye.seen ≡ before ++ now ∷ []
-  seen = c.in_ok-reply.ensures.seen ∙ c.in_ok-reply.ensures.kept
-
-  own : IsSub c.step.new.made (of k c.step.new.eye.seen)
-  own =
-      let was : IsSub c.me.inside.made (of k before) = subst (λ (h : List (Entry A)). IsSub c.me.inside.made (of k h)) shown c.me.invariant.4 in
-      subst (λ (h : List (Entry A)). IsSub h (of k c.step.new.eye.seen)) (sym c.in_ok-reply.ensures.made)
-      (subst (λ (h : List (Entry A)). IsSub (c.me.inside.made ++ now ∷ []) (of k h)) (sym seen) (sub_made k c.me.inside.made before now refl was))
-
-pub overflow_add-number : goal.overflow_add-number
-overflow_add-number g c =
-    let k = c.me.inside.number in
-    let tallies = c.self.invariant.0 in
-    let lt : k < g.N.Layer.callers = c.me.invariant.0 in
-    let many : length c.self.inside.counts.items ≡ g.N.Layer.callers = tallies.many in
-    let number : c.index-number.result.now ≡ slice_index c.self.inside.counts.items k = get_or_read c.self.inside.counts.items k c.index-number.result.now (omega arith) c.index-number.ensures 0 in
-    let small : slice_index c.self.inside.counts.items k ≤ g.N.Layer.max_steps = tally_small _ _ _ _ tallies k lt in
-    let most : c.self.inside.most ≡ g.N.Layer.max_steps = c.self.invariant.2 in
-    omega arith
-
-pub invariant_of-me-2 : goal.invariant_of-me-2
-invariant_of-me-2 g c =
-    let w = (goal.at.invariant_of-me-2 g c).After-add in
-    let inv = c.me.invariant in
-    let made : length c.step.new.made ≡ length (c.me.inside.made ++ now g w ∷ []) = ap length c.in_ok-reply.ensures.made in
-    let more : length (c.me.inside.made ++ now g w ∷ []) ≡ length c.me.inside.made + 1 = length-append c.me.inside.made (now g w ∷ []) in
-    let was : c.me.inside.share.amount ≡ length c.me.inside.made = inv.2 in
-    let is = c.add.ensures.amount in
-    (inv.0, c.add.ensures.parts ∙ inv.1, omega arith, c.in_ok-reply.ensures.eye, own g w, inv.5)
-
-pub returns-clause-made : goal.returns-clause-made
-returns-clause-made g c =
-    let w = (goal.at.returns-clause-made g c).After-add in
-    let h = before g w in
-    let n = c.index-number.result.now in
-    let most : c.self.inside.most ≡ g.N.Layer.max_steps = c.self.invariant.2 in
-    let room : length h < g.N.Layer.max_steps = omega (arith, c.len.ensures, c.if-len-self.false) in
-    let longer : length (h ++ now g w ∷ []) ≡ length h + 1 = length-append h (now g w ∷ []) in
-    let less : length c.step.new.eye.seen ≤ g.N.Layer.max_steps = let s = ap length (seen g w) in omega arith in
-    gains g.N.Layer.limits g.N.Layer.max_steps c.args.me.now _ h n c.args.step c.in_ok-reply.reply
-    (earlier g w)
-    (number g w ∙ ap (λ (j : ℕ). length (of j h)) (k-is g w))
-    (seen g w ∙ ap (λ (j : ℕ). h ++ entry j n c.args.step c.in_ok-reply.reply ∷ []) (k-is g w))
-    (c.in_ok-reply.ensures.made ∙ (λ i. (me-is g w i).made ++ entry (k-is g w i) n c.args.step c.in_ok-reply.reply ∷ []))
-    (k-is g w)
-    (ap (λ (v : CallerView (A g w)). v.handed) (me-is g w))
-    record { legal = subst (IsLegal g.N.Layer.limits) (sym c.in_ok-reply.ensures.seen) c.in_ok-reply.ensures.legal; room = less; own = own g w }
-
-pub invariant_of-self-2 : goal.invariant_of-self-2
-invariant_of-self-2 g c =
-    let inv = c.self.invariant in
-    let w = (goal.at.invariant_of-self-2 g c).After-add in
+pub invariant_of-self : goal.invariant_of-self
+invariant_of-self g c =
+    let w = (goal.at.invariant_of-self g c).After-leave in
     let limits = g.N.Layer.limits in
-    let s = state_of_history limits (before g w) in
-    let ws = c.self.inside.waiting.items in
-    let pushed : state_of_history limits c.step.new.self.journal ≡ (step s c.args.step).state =
-    ap (state_of_history limits) c.in_ok-reply.ensures.kept ∙ state-push limits (before g w) (now g w) in (
-      grind (arith, common_steps),
-      grind (arith, common_steps),
-      inv.2,
-      inv.3,
-      inv.4,
-      inv.5,
-      inv.6,
-      λ alike. elim c.if-self.branch [
-        | then-self b ↦
-            let other : c.is_of_together-ends.result ≡ false = not-true c.is_of_together-ends.result (sym b.self-is ∙ alike) in
-            let none : list_any (is_of_together s c.args.step) ws ≡ false = subst (λ (z : Held g.row.A.Denot). list_any (is_of_together (state_of_history limits z.journal) c.args.step) z.waiting ≡ false) (sym c.self.view_is) (c.is_of_together-ends.ensures other) in
-            subst (λ (u : State (A g w)). SleepAlike u ws) (sym pushed) (sleep_on s c.args.step ws none (inv.7 b.if-self.true))
-        | else-self b ↦ absurd (cc)
-      ],
-      subst (λ (n : ℕ). Owes g.N.Layer.callers n c.self.inside.handed.total c.self.inside.spare.parts c.self.inside.spare.amount) (sym c.in_ok-reply.ensures.first) inv.8,
-    )
+    let journal = c.if-ends.self-inside.books.journal in
+    settled (state_of_history limits journal) (can_end limits g.N.Layer.max_steps journal) g.N.Layer.callers c.leave.new.self.waiting c.leave.new.self.alike c.wake-whom.result
+    c.wake-whom.new.self c.wake-whom.ensures.whom c.wake-whom.ensures.woken (many g w) (alike g w)

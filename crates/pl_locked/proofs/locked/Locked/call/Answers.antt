@@ -1,4 +1,4 @@
-use Rattle.pl_locked.proofs.Waiting.{none_later, waits_more, waits_sees}
+use Rattle.pl_locked.proofs.Calls.{none_later, waits_more, waits_sees}
 use Rattle.pl_locked.proofs.locked.Locked.call.Goals as goal
 
 pub turns-preserved : goal.turns-preserved
