@@ -5,7 +5,9 @@ use Rattle.std.specs.Io.KnownBytes.{Appends}
 use Rattle.std.proofs.KnownBytes.{Appends-nil, Appends-trans}
 use Rattle.std.proofs.lemmas.List.{append-nil, take-append-drop}
 use Rattle.pl_model.specs.declared.calls.Limits.{Limits}
-use Rattle.pl_script.specs.Header.{limits_of_header, IsCheckWithin}
+use Rattle.pl_model.specs.Script.{lines}
+use Rattle.pl_script.specs.Header.{limits_of_header, IsCheckSpelt, IsCheckWithin}
+use Rattle.pl_script.specs.Misspelt.{first_misspelt}
 use Rattle.pl_script.specs.declared.comparing.Checked.{Checked}
 use Rattle.pl_script.specs.declared.fault.ScriptFault.TheVariants as script
 use Rattle.pl_run.specs.Program.{InBudget, IsCheckedWithin, line_of_same}
@@ -63,6 +65,10 @@ pub not_checked : (all explain : Bool) (limits : Limits) (input output : Option 
 not_checked all explain limits None output = tt
 not_checked all explain limits (Some bytes) output = ([], Appends-nil output, (Err script.NoMemory, [], [], refl, unread (limits_of_header limits bytes), (refl, refl)))
   where
+    unread_spelt : (own : Limits) (wrong : Option ℕ) → IsCheckSpelt InBudget all own wrong bytes (Err script.NoMemory) []
+    unread_spelt own None = inl refl
+    unread_spelt own (Some n) = refl
+
     unread : (named : Option Limits) → IsCheckWithin InBudget all named bytes (Err script.NoMemory) []
     unread None = refl
-    unread (Some own) = inl refl
+    unread (Some own) = unread_spelt own (first_misspelt 1 (lines bytes))

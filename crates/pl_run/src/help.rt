@@ -28,8 +28,9 @@ FILE, or standard input where there is none. LIMIT is one of these:
                       number of the comment, that text and the reply
       --all           prints each such place, and not the first alone
       --live          answers each line as it comes, and holds no answer back
-                      while it waits for more; a bad line is told and passed
-                      over, and the end tells how many there were
+                      while it waits for more; a bad line is told, and
+                      answered `bad line`, and the end tells how many there
+                      were
       --strict        ends a live run at its first bad line
       --explain       tells of a bad line, on a second line, which word is wrong
                       and why: `line 2, word 3: an odd number of digits`

@@ -113,8 +113,8 @@ fn check_from<S: Source, T: Sink>(
 }
 
 /// Runs the lines that the far end says as they come, within the limits and so many bytes of memory: the kernel, the line that is read, and
-/// the answers that aren't written yet. A bad line is refused and passed over; a strict run ends there. `limits.file_max` is at most
-/// 16,777,216.
+/// the answers that aren't written yet. A bad line is answered `bad line` and refused; a strict run ends there, behind the answers to the
+/// lines before. `limits.file_max` is at most 16,777,216.
 ///
 /// # Errors
 ///

@@ -5,10 +5,11 @@ use Rattle.std.specs.Io.KnownBytes.{Appends}
 use Rattle.std.proofs.KnownBytes.{Appends-nil}
 use Rattle.pl_model.specs.declared.calls.Limits.{Limits}
 use Rattle.pl_model.specs.Numbers.{most_script_bytes}
-use Rattle.pl_model.specs.Script.{version_of, header_lines}
+use Rattle.pl_model.specs.Script.{lines, version_of, header_lines}
 use Rattle.pl_script.specs.Streams.{WasNotRead}
 use Rattle.pl_script.specs.Checked.{IsCheck}
-use Rattle.pl_script.specs.Header.{limits_of_header, IsCheckWithin}
+use Rattle.pl_script.specs.Header.{limits_of_header, IsCheckSpelt, IsCheckWithin}
+use Rattle.pl_script.specs.Misspelt.{first_misspelt}
 use Rattle.pl_script.specs.declared.comparing.Checked.{Checked}
 use Rattle.pl_script.specs.declared.fault.ScriptFault.{ScriptFault}
 use Rattle.pl_script.specs.declared.fault.ScriptFault.TheVariants as faults
@@ -24,11 +25,12 @@ checked_known A all (Some script) old new read limits result known check =
 
 -- the lines were checked within the limits that the record names
 pub within : (A : Type 0) (all : Bool) (old new : Option (List ℕ)) (read held : List ℕ) (limits named : Limits) (result : Result Checked ScriptFault) → held ≡ read → limits_of_header limits held ≡ Some named
-    → (text : List ℕ) × Appends old new text × IsCheck A all held named result text → (text : List ℕ) × Appends old new text × IsCheckWithin A all (limits_of_header limits read) read result text
-within A all old new read held limits named result is names check =
+    → first_misspelt 1 (lines held) ≡ None → (text : List ℕ) × Appends old new text × IsCheck A all held named result text → (text : List ℕ) × Appends old new text × IsCheckWithin A all (limits_of_header limits read) read result text
+within A all old new read held limits named result is names spelt check =
     let Checks : List ℕ → Type 0 = λ bytes. IsCheckWithin A all (limits_of_header limits bytes) bytes result check.0 in
     let Within : Option Limits → Type 0 = λ own. IsCheckWithin A all own held result check.0 in
-    (check.0, check.1, subst Checks is (subst Within (sym names) check.2))
+    let Spelt : Option ℕ → Type 0 = λ wrong. IsCheckSpelt A all named wrong held result check.0 in
+    (check.0, check.1, subst Checks is (subst Within (sym names) (subst Spelt (sym spelt) check.2)))
 
 -- the record names limits wrongly
 pub misnamed : (A : Type 0) (all : Bool) (o : Option (List ℕ)) (read held : List ℕ) (limits : Limits) (n : ℕ) → held ≡ read → length read ≤ most_script_bytes → limits_of_header limits held ≡ None
@@ -38,18 +40,31 @@ misnamed A all o read held limits n is short none number =
     let at : n ≡ header_lines (version_of read) + 1 = rw (← is) number in
     ([], Appends-nil o, rw names (short, at, refl))
 
+-- a line of the record is misspelt
+pub misspelt : (A : Type 0) (all : Bool) (o : Option (List ℕ)) (read : List ℕ) (limits named : Limits) (n : ℕ) → length read ≤ most_script_bytes → limits_of_header limits read ≡ Some named
+    → first_misspelt 1 (lines read) ≡ Some n → (text : List ℕ) × Appends o o text × IsCheckWithin A all (limits_of_header limits read) read (Err (faults.BadLine n)) text
+misspelt A all o read limits named n short names wrong = ([], Appends-nil o, rw (names, wrong) (short, refl, refl))
+
 -- a script that wasn't read: nothing of it was checked, and nothing written
+unread_spelt : (A : Type 0) (all : Bool) (script : List ℕ) (before after : Bool) (limits : Limits) (wrong : Option ℕ) (fault : ScriptFault) → WasNotRead (Some script) before after fault → IsCheckSpelt A all limits wrong script (Err fault) []
+unread_spelt A all script before after limits None faults.Read h = refl
+unread_spelt A all script before after limits None faults.TooLong h = (h.1, refl)
+unread_spelt A all script before after limits None faults.NoMemory h = inl refl
+unread_spelt A all script before after limits None faults.Write h = absurd h
+unread_spelt A all script before after limits None (faults.BadLine n) h = absurd h
+unread_spelt A all script before after limits (Some n) faults.Read h = refl
+unread_spelt A all script before after limits (Some n) faults.TooLong h = (h.1, refl)
+unread_spelt A all script before after limits (Some n) faults.NoMemory h = refl
+unread_spelt A all script before after limits (Some n) faults.Write h = absurd h
+unread_spelt A all script before after limits (Some n) (faults.BadLine m) h = absurd h
+
 unread_within : (A : Type 0) (all : Bool) (script : List ℕ) (before after : Bool) (named : Option Limits) (fault : ScriptFault) → WasNotRead (Some script) before after fault → IsCheckWithin A all named script (Err fault) []
 unread_within A all script before after None faults.Read h = refl
 unread_within A all script before after None faults.TooLong h = (h.1, refl)
 unread_within A all script before after None faults.NoMemory h = refl
 unread_within A all script before after None faults.Write h = absurd h
 unread_within A all script before after None (faults.BadLine n) h = absurd h
-unread_within A all script before after (Some limits) faults.Read h = refl
-unread_within A all script before after (Some limits) faults.TooLong h = (h.1, refl)
-unread_within A all script before after (Some limits) faults.NoMemory h = inl refl
-unread_within A all script before after (Some limits) faults.Write h = absurd h
-unread_within A all script before after (Some limits) (faults.BadLine n) h = absurd h
+unread_within A all script before after (Some limits) fault h = unread_spelt A all script before after limits (first_misspelt 1 (lines script)) fault h
 
 pub unchecked : (A : Type 0) (all : Bool) (remaining o : Option (List ℕ)) (before after : Bool) (limits : Limits) (fault : ScriptFault) → WasNotRead remaining before after fault
     → IfSome remaining (λ script. (text : List ℕ) × Appends o o text × IsCheckWithin A all (limits_of_header limits script) script (Err fault) text)

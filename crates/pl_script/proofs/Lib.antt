@@ -5,6 +5,7 @@ pub mod ToldTexts
 pub mod CheckSteps
 pub mod HeaderSteps
 pub mod HeaderLemmas
+pub mod MisspeltSteps
 pub mod LiveText
 pub mod LiveBehind
 pub mod LiveSteps

@@ -9,11 +9,11 @@ use Rattle.pl_model.specs.declared.script.Version.{Version}
 use Rattle.pl_model.specs.declared.script.Version.TheVariants.{One, Two}
 use Rattle.pl_model.specs.Numbered.{State, opening}
 use Rattle.pl_model.specs.Lines.{line}
-use Rattle.pl_model.specs.Script.{version_of_lines, names_version_2, header_lines, asked, if_good, with_line, answers, are_marks, answer, next_state}
-use Rattle.pl_script.specs.Live.{most_line_bytes, is_good, behind_header, asked_live, number_unless, bad_among, bad_lines, AreAnswered}
+use Rattle.pl_model.specs.Script.{version_of_lines, names_version_2, header_lines, asked, if_good, with_line, are_marks, answer, next_state}
+use Rattle.pl_script.specs.Live.{most_line_bytes, is_good, behind_header, asked_live, number_unless, bad_among, bad_lines, bad_answer, answer_then, answers_live, AreAnswered}
 use Rattle.pl_script.specs.LineByLine.{IsAnswered}
 use Rattle.pl_script.specs.LiveText.{StandsBehind, IsRunLine}
-use Rattle.pl_script.proofs.RunSteps.{answers-cons, answers-nil, are_marks-cons, are_marks-nil}
+use Rattle.pl_script.proofs.RunSteps.{are_marks-cons, are_marks-nil}
 
 -- the line names the version behind these
 abbrev pub is_header_line : List (List ℕ) → List ℕ → Bool
@@ -126,18 +126,20 @@ header_first (w ∷ ws) l named = absurd (grind (arith, named))
 
 header_by : (A : Type 0) (l : List ℕ) (b : Bool) → b ≡ true → (cond b Two One ≡ Two) × (asked {A = A} (cond b Two One) (filter (is_good A (cond b Two One)) (drop (header_lines (cond b Two One)) (l ∷ []))) ≡ [])
     × (bad_among A (cond b Two One) (header_lines (cond b Two One) + 1) (drop (header_lines (cond b Two One)) (l ∷ [])) ≡ [])
+    × (drop (header_lines (cond b Two One)) (l ∷ []) ≡ [])
 unfolding asked bad_among
-header_by A l true e = (refl, refl, refl)
+header_by A l true e = (refl, refl, refl, refl)
 header_by A l false e = absurd cc
 
 -- a line that names the version asks nothing, and is good
 pub header_alone : (A : Type 0) (ls : List (List ℕ)) (l : List ℕ) → is_header_line ls l ≡ true
     → (ls ≡ []) × (version_of_lines (ls ++ l ∷ []) ≡ Two) × (asked_live A (ls ++ l ∷ []) ≡ []) × (bad_lines A (ls ++ l ∷ []) ≡ [])
+    × (behind_header (ls ++ l ∷ []) ≡ [])
 unfolding asked_live bad_lines
 header_alone A ls l named =
     let is = header_first ls l named in
     let by = header_by A l (names_version_2 l) is.1 in
-    rw is.0 (refl, by.0, by.1, by.2)
+    rw is.0 (refl, by.0, by.1, by.2, by.3)
 
 not_empty : (ls : List (List ℕ)) (l : List ℕ) → ls ++ l ∷ [] ≡ [] → ⊥
 not_empty [] l e = absurd cc
@@ -153,6 +155,28 @@ nothing_asked A = refl
 
 -- ---- the answers
 
+module _ {A : Type 0} where
+  answers-bad : (v : Version) (s : State A) (l : List ℕ) (ls : List (List ℕ)) (marks : List Bool) → is_good A v l ≡ false → answers_live v s (l ∷ ls) marks ≡ bad_answer ++ answers_live v s ls marks
+  unfolding answers_live
+  answers-bad v s l ls marks bad = ap (λ b. answer_then v b (line v l) s marks (λ next more. answers_live v next ls more)) bad
+
+  answers-silent : (v : Version) (s : State A) (l : List ℕ) (ls : List (List ℕ)) (marks : List Bool) → is_good A v l ≡ true → line {A = A} v l ≡ Some None → answers_live v s (l ∷ ls) marks ≡ answers_live v s ls marks
+  unfolding answers_live
+  answers-silent v s l ls marks good is =
+      ap (λ b. answer_then v b (line v l) s marks (λ next more. answers_live v next ls more)) good
+      ∙ ap (λ o. answer_then v true o s marks (λ next more. answers_live v next ls more)) is
+
+  answers-asked : (v : Version) (s : State A) (l : List ℕ) (ls : List (List ℕ)) (x : Line A) (mark : Bool) (marks : List Bool) → is_good A v l ≡ true → line v l ≡ Some (Some x)
+      → answers_live v s (l ∷ ls) (mark ∷ marks) ≡ (answer v s x mark ++ 10 ∷ []) ++ answers_live v (next_state s x mark) ls marks
+  unfolding answers_live
+  answers-asked v s l ls x mark marks good is =
+      ap (λ b. answer_then v b (line v l) s (mark ∷ marks) (λ next more. answers_live v next ls more)) good
+      ∙ ap (λ o. answer_then v true o s (mark ∷ marks) (λ next more. answers_live v next ls more)) is
+
+  answers-none : (v : Version) (s : State A) (marks : List Bool) → answers_live v s [] marks ≡ []
+  unfolding answers_live
+  answers-none v s marks = refl
+
 module _ {A : Type 0} {limits : Limits} {Stood : State A → Type 0} where
   pub at_first : Stood (opening limits) → StandsBehind limits Stood [] []
   at_first stands = record {
@@ -160,7 +184,7 @@ module _ {A : Type 0} {limits : Limits} {Stood : State A → Type 0} where
     marks = [];
     stands = stands;
     fresh = λ e. (stands, refl);
-    texts = λ others more. rw (nothing_asked A) refl;
+    texts = λ others more. refl;
     lawful = λ others more. rw (nothing_asked A) refl;
   }
 
@@ -174,31 +198,34 @@ module _ {A : Type 0} {limits : Limits} {Stood : State A → Type 0} where
         marks = [];
         stands = new.0;
         fresh = λ e. (new.0, refl);
-        texts = λ others more. rw is.2 refl;
+        texts = λ others more. rw is.4 refl;
         lawful = λ others more. rw is.2 refl;
       })
 
-  -- a line that isn't good, or asks nothing
-  behind_same : (After : State A → Type 0) (ls : List (List ℕ)) (l text : List ℕ) → is_header_line ls l ≡ false → asked_live A (ls ++ l ∷ []) ≡ asked_live A ls → ((s : State A) → Stood s → After s)
-      → StandsBehind limits Stood ls text → StandsBehind limits After (ls ++ l ∷ []) text
-  behind_same After ls l text plain same keeps at =
+  -- a line that isn't good, or asks nothing, with what comes of the text
+  behind_same : (After : State A → Type 0) (ls : List (List ℕ)) (l text new : List ℕ) → is_header_line ls l ≡ false → asked_live A (ls ++ l ∷ []) ≡ asked_live A ls
+      → ((s : State A) (others : List (List ℕ)) (more : List Bool) → text ++ answers_live (version_of_lines ls) s (l ∷ others) more ≡ new ++ answers_live (version_of_lines ls) s others more)
+      → ((s : State A) → Stood s → After s) → StandsBehind limits Stood ls text → StandsBehind limits After (ls ++ l ∷ []) new
+  behind_same After ls l text new plain same tells keeps at =
       let one = one_behind ls l plain in
       record {
         state = at.state;
         marks = at.marks;
         stands = keeps at.state at.stands;
         fresh = λ e. absurd (not_empty ls l e);
-        texts = λ others more. rw (one.0, same) (at.texts others more);
+        texts = λ others more. rw (one.0, one.1, append_assoc (behind_header ls) (l ∷ []) others) (at.texts (l ∷ others) more ∙ tells at.state others more);
         lawful = λ others more. rw same (at.lawful others more);
       }
 
   pub behind_bad : (After : State A → Type 0) (ls : List (List ℕ)) (l text : List ℕ) → is_header_line ls l ≡ false → is_good A (version_of_lines ls) l ≡ false → ((s : State A) → Stood s → After s)
-      → StandsBehind limits Stood ls text → StandsBehind limits After (ls ++ l ∷ []) text
-  behind_bad After ls l text plain bad keeps at = behind_same After ls l text plain (asked-bad ls l plain bad) keeps at
+      → StandsBehind limits Stood ls text → StandsBehind limits After (ls ++ l ∷ []) (text ++ bad_answer)
+  behind_bad After ls l text plain bad keeps at = behind_same After ls l text (text ++ bad_answer) plain (asked-bad ls l plain bad)
+      (λ s others more. ap (λ t. text ++ t) (answers-bad (version_of_lines ls) s l others more bad) ∙ sym (append_assoc text bad_answer (answers_live (version_of_lines ls) s others more))) keeps at
 
   pub behind_silent : (After : State A → Type 0) (ls : List (List ℕ)) (l text : List ℕ) → is_header_line ls l ≡ false → is_good A (version_of_lines ls) l ≡ true → line {A = A} (version_of_lines ls) l ≡ Some None
       → ((s : State A) → Stood s → After s) → StandsBehind limits Stood ls text → StandsBehind limits After (ls ++ l ∷ []) text
-  behind_silent After ls l text plain good is keeps at = behind_same After ls l text plain (asked-push ls l None plain good is ∙ append-nil (asked_live A ls)) keeps at
+  behind_silent After ls l text plain good is keeps at = behind_same After ls l text text plain (asked-push ls l None plain good is ∙ append-nil (asked_live A ls))
+      (λ s others more. ap (λ t. text ++ t) (answers-silent (version_of_lines ls) s l others more good is)) keeps at
 
   pub behind_answered : (After : State A → Type 0) (ls : List (List ℕ)) (l front before new : List ℕ) (x : Line A) (mark : Bool) → is_header_line ls l ≡ false → is_good A (version_of_lines ls) l ≡ true
       → line {A = A} (version_of_lines ls) l ≡ Some (Some x) → IsAnswered (version_of_lines ls) Stood After x mark before new
@@ -215,11 +242,11 @@ module _ {A : Type 0} {limits : Limits} {Stood : State A → Type 0} where
         marks = at.marks ++ mark ∷ [];
         stands = done.stands;
         fresh = λ e. absurd (not_empty ls l e);
-        texts = λ others more. rw (one.0, asks others, append_assoc at.marks (mark ∷ []) more)
-            (at.texts (x ∷ others) (mark ∷ more)
-            ∙ ap (λ t. (front ++ before) ++ t) (answers-cons (version_of_lines ls) at.state x others mark more)
-            ∙ sym (append_assoc (front ++ before) (answer (version_of_lines ls) at.state x mark ++ 10 ∷ []) (answers (version_of_lines ls) (next_state at.state x mark) others more))
-            ∙ ap (λ t. t ++ answers (version_of_lines ls) (next_state at.state x mark) others more) (sym grown));
+        texts = λ others more. rw (one.0, one.1, append_assoc (behind_header ls) (l ∷ []) others, append_assoc at.marks (mark ∷ []) more)
+            (at.texts (l ∷ others) (mark ∷ more)
+            ∙ ap (λ t. (front ++ before) ++ t) (answers-asked (version_of_lines ls) at.state l others x mark more good is)
+            ∙ sym (append_assoc (front ++ before) (answer (version_of_lines ls) at.state x mark ++ 10 ∷ []) (answers_live (version_of_lines ls) (next_state at.state x mark) others more))
+            ∙ ap (λ t. t ++ answers_live (version_of_lines ls) (next_state at.state x mark) others more) (sym grown));
         lawful = λ others more. rw (asks others, append_assoc at.marks (mark ∷ []) more) (at.lawful (x ∷ others) (mark ∷ more) ∙ are_marks-cons at.state x others mark more done.lawful);
       }
 
@@ -235,8 +262,8 @@ module _ {A : Type 0} {limits : Limits} {Stood : State A → Type 0} where
     marks = at.marks;
     lawful = ap (λ xs. are_marks (opening limits) xs at.marks) (sym (append-nil (asked_live A ls))) ∙ ap (are_marks (opening limits) (asked_live A ls ++ [])) (sym (append-nil at.marks)) ∙ at.lawful [] [] ∙ are_marks-nil at.state;
     answers =
-        sym (ap (λ xs. answers (version_of_lines ls) (opening limits) xs at.marks) (sym (append-nil (asked_live A ls)))
-        ∙ ap (answers (version_of_lines ls) (opening limits) (asked_live A ls ++ [])) (sym (append-nil at.marks))
-        ∙ at.texts [] [] ∙ ap (λ t. text ++ t) (answers-nil (version_of_lines ls) at.state []) ∙ append-nil text);
+        sym (ap (λ xs. answers_live (version_of_lines ls) (opening {A = A} limits) xs at.marks) (sym (append-nil (behind_header ls)))
+        ∙ ap (answers_live (version_of_lines ls) (opening {A = A} limits) (behind_header ls ++ [])) (sym (append-nil at.marks))
+        ∙ at.texts [] [] ∙ ap (λ t. text ++ t) (answers-none (version_of_lines ls) at.state []) ∙ append-nil text);
     bad = bad;
   }

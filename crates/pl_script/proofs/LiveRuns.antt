@@ -7,8 +7,8 @@ use Rattle.pl_model.specs.declared.calls.Limits.{Limits}
 use Rattle.pl_model.specs.Script.{lines}
 use Rattle.pl_state.specs.Makes.{Stands}
 use Rattle.pl_script.specs.Talk.{Talk, Moment, now, refusing, telling, silence}
-use Rattle.pl_script.specs.Live.{most_live_reads, ended_lines, number_unless, AreAnswered, IsPrompt, EndsBefore, IsToldAll, IsLiveRun}
-use Rattle.pl_script.specs.LiveText.{HasNoFeed}
+use Rattle.pl_script.specs.Live.{most_live_reads, ended_lines, number_unless, bad_answer, AreAnswered, IsPrompt, EndsBefore, IsToldAll, IsLiveRun}
+use Rattle.pl_script.specs.LiveText.{HasNoFeed, with_answer}
 use Rattle.pl_script.specs.LiveSteps.{IsHeld, IsBehind, IsAmid, IsUnderway, IsEnding, IsWrittenAll, is_unwritable}
 use Rattle.pl_script.specs.declared.live_lines.Live.{Live}
 use Rattle.pl_script.specs.declared.peer.LiveTotals.{LiveTotals}
@@ -53,7 +53,7 @@ module _ {A : Type 0} (limits : Limits) (strict : Bool) (live new : Live A) (t :
   }
 
   -- it is bad, and the run strict
-  pub stops : strict ≡ true → IsAmid limits strict live t ls l (l ∷ others) → IsBehind limits new (t.written ++ string_bytes new.out) (t.refused ++ number_unless false new.lines []) (ls ++ l ∷ []) []
+  pub stops : strict ≡ true → IsAmid limits strict live t ls l (l ∷ others) → IsBehind limits new (with_answer false (t.written ++ string_bytes new.out)) (t.refused ++ number_unless false new.lines []) (ls ++ l ∷ []) []
       → string_bytes new.out ≡ string_bytes live.out → IsEnding A limits strict (string_bytes new.out) t (Err (faults.BadLine new.lines))
   stops is at next same =
       let none : t.refused ≡ [] = empty t.refused (sym at.behind.bad ∙ at.none_bad is) in
@@ -73,16 +73,6 @@ module _ {A : Type 0} (limits : Limits) (strict : Bool) (live new : Live A) (t :
       → new.why ≡ why_live t.heard new.lines
   stops_why text refused at next is = why_heard t.heard ls l others new.version new.lines live.is_too_long live.line.items new.why at.parts next.version (next.count ∙ length-append ls (l ∷ [])) at.behind.held is
 
-  -- it is bad, and is refused
-  pub refuses_line : strict ≡ false → IsAmid limits strict live t ls l (l ∷ others) → IsBehind limits new (t.written ++ string_bytes new.out) (t.refused ++ number_unless false new.lines []) (ls ++ l ∷ []) []
-      → IsAmid limits strict new (refusing new.lines t) (ls ++ l ∷ []) [] others
-  refuses_line lax at next = record {
-    prompt = at.prompt;
-    behind = next;
-    none_bad = λ is. absurd (true_false (sym is ∙ lax));
-    parts = at.parts ∙ sym (append_assoc ls (l ∷ []) others);
-  }
-
 -- ---- the same run, with another text that waits
 
 module _ {A : Type 0} (limits : Limits) (live new : Live A) (text refused : List ℕ) (ls : List (List ℕ)) (l : List ℕ) where
@@ -97,6 +87,21 @@ module _ {A : Type 0} (limits : Limits) (live new : Live A) (text refused : List
     refusals = at.refusals;
     bad = bad ∙ at.bad;
   }
+
+-- a line is bad, and was answered so and refused
+pub refuses_line : {A : Type 0} (limits : Limits) (strict : Bool) (live new answered : Live A) (t : Talk) (ls : List (List ℕ)) (l : List ℕ) (others : List (List ℕ))
+    → strict ≡ false → IsAmid limits strict live t ls l (l ∷ others) → IsBehind limits new (with_answer false (t.written ++ string_bytes new.out)) (t.refused ++ number_unless false new.lines []) (ls ++ l ∷ []) []
+    → Stands answered.kernel ≡ Stands new.kernel → answered.version ≡ new.version → answered.is_too_long ≡ new.is_too_long → answered.line.items ≡ new.line.items → answered.lines ≡ new.lines → answered.bad ≡ new.bad
+    → string_bytes answered.out ≡ string_bytes new.out ++ bad_answer → IsAmid limits strict answered (refusing new.lines t) (ls ++ l ∷ []) [] others
+refuses_line limits strict live new answered t ls l others lax at next kernel version long items count bad out =
+    let text : t.written ++ string_bytes answered.out ≡ (t.written ++ string_bytes new.out) ++ bad_answer = ap (λ x. t.written ++ x) out ∙ sym (append_assoc t.written (string_bytes new.out) bad_answer) in
+    record {
+      prompt = at.prompt;
+      behind = subst (λ x. IsBehind limits answered x (t.refused ++ new.lines ∷ []) (ls ++ l ∷ []) []) (sym text)
+          (holding limits new answered ((t.written ++ string_bytes new.out) ++ bad_answer) (t.refused ++ new.lines ∷ []) (ls ++ l ∷ []) [] [] kernel version count bad (rw (long, items) next.held) next);
+      none_bad = λ is. absurd (true_false (sym is ∙ lax));
+      parts = at.parts ∙ sym (append_assoc ls (l ∷ []) others);
+    }
 
 module _ {A : Type 0} (limits : Limits) (strict : Bool) (live new : Live A) (t : Talk) (pending : List ℕ) where
   pub all_parts : (at : IsUnderway limits strict live t pending) → lines t.heard ≡ at.before ++ lines (at.line ++ pending)

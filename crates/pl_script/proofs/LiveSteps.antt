@@ -22,7 +22,7 @@ use Rattle.pl_state.specs.Makes.{Stands}
 use Rattle.pl_script.specs.LineByLine.{IsRefused}
 use Rattle.pl_script.specs.Talk.{Talk, now, silence, listened, wrote, flushed, refusing, Side, Hears, Takes, Flushes, Refuses, WasSaid}
 use Rattle.pl_script.specs.Live.{most_line_bytes, is_good, number_unless, bad_lines}
-use Rattle.pl_script.specs.LiveText.{IsRunLine}
+use Rattle.pl_script.specs.LiveText.{IsRunLine, with_answer}
 use Rattle.pl_script.specs.LiveSteps.{IsHeld, IsBehind, IsJudged}
 use Rattle.pl_script.specs.declared.live_lines.Live.{Live}
 use Rattle.pl_script.proofs.RunSteps.{replies}
@@ -202,7 +202,7 @@ module _ {A : Type 0} (limits : Limits) (live new : Live A) (front refused : Lis
   pub counted_line : (good : Bool) (judged : Live A) → IsBehind limits live (front ++ string_bytes live.out) refused ls l → IsJudged limits judged front ls l good
       → (Stands new.kernel ≡ Stands judged.kernel) → string_bytes new.out ≡ string_bytes judged.out → new.version ≡ judged.version → new.is_too_long ≡ false → new.line.items ≡ []
       → new.lines ≡ live.lines + 1 → new.bad ≡ live.bad + length (number_unless good new.lines [])
-      → IsBehind limits new (front ++ string_bytes new.out) (refused ++ number_unless good new.lines []) (ls ++ l ∷ []) []
+      → IsBehind limits new (with_answer good (front ++ string_bytes new.out)) (refused ++ number_unless good new.lines []) (ls ++ l ∷ []) []
   counted_line good judged at is kernel out version short empty count bad =
       let n : new.lines ≡ length ls + 1 = count ∙ ap (λ k. k + 1) at.count in
       record {

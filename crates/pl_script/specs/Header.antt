@@ -5,9 +5,10 @@ use Rattle.std.specs.Str.{bytes_eq}
 use Rattle.pl_model.specs.declared.calls.Limits.{Limits}
 use Rattle.pl_model.specs.Numbers.{most_file_bytes, most_capacity, open_max, most_script_bytes}
 use Rattle.pl_model.specs.Words.{◌>>=◌, words, without_return, number}
-use Rattle.pl_model.specs.Script.{version_of, header_lines, body}
+use Rattle.pl_model.specs.Script.{lines, version_of, header_lines, body}
 use Rattle.pl_script.specs.Running.{Fits}
 use Rattle.pl_script.specs.Checked.{IsCheck}
+use Rattle.pl_script.specs.Misspelt.{first_misspelt}
 use Rattle.pl_script.specs.declared.comparing.Checked.{Checked}
 use Rattle.pl_script.specs.declared.fault.ScriptFault.{ScriptFault}
 use Rattle.pl_script.specs.declared.fault.ScriptFault.TheVariants as faults
@@ -51,16 +52,22 @@ limits_of_lines limits (l ∷ ls) = limits_if_named limits (header_words (words 
 abbrev pub limits_of_header : Limits → List ℕ → Option Limits
 limits_of_header limits script = limits_of_lines limits (body script)
 
--- what the check of a record with a bad header answers, if it doesn't end before: the header's line is the first bad one
-abbrev pub IsBadHeader : List ℕ → Result Checked ScriptFault → List ℕ → Type 0
-IsBadHeader script (Err (faults.BadLine n)) written = Fits script × (n ≡ header_lines (version_of script) + 1) × (written ≡ [])
-IsBadHeader script (Err faults.TooLong) written = (most_script_bytes < length script) × (written ≡ [])
-IsBadHeader script (Err faults.NoMemory) written = written ≡ []
-IsBadHeader script (Err faults.Read) written = written ≡ []
-IsBadHeader script (Err faults.Write) written = ⊥
-IsBadHeader script (Ok checked) written = ⊥
+-- what the check of a record answers whose line of this number is bad for a check alone, if it doesn't end before: nothing is run
+abbrev pub IsBadRecord : ℕ → List ℕ → Result Checked ScriptFault → List ℕ → Type 0
+IsBadRecord bad script (Err (faults.BadLine n)) written = Fits script × (n ≡ bad) × (written ≡ [])
+IsBadRecord bad script (Err faults.TooLong) written = (most_script_bytes < length script) × (written ≡ [])
+IsBadRecord bad script (Err faults.NoMemory) written = written ≡ []
+IsBadRecord bad script (Err faults.Read) written = written ≡ []
+IsBadRecord bad script (Err faults.Write) written = ⊥
+IsBadRecord bad script (Ok checked) written = ⊥
 
--- what the check of a record answers, and what it writes, within the limits that it names
+-- the same of any record within these limits, which may have a misspelt line, of this number
+abbrev pub IsCheckSpelt : (A : Type 0) → Bool → Limits → Option ℕ → List ℕ → Result Checked ScriptFault → List ℕ → Type 0
+IsCheckSpelt A all limits None script result written = IsCheck A all script limits result written
+IsCheckSpelt A all limits (Some n) script result written = IsBadRecord n script result written
+
+-- What the check of a record answers, and what it writes, within the limits that it names. The line of a header that names them wrongly is
+-- the first bad one, and else the first misspelt line is.
 abbrev pub IsCheckWithin : (A : Type 0) → Bool → Option Limits → List ℕ → Result Checked ScriptFault → List ℕ → Type 0
-IsCheckWithin A all None script result written = IsBadHeader script result written
-IsCheckWithin A all (Some limits) script result written = IsCheck A all script limits result written
+IsCheckWithin A all None script result written = IsBadRecord (header_lines (version_of script) + 1) script result written
+IsCheckWithin A all (Some limits) script result written = IsCheckSpelt A all limits (first_misspelt 1 (lines script)) script result written

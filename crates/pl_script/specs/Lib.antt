@@ -3,6 +3,7 @@ pub mod Running
 pub mod LineByLine
 pub mod Checked
 pub mod Comparing
+pub mod Misspelt
 pub mod Header
 pub mod Talk
 pub mod Live

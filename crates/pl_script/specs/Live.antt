@@ -1,11 +1,11 @@
 -- A live run: what it answers to the lines that it has heard, and when.
-use Rattle.std.specs.Prelude.{◌≡◌, ⊤, ℕ, ◌+◌, List, [], ◌∷◌, ◌++◌, length, drop, filter, All, Bool, true, false, ◌==◌, ◌&&◌, nat_le, if◌then◌else◌, is_some, Result, Ok, Err}
+use Rattle.std.specs.Prelude.{◌≡◌, ⊤, ℕ, ◌+◌, List, [], ◌∷◌, ◌++◌, length, drop, filter, All, Bool, true, false, ◌==◌, ◌&&◌, nat_le, if◌then◌else◌, is_some, Option, Some, None, Result, Ok, Err, codes}
 use Rattle.pl_model.specs.declared.calls.Limits.{Limits}
 use Rattle.pl_model.specs.declared.script.Line.{Line}
 use Rattle.pl_model.specs.declared.script.Version.{Version}
-use Rattle.pl_model.specs.Numbered.{opening}
+use Rattle.pl_model.specs.Numbered.{State, opening}
 use Rattle.pl_model.specs.Lines.{line}
-use Rattle.pl_model.specs.Script.{lines, version_of_lines, header_lines, asked, answers, are_marks}
+use Rattle.pl_model.specs.Script.{lines, version_of_lines, header_lines, asked, next_state, answer, are_marks}
 use Rattle.pl_script.specs.Talk.{Talk, Moment}
 use Rattle.pl_script.specs.declared.peer.LiveTotals.{LiveTotals}
 use Rattle.pl_script.specs.declared.peer.LiveFault.{LiveFault}
@@ -56,12 +56,32 @@ bad_among A version n (l ∷ ls) = number_unless (is_good A version l) n (bad_am
 unfoldable pub bad_lines : (A : Type 0) → List (List ℕ) → List ℕ
 bad_lines A ls = bad_among A (version_of_lines ls) (header_lines (version_of_lines ls) + 1) (behind_header ls)
 
+-- what a line that isn't good is answered
+abbrev pub bad_answer : List ℕ
+bad_answer = codes "bad line" ++ 10 ∷ []
+
+module _ {A : Type 0} where
+  -- What a line is answered, by whether it is good and what it asks, and behind that what the lines after it are, from the state and
+  -- the marks that it leaves.
+  abbrev pub answer_then : Version → Bool → Option (Option (Line A)) → State A → List Bool → (State A → List Bool → List ℕ) → List ℕ
+  answer_then version false asks s marks rest = bad_answer ++ rest s marks
+  answer_then version true None s marks rest = rest s marks
+  answer_then version true (Some None) s marks rest = rest s marks
+  answer_then version true (Some (Some x)) s [] rest = []
+  answer_then version true (Some (Some x)) s (mark ∷ marks) rest = (answer version s x mark ++ 10 ∷ []) ++ rest (next_state s x mark) marks
+
+  -- what these lines are answered, with one mark for each good one that asks
+  unfoldable pub answers_live : Version → State A → List (List ℕ) → List Bool → List ℕ
+  answers_live version s [] marks = []
+  answers_live version s (l ∷ ls) marks =
+      answer_then version (is_good A version l) (line version l) s marks (λ next more. answers_live version next ls more)
+
 -- The text is what these lines are answered, from a new kernel, at some marks that say where memory was wanting. These numbers are
 -- those of the bad lines among them.
 pub record AreAnswered (A : Type 0) (limits : Limits) (ls : List (List ℕ)) (text refused : List ℕ) : Type 0 where
   pub marks : List Bool
   pub lawful : are_marks {A = A} (opening limits) (asked_live A ls) marks ≡ true
-  pub answers : text ≡ answers (version_of_lines ls) (opening limits) (asked_live A ls) marks
+  pub answers : text ≡ answers_live (version_of_lines ls) (opening {A = A} limits) (behind_header ls) marks
   pub bad : refused ≡ bad_lines A ls
 
 -- No answer was held back: whoever had said this had been told the answers of all lines that he had ended, and no more.

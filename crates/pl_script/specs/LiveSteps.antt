@@ -6,7 +6,7 @@ use Rattle.pl_state.specs.Makes.{Stands}
 use Rattle.pl_script.specs.Talk.{Talk, Side, WasSaid}
 use Rattle.pl_lines.specs.declared.explain.Explanation.{Explanation}
 use Rattle.pl_script.specs.Explaining.{IsWhy}
-use Rattle.pl_script.specs.LiveText.{HasNoFeed, StandsBehind}
+use Rattle.pl_script.specs.LiveText.{HasNoFeed, StandsBehind, with_answer}
 use Rattle.pl_script.specs.Live.{most_line_bytes, ended_lines, bad_lines, AreAnswered, IsPrompt, EndsBefore, number_unless}
 use Rattle.pl_script.specs.declared.live_lines.Live.{Live}
 use Rattle.pl_script.specs.declared.peer.LiveTotals.{LiveTotals}
@@ -90,9 +90,9 @@ module _ {A : Type 0} where
   abbrev pub IsNewLive : Limits → Live A → Type 0
   IsNewLive limits live = IsBehind limits live (string_bytes live.out) [] [] [] × (string_bytes live.out ≡ [])
 
-  -- a line was run behind these, and was good or not
+  -- a line was run behind these, and was good, or not and its answer isn't added yet
   pub record IsJudged (limits : Limits) (live : Live A) (front : List ℕ) (ls : List (List ℕ)) (line : List ℕ) (good : Bool) : Type 0 where
-    pub behind : StandsBehind limits (Stands live.kernel) (ls ++ line ∷ []) (front ++ string_bytes live.out)
+    pub behind : StandsBehind limits (Stands live.kernel) (ls ++ line ∷ []) (with_answer good (front ++ string_bytes live.out))
     pub version : live.version ≡ version_of_lines (ls ++ line ∷ [])
     pub bad : bad_lines A (ls ++ line ∷ []) ≡ bad_lines A ls ++ number_unless good (length ls + 1) []
 

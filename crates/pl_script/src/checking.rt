@@ -16,6 +16,7 @@ use crate::comparing::{Checked, compare, expected, text_of};
 use crate::explaining::explain;
 use crate::fault::ScriptFault;
 use crate::header::header_limits;
+use crate::misspelt::first_misspelt;
 use crate::reading::read_script;
 use crate::running::{WAITING, answer_line, header_lines, refusal_of_line};
 use crate::streams::{Sink, Source};
@@ -162,7 +163,8 @@ fn check_lines<A: Allocator + Copy, T: Sink>(
     )
 }
 
-/// Checks a record that was read, on a new kernel, within the limits that it names.
+/// Checks a record that was read, on a new kernel, within the limits that it names. Where a line only looks as if it expected a text, it
+/// runs nothing.
 fn check_whole<A: Allocator + Copy, T: Sink>(
     alloc: A,
     all: bool,
@@ -177,6 +179,9 @@ fn check_whole<A: Allocator + Copy, T: Sink>(
     ensures ends { WritingEnds (T.has_stopped writer.old) (T.has_stopped writer.new) result }
 {
     let named = header_limits(script, limits)?;
+    if let Some(number) = first_misspelt(script) {
+        return Err(ScriptFault::BadLine(number));
+    }
     let mut checked = Checked {
         compared: 0,
         different: 0,
@@ -246,7 +251,8 @@ pub fn check_script_explained<A: Allocator + Copy, S: Source, T: Sink>(
 /// - `Read` exactly where a read failed; nothing was written.
 /// - `TooLong` where the record has more than `MAX_SCRIPT_BYTES` bytes; nothing was written.
 /// - `BadLine(n)` where line `n`, counted from 1, is the first bad one; what is told of the lines before it was written. A line that
-///   names limits as `header_limits` can't read them is the first bad one.
+///   names limits as `header_limits` can't read them is the first bad one. Else it is the first comment whose words begin with `#` and
+///   `=>`, or with `#=>`, and that expects no text. In both cases nothing is run or written.
 /// - `Write` exactly where a write failed or took no byte; a front of what is told was written.
 /// - `NoMemory` where there was none to hold the record, and then nothing was written; or none for a line of it, its answer or a
 ///   difference, and then what is told of the lines before it was written. The step of that line may have been made. A step that finds

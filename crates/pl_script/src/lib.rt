@@ -12,6 +12,7 @@ mod fault;
 mod header;
 mod live;
 mod live_lines;
+mod misspelt;
 mod peer;
 mod reading;
 mod running;

@@ -8,7 +8,7 @@ ghost use Rattle.pl_script.specs.Explaining.{IsWhyOf, HandsOutWhy, IsExplainedLi
 ghost use Rattle.pl_script.specs.LiveSteps.{IsAmid, IsUnderway, IsEnding, GoesOnOrEnds, WritingComesTo, ReadingComesTo, OtherFault, NoReadFault, ReadingEnds, is_unwritable};
 ghost use Rattle.pl_script.specs.declared.peer.LiveFault.TheVariants.{Write};
 
-use crate::live_lines::{Live, gather, holds_none, new_live, take_line};
+use crate::live_lines::{Live, gather, holds_none, new_live, push_bad_answer, take_line};
 use crate::peer::{LiveFault, LiveTotals, Peer};
 use crate::reading::{CHUNK, zeros};
 use crate::running::WAITING;
@@ -41,7 +41,7 @@ fn tell_waiting<A: Allocator + Copy, P: Peer>(
     Ok(())
 }
 
-/// Runs the whole line that is held. A bad one is refused, with what is wrong with it, or ends a strict run.
+/// Runs the whole line that is held. A bad one is answered `bad line`, and refused with what is wrong with it, or ends a strict run.
 fn run_held<A: Allocator + Copy, P: Peer>(
     alloc: A,
     strict: bool,
@@ -67,6 +67,7 @@ fn run_held<A: Allocator + Copy, P: Peer>(
     if strict {
         return Err(LiveFault::BadLine(live.lines));
     }
+    push_bad_answer(&mut live.out)?;
     peer.refuse(live.lines, live.why);
     Ok(())
 }
@@ -217,8 +218,8 @@ pub fn run_live_explained<A: Allocator + Copy, P: Peer>(
 /// Runs the lines that the far end says, on a new kernel, and answers each as it comes: before each read all answers to the lines
 /// that came are written and flushed, and also once 65,536 bytes of them wait. Answers what it counted.
 ///
-/// The lines are those of a script, and the first may name version 2. A bad line changes nothing, is refused, and passed over; a
-/// strict run ends there. A line of more than `MAX_LINE_BYTES` bytes is bad, and isn't kept. The input may be as long as it likes:
+/// The lines are those of a script, and the first may name version 2. A bad line changes nothing, and is answered `bad line` and
+/// refused; a strict run ends there, behind the answers to the lines before. A line of more than `MAX_LINE_BYTES` bytes is bad, and isn't kept. The input may be as long as it likes:
 /// the run holds one line of it, and 65,536 bytes. At the end a last line may lack its line feed. `limits.file_max` is at most
 /// 16,777,216.
 ///

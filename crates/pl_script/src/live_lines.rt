@@ -1,12 +1,12 @@
 //! The lines of a live run, one after another.
-ghost use Rattle.std.specs.Prelude.{◌≡◌, ◌+◌, ◌<◌, ◌≤◌, ◌^◌, ◌&&◌, ◌==◌, ◌++◌, ◌∷◌, ℕ, List, [], length, true, false, not, string_bytes, OnOk, IfOk, MatchResult};
+ghost use Rattle.std.specs.Prelude.{◌≡◌, ◌+◌, ◌<◌, ◌≤◌, ◌^◌, ◌&&◌, ◌==◌, ◌++◌, ◌∷◌, ℕ, List, [], length, true, false, not, string_bytes, OnOk, OnErr, IfOk, MatchResult};
 ghost use Rattle.pl_model.specs.declared.calls.Limits.{Limits};
 ghost use Rattle.pl_model.specs.Script.{names_version_2, version_of_lines};
 ghost use Rattle.pl_model.specs.Numbered.{State, opening};
 ghost use Rattle.pl_state.specs.Makes.{Stands};
 ghost use Rattle.pl_model.specs.Numbers.{most_file_bytes};
-ghost use Rattle.pl_script.specs.Live.{number_unless};
-ghost use Rattle.pl_script.specs.LiveText.{IsRunLine, IsNotRun};
+ghost use Rattle.pl_script.specs.Live.{bad_answer, number_unless};
+ghost use Rattle.pl_script.specs.LiveText.{IsRunLine, IsNotRun, with_answer};
 ghost use Rattle.pl_script.specs.Explaining.{why_of_held};
 ghost use Rattle.pl_script.specs.LiveSteps.{IsHeld, IsBehind, IsJudged, IsNewLive};
 
@@ -105,6 +105,14 @@ fn answer<A: Allocator + Copy>(
     Ok(())
 }
 
+/// Adds the answer of a bad line. Where there is no memory for it, the output is as it was.
+pub(crate) fn push_bad_answer<A: Allocator>(out: &mut String<A>) -> Result<(), AllocError>
+    ensures done { OnOk result (string_bytes out.new ≡ string_bytes out.old ++ bad_answer) }
+    ensures undone { OnErr result (string_bytes out.new ≡ string_bytes out.old) }
+{
+    out.push_str("bad line\n")
+}
+
 /// Whether the line that is held is the first and names version 2.
 fn is_header<A: Allocator>(live: &Live<A>) -> bool
     ensures { result ≡ ((live.now.lines == 0) && names_version_2 live.now.line.items) }
@@ -142,8 +150,8 @@ fn judge<A: Allocator + Copy>(alloc: A, live: &mut Live<A>) -> Result<bool, Allo
     }
 }
 
-/// Runs the whole line that is held, counts it, and tells whether it is good. Then none is held. Where there is no memory for it, the
-/// output is as it was.
+/// Runs the whole line that is held, counts it, and tells whether it is good. Then none is held. A bad line isn't answered yet. Where
+/// there is no memory for the line, the output is as it was.
 pub(crate) fn take_line<A: Allocator + Copy>(
     alloc: A,
     live: &mut Live<A>,
@@ -152,7 +160,7 @@ pub(crate) fn take_line<A: Allocator + Copy>(
     requires bad { live.old.bad ≤ live.old.lines }
     ensures taken { (limits : Limits) (front refused : List ℕ) (ls : List (List ℕ)) (line : List ℕ) →
         IsBehind limits live.old (front ++ string_bytes live.old.out) refused ls line → MatchResult result
-        (λ good. IsBehind limits live.new (front ++ string_bytes live.new.out) (refused ++ number_unless good live.new.lines []) (ls ++ line ∷ []) [])
+        (λ good. IsBehind limits live.new (with_answer good (front ++ string_bytes live.new.out)) (refused ++ number_unless good live.new.lines []) (ls ++ line ∷ []) [])
         (λ _. string_bytes live.new.out ≡ string_bytes live.old.out) }
     ensures silent { IfOk result (λ good. good ≡ false → string_bytes live.new.out ≡ string_bytes live.old.out) }
     ensures lines { OnOk result (live.new.lines ≡ live.old.lines + 1) }

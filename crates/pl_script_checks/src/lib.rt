@@ -3,6 +3,8 @@
 #![tactic(auto)]
 
 #[cfg(test)]
+mod cuts;
+#[cfg(test)]
 mod equal;
 #[cfg(test)]
 mod faults;
@@ -12,6 +14,8 @@ mod fifo_lines;
 mod file_lines;
 #[cfg(test)]
 mod lines;
+#[cfg(test)]
+mod many_calls;
 #[cfg(test)]
 mod memory;
 #[cfg(test)]
@@ -31,9 +35,13 @@ mod runs;
 #[cfg(test)]
 mod said_lines;
 #[cfg(test)]
+mod session;
+#[cfg(test)]
 mod sessions;
 #[cfg(test)]
 mod shared_lines;
+#[cfg(test)]
+mod single_lines;
 #[cfg(test)]
 mod size_lines;
 #[cfg(test)]

@@ -191,10 +191,18 @@ const PROGRAMS: &[Program] = &[
         line: "piperun: line 3: not a command\n",
         status: 3,
     },
+    // What only looks as if it expected a text is a bad line of a check, before all else.
+    Program {
+        words: &["--check", "--explain"],
+        input: "start\n# => pid 2\n#=> pid 1\n",
+        output: "",
+        line: "piperun: line 3: not a command\n",
+        status: 3,
+    },
     // To a run these are comments.
     Program {
         words: &[],
-        input: "# piperun --none\nstart\n# => pid 2\n",
+        input: "# piperun --none\nstart\n# => pid 2\n#=> pid 2\n",
         output: "pid 1\n",
         line: "",
         status: 0,
@@ -206,11 +214,11 @@ const PROGRAMS: &[Program] = &[
         line: "piperun: bad command line\n",
         status: 2,
     },
-    // A live run, which passes over a bad line unless it is strict.
+    // A live run, which answers a bad line so unless it is strict.
     Program {
         words: &["--live"],
         input: "start\nstrat\n1 pipe\n",
-        output: "pid 1\nfds 0 1\n",
+        output: "pid 1\nbad line\nfds 0 1\n",
         line: "piperun: line 2: not a command\npiperun: 1 bad lines\n",
         status: 3,
     },
@@ -225,7 +233,7 @@ const PROGRAMS: &[Program] = &[
     Program {
         words: &["--live", "--explain"],
         input: "start\n1 fork now\n1 pipe\n1 write 1 abc\n",
-        output: "pid 1\nfds 0 1\n",
+        output: "pid 1\nbad line\nfds 0 1\nbad line\n",
         line: "piperun: line 2: not a command\nline 2, word 3: a word too many\npiperun: line 4: not a command\nline 4, word 4: an odd number of digits\npiperun: 2 bad lines\n",
         status: 3,
     },

@@ -22,7 +22,7 @@ struct Record {
 const AS_RECORDED: &[(&str, u32)] = &[
     ("", 0),
     (
-        "start\n# no text is expected\n#=> pid 7\n#  => pid 7\n # => pid 7\n",
+        "start\n# no text is expected\n## => pid 7\n# pid => 7\n# = > pid 7\n#-> pid 7\n",
         0,
     ),
     ("start\n# => pid 1\n", 1),
@@ -83,6 +83,62 @@ const RECORDS: &[Record] = &[
         first: "line 2\nexpected pid 2\nanswered pid 1\n",
         all: "line 2\nexpected pid 2\nanswered pid 1\n",
         end: Err(ScriptFault::BadLine(3)),
+    },
+    // A comment that only looks as if it expected a text is a bad line, and nothing is run.
+    Record {
+        script: "start\n# => pid 2\n#=> pid 1\n",
+        first: "",
+        all: "",
+        end: Err(ScriptFault::BadLine(3)),
+    },
+    Record {
+        script: "start\n# => pid 2\n#=>\n",
+        first: "",
+        all: "",
+        end: Err(ScriptFault::BadLine(3)),
+    },
+    Record {
+        script: "start\n# => pid 2\n#  => pid 1\n",
+        first: "",
+        all: "",
+        end: Err(ScriptFault::BadLine(3)),
+    },
+    Record {
+        script: "start\n# => pid 2\n # => pid 1\n",
+        first: "",
+        all: "",
+        end: Err(ScriptFault::BadLine(3)),
+    },
+    Record {
+        script: "start\n# => pid 2\n# =>pid 1\n",
+        first: "",
+        all: "",
+        end: Err(ScriptFault::BadLine(3)),
+    },
+    Record {
+        script: "start\n# => pid 2\n# =>\r\n",
+        first: "",
+        all: "",
+        end: Err(ScriptFault::BadLine(3)),
+    },
+    Record {
+        script: "start\n# => pid 2\n\t#\t=>\tpid 1\n",
+        first: "",
+        all: "",
+        end: Err(ScriptFault::BadLine(3)),
+    },
+    Record {
+        script: "piperun 2\n1 pip\n#=> pid 1\n# =>\n",
+        first: "",
+        all: "",
+        end: Err(ScriptFault::BadLine(3)),
+    },
+    // A header that says what it can't comes first.
+    Record {
+        script: "# piperun --none\n#=> pid 1\n",
+        first: "",
+        all: "",
+        end: Err(ScriptFault::BadLine(1)),
     },
     // The header sets the number of the first call, and other limits.
     Record {

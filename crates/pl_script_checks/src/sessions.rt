@@ -1,9 +1,8 @@
 //! Sessions: scripts of calls that wait and of descriptors that share, line by line with what each prints.
-use super::trickling::{Coming, Script, prints};
+use super::session::Session;
 use crate::{fifo_lines, poll_lines, splice_lines};
-use pl_model::Totals;
 use pl_testing::asked::NEVER_GIVEN;
-use std::alloc::{Allocator, Global};
+use std::alloc::Allocator;
 use std::process::Abort;
 use std::test::Fail;
 
@@ -130,7 +129,7 @@ start => pid 1
 1 read 2 1 => EAGAIN
 ";
 
-const INTERLEAVING_WITH_A_LARGE_WRITE: &str = "\
+pub(crate) const INTERLEAVING_WITH_A_LARGE_WRITE: &str = "\
 start => pid 1
 1 pipe => fds 0 1
 1 fork => pid 2
@@ -313,102 +312,6 @@ const SESSIONS: &[(&str, u64, &str)] = &[
     ("sizes_of_a_pipe", 1, SIZES_OF_A_PIPE),
     ("raised_under_a_write", 1, RAISED_UNDER_A_WRITE),
 ];
-
-/// The digits of a byte, so many times.
-fn repeated<A: Allocator + Copy>(alloc: A, byte: &str, times: &str) -> Result<String<A>, Fail> {
-    let times = times.parse::<usize>()?;
-    Ok(byte.repeat(alloc, times)?)
-}
-
-fn push_bytes<A: Allocator + Copy>(
-    alloc: A,
-    output: &mut String<A>,
-    data: &str,
-    byte: &str,
-) -> Result<(), Fail> {
-    let times = data.strip_prefix("data ").ok_or("no bytes")?;
-    let digits = repeated(alloc, byte, times)?;
-    output.push_str("data ")?;
-    Ok(output.push_str(digits.as_str())?)
-}
-
-/// Adds what a line prints. The session writes `N*hh` for N times the byte hh, whose digits are all printed.
-fn push_printed<A: Allocator + Copy>(
-    alloc: A,
-    output: &mut String<A>,
-    printed: &str,
-) -> Result<(), Fail> {
-    match printed.split_once('*') {
-        Some((data, byte)) => push_bytes(alloc, output, data, byte),
-        None => Ok(output.push_str(printed)?),
-    }
-}
-
-fn push_line_feed<A: Allocator>(text: &mut String<A>) -> Result<(), Fail> {
-    Ok(text.push('\n')?)
-}
-
-/// The scripts of sessions, what they print, and how many lines they have and steps they ask for.
-#[derive(Drop)]
-struct Session<A: Allocator = Global> {
-    alloc: A,
-    script: String<A>,
-    output: String<A>,
-    lines: u32,
-    steps: u32,
-}
-
-impl<A: Allocator + Copy> Session<A> {
-    fn new(alloc: A) -> Self {
-        Session {
-            alloc,
-            script: String::new(alloc),
-            output: String::new(alloc),
-            lines: 0,
-            steps: 0,
-        }
-    }
-
-    /// Adds the line that asks.
-    fn push_asked(&mut self, asked: &str) -> Result<(), Fail> {
-        self.script.push_str(asked)?;
-        self.lines = self.lines.saturating_add(1);
-        if !asked.starts_with("file ") {
-            self.steps = self.steps.saturating_add(1);
-        }
-        push_line_feed(&mut self.script)
-    }
-
-    fn push_line(&mut self, line: &str) -> Result<(), Fail> {
-        let (asked, printed) = line.split_once(" => ").ok_or("a line prints nothing")?;
-        self.push_asked(asked)?;
-        push_printed(self.alloc, &mut self.output, printed)?;
-        push_line_feed(&mut self.output)
-    }
-
-    fn of(alloc: A, lines: &str) -> Result<Session<A>, Fail> {
-        let mut session = Session::new(alloc);
-        for line in lines.lines() {
-            session.push_line(line)?;
-        }
-        Ok(session)
-    }
-
-    fn is_printed(&self, rt: &impl Abort, name: &str, first_call: u64) {
-        let script = Script {
-            name,
-            first_call,
-            bytes: self.script.as_bytes(),
-            output: self.output.as_str(),
-            end: Ok(Totals {
-                lines: self.lines,
-                steps: self.steps,
-                nomem: 0,
-            }),
-        };
-        prints(rt, self.alloc, script, Coming::Whole);
-    }
-}
 
 fn is_session_printed<A: Allocator + Copy>(
     rt: &impl Abort,

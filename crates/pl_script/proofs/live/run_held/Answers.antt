@@ -1,4 +1,4 @@
-use Rattle.std.proofs.Common.{refl}
+use Rattle.std.proofs.Common.{refl, ◌∙◌}
 use Rattle.std.proofs.lemmas.Result.{err_from_is_err_and}
 use Rattle.pl_script.specs.Talk.{refusing}
 use Rattle.pl_script.proofs.LiveSteps.{refused_so}
@@ -25,10 +25,22 @@ returns-then-strict-clause-run g c = λ limits first t ls l others known at.
       stops_why limits c.args.strict c.args.live.now c.take_line.new.live t ls l others _ _ at next (c.in_ok-is_good.ensures.why is),
     )
 
+pub returns-in_err-push_bad_answer-clause-run : goal.returns-in_err-push_bad_answer-clause-run
+returns-in_err-push_bad_answer-clause-run g c = λ limits first t ls l others known at.
+    let is = c.if-is_good.false in
+    let p = err_from_is_err_and c.from_residual-in_err-push_bad_answer.result c.from_residual-in_err-push_bad_answer.ensures.1 in
+    rw (p.1, p.2) (t, known, wants limits c.args.strict c.args.live.now (record c.take_line.new.live { out = c.push_bad_answer.new.out }) t ls l others (c.in_err-push_bad_answer.ensures.undone ∙ c.in_ok-is_good.ensures.silent is) at, tt)
+
 pub returns-clause-run : goal.returns-clause-run
 returns-clause-run g c = λ limits first t ls l others known at.
     let is = c.if-is_good.false in (
       refusing c.take_line.new.live.lines t,
       refused_so first _ _ t known c.take_line.new.live.lines c.refuse.ensures.side,
-      (refuses_line limits c.args.strict c.args.live.now c.take_line.new.live t ls l others c.if-strict.false at (rw is at (c.in_ok-is_good.ensures.taken limits t.written t.refused ls l at.behind)), refl, refl, refl),
+      (
+        refuses_line limits c.args.strict c.args.live.now c.take_line.new.live _ t ls l others c.if-strict.false at (rw is at (c.in_ok-is_good.ensures.taken limits t.written t.refused ls l at.behind))
+            refl refl refl refl refl refl c.in_ok-push_bad_answer.ensures.done,
+        refl,
+        refl,
+        refl,
+      ),
     )
