@@ -370,16 +370,22 @@ fn a_handle_tells_whether_bytes_of_a_write_moved() {
     );
 }
 
-#[test]
-fn a_handle_that_an_error_gives_back_tells_of_no_bytes() {
-    let requests = Requests(u32::MAX.into());
-    let mut kernel = Kernel::new(&requests, Limits::default()).expect("the limits of before");
+/// A kernel with a process that has a pipe, whose requests for memory are counted.
+fn with_pipe_within(requests: &Requests) -> Kernel<&Requests> {
+    let mut kernel = Kernel::new(requests, Limits::default()).expect("the limits of before");
     kernel.step(Step::Start).expect("memory");
     let pipe = Call::Pipe {
         nonblock: false,
         direct: false,
     };
     kernel.step(Step::Begin(1, pipe)).expect("memory");
+    kernel
+}
+
+#[test]
+fn a_handle_that_an_error_gives_back_tells_of_no_bytes() {
+    let requests = Requests(u32::MAX.into());
+    let mut kernel = with_pipe_within(&requests);
     let Ok(Answer::Parked(call)) = kernel.write_from(1, 1, &[7; 200_000]) else {
         panic!("no wait");
     };
@@ -478,13 +484,7 @@ fn errors_of_a_call_that_never_waited_have_no_call() {
 #[test]
 fn a_call_without_memory_to_resume_it_comes_back() {
     let requests = Requests(u32::MAX.into());
-    let mut kernel = Kernel::new(&requests, Limits::default()).expect("the limits of before");
-    kernel.step(Step::Start).expect("memory");
-    let pipe = Call::Pipe {
-        nonblock: false,
-        direct: false,
-    };
-    kernel.step(Step::Begin(1, pipe)).expect("memory");
+    let mut kernel = with_pipe_within(&requests);
     let Ok(Answer::Parked(call)) = kernel.read_into(1, 0, &mut [0; 9]) else {
         panic!("no wait");
     };

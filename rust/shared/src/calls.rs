@@ -107,7 +107,7 @@ fn begin_write(
 }
 
 /// The bytes that a read or a write looks at.
-fn cut(len: usize) -> usize {
+pub(super) fn cut(len: usize) -> usize {
     len.min(MOST_BYTES)
 }
 

@@ -202,6 +202,8 @@ macro_rules! handle {
 
             /// Calls of this handle that would wait later than this are `TimedOut`; with `None` they wait for ever, as at first. A call that
             /// needn't wait is answered, however late it is.
+            ///
+            /// A task that waits isn't woken at the deadline: its next poll at the deadline or later is `TimedOut`.
             pub fn set_deadline(&mut self, deadline: Option<Instant>) {
                 self.0.set_deadline(deadline);
             }

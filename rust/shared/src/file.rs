@@ -3,7 +3,7 @@
 use super::calls::Call;
 use super::descriptor::{Descriptor, handle};
 use super::process::Process;
-use std::io;
+use std::io::{self, IoSlice, IoSliceMut};
 use std::task::{Context, Poll};
 use std::time::Instant;
 
@@ -217,17 +217,39 @@ impl io::Read for File {
     fn read(&mut self, into: &mut [u8]) -> io::Result<usize> {
         self.0.read(into)
     }
+
+    /// Reads into all buffers by one read, as [that of a pipe](super::PipeReader#method.read_vectored).
+    ///
+    /// # Errors
+    ///
+    /// As there.
+    fn read_vectored(&mut self, buffers: &mut [IoSliceMut<'_>]) -> io::Result<usize> {
+        self.0.read_vectored(buffers)
+    }
 }
 
 impl io::Read for &File {
     fn read(&mut self, into: &mut [u8]) -> io::Result<usize> {
         self.0.read(into)
     }
+
+    fn read_vectored(&mut self, buffers: &mut [IoSliceMut<'_>]) -> io::Result<usize> {
+        self.0.read_vectored(buffers)
+    }
 }
 
 impl io::Write for File {
     fn write(&mut self, bytes: &[u8]) -> io::Result<usize> {
         self.0.write(bytes)
+    }
+
+    /// Writes all buffers by one write, as [that of a pipe](super::PipeWriter#method.write_vectored).
+    ///
+    /// # Errors
+    ///
+    /// As there.
+    fn write_vectored(&mut self, buffers: &[IoSlice<'_>]) -> io::Result<usize> {
+        self.0.write_vectored(buffers)
     }
 
     /// Does nothing: a file has no buffer before it.
@@ -239,6 +261,10 @@ impl io::Write for File {
 impl io::Write for &File {
     fn write(&mut self, bytes: &[u8]) -> io::Result<usize> {
         self.0.write(bytes)
+    }
+
+    fn write_vectored(&mut self, buffers: &[IoSlice<'_>]) -> io::Result<usize> {
+        self.0.write_vectored(buffers)
     }
 
     /// Does nothing: a file has no buffer before it.

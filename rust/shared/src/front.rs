@@ -3,10 +3,12 @@
 use super::super::{Clay, NotDone, ParkedCall};
 use super::lock::{Held, Lock};
 use super::recording::{at_last, interrupt};
-use super::waiters::{Batch, Waiters, Who};
+use super::waiters::{Waiters, Who};
 use super::ways::Way;
 use super::yields::{Begun, Yields};
+use std::any::Any;
 use std::io;
+use std::panic;
 use std::thread;
 
 /// A kernel with those who wait.
@@ -28,28 +30,25 @@ pub(super) struct Locked<'a> {
     held: Option<Held<'a, Inner>>,
 }
 
-/// Those who are woken now, without the lock. If a waker panics, all others are woken too: nobody else may come for them.
-struct Waking<'a> {
-    front: &'a Front,
-    batch: Batch,
+/// Wakes those whom one step helped, without the lock. Nobody else may come for them, so a waker that panics keeps none of the others asleep: its
+/// panic is caught. The first one goes on to the caller by `end`, and those after it are dropped.
+#[derive(Default)]
+struct Wakes {
+    panicked: Option<Box<dyn Any + Send>>,
 }
 
-impl Waking<'_> {
-    /// Wakes the last ones first, which are threads: a waker may run anything, and wait for one of these.
-    fn go_on(&mut self) {
-        self.batch
-            .iter_mut()
-            .rev()
-            .filter_map(Option::take)
-            .for_each(Who::wake);
+impl Wakes {
+    fn wake(&mut self, who: Who) {
+        if let Err(panicked) = panic::catch_unwind(|| who.wake()) {
+            self.panicked.get_or_insert(panicked);
+        }
     }
-}
 
-impl Drop for Waking<'_> {
-    fn drop(&mut self) {
-        if thread::panicking() {
-            self.go_on();
-            drop(self.front.lock());
+    /// A thread that panics already goes on with its own panic: two at once would end the program.
+    fn end(self) {
+        match self.panicked {
+            Some(panicked) if !thread::panicking() => panic::resume_unwind(panicked),
+            _ => {}
         }
     }
 }
@@ -108,18 +107,24 @@ impl Front {
     fn answer_and_wake<'a>(&'a self, mut held: Held<'a, Inner>) {
         let Inner { clay, waiters } = &mut *held;
         waiters.answer_ready(clay);
+        let mut wakes = Wakes::default();
         if let Some(who) = waiters.take_the_one() {
             drop(held);
-            return who.wake();
+            wakes.wake(who);
+            return wakes.end();
         }
         // once a step: in each batch it would cost the square of how many are woken
         held.waiters.put_threads_last();
         while !held.waiters.are_all_woken() {
             let batch = held.waiters.take_some();
             drop(held);
-            Waking { front: self, batch }.go_on();
+            // threads are the last ones, and woken first: a waker may wait for one of them
+            let woken = batch.into_iter().flatten().rev();
+            woken.for_each(|who| wakes.wake(who));
             held = self.lock.lock();
         }
+        drop(held);
+        wakes.end();
     }
 
     /// Begins to yield, if a thread may now.

@@ -39,6 +39,10 @@
 //!
 //! [`PipeReader::poll_read`] and [`PipeWriter::poll_write`] take the [`Context`](std::task::Context) of a task in place of a thread, and
 //! need no runtime. One handle has one task that reads and one that writes: others have a handle of their own by `try_clone`.
+//! No timer wakes a task at the deadline of its handle: its next poll ends the wait then.
+//!
+//! The call that lets a task make progress runs its waker. If wakers panic, all others that the call is to wake are woken, and then the first panic goes on
+//! to the caller, and the others are dropped. In a thread that panics already all of them are, because two panics at once would end the program.
 
 #![forbid(unsafe_code)]
 
@@ -54,6 +58,7 @@ mod process;
 mod recording;
 mod sleeping;
 mod tasks;
+mod vectored;
 mod waiters;
 mod ways;
 mod yields;

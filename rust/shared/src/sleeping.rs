@@ -6,8 +6,7 @@ use super::front::Front;
 use std::cell::Cell;
 use std::io;
 use std::sync::atomic::{AtomicBool, Ordering};
-use std::sync::{Arc, Mutex, MutexGuard, PoisonError};
-use std::thread::{self, Thread};
+use std::sync::{Arc, Condvar, Mutex, MutexGuard, PoisonError};
 use std::time::Instant;
 
 /// How often a thread yields before it sleeps.
@@ -16,14 +15,16 @@ const YIELDS: usize = 8;
 /// The most bytes that a slot keeps from one call to the next.
 const KEPT_BYTES: usize = 65_536;
 
-/// A thread that sleeps until its call is answered.
-#[derive(Debug)]
+/// A thread that sleeps until its call is answered. It has a condition variable, since the token of `thread::park` is the program's.
+#[derive(Debug, Default)]
 pub(super) struct Sleeper {
-    thread: Thread,
-    /// Whether to look into the slot. It may be set for nothing, if the wake-up of an earlier call comes late.
-    woken: AtomicBool,
     /// Whoever steps locks it under the lock of the kernel, and nobody holds it for long.
     slot: Mutex<Slot>,
+    /// Whether to look into the slot, for a thread that doesn't sleep yet. It may be set for nothing, if the wake-up of an earlier call comes late.
+    woken: AtomicBool,
+    /// Whether the thread sleeps. It is written under the lock of the slot.
+    sleeps: AtomicBool,
+    is_answered: Condvar,
 }
 
 /// What a waiting call of a thread is answered by, and what with.
@@ -79,20 +80,11 @@ thread_local! {
 }
 
 impl Sleeper {
-    fn new() -> Arc<Sleeper> {
-        let (thread, slot) = (thread::current(), Mutex::default());
-        Arc::new(Sleeper {
-            thread,
-            woken: AtomicBool::new(false),
-            slot,
-        })
-    }
-
     /// Lets a call of this thread have a sleeper for itself: that of the call before, or else a new one. A call that begins to wait may run a
     /// waker, and that may make another call that waits. A thread that ends has no spare one any more.
     pub(super) fn with<T>(call: impl FnOnce(&Arc<Sleeper>) -> T) -> T {
         let spare = SPARE.try_with(Cell::take).unwrap_or_default();
-        let sleeper = spare.unwrap_or_else(Sleeper::new);
+        let sleeper = spare.unwrap_or_default();
         let done = call(&sleeper);
         let _gone = SPARE.try_with(|spare| spare.set(Some(sleeper)));
         done
@@ -123,10 +115,12 @@ impl Sleeper {
         self.slot().answer = Some(answer);
     }
 
-    /// Wakes the thread, which has an answer.
+    /// Wakes the thread, which has an answer. If it didn't sleep as the answer was left in its slot, it finds that before it would sleep.
     pub(super) fn wake(&self) {
         self.woken.store(true, Ordering::Release);
-        self.thread.unpark();
+        if self.sleeps.load(Ordering::Relaxed) {
+            self.is_answered.notify_one();
+        }
     }
 
     /// The answer of its call, if there is one.
@@ -147,30 +141,40 @@ impl Sleeper {
         front: &Front,
         deadline: Option<Instant>,
     ) -> Option<io::Result<usize>> {
-        if let Some(begun) = front.may_yield() {
-            for _ in 0..YIELDS {
-                let is_quick = front.yield_once(&begun);
-                if let Some(answer) = self.take_if_woken() {
-                    return Some(answer);
-                }
-                if !is_quick {
-                    break;
-                }
+        self.yield_some_times(front)
+            .or_else(|| self.sleep_at_once(deadline))
+    }
+
+    fn yield_some_times(&self, front: &Front) -> Option<io::Result<usize>> {
+        let begun = front.may_yield()?;
+        for _ in 0..YIELDS {
+            let is_quick = front.yield_once(&begun);
+            let answer = self.take_if_woken();
+            if answer.is_some() || !is_quick {
+                return answer;
             }
         }
-        loop {
-            if let Some(answer) = self.take_if_woken() {
-                return Some(answer);
+        None
+    }
+
+    fn sleep_at_once(&self, deadline: Option<Instant>) -> Option<io::Result<usize>> {
+        let has_none = |slot: &mut Slot| slot.answer.is_none();
+        let slot = self.slot();
+        self.sleeps.store(true, Ordering::Relaxed);
+        let mut slot = match deadline {
+            None => self
+                .is_answered
+                .wait_while(slot, has_none)
+                .unwrap_or_else(PoisonError::into_inner),
+            Some(deadline) => {
+                let left = deadline.saturating_duration_since(Instant::now());
+                self.is_answered
+                    .wait_timeout_while(slot, left, has_none)
+                    .unwrap_or_else(PoisonError::into_inner)
+                    .0
             }
-            let Some(deadline) = deadline else {
-                thread::park();
-                continue;
-            };
-            let left = deadline.saturating_duration_since(Instant::now());
-            if left.is_zero() {
-                return None;
-            }
-            thread::park_timeout(left);
-        }
+        };
+        self.sleeps.store(false, Ordering::Relaxed);
+        slot.answer.take()
     }
 }

@@ -1,7 +1,8 @@
 //! Reads and writes of tasks, which are woken by a waker in place of a thread.
 //!
 //! A call of a task is tried once. If it would wait, a poll of its descriptor waits in its place, which takes and gives no bytes: so the
-//! next try may bring other bytes or another buffer, and a task that never comes again has lost nothing.
+//! next try may bring other bytes or another buffer, and a task that never comes again has lost nothing. There is no timer: the first try at the
+//! deadline of the handle, or later, ends the wait.
 
 use super::super::{Answer, Clay, NotDone, PollEntry};
 use super::calls::Call;
@@ -12,13 +13,20 @@ use super::recording::interrupt;
 use super::waiters::{Stand, Who};
 use std::io;
 use std::task::{Context, Poll};
+use std::time::Instant;
 
 /// The most bytes of one write of a task: one that would wait has a copy of them for a moment.
 const MOST_BYTES: usize = 65_536;
 
-/// The places of the waiting polls of a descriptor.
+/// The places of the waiting polls of a descriptor, and what each waits for.
 const READING: usize = 0;
 const WRITING: usize = 1;
+const EVENTS: [i16; 2] = [POLLIN, POLLOUT];
+
+/// Whether the deadline of a handle is over. Without one no clock is read.
+fn is_over(deadline: Option<Instant>) -> bool {
+    deadline.is_some_and(|deadline| deadline <= Instant::now())
+}
 
 /// Tries a call once; nothing if it would wait. A write that would wait tells what went in.
 fn try_once(clay: &mut Clay, pid: u32, call: &mut Call<'_>) -> Option<io::Result<usize>> {
@@ -67,7 +75,7 @@ impl Descriptor {
         into: &mut [u8],
     ) -> Poll<io::Result<usize>> {
         let call = Call::Read { fd: self.fd, into };
-        self.poll_call(context, READING, POLLIN, call)
+        self.poll_call(context, READING, call)
     }
 
     pub(super) fn poll_write(
@@ -79,7 +87,6 @@ impl Descriptor {
         self.poll_call(
             context,
             WRITING,
-            POLLOUT,
             Call::Write {
                 fd: self.fd,
                 bytes,
@@ -92,26 +99,29 @@ impl Descriptor {
         &mut self,
         context: &mut Context<'_>,
         way: usize,
-        events: i16,
         mut call: Call<'_>,
     ) -> Poll<io::Result<usize>> {
         // wakers are cloned and dropped without the lock: a task may go with one, and its handles
         let waker = context.waker().clone();
         let _former;
+        let deadline = self.deadline();
         let Descriptor {
             owner, fd, tasks, ..
         } = self;
         let mut locked = owner.front.lock();
-        if let Some(number) = tasks[way].take() {
-            match locked.waiters().look(number) {
-                Stand::Ended(ended) => return Poll::Ready(ended),
-                Stand::Waits => {
-                    _former = locked.waiters().wait_again(number, waker);
-                    tasks[way] = Some(number);
-                    return Poll::Pending;
-                }
-                Stand::Named => {}
+        let before = tasks[way].take();
+        match before.map(|number| (number, locked.waiters().look(number))) {
+            Some((_, Stand::Ended(ended))) => return Poll::Ready(ended),
+            // it is tried once more: a small write may have room that the poll didn't wait for
+            Some((number, Stand::Waits)) if is_over(deadline) => {
+                _former = end_poll(&mut locked, number);
             }
+            Some((number, Stand::Waits)) => {
+                _former = locked.waiters().wait_again(number, waker);
+                tasks[way] = Some(number);
+                return Poll::Pending;
+            }
+            Some((_, Stand::Named)) | None => {}
         }
         if owner.is_gone() {
             return Poll::Ready(Err(NotDone::NoProcess.into()));
@@ -119,7 +129,10 @@ impl Descriptor {
         if let Some(ended) = try_once(locked.clay(), owner.pid, &mut call) {
             return Poll::Ready(ended);
         }
-        let number = wait_for(&mut locked, owner.pid, Clay::entry(*fd, events))?;
+        if is_over(deadline) {
+            return Poll::Ready(Err(io::ErrorKind::TimedOut.into()));
+        }
+        let number = wait_for(&mut locked, owner.pid, Clay::entry(*fd, EVENTS[way]))?;
         locked
             .waiters()
             .add(number, owner.pid, Who::Task(waker), None);

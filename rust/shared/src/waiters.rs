@@ -84,9 +84,6 @@ pub(super) struct Waiters {
 /// How many are woken at once without the lock in between: a list of any length would want memory.
 const BATCH: usize = 16;
 
-/// Those who are to be woken once the lock is free.
-pub(super) type Batch = [Option<Who>; BATCH];
-
 impl Waiters {
     pub(super) fn new() -> Waiters {
         Waiters {
@@ -266,8 +263,8 @@ impl Waiters {
     }
 
     /// Takes the last of those who are to be woken, until none is left or the batch is full.
-    pub(super) fn take_some(&mut self) -> Batch {
-        let mut batch = Batch::default();
+    pub(super) fn take_some(&mut self) -> [Option<Who>; BATCH] {
+        let mut batch: [Option<Who>; BATCH] = Default::default();
         let first = self.answered.len().saturating_sub(BATCH);
         batch
             .iter_mut()

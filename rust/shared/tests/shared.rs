@@ -1,6 +1,8 @@
 //! The shared kernel in threads: what a call that waits is ended by, and what closes as it is dropped. What is wanted comes from
 //! docs/RULES.md, from POSIX and from the pages of Linux's manual.
 
+mod waiting;
+
 use bindingclay::shared::{
     File, Limits, PipeOptions, PipeReader, PipeWriter, PollFd, Process, Shared, poll, splice, tee,
 };
@@ -8,6 +10,7 @@ use bindingclay::shared::{POLLERR, POLLHUP, POLLIN, POLLOUT};
 use std::io::{ErrorKind, Read, Result, Seek, SeekFrom, Write};
 use std::thread;
 use std::time::{Duration, Instant};
+use waiting::until_waiting;
 
 /// Linux's numbers of errors (errno.h).
 const EBADF: i32 = 9;
@@ -21,19 +24,6 @@ fn process() -> Process {
         .expect("memory")
         .start()
         .expect("room for a process")
-}
-
-/// Waits until so many calls wait.
-fn until_waiting(kernel: &Shared, count: usize) {
-    let begun = Instant::now();
-    while kernel.waiting() != count {
-        assert!(
-            begun.elapsed() < Duration::from_secs(20),
-            "{} calls wait, and not {count}",
-            kernel.waiting()
-        );
-        thread::yield_now();
-    }
 }
 
 fn kind<T: std::fmt::Debug>(result: Result<T>) -> ErrorKind {

@@ -3,11 +3,16 @@
 //!
 //! `BINDINGCLAY_RECORD` names a file to which the record of the storm is written; without it it is kept in memory.
 
+mod draws;
+mod waiting;
+
 use bindingclay::shared::{Limits, PipeReader, Process, Shared, splice};
+use draws::Draws;
 use std::io::{ErrorKind, Read, Result, Write};
 use std::sync::atomic::{AtomicUsize, Ordering};
 use std::thread;
 use std::time::{Duration, Instant};
+use waiting::until_waiting;
 
 /// EINVAL of errno.h on Linux.
 const EINVAL: i32 = 22;
@@ -20,18 +25,6 @@ fn handed_out(kernel: &Shared) -> Result<String> {
     let count = kernel.write_record(&mut text)?;
     assert_eq!(count, text.len() as u64);
     Ok(String::from_utf8(text).expect("a record is text"))
-}
-
-fn until_waiting(kernel: &Shared, count: usize) {
-    let begun = Instant::now();
-    while kernel.waiting() != count {
-        assert!(
-            begun.elapsed() < Duration::from_secs(20),
-            "{} calls wait, and not {count}",
-            kernel.waiting()
-        );
-        thread::yield_now();
-    }
 }
 
 fn is_refused<T: std::fmt::Debug>(result: Result<T>) {
@@ -156,18 +149,6 @@ fn a_handle_is_closed_that_cannot_be_recorded() -> Result<()> {
     let (reader, _writer) = process.pipe()?;
     assert_eq!(reader.as_raw_fd(), 0);
     Ok(())
-}
-
-/// Numbers that look drawn, from a seed (xorshift).
-struct Draws(u64);
-
-impl Draws {
-    fn below(&mut self, end: usize) -> usize {
-        self.0 ^= self.0 << 13;
-        self.0 ^= self.0 >> 7;
-        self.0 ^= self.0 << 17;
-        (self.0 % end as u64) as usize
-    }
 }
 
 /// What one thread does: calls that wait, each with a deadline, and children that come and go.

@@ -3,10 +3,13 @@
 //!
 //! `BINDINGCLAY_STORM` says how many seconds the storm takes, and `BINDINGCLAY_ROUNDS` how many ping-pongs are made; without them 3 and 20,000.
 
+mod draws;
+
 use bindingclay::shared::{
     File, Limits, POLLIN, POLLOUT, PipeReader, PipeWriter, PollFd, Process, Shared, poll, splice,
     tee,
 };
+use draws::Draws;
 use std::env;
 use std::io::{Error, ErrorKind, Read, Result, Write};
 use std::sync::atomic::{AtomicBool, Ordering};
@@ -22,21 +25,9 @@ fn number_of(name: &str, otherwise: u64) -> u64 {
     env::var(name).map_or(otherwise, |text| text.parse().expect("a number"))
 }
 
-/// Numbers that look drawn, from a seed (xorshift).
-struct Draws(u64);
-
-impl Draws {
-    fn below(&mut self, end: usize) -> usize {
-        self.0 ^= self.0 << 13;
-        self.0 ^= self.0 >> 7;
-        self.0 ^= self.0 << 17;
-        (self.0 % end as u64) as usize
-    }
-
-    /// A deadline that is over, or within three milliseconds.
-    fn deadline(&mut self) -> Option<Instant> {
-        Instant::now().checked_add(Duration::from_micros(self.below(4) as u64 * 1_000))
-    }
+/// A deadline that is over, or within three milliseconds.
+fn drawn_deadline(draws: &mut Draws) -> Option<Instant> {
+    Instant::now().checked_add(Duration::from_micros(draws.below(4) as u64 * 1_000))
 }
 
 /// A process with two pipes.
@@ -73,8 +64,8 @@ fn act(draws: &mut Draws, place: &Place) -> Result<()> {
         ends[draws.below(2)].0.try_clone()?,
         ends[draws.below(2)].1.try_clone()?,
     );
-    reader.set_deadline(draws.deadline());
-    writer.set_deadline(draws.deadline());
+    reader.set_deadline(drawn_deadline(draws));
+    writer.set_deadline(drawn_deadline(draws));
     match draws.below(10) {
         0..=2 => reader.read(&mut vec![0; 1 + draws.below(70_000)])?,
         3..=5 => writer.write(&vec![7; 1 + draws.below(70_000)])?,
@@ -90,7 +81,7 @@ fn act(draws: &mut Draws, place: &Place) -> Result<()> {
         _ => {
             let child = process.fork()?;
             let mut theirs = PipeReader::from_raw_fd(&child, reader.as_raw_fd());
-            theirs.set_deadline(draws.deadline());
+            theirs.set_deadline(drawn_deadline(draws));
             let read = theirs.read(&mut [0; 100]);
             child.exit()?;
             read?

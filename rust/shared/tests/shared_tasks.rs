@@ -1,65 +1,20 @@
-//! The shared kernel's reads and writes of tasks, and whom a step wakes.
+//! The shared kernel's reads and writes of tasks.
 
-use bindingclay::shared::{File, Limits, PipeReader, PipeWriter, Process, Shared};
+mod tasks;
+
+use bindingclay::shared::{File, Limits, PipeWriter, Shared};
 use std::io::{ErrorKind, Read, Result, Write};
-use std::sync::atomic::{AtomicUsize, Ordering};
-use std::sync::{Arc, Mutex, mpsc};
-use std::task::{Context, Poll, RawWaker, RawWakerVTable, Wake, Waker};
+use std::task::{Context, Poll};
 use std::thread;
-use std::time::Duration;
+use std::time::{Duration, Instant};
+use tasks::{Task, process, ready};
 
 /// The bytes of a new pipe (pipe(7), Pipe capacity).
 const PIPE_BYTES: usize = 65_536;
 
-/// Counts how often it was woken.
-#[derive(Default)]
-struct Count(AtomicUsize);
-
-impl Wake for Count {
-    fn wake(self: Arc<Self>) {
-        self.0.fetch_add(1, Ordering::SeqCst);
-    }
-}
-
-/// A task that tells how often it was woken.
-struct Task {
-    count: Arc<Count>,
-    waker: Waker,
-}
-
 impl Task {
-    fn new() -> Task {
-        let count = Arc::new(Count::default());
-        Task {
-            waker: Waker::from(Arc::clone(&count)),
-            count,
-        }
-    }
-
-    fn woken(&self) -> usize {
-        self.count.0.load(Ordering::SeqCst)
-    }
-
-    fn read(&self, reader: &mut PipeReader, into: &mut [u8]) -> Poll<Result<usize>> {
-        reader.poll_read(&mut Context::from_waker(&self.waker), into)
-    }
-
     fn write(&self, writer: &mut PipeWriter, bytes: &[u8]) -> Poll<Result<usize>> {
         writer.poll_write(&mut Context::from_waker(&self.waker), bytes)
-    }
-}
-
-fn process() -> (Shared, Process) {
-    let kernel = Shared::new().expect("memory");
-    let process = kernel.start().expect("room for a process");
-    (kernel, process)
-}
-
-#[track_caller]
-fn ready<T>(polled: Poll<Result<T>>) -> Result<T> {
-    match polled {
-        Poll::Ready(result) => result,
-        Poll::Pending => panic!("it waits"),
     }
 }
 
@@ -100,18 +55,6 @@ fn one_step_wakes_all_who_can_get_on() -> Result<()> {
         assert_eq!(task.woken(), 1);
         assert_eq!(ready(task.read(reader, &mut [0]))?, 0);
     }
-    Ok(())
-}
-
-#[test]
-fn a_poll_that_comes_too_early_leaves_the_last_waker() -> Result<()> {
-    let (_kernel, process) = process();
-    let (mut reader, mut writer) = process.pipe()?;
-    let (before, now) = (Task::new(), Task::new());
-    assert!(before.read(&mut reader, &mut [0]).is_pending());
-    assert!(now.read(&mut reader, &mut [0]).is_pending());
-    writer.write_all(b"a")?;
-    assert_eq!((before.woken(), now.woken()), (0, 1));
     Ok(())
 }
 
@@ -246,209 +189,80 @@ fn the_limit_of_waiting_calls_is_told() -> Result<()> {
     Ok(())
 }
 
-/// Drops handles as it is woken, or as it is dropped, as a task does that is gone with its waker.
-struct Holds(Mutex<Vec<PipeReader>>);
-
-impl Wake for Holds {
-    fn wake(self: Arc<Self>) {
-        self.0.lock().expect("no panic").clear();
-    }
+fn timed_out(polled: Poll<Result<usize>>) -> bool {
+    matches!(polled, Poll::Ready(Err(fault)) if fault.kind() == ErrorKind::TimedOut)
 }
 
 #[test]
-fn wakers_run_and_go_without_the_lock() -> Result<()> {
+fn a_poll_at_the_deadline_or_later_ends_a_wait() -> Result<()> {
     let (kernel, process) = process();
     let (mut reader, mut writer) = process.pipe()?;
-    let holds = |reader: &PipeReader| {
-        Ok::<_, std::io::Error>(Arc::new(Holds(Mutex::new(vec![reader.try_clone()?]))))
-    };
-    for _ in 0..20 {
-        // more than are woken at once, each of which makes a step as it is woken
-        let mut readers: Vec<_> = (0..20).map(|_| reader.try_clone()).collect::<Result<_>>()?;
-        for each in &mut readers {
-            let waker = Waker::from(holds(&reader)?);
-            assert!(
-                each.poll_read(&mut Context::from_waker(&waker), &mut [0])
-                    .is_pending()
-            );
-        }
-        writer.write_all(b"a")?;
-        drop(readers);
-        assert_eq!(reader.read(&mut [0])?, 1);
-        // a waker that goes as another takes its place, and one that goes with its poll
-        let waker = Waker::from(holds(&reader)?);
-        assert!(
-            reader
-                .poll_read(&mut Context::from_waker(&waker), &mut [0])
-                .is_pending()
-        );
-        drop(waker);
-        let task = Task::new();
-        assert!(task.read(&mut reader, &mut [0]).is_pending());
-        let waker = Waker::from(holds(&reader)?);
-        assert!(
-            reader
-                .poll_read(&mut Context::from_waker(&waker), &mut [0])
-                .is_pending()
-        );
-        drop(waker);
-        reader = PipeReader::from_raw_fd(&process, reader.into_raw_fd());
-    }
+    let task = Task::new();
+    let deadline = Instant::now() + Duration::from_millis(500);
+    reader.set_deadline(Some(deadline));
+    assert!(task.read(&mut reader, &mut [0]).is_pending());
+    assert!(task.read(&mut reader, &mut [0]).is_pending());
+    thread::sleep(deadline.saturating_duration_since(Instant::now()));
+    // no timer wakes the task
+    assert_eq!((kernel.waiting(), task.woken()), (1, 0));
+    assert!(timed_out(task.read(&mut reader, &mut [0])));
     assert_eq!(kernel.waiting(), 0);
+    writer.set_deadline(Some(deadline));
+    // what needn't wait is answered, however late it is
+    assert_eq!(
+        ready(task.write(&mut writer, &[7; PIPE_BYTES]))?,
+        PIPE_BYTES
+    );
+    assert!(timed_out(task.write(&mut writer, b"a")));
+    assert_eq!(
+        ready(task.read(&mut reader, &mut [0; PIPE_BYTES]))?,
+        PIPE_BYTES
+    );
+    assert_eq!((kernel.waiting(), task.woken()), (0, 0));
+    reader.set_deadline(None);
+    assert!(task.read(&mut reader, &mut [0]).is_pending());
     Ok(())
 }
 
-/// Waits for a byte as it is woken.
-struct Waits(Mutex<PipeReader>);
-
-impl Wake for Waits {
-    fn wake(self: Arc<Self>) {
-        let read = self.0.lock().expect("no panic").read(&mut [0]);
-        assert_eq!(read.expect("a byte"), 1);
-    }
-}
-
 #[test]
-fn a_waker_may_wait_while_a_write_waits_that_ran_it() -> Result<()> {
+fn a_deadline_that_is_set_while_a_task_waits_ends_its_wait() -> Result<()> {
     let (kernel, process) = process();
-    let ((mut one, mut to_one), (other, mut to_other)) = (process.pipe()?, process.pipe()?);
-    let mut reader = one.try_clone()?;
-    let waker = Waker::from(Arc::new(Waits(Mutex::new(other))));
-    assert!(
-        one.poll_read(&mut Context::from_waker(&waker), &mut [0])
-            .is_pending()
-    );
-    thread::scope(|scope| {
-        let writes = scope.spawn(move || to_one.write(&[7; PIPE_BYTES + 9]));
-        // the write, and the read of the waker; the poll has ended
-        while kernel.waiting() != 2 || reader.held()? == 0 {
-            thread::yield_now();
-        }
-        // the write is answered before the read
-        reader.read_exact(&mut [0; PIPE_BYTES + 9])?;
-        to_other.write_all(b"a")?;
-        assert_eq!(writes.join().expect("no panic")?, PIPE_BYTES + 9);
-        Ok(())
-    })
-}
-
-/// The kernel that a waker asks as it is dropped.
-static ASKED: Mutex<Option<Shared>> = Mutex::new(None);
-
-fn ask(_: *const ()) {
-    let kernel = ASKED.lock().expect("no panic").clone();
-    assert_eq!(kernel.expect("a kernel").waiting(), 0);
-}
-
-static ASKS: RawWakerVTable =
-    RawWakerVTable::new(|data| RawWaker::new(data, &ASKS), |_| {}, |_| {}, ask);
-
-#[test]
-fn a_waker_that_nobody_keeps_is_dropped_without_the_lock() -> Result<()> {
-    let kernel = Shared::within(&Limits {
-        waiting_calls: 0,
-        ..Limits::default()
-    })?;
-    *ASKED.lock().expect("no panic") = Some(kernel.clone());
-    let (mut reader, writer) = kernel.start()?.pipe()?;
-    // if the lock were held for ever, a test that ends would wait for it to close this one
-    writer.into_raw_fd();
-    let (told, tells) = mpsc::channel();
-    thread::spawn(move || {
-        // it has no data, so its functions keep what they have to
-        let waker = unsafe { Waker::from_raw(RawWaker::new(std::ptr::null(), &ASKS)) };
-        told.send(ready(
-            reader.poll_read(&mut Context::from_waker(&waker), &mut [0]),
-        ))
-        .expect("a test that waits");
-    });
-    let read = tells
-        .recv_timeout(Duration::from_secs(20))
-        .expect("an answer");
-    assert_eq!(read.expect_err("EAGAIN").kind(), ErrorKind::WouldBlock);
+    let (mut reader, mut writer) = process.pipe()?;
+    let task = Task::new();
+    assert!(task.read(&mut reader, &mut [0]).is_pending());
+    writer.write_all(&[7; PIPE_BYTES])?;
+    assert!(task.write(&mut writer, b"a").is_pending());
+    assert_eq!((kernel.waiting(), task.woken()), (1, 1));
+    reader.set_deadline(Some(Instant::now()));
+    writer.set_deadline(Some(Instant::now()));
+    // the read was helped; the write has room by now, though less than a poll waits for (docs/RULES.md, poll)
+    assert_eq!(ready(task.read(&mut reader, &mut [0; 2]))?, 2);
+    assert_eq!((kernel.waiting(), task.woken()), (1, 1));
+    assert_eq!(ready(task.write(&mut writer, b"a"))?, 1);
+    assert_eq!(kernel.waiting(), 0);
+    assert_eq!(ready(task.write(&mut writer, b"a"))?, 1);
+    assert!(timed_out(task.write(&mut writer, b"a")));
     Ok(())
 }
 
-/// Waits until a thread has its answer.
-struct WaitsFor(Mutex<mpsc::Receiver<usize>>);
-
-impl Wake for WaitsFor {
-    fn wake(self: Arc<Self>) {
-        let read = self
-            .0
-            .lock()
-            .expect("no panic")
-            .recv_timeout(Duration::from_secs(20));
-        assert_eq!(read, Ok(0));
-    }
-}
-
 #[test]
-fn a_waker_may_wait_for_a_thread_that_the_same_step_helped() -> Result<()> {
+fn deadlines_count_for_tasks_of_a_fifo() -> Result<()> {
     let (kernel, process) = process();
-    let (reader, writer) = process.pipe()?;
-    let (told, tells) = mpsc::channel();
-    let waker = Waker::from(Arc::new(WaitsFor(Mutex::new(tells))));
-    // one before the thread and one behind it
-    let mut tasks = [reader.try_clone()?, reader.try_clone()?];
-    assert!(
-        tasks[0]
-            .poll_read(&mut Context::from_waker(&waker), &mut [0])
-            .is_pending()
+    process.mkfifo("inbox")?;
+    let mut fifo = File::options()
+        .read(true)
+        .write(true)
+        .open(&process, "inbox")?;
+    let task = Task::new();
+    let mut context = Context::from_waker(&task.waker);
+    assert!(fifo.poll_read(&mut context, &mut [0]).is_pending());
+    fifo.set_deadline(Some(Instant::now()));
+    assert!(timed_out(fifo.poll_read(&mut context, &mut [0])));
+    assert_eq!(
+        ready(fifo.poll_write(&mut context, &[7; PIPE_BYTES]))?,
+        PIPE_BYTES
     );
-    thread::spawn(move || {
-        let read = (&reader).read(&mut [0]).expect("the end");
-        (0..2).for_each(|_| told.send(read).expect("a waker"));
-    });
-    while kernel.waiting() != 2 {
-        thread::yield_now();
-    }
-    assert!(
-        tasks[1]
-            .poll_read(&mut Context::from_waker(&waker), &mut [0])
-            .is_pending()
-    );
-    drop(writer);
-    Ok(())
-}
-
-/// Panics as it is woken.
-struct Panics;
-
-impl Wake for Panics {
-    fn wake(self: Arc<Self>) {
-        panic!("a waker may do so");
-    }
-}
-
-#[test]
-fn a_waker_that_panics_keeps_nobody_asleep() -> Result<()> {
-    let (kernel, process) = process();
-    let (reader, writer) = process.pipe()?;
-    let (task, waker) = (Task::new(), Waker::from(Arc::new(Panics)));
-    // more than are woken at once, and one among them that panics
-    let mut readers: Vec<_> = (0..40).map(|_| reader.try_clone()).collect::<Result<_>>()?;
-    for (place, each) in readers.iter_mut().enumerate() {
-        let waker = if place == 20 { &waker } else { &task.waker };
-        assert!(
-            each.poll_read(&mut Context::from_waker(waker), &mut [0])
-                .is_pending()
-        );
-    }
-    let (told, tells) = mpsc::channel();
-    // it hands its handle on: by a step behind the read it would wake others itself
-    thread::spawn(move || {
-        told.send(((&reader).read(&mut [0]), reader))
-            .expect("a test that waits")
-    });
-    while kernel.waiting() != 41 {
-        thread::yield_now();
-    }
-    assert!(thread::spawn(move || drop(writer)).join().is_err());
-    let (read, _reader) = tells
-        .recv_timeout(Duration::from_secs(20))
-        .expect("an answer");
-    assert_eq!(read?, 0);
-    assert_eq!(task.woken(), 39);
+    assert!(timed_out(fifo.poll_write(&mut context, b"a")));
+    assert_eq!(kernel.waiting(), 0);
     Ok(())
 }

@@ -1,28 +1,17 @@
 //! The shared kernel: writes that wait, and what each tells if another thread ends it or lets go of its descriptor.
 
+mod waiting;
+
 use bindingclay::shared::{PipeWriter, Shared};
 use std::io::{Read, Result, Write};
 use std::thread;
-use std::time::{Duration, Instant};
+use waiting::until_waiting;
 
 /// Linux's number of an error (errno.h).
 const EBADF: i32 = 9;
 
 /// The bytes of a new pipe (pipe(7), Pipe capacity).
 const PIPE_BYTES: usize = 65_536;
-
-/// Waits until so many calls wait.
-fn until_waiting(kernel: &Shared, count: usize) {
-    let begun = Instant::now();
-    while kernel.waiting() != count {
-        assert!(
-            begun.elapsed() < Duration::from_secs(20),
-            "{} calls wait, and not {count}",
-            kernel.waiting()
-        );
-        thread::yield_now();
-    }
-}
 
 #[test]
 fn an_interrupted_write_tells_what_went_in() -> Result<()> {
