@@ -327,6 +327,9 @@ if is_there "$rustc"; then
     leaks=definite,indirect
     build_in_rust shared && run shared
     build_in_rust shared_tasks && run shared_tasks
+    build_in_rust shared_parking && run shared_parking
+    build_in_rust shared_vectored && run shared_vectored
+    build_in_rust shared_wakers && run shared_wakers
     build_in_rust shared_writes && run shared_writes
     build_in_rust shared_storm && plainly shared_storm
     if build_in_rust shared_record; then

@@ -352,7 +352,7 @@ static bool by_pipes(const char *piperun)
     return !talk.broken;
 }
 
-/* A bad line is told before any other line is said, and changes nothing. */
+/* A bad line is answered and told before any other line is said, and changes nothing. */
 static bool with_a_bad_line(const char *piperun)
 {
     char told[ROOM];
@@ -360,7 +360,7 @@ static bool with_a_bad_line(const char *piperun)
     begins(&talk);
     goes_on(&talk, LINES_BY_PIPES / 20);
     says(&talk, "# a comment has no answer");
-    says(&talk, "1 write 1 6");
+    asks(&talk, "bad line", "1 write 1 6");
     write_number(told, "piperun: line %lu: not a command", talk.lines);
     hears(&talk, &talk.complaints, told);
     goes_on(&talk, LINES_BY_PIPES / 10);

@@ -32,7 +32,7 @@ live_in_bounded_memory() {
     diff /dev/null "$work/complaint" && diff "$work/wanted_sum" "$work/sum" && [ "$(cat "$work/ended")" -eq 0 ]
 }
 
-# Whether a line that is longer than a line may be is passed over, and isn't kept: it has 268,435,456 bytes, and the process may have 150,000 KiB.
+# Whether a line that is longer than a line may be is answered as a bad one, and isn't kept: it has 268,435,456 bytes, and the process may have 150,000 KiB.
 live_on_too_long_a_line() {
     ended=0
     { echo start; head -c 268435456 /dev/zero | tr '\0' '#'; printf '\n1 pipe\n'; } | {
@@ -40,7 +40,7 @@ live_on_too_long_a_line() {
         ulimit -v 150000 || exit 1
         exec "$piperun" --live
     } > "$work/output" 2> "$work/complaint" || ended=$?
-    printf 'pid 1\nfds 0 1\n' | diff - "$work/output" && ended_with 3 'piperun: line 2: not a command
+    printf 'pid 1\nbad line\nfds 0 1\n' | diff - "$work/output" && ended_with 3 'piperun: line 2: not a command
 piperun: 1 bad lines'
 }
 

@@ -355,7 +355,12 @@ piperun_checks_a_record() {
     # what expects nothing is no record
     : > "$work/empty.record"
     piperun_answers 5 /dev/null 'piperun: no reply is expected' --check "$work/empty.record" || return 1
-    piperun_answers 5 /dev/null 'piperun: no reply is expected' --check "$examples/session.script"
+    piperun_answers 5 /dev/null 'piperun: no reply is expected' --check "$examples/session.script" || return 1
+    # what only looks as if it expected a reply is a bad line of a check, and a comment of a run
+    printf 'start\n# => pid 2\n#=> pid 1\n' > "$work/misspelt.record"
+    piperun_answers 3 /dev/null 'piperun: line 3: not a command' --check "$work/misspelt.record" || return 1
+    echo 'pid 1' > "$work/misspelt.out"
+    piperun_answers 0 "$work/misspelt.out" '' "$work/misspelt.record"
 }
 
 # Whether a record's header sets the limits of its check, and is a comment to a run, and whether one that says what it can't is a bad line.
@@ -407,26 +412,28 @@ piperun_tells_its_version() {
     piperun_answers 2 /dev/null 'piperun: bad command line' -v
 }
 
-# Whether a live run answers the lines beside a bad one, or ends there if it is a strict one, in version 2 and without a last line feed.
+# Whether a live run answers a bad line so, and the lines beside it, or ends there if it is a strict one, in version 2 and without a last line feed.
 piperun_runs_live() {
     printf 'piperun 2\nstart\nstrat\n1 pipe\n1 write 1 5*00\n1 read 0 9' > "$work/live.script"
-    printf 'pid 1\nfds 0 1\ncount 5\ndata 5*00\n' > "$work/live.out"
+    printf 'pid 1\nbad line\nfds 0 1\ncount 5\ndata 5*00\n' > "$work/live.out"
     piperun_answers 3 "$work/live.out" 'piperun: line 3: not a command
 piperun: 1 bad lines' --live "$work/live.script" || return 1
     head -n 1 "$work/live.out" > "$work/strict.out"
     piperun_answers 3 "$work/strict.out" 'piperun: line 3: not a command' --live --strict "$work/live.script" || return 1
     sed 3d "$work/live.script" > "$work/good.script"
-    piperun_answers 0 "$work/live.out" '' --live --strict "$work/good.script"
+    sed 2d "$work/live.out" > "$work/good.out"
+    piperun_answers 0 "$work/good.out" '' --live --strict "$work/good.script"
 }
 
 # tells_why FIRST BOTH: whether piperun prints nothing of $work/explained.script, and complains by the lines BOTH with --explain, and by the line
-# FIRST without it; in a run, a check and a live run.
+# FIRST without it; in a run, a check and a live run. A live run that goes on prints `bad line`.
 tells_why() {
     piperun_answers 3 /dev/null "$1" "$work/explained.script" || return 1
     piperun_answers 3 /dev/null "$2" --explain "$work/explained.script" || return 1
     piperun_answers 3 /dev/null "$2" --check --explain "$work/explained.script" || return 1
     piperun_answers 3 /dev/null "$2" --live --strict --explain "$work/explained.script" || return 1
-    piperun_answers 3 /dev/null "$2
+    echo 'bad line' > "$work/explained.out"
+    piperun_answers 3 "$work/explained.out" "$2
 piperun: 1 bad lines" --live --explain "$work/explained.script"
 }
 
@@ -450,7 +457,7 @@ piperun_explains() {
         '1 fork now => 3: a word too many' '1 frob => 2: not a call' 'piperun 2\n# no call\n\t1  write 4 00+abc => 4: an odd number of digits' ||
         return 1
     printf 'start\n1 fork now\n1 pipe\n1 write 1 abc\n' > "$work/explained.script"
-    printf 'pid 1\nfds 0 1\n' > "$work/explained.out"
+    printf 'pid 1\nbad line\nfds 0 1\nbad line\n' > "$work/explained.out"
     piperun_answers 3 "$work/explained.out" 'piperun: line 2: not a command
 line 2, word 3: a word too many
 piperun: line 4: not a command
@@ -463,17 +470,21 @@ piperun: 2 bad lines' --live --explain "$work/explained.script" || return 1
     piperun_answers 0 "$examples/session.out" '' --explain "$examples/session.script"
 }
 
-# Whether a live run answers each line before the next is said.
+# Whether a live run answers each line, also a bad one, before the next is said.
 piperun_answers_at_once() {
     mkfifo "$work/asked" "$work/answered" || return 1
-    "$piperun" --live < "$work/asked" > "$work/answered" &
+    "$piperun" --live < "$work/asked" > "$work/answered" 2> /dev/null &
     exec 3> "$work/asked" 4< "$work/answered"
     echo start >&3
     read -r first <&4
-    echo '1 pipe' >&3
+    echo strat >&3
     read -r second <&4
+    echo '1 pipe' >&3
+    read -r third <&4
     exec 3>&- 4<&-
-    wait "$!" && [ "$first" = 'pid 1' ] && [ "$second" = 'fds 0 1' ]
+    ended=0
+    wait "$!" || ended=$?
+    [ "$first" = 'pid 1' ] && [ "$second" = 'bad line' ] && [ "$third" = 'fds 0 1' ] && [ "$ended" -eq 3 ]
 }
 
 # The words of piperun, as docs/RULES.md has them in "The program".
