@@ -23,6 +23,8 @@ passed=0
 failed=0
 work=$(mktemp -d) || exit 2
 trap 'rm -rf "$work"' EXIT
+# valgrind runs one thread at a time; without turns, a thread that asks again and again can keep the others waiting for minutes
+export VALGRIND_OPTS="--fair-sched=try ${VALGRIND_OPTS:-}"
 
 # check NAME COMMAND..: runs the command, and counts it. Where it fails, its status is printed (124: it ran out of time) and what it printed.
 check() {
