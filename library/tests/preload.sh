@@ -13,7 +13,7 @@ defines_names_of_libc() {
 
 # over_layer COMMAND..: runs it with an empty folder for FIFOs.
 over_layer() {
-    rm -rf "$work/fifos" && mkdir "$work/fifos" && LD_PRELOAD=$work/preload.so BINDINGCLAY_PRELOAD_FIFOS=$work/fifos "$@"
+    rm -rf "$work/folder_of_fifos" && mkdir "$work/folder_of_fifos" && LD_PRELOAD=$work/preload.so BINDINGCLAY_PRELOAD_FIFOS=$work/folder_of_fifos "$@"
 }
 
 # build_preload_test NAME FILE FLAG..: builds tests/NAME.c as FILE.
@@ -37,11 +37,11 @@ preload_sanitized() {
     for source in "$here"/preload/*.c "$here"/blocking/*.c; do
         [ "$source" = "$here/preload/memory.c" ] || set -- "$@" "$source"
     done
-    mkdir -p "$work/fifos"
+    mkdir -p "$work/folder_of_fifos"
     # a handler calls malloc here, which it doesn't in the shared object
     build_preload_test "$test" preload_sanitized "-fsanitize=$word" "$@" "-I$work/prefix/include" "-L$work/prefix/lib" -lbindingclay -ldl &&
-        check "$test with -fsanitize=$word" env TSAN_OPTIONS=report_signal_unsafe=0 "BINDINGCLAY_PRELOAD_FIFOS=$work/fifos" timeout 300 \
-            "$work/preload_sanitized" layer "$work/fifos"
+        check "$test with -fsanitize=$word" env TSAN_OPTIONS=report_signal_unsafe=0 "BINDINGCLAY_PRELOAD_FIFOS=$work/folder_of_fifos" timeout 300 \
+            "$work/preload_sanitized" layer "$work/folder_of_fifos"
 }
 
 try_preload() {
@@ -53,12 +53,12 @@ try_preload() {
     check "the names of bindingclay_preload" defines_names_of_libc
     for name in preload preload_waits; do
         build_preload_test "$name" "$name" || continue
-        mkdir -p "$work/fifos"
-        check "$name on the host" timeout 120 "$work/$name" host "$work/fifos"
-        check "$name over the layer" over_layer timeout 120 "$work/$name" layer "$work/fifos"
+        mkdir -p "$work/folder_of_fifos"
+        check "$name on the host" timeout 120 "$work/$name" host "$work/folder_of_fifos"
+        check "$name over the layer" over_layer timeout 120 "$work/$name" layer "$work/folder_of_fifos"
         if is_there "$valgrind"; then
             check "$name over the layer under valgrind" over_layer timeout 600 "$valgrind" -q --error-exitcode=99 --leak-check=full \
-                --show-leak-kinds=all --errors-for-leak-kinds=all "--suppressions=$here/tests/valgrind.supp" "$work/$name" layer "$work/fifos"
+                --show-leak-kinds=all --errors-for-leak-kinds=all "--suppressions=$here/tests/valgrind.supp" "$work/$name" layer "$work/folder_of_fifos"
         else
             echo "passed over: $name over the layer under valgrind"
         fi
