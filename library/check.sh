@@ -237,10 +237,12 @@ done
 build memory "$counted" && run memory
 build index_memory "$counted" && run index_memory
 build storms "$counted" && run storms 500 && plainly storms 20000
-if build growth "$counted"; then
-    plainly growth 65536 && sed 's/^/growth: /' "$work/log"
-    under_valgrind growth 600
-fi
+for name in growth growth_waits; do
+    if build "$name" "$counted"; then
+        plainly "$name" 65536 && sed "s/^/$name: /" "$work/log"
+        under_valgrind "$name" 600
+    fi
+done
 if build budget "$counted"; then
     plainly budget 100000 && sed 's/^/budget: /' "$work/log"
     under_valgrind budget 2000

@@ -1,24 +1,11 @@
-/* What calls cost as a kernel fills up. growth N: beside N slots, or N calls that wait. Memory is counted by malloc's own sizes; time is
- * compared with that of a sixteenth of N, with a wide margin, if N is large enough to tell. */
+/* What calls cost as files and pipes fill up. growth N: beside N slots. Memory is counted by malloc's own sizes. Time is compared with that of a
+ * sixteenth of N, with a wide margin, if N is large enough to tell. */
 #define _GNU_SOURCE
-#include "check.h"
-#include "counted.h"
+#include "growth.h"
 
 #include <fcntl.h>
-#include <limits.h>
-#include <time.h>
 
 enum { SEGMENT = 4096, MOST_SPARE = 256, MOST_CAPACITY = 1048576 };
-
-/* From here on a time tells something. */
-enum { LARGE = 16384 };
-
-static double seconds(void)
-{
-    struct timespec now;
-    clock_gettime(CLOCK_MONOTONIC, &now);
-    return (double)now.tv_sec + (double)now.tv_nsec / 1e9;
-}
 
 /* Bytes of many slots: each of so many splices moves one byte to the end of file f, descriptor 2, from one of two pipes in turn, so that no
  * two slots go on one where the other ends and become one. The second pipe is closed then. */
@@ -348,215 +335,9 @@ static void bytes_one_by_one(long count)
     bindingclay_free(clay);
 }
 
-/* The seconds of one round: a fork, a read of the child that waits, and the child's exit. */
-static double seconds_of_an_exit(bindingclay clay, int32_t read_end)
-{
-    enum { ROUNDS = 2000 };
-    double least = 1e9;
-    for (int run = 0; run < 5; run++) {
-        double begun = seconds();
-        for (int i = 0; i < ROUNDS; i++) {
-            uint32_t child = (uint32_t)bindingclay_fork(clay, 1).value;
-            bindingclay_answer waits = take(clay, child, read_end, 1);
-            if (waits.kind != BINDINGCLAY_PARKED || bindingclay_exit(clay, child).kind != BINDINGCLAY_DONE)
-                HOLDS(false);
-        }
-        double taken = (seconds() - begun) / ROUNDS;
-        least = taken < least ? taken : least;
-    }
-    return least;
-}
-
-/* An exit costs what its process has, however many calls of others wait. */
-static void an_exit_beside_calls_that_wait(long count)
-{
-    bindingclay clay = kernel_with_process();
-    bindingclay_ends ends = NEW_PIPE(clay, 1, false);
-    double few = 0;
-    for (long i = 0; i < count; i++) {
-        if (i == count / 16)
-            few = seconds_of_an_exit(clay, ends.read_end);
-        if (take(clay, 1, ends.read_end, 1).kind != BINDINGCLAY_PARKED)
-            HOLDS(false);
-    }
-    double many = seconds_of_an_exit(clay, ends.read_end);
-    if (count >= LARGE)
-        HOLDS(many < 8 * few);
-    printf("an exit beside %ld calls that wait %.0f ns, beside %ld %.0f ns\n", count / 16, few * 1e9, count, many * 1e9);
-    OTHER(bindingclay_exit(clay, 1), BINDINGCLAY_DONE);
-    bindingclay_free(clay);
-}
-
-/* How many pipes have calls that wait beside the one that is measured. */
-enum { OTHER_PIPES = 100 };
-
-/* One round: a read begins to wait, and nobody can get on. A byte helps it, so it is told. It is resumed, and again nobody can. */
-static void serve_one(bindingclay clay, bindingclay_ends ends)
-{
-    uint8_t byte = 0;
-    bindingclay_answer waits = take(clay, 1, ends.read_end, 1);
-    bool as_wanted = waits.kind == BINDINGCLAY_PARKED && bindingclay_next_ready(clay, 0).kind == BINDINGCLAY_NO_CALL;
-    as_wanted = as_wanted && put(clay, 1, ends.write_end, "a").value == 1;
-    bindingclay_answer next = bindingclay_next_ready(clay, 0);
-    as_wanted = as_wanted && next.kind == BINDINGCLAY_DONE && next.value == waits.value;
-    as_wanted = as_wanted && bindingclay_resume(clay, waits.value, &byte, 1).value == 1 && byte == 'a';
-    if (!as_wanted || bindingclay_next_ready(clay, 0).kind != BINDINGCLAY_NO_CALL)
-        HOLDS(false);
-}
-
-/* The seconds of such a round: the least of five runs. */
-static double seconds_of_a_service(bindingclay clay, bindingclay_ends ends)
-{
-    enum { ROUNDS = 1000 };
-    double least = 1e9;
-    for (int run = 0; run < 5; run++) {
-        double begun = seconds();
-        for (int i = 0; i < ROUNDS; i++)
-            serve_one(clay, ends);
-        double taken = (seconds() - begun) / ROUNDS;
-        least = taken < least ? taken : least;
-    }
-    return least;
-}
-
-/* The next call that can get on is found among those at the pipe that was touched, however many wait at others. */
-static void the_next_beside_calls_that_wait(long count)
-{
-    bindingclay clay = kernel_with_process();
-    bindingclay_ends ends = NEW_PIPE(clay, 1, false), others[OTHER_PIPES];
-    for (int i = 0; i < OTHER_PIPES; i++)
-        others[i] = NEW_PIPE(clay, 1, false);
-    double few = 0;
-    for (long i = 0; i < count; i++) {
-        if (i == count / 16)
-            few = seconds_of_a_service(clay, ends);
-        if (take(clay, 1, others[i % OTHER_PIPES].read_end, 1).kind != BINDINGCLAY_PARKED)
-            HOLDS(false);
-    }
-    double many = seconds_of_a_service(clay, ends);
-    if (count >= LARGE)
-        HOLDS(many < 8 * few);
-    printf("a read that waits, is told and resumed, beside %ld calls that wait %.0f ns, beside %ld %.0f ns\n", count / 16, few * 1e9, count,
-           many * 1e9);
-    OTHER(bindingclay_exit(clay, 1), BINDINGCLAY_DONE);
-    OTHER(bindingclay_next_ready(clay, 0), BINDINGCLAY_NO_CALL);
-    bindingclay_free(clay);
-    HOLDS(bytes_left == 0);
-}
-
-/* The seconds of a question which call can get on, where none can. */
-static double seconds_of_a_question(bindingclay clay)
-{
-    double begun = seconds();
-    OTHER(bindingclay_next_ready(clay, 0), BINDINGCLAY_NO_CALL);
-    return seconds() - begun;
-}
-
-/* Calls that began to wait are asked once each, however many they are. The next question costs what it costs beside a few. */
-static void the_next_after_many_calls(long count)
-{
-    bindingclay clay = kernel_with_process();
-    bindingclay_ends ends = NEW_PIPE(clay, 1, false);
-    for (long i = 0; i < count; i++)
-        if (take(clay, 1, ends.read_end, 1).kind != BINDINGCLAY_PARKED)
-            HOLDS(false);
-    double first = seconds_of_a_question(clay), next = first;
-    for (int run = 0; run < 5; run++) {
-        double taken = seconds_of_a_question(clay);
-        next = taken < next ? taken : next;
-    }
-    if (count >= LARGE)
-        HOLDS(16 * next < first);
-    OTHER(bindingclay_exit(clay, 1), BINDINGCLAY_DONE);
-    bindingclay_free(clay);
-    HOLDS(bytes_left == 0);
-}
-
-/* The seconds of a byte that comes to a pipe, until it is read and nobody can get on any more. */
-static double seconds_of_a_byte(bindingclay clay, bindingclay_ends ends)
-{
-    enum { ROUNDS = 8 };
-    uint8_t byte = 0;
-    double begun = seconds();
-    for (int i = 0; i < ROUNDS; i++) {
-        int served = 0;
-        bindingclay_answer next;
-        if (put(clay, 1, ends.write_end, "a").value != 1)
-            HOLDS(false);
-        while ((next = bindingclay_next_ready(clay, 0)).kind == BINDINGCLAY_DONE)
-            served += bindingclay_resume(clay, next.value, &byte, 1).value == 1;
-        HOLDS(served == 1);
-    }
-    return (seconds() - begun) / ROUNDS;
-}
-
-/* A byte for one of many readers of a pipe costs no more than asking each of them. */
-static void a_byte_for_many_readers(long count)
-{
-    bindingclay clay = kernel_with_process();
-    bindingclay_ends ends = NEW_PIPE(clay, 1, false);
-    double few = 0;
-    for (long i = 0; i < count; i++) {
-        if (i == count / 16)
-            few = seconds_of_a_byte(clay, ends);
-        if (take(clay, 1, ends.read_end, 1).kind != BINDINGCLAY_PARKED)
-            HOLDS(false);
-    }
-    double many = seconds_of_a_byte(clay, ends);
-    if (count >= LARGE)
-        HOLDS(many < 16 * 8 * few);
-    printf("a byte for one of %ld readers of a pipe %.0f ns, of %ld %.0f ns\n", count / 16, few * 1e9, count, many * 1e9);
-    bindingclay_free(clay);
-    HOLDS(bytes_left == 0);
-}
-
-/* From some request for memory on all are refused: the same call is told, if there is one. It returns whether a request was refused. */
-static bool the_next_without_memory(long granted)
-{
-    enum { PIPES = 3, READS = 24 };
-    bindingclay clay = kernel_with_process();
-    bindingclay_ends ends[PIPES];
-    uint64_t first = 0;
-    for (int i = 0; i < PIPES; i++)
-        ends[i] = NEW_PIPE(clay, 1, false);
-    for (int i = 0; i < READS; i++) {
-        uint64_t number = take(clay, 1, ends[i % PIPES].read_end, 1).value;
-        first = i == 2 ? number : first;
-    }
-    bool was_refused = false;
-    refuse(granted, LONG_MAX);
-    OTHER(bindingclay_next_ready(clay, 0), BINDINGCLAY_NO_CALL);
-    was_refused = refused != 0;
-    refuse_none();
-    DONE(put(clay, 1, ends[2].write_end, "a"), 1);
-    refuse(granted, LONG_MAX);
-    DONE(bindingclay_next_ready(clay, 0), first);
-    was_refused = was_refused || refused != 0;
-    OTHER(bindingclay_next_ready(clay, first + READS), BINDINGCLAY_NO_CALL);
-    refuse_none();
-    uint8_t byte = 0;
-    DONE(bindingclay_resume(clay, first, &byte, 1), 1);
-    OTHER(bindingclay_next_ready(clay, 0), BINDINGCLAY_NO_CALL);
-    bindingclay_free(clay);
-    HOLDS(bytes_left == 0);
-    return was_refused;
-}
-
-static void the_next_without_any_memory(void)
-{
-    long granted = 0;
-    while (the_next_without_memory(granted))
-        granted++;
-    HOLDS(granted >= 4);
-}
-
 int main(int words, char **word)
 {
-    if (words != 2 || atol(word[1]) < 16) {
-        fprintf(stderr, "growth N: N is 16 or more\n");
-        return 2;
-    }
-    long count = atol(word[1]);
+    long count = count_of(words, word);
     a_splice_of_many_slots(count);
     a_splice_without_memory(count);
     a_tee_of_a_full_pipe();
@@ -565,10 +346,5 @@ int main(int words, char **word)
     writes_that_copy_together(count);
     writes_without_memory();
     bytes_one_by_one(count);
-    an_exit_beside_calls_that_wait(count);
-    the_next_beside_calls_that_wait(count);
-    the_next_after_many_calls(count);
-    a_byte_for_many_readers(count);
-    the_next_without_any_memory();
     return end();
 }

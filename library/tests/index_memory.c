@@ -1,4 +1,4 @@
-/* What a kernel takes that it doesn't count, and what bindingclay_next_ready takes for its index, as docs/EMBEDDING.md says both. */
+/* What a kernel takes that it doesn't count, and what bindingclay_next_ready takes for its queues, as docs/EMBEDDING.md says both. */
 #define _GNU_SOURCE
 #include "check.h"
 #include "counted.h"
@@ -48,10 +48,10 @@ static uint64_t index_of_polls(size_t entries)
     return index;
 }
 
-/* A poll is in the index at each pipe at which it waits. */
+/* A poll stands in a queue at each pipe at which it waits. */
 static void polls_are_indexed_by_entries(void)
 {
-    enum { KEY = 24, CALL = 37, MOST_KEYS = 2 * PIPES };
+    enum { KEY = 160, CALL = 60, MOST_KEYS = 2 * PIPES };
     static const size_t entries[] = { 1, 10, PIPES };
     for (int i = 0; i < 3; i++) {
         uint64_t index = index_of_polls(entries[i]);

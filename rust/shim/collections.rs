@@ -131,11 +131,15 @@ impl<K: Ord, V, A: Allocator> BTreeMap<K, V, A> {
     fn keys_from<'a>(&'a self, from: &K) -> impl Iterator<Item = &'a K> + use<'a, K, V, A> {
         let (chunk, place) = self.place_of(from);
         let (Ok(place) | Err(place)) = place;
-        self.chunks[chunk.min(self.chunks.len())..]
+        let first = self
+            .chunks
+            .get(chunk)
+            .map_or(&[][..], |first| &first[place..]);
+        let others = self.chunks.iter().skip(chunk + 1);
+        first
             .iter()
-            .flat_map(|chunk| chunk.iter())
+            .chain(others.flat_map(|chunk| chunk.iter()))
             .map(|entry| &entry.0)
-            .skip(place)
     }
 }
 
@@ -158,6 +162,11 @@ impl<T: Ord, A: Allocator + Copy> BTreeSet<T, A> {
 }
 
 impl<T: Ord, A: Allocator> BTreeSet<T, A> {
+    /// How many items there are.
+    pub fn len(&self) -> usize {
+        self.map.len()
+    }
+
     /// Takes an item out, and answers whether it was there. It takes no memory.
     pub fn remove(&mut self, item: &T) -> bool {
         self.map.remove(item).is_some()

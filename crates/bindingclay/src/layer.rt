@@ -84,17 +84,6 @@ impl Layer {
         }
     }
 
-    // Makes one step while calls wait. Out of line, so that a step stays short while none does.
-    #[inline(never)]
-    fn step_watched(&mut self, step: Step<Heap>) -> Answer
-        ensures makes { Makes self.old.kernel step.entry result self.new.kernel }
-        ensures wants { Wants self.old.kernel step.entry result }
-        ensures same { self.new.recorder ≡ self.old.recorder }
-        ensures opened { StaysAsOpened self.old self.new }
-    {
-        self.answer_step(step)
-    }
-
     /// Makes one step, and answers what it replied.
     #[inline(always)]
     pub fn step(&mut self, step: Step<Heap>) -> Answer
@@ -106,10 +95,7 @@ impl Layer {
         if let Some(recorder) = &mut self.recorder {
             return recorded::step(&mut self.kernel, recorder, step);
         }
-        if self.kernel.is_idle() {
-            return self.answer_step(step);
-        }
-        self.step_watched(step)
+        self.answer_step(step)
     }
 
     /// Makes a pipe, with `direct` a packet pipe, and tells its ends.

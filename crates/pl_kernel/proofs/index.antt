@@ -1,14 +1,28 @@
--- What a step leaves of a call that is aside.
+-- What a step leaves of the calls that wait.
 pub mod Leaving
 -- What the index knows of the calls that a step leaves.
 pub mod Knowing
 -- What a kernel's state is known to be.
 pub mod Known
--- What a step is expected to leave, and what is noted.
-pub mod Expecting
+-- What is known once a step was made before which its nodes were touched.
+pub mod Stepping
 -- The node that a descriptor or a name stands for.
 pub mod Finding
 -- What is touched, one description after another.
 pub mod Touching
--- What the index knows where a call is put aside.
-pub mod Asiding
+-- When the calls of a queue can make progress.
+pub mod Deciding
+-- Calls of one queue are alike.
+pub mod Alike
+-- What is known of a call that was asked.
+pub mod Asked
+-- What is known of a node as its queues are asked.
+pub mod Nodes
+-- What the index knows as a touched node is asked.
+pub mod Settling
+-- The least of all calls that can make progress, by the least numbers of the nodes.
+pub mod First
+-- What the index knows as a call is placed in its queues.
+pub mod Looking
+-- What asking the queues takes for granted.
+pub mod Asking

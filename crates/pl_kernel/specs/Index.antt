@@ -1,89 +1,93 @@
 -- What the kernel's index knows of the calls that wait.
-use Rattle.std.specs.Prelude.{◌≡◌, ◌≤◌, ℕ, Bool, true, false, ◌⊎◌, ⊤, nat_eq}
-use Rattle.std.specs.declared.option.Option.{Option}
+use Rattle.std.specs.Prelude.{◌≡◌, ◌≤◌, ◌<◌, ℕ, Bool, Option, true, false, ◌⊎◌, nat_eq, IsSome, ⊤}
 use Rattle.std.specs.declared.option.Option.TheVariants.{None, Some}
 use Rattle.pl_model.specs.declared.calls.Step.{Step}
-use Rattle.pl_model.specs.declared.calls.Step.TheVariants.{Resume}
-use Rattle.pl_model.specs.declared.replies.Reply.TheVariants.{Parked}
 use Rattle.pl_model.specs.Map.{get}
-use Rattle.pl_model.specs.Keys.{Node, NewKeys, drawn}
+use Rattle.pl_model.specs.Keys.{Node}
 use Rattle.pl_model.specs.State.{Core, Waiting}
-use Rattle.pl_model.specs.Step.{core_step}
 use Rattle.pl_model.specs.Numbered.{numbers}
-use Rattle.pl_model.specs.StandsFor.{AreUnused}
 use Rattle.pl_model.specs.Waking.{can_progress}
-use Rattle.pl_model.specs.Touching.{keeps_at}
-use Rattle.pl_parked.specs.declared.call.ParkedCall.{ParkedCall}
-use Rattle.pl_waiters.specs.declared.waiters.Waiters.{Waiters}
-use Rattle.pl_waiters.specs.Seen.{is_placed, may_get_on}
-use Rattle.pl_state.specs.Contents.{Contents}
+use Rattle.pl_model.specs.Touching.{keeps_at, touches}
 use Rattle.pl_kernel.specs.ToldNodes.{key_of}
-use Rattle.pl_kernel.specs.declared.watch.Touched.{Touched}
-use Rattle.pl_kernel.specs.declared.watch.Touched.TheVariants.{Nothing, Keys}
+use Rattle.pl_waiters.specs.declared.waiter.Waiter.{Waiter}
+use Rattle.pl_waiters.specs.declared.waiters.Waiters.{Waiters}
+use Rattle.pl_waiters.specs.Queue.{waiter}
+use Rattle.pl_waiters.specs.Seen.{stands, is_touched, least, SameQueues, SameLeast, SameNumbers, SameKnown}
+use Rattle.pl_kernel.specs.Queues.{queue_of}
 
 module _ {A : Type 0} where
-  -- The call can't get on, and the index has it at each node that it waits at.
-  pub record IsAside (c : Core A numbers) (w : Waiters A) (number : ℕ) (v : Waiting A numbers) : Type 0 where
-    pub stuck : can_progress c number ≡ false
-    pub placed : (node : Node numbers) → keeps_at c node v ≡ true → is_placed w (key_of node) number ≡ true
+  -- The node is still to be asked, or a call was found there that has this number or a lesser one.
+  abbrev pub IsUp : Waiters A → (key number : ℕ) → Type 0
+  IsUp w key number = (is_touched w key ≡ true) ⊎ ((n : ℕ) × (least w key ≡ Some n) × (n ≤ number))
 
-  -- Each call that waits may get on, for all that the index knows, or it is aside. Each that is still to come wasn't looked at.
+  -- The call stands in its queue at each node that it keeps. If it can get on, it is up at one of them.
+  pub record IsIndexed (c : Core A numbers) (w : Waiters A) (number : ℕ) (v : Waiting A numbers) : Type 0 where
+    pub placed : (node : Node numbers) → keeps_at c node v ≡ true → stands w (waiter (key_of node) (queue_of v.call) number) ≡ true
+    pub told : can_progress c number ≡ true → (node : Node numbers) × (keeps_at c node v ≡ true) × IsUp w (key_of node) number
+
+  -- the queue is one of the call's
+  abbrev pub IsIn : Core A numbers → Waiter → Waiting A numbers → Type 0
+  IsIn c key v = (queue_of v.call ≡ key.queue) × ((node : Node numbers) × (keeps_at c node v ≡ true) × (key_of node ≡ key.node))
+
+  -- Of each call that was looked at.
   pub record Knows (c : Core A numbers) (w : Waiters A) : Type 0 where
-    pub calls : (number : ℕ) (v : Waiting A numbers) → get nat_eq c.parked number ≡ Some v → (may_get_on w number ≡ true) ⊎ IsAside c w number v
     pub coming : w.looked ≤ c.next_call
+    pub calls : w.lost ≡ false → (number : ℕ) (v : Waiting A numbers) → get nat_eq c.parked number ≡ Some v → number < w.looked → IsIndexed c w number v
+    pub right : w.lost ≡ false → (key : Waiter) → stands w key ≡ true → (v : Waiting A numbers) → get nat_eq c.parked key.number ≡ Some v → IsIn c key v
+    pub early : w.lost ≡ false → (key : Waiter) → stands w key ≡ true → key.number < w.looked
 
-  -- what the step leaves is known too, whatever unused keys it takes
-  abbrev pub WillKnow : Core A numbers → Step A → Waiters A → Type 0
-  WillKnow c x w = (new : NewKeys numbers) → AreUnused c new → Knows (drawn new (core_step c x)).state w
-
-  -- so is what it leaves if it is answered that its call waits, which took nothing
-  abbrev pub KnowsIfItWaits : Core A numbers → Step A → Waiters A → Type 0
-  KnowsIfItWaits c x w =
-      (new : NewKeys numbers) → AreUnused c new → (n : ℕ) (v : Waiting A numbers) → (drawn new (core_step c x)).reply ≡ Parked n → get nat_eq (drawn new (core_step c x)).state.parked n ≡ Some v → v.taken ≡ 0 →
-      Knows (drawn new (core_step c x)).state w
-
-  -- No call was taken from those that may get on, nor from a node.
+  -- No call was taken from its queues, and no node from those that are to be asked.
   pub record IsNoLess (old new : Waiters A) : Type 0 where
-    pub may : (number : ℕ) → may_get_on old number ≡ true → may_get_on new number ≡ true
-    pub placed : (key number : ℕ) → is_placed old key number ≡ true → is_placed new key number ≡ true
-    pub looked : new.looked ≡ old.looked
+    pub queues : SameQueues old new
+    pub least_ones : SameLeast old new
+    pub known : SameKnown old new
+    pub more : (key : ℕ) → is_touched old key ≡ true → is_touched new key ≡ true
 
-  -- Each call that the first index has at the key may get on, for all that the second knows.
+  -- The node is to be asked, if a call stands there.
   abbrev pub IsTouched : (old new : Waiters A) → (key : ℕ) → Type 0
-  IsTouched old new key = (number : ℕ) → is_placed old key number ≡ true → may_get_on new number ≡ true
+  IsTouched old new key = (x : Waiter) → x.node ≡ key → stands old x ≡ true → is_touched new key ≡ true
 
   -- if there is a key
   abbrev pub IsTouchedAt : (old new : Waiters A) → Option ℕ → Type 0
   IsTouchedAt old new None = ⊤
   IsTouchedAt old new (Some key) = IsTouched old new key
 
-  -- Each call that the first index has at a node which passes the test may get on, for all that the second knows.
+  -- Each node that passes the test is to be asked, if a call stands there.
   abbrev pub TouchesAll : (old new : Waiters A) → (Node numbers → Bool) → Type 0
   TouchesAll old new test = (node : Node numbers) → test node ≡ true → IsTouched old new (key_of node)
 
-  -- what is to be noted, so that what the step leaves is known
-  abbrev pub Later : Core A numbers → Step A → Waiters A → Touched → Type 0
-  Later c x w Nothing = WillKnow c x w
-  Later c x w (Keys first second) = ((u : Waiters A) → IsNoLess w u → IsTouchedAt w u first → IsTouchedAt w u second → WillKnow c x u) × KnowsIfItWaits c x w
+  -- Each node that the step touches is to be asked, if a call that waits stands there.
+  pub record Touches (c : Core A numbers) (x : Step A) (old new : Waiters A) : Type 0 where
+    pub no_less : IsNoLess old new
+    pub touched : (node : Node numbers) → touches c x node ≡ true → (key : Waiter) → key.node ≡ key_of node → IsSome (get nat_eq c.parked key.number) → stands old key ≡ true → is_touched new (key_of node) ≡ true
 
-  -- What is expected of a step: where no memory is found it is known what waits, and afterwards, once all was noted.
-  pub record Expects (c : Core A numbers) (x : Step A) (w : Waiters A) (touched : Touched) : Type 0 where
-    pub now : Knows c w
-    pub keys : NewKeys numbers
-    pub unused : AreUnused c keys
-    pub later : Later c x w touched
+  -- Calls were added to queues, and nodes to those that are to be asked. No call that waits was taken out.
+  pub record Adds (c : Core A numbers) (old new : Waiters A) : Type 0 where
+    pub lost : old.lost ≡ true → new.lost ≡ true
+    pub looked : new.looked ≡ old.looked
+    pub least_ones : SameNumbers old new
+    pub more : (key : ℕ) → is_touched old key ≡ true → is_touched new key ≡ true
+    pub kept : new.lost ≡ false → (key : Waiter) → IsSome (get nat_eq c.parked key.number) → stands old key ≡ true → stands new key ≡ true
 
-  -- a call waits under the number, if it is one, and took nothing
-  abbrev pub WaitsWithNothing : Contents A → Option ℕ → Type 0
-  WaitsWithNothing k None = ⊥
-  WaitsWithNothing k (Some n) = (v : ParkedCall A) × (get nat_eq k.calls.calls n ≡ Some v) × (v.taken ≡ 0)
+  -- What was added is the call of this number in this queue, at nodes that pass the test.
+  abbrev pub AddsOnly : (old new : Waiters A) → (queue number : ℕ) → (ℕ → Type 0) → Type 0
+  AddsOnly old new queue number test =
+      new.lost ≡ false → (key : Waiter) → stands new key ≡ true → (stands old key ≡ true) ⊎ ((key.queue ≡ queue) × (key.number ≡ number) × test key.node)
 
-  -- It was noted what the step touched.
-  abbrev pub IsNoted : Contents A → (old : Waiters A) → Touched → Option ℕ → (new : Waiters A) → Type 0
-  IsNoted k old Nothing waits new = new ≡ old
-  IsNoted k old (Keys first second) waits new = ((new ≡ old) × WaitsWithNothing k waits) ⊎ (IsNoLess old new × IsTouchedAt old new first × IsTouchedAt old new second)
+  -- The call stands in the queue of the node, which is to be asked.
+  abbrev pub IsAdded : Waiters A → (key queue number : ℕ) → Type 0
+  IsAdded w key queue number = (stands w (waiter key queue number) ≡ true) × (is_touched w key ≡ true)
 
--- where the step tries a call again, the call can get on
-abbrev pub TriesWell : {A : Type 0} → Core A numbers → Step A → Type 0
-TriesWell c (Resume k) = can_progress c k ≡ true
-TriesWell c x = ⊤
+  -- The same where the calls at one node aren't up, if there is a node.
+  abbrev pub IsUpBut : Waiters A → (hole : Option ℕ) → (key number : ℕ) → Type 0
+  IsUpBut w hole key number = (hole ≡ Some key) ⊎ IsUp w key number
+
+  pub record IsIndexedBut (c : Core A numbers) (w : Waiters A) (hole : Option ℕ) (number : ℕ) (v : Waiting A numbers) : Type 0 where
+    pub placed : (node : Node numbers) → keeps_at c node v ≡ true → stands w (waiter (key_of node) (queue_of v.call) number) ≡ true
+    pub told : can_progress c number ≡ true → (node : Node numbers) × (keeps_at c node v ≡ true) × IsUpBut w hole (key_of node) number
+
+  pub record KnowsBut (c : Core A numbers) (w : Waiters A) (hole : Option ℕ) : Type 0 where
+    pub coming : w.looked ≤ c.next_call
+    pub calls : w.lost ≡ false → (number : ℕ) (v : Waiting A numbers) → get nat_eq c.parked number ≡ Some v → number < w.looked → IsIndexedBut c w hole number v
+    pub right : w.lost ≡ false → (key : Waiter) → stands w key ≡ true → (v : Waiting A numbers) → get nat_eq c.parked key.number ≡ Some v → IsIn c key v
+    pub early : w.lost ≡ false → (key : Waiter) → stands w key ≡ true → key.number < w.looked

@@ -4,15 +4,17 @@
 //! `pl_model` answers, from every state for which the kernel stands.
 #![tactic(auto)]
 
+mod asking;
 mod kernel;
 mod noted;
+mod queue;
 mod ready;
 mod sizes;
 mod stats;
 mod steps;
 mod told_calls;
 mod told_nodes;
-mod watch;
+mod touch;
 
 pub use kernel::{Kernel, Resumed};
 pub use pl_polls::{PollEntry, PollReply};

@@ -1,4 +1,4 @@
-//! Steps of which the index is told. Each does what the function of its name does, and the index knows afterwards what waits.
+//! Steps before which the index notes what they touch. Each does what the function of its name does, and the index knows afterwards what waits.
 ghost use Rattle.std.specs.Prelude.{◌≡◌, ◌≤◌, ◌<◌, ◌^◌, true, length, drop, IfOk, OnErr, IsOk};
 ghost use Rattle.pl_model.specs.Numbers.{most_bytes};
 ghost use Rattle.pl_model.specs.Memory.{is_frugal};
@@ -13,10 +13,7 @@ ghost use Rattle.pl_polls.specs.Into.{told as poll_told};
 ghost use Rattle.pl_kernel.specs.Index.{Knows};
 
 use crate::steps;
-use crate::watch::{
-    expect, expect_again, expect_fd, expect_nothing, expect_read_again, note, number_of,
-    number_of_read, number_of_write,
-};
+use crate::touch::{touch_again, touch_named, touch_read_again, touch_step};
 use pl_model::{Call, Reply, Step};
 use pl_polls::{PollEntry, PollReply};
 use pl_state::{KernelState, NoMemory};
@@ -41,31 +38,11 @@ pub(crate) fn act<A: Allocator + Copy>(
 {
     // A proof learns here what holds of the kernel.
     let _ = &kernel.descs;
-    if waiters.is_idle() {
-        return steps::act(kernel, step);
-    }
-    act_watched(kernel, waiters, step)
-}
-
-// Makes one step, where calls wait that the index knows. Out of line, so that `act` stays short enough to be made in place.
-#[inline(never)]
-fn act_watched<A: Allocator + Copy>(
-    kernel: &mut KernelState<A>,
-    waiters: &mut Waiters<A>,
-    step: Step<A>,
-) -> Result<Reply<A>, NoMemory>
-    requires { Knows (core_of {A = A} kernel.old) waiters.old }
-    ensures done { IfOk result (λ reply. MakesAtKeys kernel.old step reply kernel.new) }
-    ensures shares { SharesByStep {A = A} kernel.old step kernel.new }
-    ensures undone { OnErr result (kernel.new ≡ kernel.old) }
-    ensures wanted { OnErr result (MayWantAtKeys {A = A} kernel.old step) }
-    ensures frugal { is_frugal step ≡ true → IsOk result }
-    ensures knows { Knows (core_of {A = A} kernel.new) waiters.new }
-{
-    let touched = expect(kernel, waiters, &step);
-    let reply = steps::act(kernel, step)?;
-    note(kernel, waiters, touched, number_of(&reply));
-    Ok(reply)
+    touch_step(kernel, waiters, &step);
+    let made = steps::act(kernel, step);
+    // The same once the step was made.
+    let _ = &kernel.descs;
+    made
 }
 
 /// Begins a write of the caller's bytes.
@@ -84,10 +61,13 @@ pub(crate) fn begin_write_from<A: Allocator + Copy>(
     ensures wanted { OnErr result (MayWantAtKeys {A = A} kernel.old (Step.Begin pid (Call.Write fd bytes.now))) }
     ensures knows { Knows (core_of {A = A} kernel.new) waiters.new }
 {
-    let touched = expect_fd(kernel, waiters, pid, fd);
-    let reply = steps::begin_write_from(kernel, pid, fd, bytes)?;
-    note(kernel, waiters, touched, number_of_write(reply));
-    Ok(reply)
+    // A proof learns here what holds of the kernel.
+    let _ = &kernel.descs;
+    touch_named(kernel, waiters, pid, fd);
+    let made = steps::begin_write_from(kernel, pid, fd, bytes);
+    // The same once the step was made.
+    let _ = &kernel.descs;
+    made
 }
 
 /// Begins a read into the caller's bytes.
@@ -109,31 +89,38 @@ pub(crate) fn begin_read_into<A: Allocator + Copy>(
     ensures wanted { OnErr result (ParksAtKeys {A = A} kernel.old (Step.Begin pid (Call.Read fd (length into.old)))) }
     ensures knows { Knows (core_of {A = A} kernel.new) waiters.new }
 {
-    let touched = expect_fd(kernel, waiters, pid, fd);
-    let reply = steps::begin_read_into(kernel, pid, fd, into)?;
-    note(kernel, waiters, touched, number_of_read(reply));
-    Ok(reply)
+    // A proof learns here what holds of the kernel.
+    let _ = &kernel.descs;
+    touch_named(kernel, waiters, pid, fd);
+    let made = steps::begin_read_into(kernel, pid, fd, into);
+    // The same once the step was made.
+    let _ = &kernel.descs;
+    made
 }
 
-/// Begins a poll of the caller's entries.
+/// Begins a poll of the caller's entries. It touches nothing.
 #[inline(always)]
 pub(crate) fn begin_poll_into<A: Allocator + Copy>(
     kernel: &mut KernelState<A>,
-    waiters: &mut Waiters<A>,
+    waiters: &Waiters<A>,
     pid: u32,
     entries: &mut [PollEntry],
     wait: bool,
 ) -> Result<PollReply, NoMemory>
-    requires { Knows (core_of {A = A} kernel.old) waiters.old }
+    requires { Knows (core_of {A = A} kernel.old) waiters.now }
     ensures done { IfOk result (λ reply. MakesAtKeys {A = A} kernel.old (Step.Begin pid (Call.Poll (asked entries.old) wait)) (poll_told reply entries.new) kernel.new) }
     ensures noted { IfOk result (λ reply. entries.new ≡ entries_after {A = A} entries.old (poll_told reply entries.new)) }
     ensures undone { OnErr result (kernel.new ≡ kernel.old) }
     ensures unmarked { OnErr result (entries.new ≡ entries.old) }
     ensures wanted { OnErr result (ParksAtKeys {A = A} kernel.old (Step.Begin pid (Call.Poll (asked entries.old) wait))) }
-    ensures knows { Knows (core_of {A = A} kernel.new) waiters.new }
+    ensures knows { Knows (core_of {A = A} kernel.new) waiters.now }
 {
-    let _nothing = expect_nothing(kernel, waiters);
-    steps::begin_poll_into(kernel, pid, entries, wait)
+    // A proof learns here what holds of the kernel.
+    let _ = &kernel.descs;
+    let made = steps::begin_poll_into(kernel, pid, entries, wait);
+    // The same once the step was made.
+    let _ = &kernel.descs;
+    made
 }
 
 /// Tries the parked call of a number again.
@@ -149,8 +136,13 @@ pub(crate) fn try_again<A: Allocator + Copy>(
     ensures wanted { OnErr result (MayWantAtKeys {A = A} kernel.old (Step.Resume number)) }
     ensures knows { Knows (core_of {A = A} kernel.new) waiters.new }
 {
-    let _nothing = expect_again(kernel, waiters, number);
-    steps::try_again(kernel, number)
+    // A proof learns here what holds of the kernel.
+    let _ = &kernel.descs;
+    touch_again(kernel, waiters, number);
+    let made = steps::try_again(kernel, number);
+    // The same once the step was made.
+    let _ = &kernel.descs;
+    made
 }
 
 // Tries a parked read again that gives no bytes. Out of line, so that one that gives bytes stays short.
@@ -170,12 +162,16 @@ fn resume_empty<A: Allocator + Copy>(
     ensures rest { drop (read_count result) into.new ≡ drop (read_count result) into.old }
     ensures knows { Knows (core_of {A = A} kernel.new) waiters.new }
 {
-    let _nothing = expect_again(kernel, waiters, number);
-    pl_transfers::resume_read_into(kernel, number, read.key, read.n, into)
+    // A proof learns here what holds of the kernel.
+    let _ = &kernel.descs;
+    touch_again(kernel, waiters, number);
+    let reply = pl_transfers::resume_read_into(kernel, number, read.key, read.n, into);
+    // The same once the step was made.
+    let _ = &kernel.descs;
+    reply
 }
 
-/// Tries a parked read again, into the caller's bytes, which are as many as it gives, or more. If it gives bytes it ends, and the index
-/// has it no more among those that may get on.
+/// Tries a parked read again, into the caller's bytes, which are as many as it gives, or more.
 #[inline(always)]
 pub(crate) fn resume_read_into<A: Allocator + Copy>(
     kernel: &mut KernelState<A>,
@@ -195,8 +191,11 @@ pub(crate) fn resume_read_into<A: Allocator + Copy>(
     if read.count == 0 {
         return resume_empty(kernel, waiters, number, read, into);
     }
-    let _nothing = expect_read_again(kernel, waiters, number, read);
+    // A proof learns here what holds of the kernel.
+    let _ = &kernel.descs;
+    touch_read_again(kernel, waiters, number, read);
     give_again(kernel, number, read, &mut into[..read.count]);
-    waiters.take_out(number);
+    // The same once the step was made.
+    let _ = &kernel.descs;
     ReadReply::Read(read.count)
 }

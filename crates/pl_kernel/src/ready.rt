@@ -1,5 +1,5 @@
-//! Which call that waits can get on next, by the index.
-ghost use Rattle.std.specs.Prelude.{◌≡◌, ◌≤◌, ℕ, true, false, nat_eq, IsSome, IfSome, IfNone, None};
+//! Which call that waits can make progress next, by the index.
+ghost use Rattle.std.specs.Prelude.{◌≡◌, ◌≤◌, ◌<◌, ◌+◌, ℕ, true, false, nat_eq, length, IsSome, IfSome, IfNone, None};
 ghost use Rattle.std.specs.Set.{is_member};
 ghost use Rattle.std.specs.List.{list_any};
 ghost use Rattle.pl_model.specs.Map.{get};
@@ -7,51 +7,24 @@ ghost use Rattle.pl_model.specs.Numbered.{numbers};
 ghost use Rattle.pl_model.specs.Keys.{Node as KeyNode};
 ghost use Rattle.pl_model.specs.Modes.{any_mode};
 ghost use Rattle.pl_model.specs.Live.{is_end};
+ghost use Rattle.pl_model.specs.Waking.{can_progress as progresses};
 ghost use Rattle.pl_desc.specs.Rows.{at};
 ghost use Rattle.pl_state.specs.Contents.{core_of, node_of};
-ghost use Rattle.pl_waiters.specs.Seen.{is_placed, AreSpread};
 ghost use Rattle.pl_kernel.specs.Progress.{is_ready, IsLeastFrom};
 ghost use Rattle.pl_kernel.specs.ToldNodes.{key_of};
-ghost use Rattle.pl_kernel.specs.Index.{Knows, IsNoLess};
+ghost use Rattle.pl_kernel.specs.Asking.{Prunes};
+ghost use Rattle.pl_kernel.specs.Index.{Knows, Adds, AddsOnly, IsAdded};
 
+use crate::asking::{ask_all, drop_ended, drop_if_ended, first_ready, first_ready_from, settle};
+use crate::queue::queue_of;
 use crate::steps::can_progress;
-use crate::watch::key_of_node;
+use crate::touch::key_of_node;
 use pl_model::Node;
+use pl_model::numbers::OPEN_MAX;
 use pl_parked::Parked;
 use pl_state::KernelState;
-use pl_transfers::read_gets_on;
-use pl_waiters::Waiters;
+use pl_waiters::{Waiter, Waiters};
 use std::alloc::Allocator;
-
-// Whether a call waits under the number, and can get on.
-fn is_ready<A: Allocator + Copy>(state: &KernelState<A>, number: u64) -> bool
-    ensures { result ≡ is_ready (core_of {A = A} state.now) number }
-{
-    // A proof learns here what holds of the kernel.
-    let _ = &state.descs;
-    if let Some(can) = read_gets_on(state, number) {
-        return can;
-    }
-    state.parked.get(number).is_some() && can_progress(state, number)
-}
-
-// The least number, `from` or above, of a parked call that can get on. It asks all that wait, one after another. Out of line, so
-// that `next_ready` stays short.
-#[inline(never)]
-fn ask_all<A: Allocator + Copy>(state: &KernelState<A>, from: u64) -> Option<u64>
-    ensures { IsLeastFrom (is_ready (core_of {A = A} state.now)) from result }
-{
-    let mut least = from;
-    while let Some(number) = state.parked.next_from(least) {
-        if can_progress(state, number) {
-            return Some(number);
-        }
-        // A proof learns here that a number is never the greatest of its type.
-        let _next = state.parked.next_number();
-        least = number + 1;
-    }
-    None
-}
 
 // The least number, `from` or above, of the calls that wait. Mostly it is `from`, or there is none.
 fn next_new<A: Allocator>(parked: &Parked<A>, from: u64) -> Option<u64>
@@ -68,96 +41,129 @@ fn next_new<A: Allocator>(parked: &Parked<A>, from: u64) -> Option<u64>
     parked.next_from(from)
 }
 
-// Takes a call out of those that may get on, if it ended: mostly the last one that was told.
-fn drop_ended<A: Allocator + Copy>(state: &KernelState<A>, waiters: &mut Waiters<A>)
-    requires { Knows (core_of {A = A} state.now) waiters.old }
-    ensures { Knows (core_of {A = A} state.now) waiters.new }
+// The call of a number waits in a queue of a node, which is to be asked. The one call that has the plain place of the node leaves it, if it ended.
+fn place_node<A: Allocator + Copy>(
+    state: &KernelState<A>,
+    waiters: &mut Waiters<A>,
+    node: Node,
+    queue: u64,
+    number: u64,
+)
+    ensures adds { Adds (core_of {A = A} state.now) waiters.old waiters.new }
+    ensures only { AddsOnly waiters.old waiters.new queue number (λ key. key ≡ key_of (node_of node)) }
+    ensures added { waiters.new.lost ≡ false → IsAdded waiters.new (key_of (node_of node)) queue number }
 {
-    // A proof learns here what holds of the kernel.
-    let _ = &state.descs;
-    let Some(first) = waiters.first() else {
+    let node = key_of_node(node);
+    drop_one(state, waiters, node);
+    waiters.add(Waiter {
+        node,
+        queue,
+        number,
+    });
+    waiters.touch(node);
+}
+
+// The call that has the plain place of a node leaves it, if it ended.
+fn drop_one<A: Allocator + Copy>(state: &KernelState<A>, waiters: &mut Waiters<A>, node: usize)
+    ensures { Prunes (core_of {A = A} state.now) waiters.old waiters.new }
+{
+    let Some(one) = waiters.one_at(node) else {
         return;
     };
-    if state.parked.get(first).is_some() {
-        return;
-    }
-    waiters.take_out(first);
+    let _ended = drop_if_ended(state, waiters, &one);
 }
 
-// The calls that were parked since the last time may get on. Answers how many they are.
-fn look_at_new<A: Allocator + Copy>(state: &KernelState<A>, waiters: &mut Waiters<A>) -> usize
-    requires { Knows (core_of {A = A} state.now) waiters.old }
-    ensures knows { Knows (core_of {A = A} state.now) waiters.new }
-    ensures none { (number : ℕ) → waiters.new.looked ≤ number → get nat_eq state.now.calls.calls number ≡ None }
-{
-    drop_ended(state, waiters);
-    let mut count: usize = 0;
-    while let Some(number) = next_new(&state.parked, waiters.looked()) {
-        // A proof learns here that a number is never the greatest of its type.
-        let _next = state.parked.next_number();
-        waiters.look(number);
-        count = count.saturating_add(1);
-    }
-    count
-}
-
-// The call of a number waits at a node.
-fn place_node<A: Allocator + Copy>(waiters: &mut Waiters<A>, node: Node, number: u64)
-    ensures no_less { IsNoLess waiters.old waiters.new }
-    ensures touched { waiters.new.touched.items ≡ waiters.old.touched.items }
-    ensures placed { is_placed waiters.new (key_of (node_of node)) number ≡ true }
-{
-    waiters.add(key_of_node(node), number);
-}
-
-// The call of a number waits at these descriptions.
+// The call of a number waits in a queue of the nodes of these descriptions.
 fn place_kept<A: Allocator + Copy>(
     state: &KernelState<A>,
     waiters: &mut Waiters<A>,
     kept: &[usize],
+    queue: u64,
     number: u64,
 )
-    requires { (key : ℕ) → is_member nat_eq kept.now key ≡ true → IsSome (at state.now.opened key) }
-    ensures no_less { IsNoLess waiters.old waiters.new }
-    ensures touched { waiters.new.touched.items ≡ waiters.old.touched.items }
-    ensures placed { (node : KeyNode numbers) → list_any (λ d. is_end any_mode node ((core_of {A = A} state.now).descriptions d)) kept.now ≡ true → is_placed waiters.new (key_of node) number ≡ true }
+    requires described { (key : ℕ) → is_member nat_eq kept.now key ≡ true → IsSome (at state.now.opened key) }
+    requires parked { IsSome (get nat_eq (core_of {A = A} state.now).parked number) }
+    ensures adds { Adds (core_of {A = A} state.now) waiters.old waiters.new }
+    ensures only { AddsOnly waiters.old waiters.new queue number (λ key. (node : KeyNode numbers) × (list_any (λ d. is_end any_mode node ((core_of {A = A} state.now).descriptions d)) kept.now ≡ true) × (key ≡ key_of node)) }
+    ensures added { waiters.new.lost ≡ false → (node : KeyNode numbers) → list_any (λ d. is_end any_mode node ((core_of {A = A} state.now).descriptions d)) kept.now ≡ true → IsAdded waiters.new (key_of node) queue number }
 {
     // A proof learns here what holds of the kernel.
     let _ = &state.descs;
     for key in kept {
-        place_node(waiters, state.descs.node(*key), number);
+        place_node(state, waiters, state.descs.node(*key), queue, number);
     }
 }
 
-// The call of a number can't get on, or is gone: it is asked again once a node is touched at which it waits. Out of line,
-// as few calls are asked in vain.
-#[inline(never)]
-fn put_aside<A: Allocator + Copy>(state: &KernelState<A>, waiters: &mut Waiters<A>, number: u64)
+// Whether the call of a number can make progress, and keeps no node, so that it stands in no queue.
+fn has_no_node<A: Allocator + Copy>(state: &KernelState<A>, kept: &[usize], number: u64) -> bool
+    ensures { result ≡ false → progresses (core_of {A = A} state.now) number ≡ true → 0 < length kept.now }
+{
+    kept.is_empty() && can_progress(state, number)
+}
+
+// The first call that wasn't looked at is placed in its queues. Where a call has none, and can make progress, the index is given up. Returns in how
+// many queues it was placed, at most.
+fn look_at<A: Allocator + Copy>(
+    state: &KernelState<A>,
+    waiters: &mut Waiters<A>,
+    number: u64,
+) -> usize
     requires knows { Knows (core_of {A = A} state.now) waiters.old }
-    requires stuck { is_ready (core_of {A = A} state.now) number ≡ false }
+    requires from { waiters.old.looked ≤ number }
+    requires parked { IsSome (get nat_eq state.now.calls.calls number) }
+    requires first { (other : ℕ) → waiters.old.looked ≤ other → IsSome (get nat_eq state.now.calls.calls other) → number ≤ other }
     ensures knows { Knows (core_of {A = A} state.now) waiters.new }
-    ensures looked { waiters.new.looked ≡ waiters.old.looked }
-    ensures touched { waiters.new.touched.items ≡ waiters.old.touched.items }
+    ensures looked { waiters.new.looked ≡ number + 1 }
 {
     // A proof learns here what holds of the kernel.
     let _ = &state.descs;
-    waiters.take_out(number);
+    // A proof learns here that a number is never the greatest of its type.
+    let _next = state.parked.next_number();
     let Some(call) = state.parked.get(number) else {
-        return;
+        return 0;
     };
-    place_kept(state, waiters, call.kept.as_slice(), number);
+    let kept = call.kept.as_slice();
+    place_kept(state, waiters, kept, queue_of(&call.call), number);
+    if has_no_node(state, kept, number) {
+        waiters.lose();
+    }
+    waiters.look_to(number + 1);
+    kept.len()
+}
+
+// The calls that were parked since the last time are placed in their queues.
+fn look_at_new<A: Allocator + Copy>(state: &KernelState<A>, waiters: &mut Waiters<A>)
+    requires { Knows (core_of {A = A} state.now) waiters.old }
+    ensures knows { Knows (core_of {A = A} state.now) waiters.new }
+    ensures none { (number : ℕ) → waiters.new.looked ≤ number → get nat_eq state.now.calls.calls number ≡ None }
+{
+    while let Some(number) = next_new(&state.parked, waiters.looked()) {
+        let placed = look_at(state, waiters, number);
+        drop_ended(state, waiters, placed);
+    }
+    waiters.look_to(state.parked.next_number());
 }
 
 /// Where no more calls wait, asking each costs no more than the index.
 const FEW: usize = 4;
 
-// How many calls the index may move, and how many ask in vain, before asking all costs less: where most of them wait at one pipe.
-fn most_moves(waiting: usize) -> usize {
-    waiting / 64 + 16
+/// Twice the places that so few calls can have: where the index holds more, most are of calls that ended.
+const MOST_OF_FEW: usize = 2 * FEW * OPEN_MAX;
+
+// The index begins anew where it was lost, or where few calls wait and most that it holds are of calls that ended.
+fn renew<A: Allocator + Copy>(state: &KernelState<A>, waiters: &mut Waiters<A>)
+    requires { Knows (core_of {A = A} state.now) waiters.old }
+    ensures { Knows (core_of {A = A} state.now) waiters.new }
+{
+    let is_worn = state.parked.len() <= FEW && waiters.len() > MOST_OF_FEW;
+    if waiters.is_lost() || is_worn {
+        *waiters = Waiters::new(state.alloc);
+    }
 }
 
-/// The least number, `from` or above, of a parked call that can get on. It asks those that may, for all that the index knows. It asks all
-/// that wait if they are few, if many of them may get on, or if memory runs out for the index.
+/// The least number, `from` or above, of a parked call that can make progress. It asks the nodes that were touched since the last time, and of
+/// the calls of each queue there the first one. It asks all that wait if they are few, or if memory runs out for the index. What calls that ended
+/// left in the index is given back, where they were many and few wait.
 pub(crate) fn next_ready<A: Allocator + Copy>(
     state: &KernelState<A>,
     waiters: &mut Waiters<A>,
@@ -167,31 +173,20 @@ pub(crate) fn next_ready<A: Allocator + Copy>(
     ensures least { IsLeastFrom (is_ready (core_of {A = A} state.now)) from result }
     ensures knows { Knows (core_of {A = A} state.now) waiters.new }
 {
-    let waiting = state.parked.len();
-    if waiting <= FEW {
+    // A proof learns here what holds of the kernel.
+    let _ = &state.descs;
+    renew(state, waiters);
+    if state.parked.len() <= FEW {
         return ask_all(state, from);
     }
+    look_at_new(state, waiters);
     if waiters.is_lost() {
-        *waiters = Waiters::new(state.alloc);
-    }
-    // Each new call is asked once, whatever their count.
-    let new = look_at_new(state, waiters);
-    if !waiters.spread(most_moves(waiting)) {
         return ask_all(state, from);
     }
-    let mut least = from;
-    for _ in 0..most_moves(waiting).saturating_add(new) {
-        let Some(number) = waiters.next(least) else {
-            return None;
-        };
-        if is_ready(state, number) {
-            return Some(number);
-        }
-        put_aside(state, waiters, number);
-        if waiters.is_lost() {
-            break;
-        }
-        least = number.checked_add(1)?;
+    settle(state, waiters);
+    if from == 0 {
+        first_ready(state, waiters)
+    } else {
+        first_ready_from(state, waiters, from)
     }
-    ask_all(state, from)
 }

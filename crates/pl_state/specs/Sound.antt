@@ -15,11 +15,11 @@ use Rattle.pl_desc.specs.Rows.{at, is_pid, count_at}
 use Rattle.pl_desc.specs.Descs.{Opened, Descs, IsTidy}
 use Rattle.pl_state.specs.Contents.{Contents, Nodes, IsThere, core_of}
 
--- What may wait, with so many bytes taken: a read, an open, a splice, a tee and a poll take none, a write no more than it has, and none
+-- What may wait, with so many bytes taken: a read, an open, a splice, a tee and a poll take none, a write less than it has, and none
 -- where it is to go in whole. A poll has no more entries than a process has descriptors.
 abbrev pub MayWait : {A : Type 0} → Call A → ℕ → Type 0
 MayWait (call.Read fd n) taken = taken ≡ 0
-MayWait (call.Write fd bytes) taken = (taken ≤ length bytes) × (length bytes ≤ pipe_buf → taken ≡ 0)
+MayWait (call.Write fd bytes) taken = (taken < length bytes) × (length bytes ≤ pipe_buf → taken ≡ 0)
 MayWait (call.OpenName name mode flags) taken = taken ≡ 0
 MayWait (call.Splice from from_offset to to_offset len flags) taken = (taken ≡ 0) × (0 < len)
 MayWait (call.Tee from to len flags) taken = (taken ≡ 0) × (0 < len)

@@ -46,14 +46,25 @@ fn read_and_write<N: Layer + Send + Sync, R: Threads + Wait + Sync>(
     locked.attempt(rt, &mut writer, pipe).ok()?; // Fds(0, 1)
 
     let bytes = Bytes8::from_vec(Vec::from_slice(alloc, b"hello").ok()?)?;
-    let (read, written) = join(
-        rt,
-        move || call(rt, locked, reader, Call::Read { fd: 0, n: 5 }),
-        move || call(rt, locked, writer, Call::Write { fd: 1, bytes }),
-    );
+    let (read, written) = at_once(rt, locked, reader, writer, bytes);
     callers.push(read.1).ok()?;
     callers.push(written.1).ok()?;
     read.0
+}
+
+// A read in one thread, and a write in another.
+fn at_once<N: Layer + Send + Sync, R: Threads + Wait + Sync>(
+    rt: &R,
+    locked: &Locked<N>,
+    reader: Caller<N>,
+    writer: Caller<N>,
+    bytes: Bytes8,
+) -> ((Option<Reply>, Caller<N>), (Option<Reply>, Caller<N>)) {
+    join(
+        rt,
+        move || call(rt, locked, reader, Call::Read { fd: 0, n: 5 }),
+        move || call(rt, locked, writer, Call::Write { fd: 1, bytes }),
+    )
 }
 
 /// What the reader read, and whether the journal of all that happened replays.

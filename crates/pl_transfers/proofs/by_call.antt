@@ -28,5 +28,7 @@ pub mod Again
 pub mod Measuring
 -- Whether a call that waits can get on.
 pub mod Progress
+-- A write that waits has bytes left.
+pub mod BytesLeft
 -- A parked read that gives bytes is tried again, and ends.
 pub mod GivesAgain

@@ -1,2 +1,4 @@
-pub mod Kept
-pub mod Moved
+pub mod MarkLists
+pub mod InOrder
+pub mod Firsts
+pub mod Places

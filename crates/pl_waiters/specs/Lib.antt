@@ -1,4 +1,6 @@
-pub mod Held
-pub mod Index
+pub mod MarkLists
 pub mod Marks
+pub mod Places
+pub mod Queue
+pub mod Queues
 pub mod Seen

@@ -1,17 +1,13 @@
--- The marks of nodes, and the nodes that are touched.
-use Rattle.std.specs.Prelude.{◌≡◌, ℕ, ◌<◌, Bool, true, false, List, All, length, nat_eq, slice_index_or}
-use Rattle.std.specs.List.{list_any}
+-- Nodes that are marked.
+use Rattle.std.specs.Prelude.{◌<◌, ℕ, Bool, length}
+use Rattle.pl_waiters.specs.declared.marks.Marks.{Marks}
+use Rattle.pl_waiters.specs.MarkLists.{mark_at}
 
--- the node has a mark
-abbrev pub is_marked : List Bool → ℕ → Bool
-is_marked marked node = slice_index_or marked node false
+module _ {A : Type 0} where
+  -- the node has a mark
+  abbrev pub is_marked : Marks A → ℕ → Bool
+  is_marked m node = mark_at m.marked.items node
 
--- the node is in the list
-abbrev pub is_listed : List ℕ → ℕ → Bool
-is_listed touched node = list_any (nat_eq node) touched
-
--- There is a place for the mark of each node at which a call waits, and of each that is touched. Each node that has a mark is touched.
-pub record AreMarked (places : ℕ → ℕ → Bool) (marked : List Bool) (touched : List ℕ) : Type 0 where
-  pub room : (node number : ℕ) → places node number ≡ true → node < length marked
-  pub within : All (λ node. node < length marked) touched
-  pub listed : (node : ℕ) → is_marked marked node ≡ true → is_listed touched node ≡ true
+  -- there is room for the mark of the node
+  abbrev pub has_room : Marks A → ℕ → Type 0
+  has_room m node = node < length m.marked.items

@@ -1,10 +1,10 @@
-//! Which calls that wait may get on: an index of them, by the nodes at which they wait.
+//! Which calls that wait may make progress: an index of them, by the nodes at which they wait and by what they wait for there.
 #![tactic(auto)]
 
-mod finding;
 mod marks;
-mod moving;
-mod pending;
+mod queue;
+mod waiter;
 mod waiters;
 
+pub use waiter::Waiter;
 pub use waiters::Waiters;

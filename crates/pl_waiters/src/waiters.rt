@@ -1,82 +1,96 @@
 //! The index of calls that wait.
-ghost use Rattle.pl_waiters.specs.Marks.{AreMarked};
-ghost use Rattle.pl_parked.specs.Held.{waits_in};
+ghost use Rattle.pl_waiters.specs.Places.{HavePlaces};
 
-use crate::marks::make_room;
-use crate::pending::Pending;
-use pl_parked::Places;
-use std::alloc::{Allocator, Global};
+use crate::marks::Marks;
+use crate::queue::Queues;
+use crate::waiter::Waiter;
+use pl_least::Least;
+use std::alloc::{AllocError, Allocator, Global};
 
-/// An index of calls that wait, by the nodes at which they wait. It knows which of them may get on: those at a node that was touched
-/// since, and those that it wasn't told of. Where memory runs out it loses all that it knows: then any call may get on.
+/// No call stands before this one.
+const FIRST: Waiter = Waiter {
+    node: 0,
+    queue: 0,
+    number: 0,
+};
+
+/// An index of calls that wait: the queues in which they stand, at the nodes at which they wait. It keeps for each node the least number of a
+/// call that was found able to make progress there, and the nodes that were touched since they were asked. Where memory runs out it loses all that it
+/// knows: then any call may make progress.
 #[derive(Drop)]
 pub struct Waiters<A: Allocator = Global> {
-    /// The calls by the keys of the nodes at which they wait, but for those that moved to `pending`.
-    pub(crate) places: Places<A>,
-    /// By the key of a node, whether it is in `touched`.
-    pub(crate) marked: Vec<bool, A>,
-    /// The nodes whose calls may get on.
-    pub(crate) touched: Vec<usize, A>,
-    /// More calls that may get on.
-    pub(crate) pending: Pending<A>,
-    /// Every call of this number or above may get on.
+    pub(crate) queues: Queues<A>,
+    /// The nodes that are still to be asked.
+    pub(crate) touched: Marks<A>,
+    /// By the key of a node, the least number of those that could make progress when it was asked.
+    pub(crate) least: Least<A>,
+    /// Nothing is known of the calls of this number or above.
     pub(crate) looked: u64,
     /// Nothing is known.
     pub(crate) lost: bool,
-    ghost kept: { AreMarked (waits_in places) marked.items touched.items },
+    /// Where the sweep goes on.
+    pub(crate) swept: Waiter,
+    ghost kept: { HavePlaces queues touched least },
 }
 
 impl<A: Allocator + Copy> Waiters<A> {
-    ghost use Rattle.std.specs.Prelude.{◌≡◌, ℕ, true, false, ◌||◌, ◌&&◌, nat_eq, nat_le};
-    ghost use Rattle.pl_waiters.specs.Seen.{is_placed, may_get_on};
+    ghost use Rattle.std.specs.Prelude.{◌≡◌, ℕ, ◌||◌, true, false, None, OnOk};
+    ghost use Rattle.pl_waiters.specs.Marks.{has_room};
+    ghost use Rattle.pl_waiters.specs.Queue.{is_waiter};
+    ghost use Rattle.pl_waiters.specs.Queues.{has_place as has_queues};
+    ghost use Rattle.pl_waiters.specs.Seen.{stands, SameQueues, SameMarks, SameNumbers, SameKnown};
 
-    /// Of no call anything is known, so each may get on. It takes no memory.
-    #[tactic(auto, unfolding(crate::specs::Index::placed, crate::specs::Index::may))]
+    /// Of no call anything is known, so each may make progress. It takes no memory.
     pub fn new(alloc: A) -> Self
-        ensures places { (node number : ℕ) → is_placed result node number ≡ false }
-        ensures may { (number : ℕ) → may_get_on result number ≡ true }
-        ensures known { result.lost ≡ false }
+        ensures queues { (key : Waiter) → stands result key ≡ false }
         ensures looked { result.looked ≡ 0 }
+        ensures known { result.lost ≡ false }
     {
         Waiters {
-            places: Places::new(alloc),
-            marked: Vec::new(alloc),
-            touched: Vec::new(alloc),
-            pending: Pending::new(alloc),
+            queues: Queues::new(alloc),
+            touched: Marks::new(alloc),
+            least: Least::new(alloc),
             looked: 0,
             lost: false,
+            swept: FIRST,
         }
     }
 
-    /// The call of a number waits at the node too. Where there is no memory, all is lost.
-    #[tactic(auto, unfolding(crate::specs::Index::placed, crate::specs::Index::may))]
-    pub fn add(&mut self, node: usize, number: u64)
-        ensures places { (other call : ℕ) → is_placed self.new other call ≡ (self.new.lost || ((nat_eq node other && nat_eq number call) || is_placed self.old other call)) }
-        ensures may { (call : ℕ) → may_get_on self.old call ≡ true → may_get_on self.new call ≡ true }
+    /// A call stands in a queue too. Where there is no memory, all is lost.
+    pub fn add(&mut self, call: Waiter)
+        ensures lost { self.old.lost ≡ true → self.new.lost ≡ true }
+        ensures added { self.new.lost ≡ false → (key : Waiter) → stands self.new key ≡ (is_waiter call key || stands self.old key) }
+        ensures touched { SameMarks self.old self.new }
+        ensures least { SameNumbers self.old self.new }
         ensures looked { self.new.looked ≡ self.old.looked }
-        ensures touched { self.new.touched.items ≡ self.old.touched.items }
     {
-        if !make_room(&mut self.marked, &mut self.touched, node) {
-            self.lost = true;
-            return;
-        }
-        if !self.places.add(node, number) {
+        if self.reserve(call.node).is_err() || self.queues.add(call).is_err() {
             self.lost = true;
         }
+    }
+
+    // Makes a place for a node.
+    fn reserve(&mut self, node: usize) -> Result<(), AllocError>
+        ensures ok { OnOk result (has_room self.new.touched node) }
+        ensures place { OnOk result (has_queues self.new.queues node) }
+        ensures queues { SameQueues self.old self.new }
+        ensures touched { SameMarks self.old self.new }
+        ensures least { SameNumbers self.old self.new }
+        ensures known { SameKnown self.old self.new }
+    {
+        let places = node.checked_add(1).ok_or(AllocError)?;
+        self.least.reserve(places)?;
+        self.touched.reserve(places)?;
+        self.queues.reserve(places)
     }
 }
 
 impl<A: Allocator> Waiters<A> {
-    ghost use Rattle.std.specs.Prelude.{◌≡◌, ◌≢◌, ℕ, ◌||◌, ◌&&◌, ◌<◌, not, true, false, nat_eq, length, vec_capacity};
-    ghost use Rattle.pl_waiters.specs.Seen.{is_placed, may_get_on};
-
-    /// Whether a touch tells nothing: each call that is at a node may get on already. So it is where no call was ever added at a node.
-    #[inline(always)]
-    pub fn is_idle(&self) -> bool
-        ensures { result ≡ true → (node call : ℕ) → is_placed self.now node call ≡ true → may_get_on self.now call ≡ true }
-    {
-        self.marked.is_empty()
-    }
+    ghost use Rattle.std.specs.Prelude.{◌≡◌, ◌≢◌, ℕ, ◌&&◌, ◌<◌, length, not, true, false, IfSome, IfNone, None, Some, nat_eq, if◌then◌else◌};
+    ghost use Rattle.pl_least.specs.None.{none};
+    ghost use Rattle.pl_least.specs.Numbers.{has_place};
+    ghost use Rattle.pl_waiters.specs.Seen.{stands, is_touched, least, IsFirst, SameQueues, SameTouched, SameLeast, SameKnown};
+    ghost use Rattle.pl_waiters.specs.Queue.{is_waiter, IsBehind};
 
     /// Whether nothing is known any more.
     pub fn is_lost(&self) -> bool
@@ -85,42 +99,139 @@ impl<A: Allocator> Waiters<A> {
         self.lost
     }
 
-    /// Every call of this number or above may get on.
+    /// How many calls stand in queues beside the one of each node. A call that stands in several is one in each.
+    pub fn len(&self) -> usize {
+        self.queues.len()
+    }
+
+    /// Nothing is known of the calls of this number or above.
     pub fn looked(&self) -> u64
         ensures { result ≡ self.now.looked }
     {
         self.looked
     }
 
-    /// Every call that waits at the node may get on. It takes no memory, and no longer the more calls wait there.
-    #[tactic(auto, unfolding(crate::specs::Index::placed, crate::specs::Index::may))]
-    pub fn touch(&mut self, node: usize)
-        ensures places { (other call : ℕ) → is_placed self.new other call ≡ (self.new.lost || is_placed self.old other call) }
-        ensures may { (call : ℕ) → may_get_on self.new call ≡ (self.new.lost || (is_placed self.old node call || may_get_on self.old call)) }
+    /// Nothing is known any more.
+    pub fn lose(&mut self)
+        ensures lost { self.new.lost ≡ true }
         ensures looked { self.new.looked ≡ self.old.looked }
-        ensures capacity { vec_capacity self.new.touched ≡ vec_capacity self.old.touched }
-        ensures known { self.old.lost ≡ false → length self.old.touched.items < vec_capacity self.old.touched → self.new.lost ≡ false }
     {
-        if node >= self.marked.len() || self.marked[node] {
-            return;
-        }
-        if self.touched.len() == self.touched.capacity() {
-            self.lost = true;
-            return;
-        }
-        self.touched.push_reserved(node);
-        self.marked[node] = true;
+        self.lost = true;
     }
 
-    /// The call of a number waits at the node no more. It takes no memory.
-    #[tactic(auto, unfolding(crate::specs::Index::placed, crate::specs::Index::may))]
-    pub fn forget(&mut self, node: usize, number: u64)
-        ensures places { (other call : ℕ) → is_placed self.new other call ≡ (self.new.lost || (not (nat_eq node other && nat_eq number call) && is_placed self.old other call)) }
-        ensures may { (call : ℕ) → number ≢ call → may_get_on self.new call ≡ may_get_on self.old call }
-        ensures looked { self.new.looked ≡ self.old.looked }
+    /// All calls below this number were looked at.
+    pub fn look_to(&mut self, number: u64)
+        ensures queues { SameQueues self.old self.new }
+        ensures touched { SameTouched self.old self.new }
+        ensures least { SameLeast self.old self.new }
+        ensures looked { self.new.looked ≡ number }
         ensures lost { self.new.lost ≡ self.old.lost }
-        ensures touched { self.new.touched.items ≡ self.old.touched.items }
     {
-        self.places.remove(node, number);
+        self.looked = number;
+    }
+
+    /// A node is to be asked again. It takes no memory, and no longer the more calls wait there.
+    pub fn touch(&mut self, node: usize)
+        ensures here { (key : Waiter) → key.node ≡ node → stands self.old key ≡ true → is_touched self.new node ≡ true }
+        ensures more { (other : ℕ) → is_touched self.old other ≡ true → is_touched self.new other ≡ true }
+        ensures queues { SameQueues self.old self.new }
+        ensures least { SameLeast self.old self.new }
+        ensures known { SameKnown self.old self.new }
+    {
+        if node < self.touched.room() {
+            self.touched.mark(node);
+        }
+    }
+
+    /// A node that is to be asked, which from now on it isn't.
+    pub fn take_touched(&mut self) -> Option<usize>
+        ensures place { IfSome result (has_place self.new.least) }
+        ensures others { IfSome result (λ node. (other : ℕ) → other ≢ node → is_touched self.new other ≡ is_touched self.old other) }
+        ensures none { IfNone result ((other : ℕ) → is_touched self.new other ≡ false) }
+        ensures same { IfNone result ((other : ℕ) → is_touched self.old other ≡ false) }
+        ensures fewer { IfSome result (λ node. length self.new.touched.nodes.items < length self.old.touched.nodes.items) }
+        ensures queues { SameQueues self.old self.new }
+        ensures least { SameLeast self.old self.new }
+        ensures known { SameKnown self.old self.new }
+    {
+        self.touched.take()
+    }
+
+    /// Says which is the least number of those at a node that can make progress, if any can.
+    pub fn set_least(&mut self, node: usize, number: Option<u64>)
+        requires place { has_place self.old.least node }
+        requires number { IfSome number (λ n. n < none) }
+        ensures least { (other : ℕ) → least self.new other ≡ (if nat_eq other node then number else least self.old other) }
+        ensures queues { SameQueues self.old self.new }
+        ensures touched { SameTouched self.old self.new }
+        ensures known { SameKnown self.old self.new }
+    {
+        self.least.set(node, number);
+    }
+
+    /// The first call at the node of this one that doesn't stand before it: of its queue with its number or above, else of a later queue. It
+    /// costs at most the logarithm of how many calls there are.
+    pub fn first_from(&self, least: &Waiter) -> Option<Waiter>
+        ensures some { IfSome result (λ key. (key.node ≡ least.now.node) × (stands self.now key ≡ true) × IsBehind least.now key) }
+        ensures first { IfSome result (λ key. (other : Waiter) → other.node ≡ least.now.node → stands self.now other ≡ true → IsBehind least.now other → IsBehind key other) }
+        ensures none { IfNone result ((other : Waiter) → other.node ≡ least.now.node → IsBehind least.now other → stands self.now other ≡ false) }
+    {
+        self.queues.first_from(least)
+    }
+
+    /// One of the calls at a node, which mostly is the only one. That there is none says nothing.
+    pub fn one_at(&self, node: usize) -> Option<Waiter> {
+        self.queues.one_at(node)
+    }
+
+    /// The next call of a sweep through those that aren't the only one of their node, or `None` at its end, after which it begins again.
+    pub fn sweep(&mut self) -> Option<Waiter>
+        ensures queues { SameQueues self.old self.new }
+        ensures touched { SameTouched self.old self.new }
+        ensures least { SameLeast self.old self.new }
+        ensures known { SameKnown self.old self.new }
+    {
+        let Some(next) = self.queues.further_from(&self.swept) else {
+            self.swept = FIRST;
+            return None;
+        };
+        self.swept = Waiter {
+            number: next.number.saturating_add(1),
+            ..next
+        };
+        Some(next)
+    }
+
+    /// A call stands in a queue no more. It takes no memory.
+    pub fn remove(&mut self, call: &Waiter)
+        ensures queues { (key : Waiter) → stands self.new key ≡ (not (is_waiter call.now key) && stands self.old key) }
+        ensures touched { SameTouched self.old self.new }
+        ensures least { SameLeast self.old self.new }
+        ensures known { SameKnown self.old self.new }
+    {
+        self.queues.remove(call);
+    }
+
+    /// The node with the least number of all.
+    pub fn first_node(&self) -> Option<usize>
+        ensures some { IfSome result (IsFirst self.now) }
+        ensures place { IfSome result (has_place self.now.least) }
+        ensures none { IfNone result ((node : ℕ) → least self.now node ≡ None) }
+    {
+        self.least.first()
+    }
+
+    /// How many nodes there are places for: at each that has a number, the key is below this.
+    pub fn nodes(&self) -> usize
+        ensures { (node number : ℕ) → least self.now node ≡ Some number → node < result }
+    {
+        self.least.places()
+    }
+
+    /// The least number that was found at a node.
+    pub fn least_at(&self, node: usize) -> Option<u64>
+        ensures { result ≡ least self.now node }
+    {
+        self.least.get(node)
     }
 }

@@ -140,21 +140,7 @@ impl Layer {
         }
     }
 
-    // Reads as many bytes as the caller's are, while calls wait. Out of line, so that a read stays short while none does.
-    #[inline(never)]
-    fn read_watched(&mut self, pid: u32, fd: i32, into: &mut [u8]) -> Answer
-        requires { length into.old < 2 ^ 32 }
-        ensures makes { Makes self.old.kernel (Step.Begin pid (Call.Read fd (length into.old))) result self.new.kernel }
-        ensures bytes { Replied self.old.kernel (Step.Begin pid (Call.Read fd (length into.old))) result (λ reply. into.new ≡ bytes_after into.old reply) }
-        ensures unread { result.kind ≡ 6 → into.new ≡ into.old }
-        ensures wants { result.kind ≡ 6 → Parks self.old.kernel (Step.Begin pid (Call.Read fd (length into.old))) }
-        ensures same { self.new.recorder ≡ self.old.recorder }
-        ensures opened { StaysAsOpened self.old self.new }
-    {
-        self.read_all(pid, fd, into)
-    }
-
-    // Reads as many bytes as the caller's are, by the shorter way while no call waits.
+    // Reads as many bytes as the caller's are, and records it where there is a recorder.
     #[inline(always)]
     fn read_bytes(&mut self, pid: u32, fd: i32, into: &mut [u8]) -> Answer
         requires { length into.old ≤ most_bytes }
@@ -168,10 +154,7 @@ impl Layer {
         if let Some(recorder) = &mut self.recorder {
             return recorded::read(&mut self.kernel, recorder, self.heap, pid, fd, into);
         }
-        if self.kernel.is_idle() {
-            return self.read_all(pid, fd, into);
-        }
-        self.read_watched(pid, fd, into)
+        self.read_all(pid, fd, into)
     }
 
     /// Reads into the caller's bytes, at most 16,777,216.
@@ -203,20 +186,7 @@ impl Layer {
         }
     }
 
-    // Writes the caller's bytes, while calls wait. Out of line, so that a write stays short while none does.
-    #[inline(never)]
-    fn write_watched(&mut self, pid: u32, fd: i32, bytes: &[u8]) -> Answer
-        requires { length bytes.now ≤ most_bytes }
-        ensures makes { Makes self.old.kernel (Step.Begin pid (Call.Write fd bytes.now)) (unmoved result) self.new.kernel }
-        ensures moved { Moves self.old.kernel (Step.Begin pid (Call.Write fd bytes.now)) result }
-        ensures wants { Wants self.old.kernel (Step.Begin pid (Call.Write fd bytes.now)) result }
-        ensures same { self.new.recorder ≡ self.old.recorder }
-        ensures opened { StaysAsOpened self.old self.new }
-    {
-        self.write_all(pid, fd, bytes)
-    }
-
-    // Writes the caller's bytes, by the shorter way while no call waits.
+    // Writes the caller's bytes, and records it where there is a recorder.
     #[inline(always)]
     fn write_bytes(&mut self, pid: u32, fd: i32, bytes: &[u8]) -> Answer
         requires { length bytes.now ≤ most_bytes }
@@ -229,10 +199,7 @@ impl Layer {
         if let Some(recorder) = &mut self.recorder {
             return recorded::write(&mut self.kernel, recorder, pid, fd, bytes);
         }
-        if self.kernel.is_idle() {
-            return self.write_all(pid, fd, bytes);
-        }
-        self.write_watched(pid, fd, bytes)
+        self.write_all(pid, fd, bytes)
     }
 
     /// Writes the first of the caller's bytes, at most 16,777,216.

@@ -21,7 +21,7 @@ use Rattle.pl_state.proofs.Known.{Known, parts_of}
 use Rattle.pl_state.proofs.waiting.Ending.{member_there}
 use Rattle.pl_state.proofs.waiting.InOrder.{order_of}
 use Rattle.pl_naming.proofs.by_call.Unused.{keys, are_unused}
-use Rattle.pl_kernel.proofs.index.Knowing.{IsKnown}
+use Rattle.pl_kernel.proofs.index.Leaving.{IsKnown}
 use Rattle.pl_kernel.proofs.index.Touching.{call-found}
 
 -- a process that isn't there names nothing

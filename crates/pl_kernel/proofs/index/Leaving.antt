@@ -1,36 +1,32 @@
--- What a step leaves of a call that is aside.
-use Rattle.std.proofs.Common.{◌≡◌, ℕ, ◌≤◌, ◌<◌, Bool, true, false, not, cond, Option, List, [], ◌∷◌, refl, sym, ◌∙◌, ap, subst, nat_eq, arith}
-use Rattle.std.specs.Prelude.{◌&&◌, IsSome}
+-- What a step leaves of the calls that wait.
+use Rattle.std.proofs.Common.{◌≡◌, ℕ, ◌≤◌, ◌<◌, Bool, true, false, not, cond, Option, List, [], ◌∷◌, refl, sym, ◌∙◌, ap, nat_eq, arith}
 use Rattle.std.specs.declared.option.Option.TheVariants.{None, Some}
 use Rattle.std.specs.List.{filter}
 use Rattle.std.proofs.lemmas.Bool.{eq-eqb, eqb-true}
 use Rattle.pl_model.specs.declared.calls.Call.{Call}
 use Rattle.pl_model.specs.declared.calls.Step.{Step}
 use Rattle.pl_model.specs.declared.calls.Step.TheVariants.{Begin, Interrupt}
-use Rattle.pl_model.specs.Modes.{any_mode}
 use Rattle.pl_model.specs.Map.{Map, get}
 use Rattle.pl_model.specs.declared.replies.Reply.TheVariants.{NoProcess}
-use Rattle.pl_model.specs.Keys.{Node, NewKeys, Plain, same_node, drawn, drawing_map}
-use Rattle.pl_model.specs.State.{Core, Description, Waiting}
-use Rattle.pl_model.specs.Live.{is_end}
+use Rattle.pl_model.specs.Keys.{NewKeys, Plain, drawn, drawing_map}
+use Rattle.pl_model.specs.State.{Core, Waiting}
 use Rattle.pl_model.specs.Trial.{Flow, flowed, lost, gained}
 use Rattle.pl_model.specs.Settle.{settle}
 use Rattle.pl_model.specs.Step.{core_step, begin, begun, happen, interrupted, stepped}
 use Rattle.pl_model.specs.Numbered.{numbers}
-use Rattle.pl_model.specs.StandsFor.{AreUnused}
 use Rattle.pl_model.specs.InOrder.{AreInOrder}
-use Rattle.pl_model.specs.Waking.{can_progress}
-use Rattle.pl_model.specs.Touching.{keeps_at}
 use Rattle.pl_model.proofs.by_call.Keeps as all_keep
 use Rattle.pl_model.proofs.by_call.Keeps.{Changes, step-keeps}
-use Rattle.pl_model.proofs.settling.Members.{member_found, member_passes}
 use Rattle.pl_model.proofs.streams.Maps.{filter_from, without_same}
 use Rattle.pl_model.proofs.streams.StayingMet.{IsOfCall, happen_met}
 use Rattle.pl_model.proofs.touching.SameAt.{IsFit}
-use Rattle.pl_model.proofs.touching.Parked.{core_step-is, settled-parked, member_has}
-use Rattle.pl_model.proofs.touching.Places.{node_stays}
-use Rattle.pl_waiters.specs.declared.waiters.Waiters.{Waiters}
-use Rattle.pl_kernel.specs.Index.{IsAside}
+use Rattle.pl_model.proofs.touching.Parked.{core_step-is, settled-parked}
+
+-- what is known of a kernel's state, as far as it is wanted here
+pub record IsKnown {A : Type 0} (c : Core A numbers) : Type 0 where
+  pub fit : IsFit c
+  pub order : AreInOrder c
+  pub belong : (number : ℕ) (v : Waiting A numbers) → get nat_eq c.parked number ≡ Some v → c.processes v.pid ≡ true
 
 -- The numbers of calls only rise.
 module _ {A : Type 0} (n : ℕ) where
@@ -117,29 +113,6 @@ module _ {A : Type 0} (c : Core A numbers) (x : Step A) (new : NewKeys numbers) 
     where
       no : {w : Waiting A numbers} → None ≡ Some w → ⊥
       no e = cc
-
-  module _ (unused : AreUnused c new) (fit : IsFit c) (number : ℕ) (v : Waiting A numbers) (here : get nat_eq c.parked number ≡ Some v) where
-    -- A description of a call that is on a node afterwards was on it before.
-    pub kept_before : (node : Node numbers) → keeps_at left node v ≡ true → keeps_at c node v ≡ true
-    kept_before node keeps =
-        let f = member_found (λ d. is_end any_mode node (left.descriptions d)) v.kept keeps in
-        member_passes (λ d. is_end any_mode node (c.descriptions d)) v.kept f.0 f.1 (was f.0 f.2 (c.descriptions f.0) refl (member_has (λ d. IsSome (c.descriptions d)) v.kept (fit.kept number v here) f.0 f.1))
-      where
-        was : (d : ℕ) → is_end any_mode node (left.descriptions d) ≡ true → (o : Option (Description numbers)) → c.descriptions d ≡ o → IsSome (c.descriptions d) → is_end any_mode node (c.descriptions d) ≡ true
-        was d on None e i = absurd (let none : IsSome {T = Description numbers} None = subst (λ o. IsSome o) e i in cc)
-        was d on (Some y) e i = now (left.descriptions d) refl on
-          where
-            now : (o : Option (Description numbers)) → left.descriptions d ≡ o → is_end any_mode node o ≡ true → is_end any_mode node (c.descriptions d) ≡ true
-            now None f on = absurd (cc)
-            now (Some z) f on = ap (is_end any_mode node) e ∙ (λ k. same_node (sym (node_stays d y.node c x new unused y e refl z f) k) node && true) ∙ on
-
-    -- The call waits on as it did, and can get on if it could.
-    abbrev pub Stays : Type 0
-    Stays = (get nat_eq left.parked number ≡ Some v) × (can_progress left number ≡ can_progress c number)
-
-    -- A call that is aside and stays is aside.
-    pub aside_on : (w : Waiters A) → IsAside c w number v → Stays → IsAside left w number v
-    aside_on w aside stays = record { stuck = stays.1 ∙ aside.stuck; placed = λ node keeps. aside.placed node (kept_before node keeps) }
 
 -- A call that its own step ends is gone.
 module _ {A : Type 0} (c : Core A numbers) (new : NewKeys numbers) (order : AreInOrder c) (number : ℕ) (v : Waiting A numbers) (here : get nat_eq c.parked number ≡ Some v) where

@@ -1,6 +1,6 @@
 -- What is touched, one description after another.
 use Rattle.std.proofs.Common.{◌≡◌, ℕ, zero, suc, ◌+◌, ◌<◌, ◌≤◌, Bool, true, false, cond, List, [], ◌∷◌, drop, length, slice_index_or, inl, inr, refl, sym, ◌∙◌, ap, subst, nat_eq, arith}
-use Rattle.std.specs.Prelude.{◌⊎◌, is_some, option_map, ◌||◌, ◌&&◌}
+use Rattle.std.specs.Prelude.{◌⊎◌, is_some, IsSome, option_map, ◌||◌, ◌&&◌}
 use Rattle.std.specs.declared.option.Option.{Option}
 use Rattle.std.specs.declared.option.Option.TheVariants.{None, Some}
 use Rattle.std.specs.List.{list_any}
@@ -8,6 +8,7 @@ use Rattle.std.specs.Set.{is_member}
 use Rattle.std.proofs.lemmas.Bool.{eq-eqb, eqb-true}
 use Rattle.std.proofs.lemmas.List.{drop_more}
 use Rattle.std.proofs.lemmas.List.Folds.{list_any_at}
+use Rattle.pl_model.specs.declared.calls.Step.{Step}
 use Rattle.pl_model.specs.declared.node.Node.{Node}
 use Rattle.pl_model.specs.Keys.{same_node}
 use Rattle.pl_model.specs.Keys.{Node as KeyNode}
@@ -16,22 +17,22 @@ use Rattle.pl_model.specs.Numbered.{numbers}
 use Rattle.pl_model.specs.State.{Core, Waiting}
 use Rattle.pl_model.specs.Live.{is_end}
 use Rattle.pl_model.proofs.settling.Members.{and_left, and_right, or_elim, any_number}
-use Rattle.pl_model.proofs.settling.Opening.{same_is}
+use Rattle.pl_model.proofs.settling.Opening.{same_is, same_refl}
 use Rattle.pl_model.specs.Map.{Map, get, EachOnce}
 use Rattle.pl_model.specs.Numbers.{open_max, numbers_from}
-use Rattle.pl_model.specs.Touching.{is_at, keeps_at, waits_at, has_at}
+use Rattle.pl_model.specs.Touching.{is_at, keeps_at, waits_at, has_at, touches}
 use Rattle.pl_parked.specs.declared.call.ParkedCall.{ParkedCall}
 use Rattle.pl_desc.specs.Rows.{at}
 use Rattle.pl_desc.specs.Descs.{Opened}
 use Rattle.pl_state.specs.Contents.{Contents, core_of, description_of, node_of, waiting_of}
 use Rattle.pl_state.proofs.waiting.Calls.{get-parked}
 use Rattle.pl_waiters.specs.declared.waiters.Waiters.{Waiters}
-use Rattle.pl_waiters.specs.Seen.{is_placed}
+use Rattle.pl_waiters.specs.Seen.{is_touched}
 use Rattle.pl_model.specs.Waking.{can_progress}
 use Rattle.pl_kernel.specs.Progress.{is_ready}
 use Rattle.pl_kernel.specs.ToldNodes.{key_of}
 use Rattle.pl_kernel.proofs.NextReady.{mapped}
-use Rattle.pl_kernel.specs.Index.{IsNoLess, IsTouched}
+use Rattle.pl_kernel.specs.Index.{IsNoLess, IsTouched, TouchesAll, Touches}
 
 -- what stands in a list is a member of it
 pub member-at : (keys : List ℕ) (i : ℕ) → i < length keys → is_member nat_eq keys (slice_index_or keys i 0) ≡ true
@@ -48,6 +49,15 @@ any-past t [] (suc i) l = refl
 any-past t (k ∷ ks) zero l = absurd (omega (arith, l))
 any-past t (k ∷ ks) (suc i) l = any-past t ks i (omega (arith, l))
 
+-- a description is on the node that was told
+pub end-on : {A : Type 0} (k : Contents A) (d : ℕ) (n : Node) → option_map (λ (o : Opened). o.node) (at k.opened d) ≡ Some n → is_end any_mode (node_of n) ((core_of k).descriptions d) ≡ true
+unfolding core_of
+end-on k d n told = by (at k.opened d) told
+  where
+    by : (o : Option Opened) → option_map (λ (o : Opened). o.node) o ≡ Some n → is_end any_mode (node_of n) (option_map description_of o) ≡ true
+    by None e = absurd (cc)
+    by (Some o) e = (let is : o.node ≡ n = cc in ap (λ m. same_node (node_of m) (node_of n) && true) is ∙ (λ i. same_refl (node_of n) i && true))
+
 -- the node of a description has the key of the one that it is on
 pub key-on : {A : Type 0} (k : Contents A) (d : ℕ) (n : Node) → option_map (λ (o : Opened). o.node) (at k.opened d) ≡ Some n → (node : KeyNode numbers) → is_end any_mode node ((core_of k).descriptions d) ≡ true → key_of (node_of n) ≡ key_of node
 unfolding core_of
@@ -59,15 +69,20 @@ key-on k d n told node on = by (at k.opened d) told on
 
 module _ {A : Type 0} (w v u : Waiters A) where
   pub less_then : IsNoLess w v → IsNoLess v u → IsNoLess w u
-  less_then first second = record { may = λ number h. second.may number (first.may number h); placed = λ key number h. second.placed key number (first.placed key number h); looked = second.looked ∙ first.looked }
+  less_then first second = record {
+    queues = λ key. second.queues key ∙ first.queues key;
+    least_ones = second.least_ones ∙ first.least_ones;
+    known = (second.known.0 ∙ first.known.0, second.known.1 ∙ first.known.1);
+    more = λ key h. second.more key (first.more key h);
+  }
 
   -- what was touched before stays so
   pub touched_before : (key : ℕ) → IsTouched w v key → IsNoLess v u → IsTouched w u key
-  touched_before key touched less number there = less.may number (touched number there)
+  touched_before key touched less x at there = less.more key (touched x at there)
 
   -- what is touched now was at the node before
   pub touched_now : (key other : ℕ) → key ≡ other → IsNoLess w v → IsTouched v u key → IsTouched w u other
-  touched_now key other same less touched number there = touched number (less.placed key number (subst (λ q. is_placed w q number ≡ true) (sym same) there))
+  touched_now key other same less touched x at there = subst (λ q. is_touched u q ≡ true) same (touched x (at ∙ sym same) (less.queues x ∙ there))
 
 -- where the call of a number waits
 module _ {A : Type 0} (k : Contents A) (node : KeyNode numbers) (number : ℕ) where
@@ -130,3 +145,41 @@ module _ {A : Type 0} (c : Core A numbers) (once : EachOnce nat_eq c.parked) (no
 
   pub row-below : list_any (λ fd. is_at c node (c.rows pid fd)) (numbers_from open_max 0) ≡ true → (fd : ℕ) × (fd < open_max) × (is_at c node (c.rows pid fd) ≡ true)
   row-below h = (let f = any_number (λ fd. is_at c node (c.rows pid fd)) open_max 0 h in (f.0, omega (arith, f.2), f.3))
+
+-- What a step touches is touched, if all is that it may touch.
+module _ {A : Type 0} (c : Core A numbers) (x : Step A) (w u : Waiters A) where
+  pub touches-all : IsNoLess w u → TouchesAll w u (touches c x) → Touches c x w u
+  touches-all less all = record { no_less = less; touched = λ node t key at some there. all node t key at there }
+
+-- where it touches nothing, or nobody waits, nothing is to be touched
+module _ {A : Type 0} (c : Core A numbers) (x : Step A) (w : Waiters A) where
+  same : IsNoLess w w
+  same = record { queues = λ key. refl; least_ones = refl; known = (refl, refl); more = λ key h. h }
+
+  pub touches-nothing : ((node : KeyNode numbers) → touches c x node ≡ false) → Touches c x w w
+  touches-nothing off = record { no_less = same; touched = λ node t key at some there. absurd (let no : false ≡ true = sym (off node) ∙ t in cc) }
+
+  pub touches-nobody : ((number : ℕ) → IsSome (get nat_eq c.parked number) → ⊥) → Touches c x w w
+  touches-nobody none = record { no_less = same; touched = λ node t key at some there. absurd (none key.number some) }
+
+-- nobody waits where no call is parked
+pub nobody : {A : Type 0} (k : Contents A) → length k.calls.calls ≡ 0 → (number : ℕ) → IsSome (get nat_eq (core_of k).parked number) → ⊥
+unfolding core_of
+nobody {A = A} k none number some = by k.calls.calls none refl
+  where
+    no : (o : Option (ParkedCall A)) → o ≡ None → is_some o ≡ true → ⊥
+    no None e h = absurd (cc)
+    no (Some w) e h = absurd (cc)
+
+    is-there : {X : Type 0} (o : Option X) → IsSome o → is_some o ≡ true
+    is-there {X = X} None h = absurd (let none : IsSome {T = X} None = h in cc)
+    is-there (Some x) h = refl
+
+    by : (es : Map ℕ (ParkedCall A)) → length es ≡ 0 → k.calls.calls ≡ es → ⊥
+    by [] l is = no (get nat_eq k.calls.calls number) (ap (λ es. get nat_eq es number) is) (sym (parked-some k number) ∙ is-there (get nat_eq (core_of k).parked number) some)
+    by (e ∷ es) l is = absurd (omega (arith, l))
+
+-- a parked call of the kernel is one of the machine
+pub parked-in : {A : Type 0} (k : Contents A) (number : ℕ) (w : ParkedCall A) → get nat_eq k.calls.calls number ≡ Some w → get nat_eq (core_of k).parked number ≡ Some (waiting_of w)
+unfolding core_of
+parked-in k number w here = get-parked k.calls.calls number ∙ ap (λ o. option_map waiting_of o) here

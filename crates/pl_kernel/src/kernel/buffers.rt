@@ -111,7 +111,7 @@ impl<A: Allocator + Copy> Kernel<A> {
         // A proof learns here that nothing was left to settle, so that a refused step leaves the very state.
         let state = &self.state;
         let _ = &state.descs;
-        begin_poll_into(&mut self.state, &mut self.waiters, pid, entries, wait)
+        begin_poll_into(&mut self.state, &self.waiters, pid, entries, wait)
     }
 
     /// Makes the step that tries the parked call of a number again, where a read gives its bytes into the first of the caller's; the

@@ -31,19 +31,14 @@ impl<A: Allocator + Copy> Kernel<A> {
         are_alike(&self.state, number, other)
     }
 
-    /// Whether no call waits of which a step would have to tell the index: then a step costs no more than without one. A caller may ask it to
-    /// choose between two ways to the same answer, and nothing hangs on it.
-    #[inline(always)]
-    pub fn is_idle(&self) -> bool {
-        self.waiters.is_idle()
-    }
-
     /// The least number, `from` or above, of a parked call that can get on; `None` if no call from there on can. So a loop that makes a step,
     /// and then resumes what this answers for 0 until it is `None`, forgets no call that waits. Each try ends a call or takes bytes of a write.
     ///
-    /// It changes nothing that a step or a question sees. It asks only the calls that may have got on since the last time: those at the pipes
-    /// and files that steps touched, and those that began to wait. For these it keeps an index, which takes memory of its own. Where memory
-    /// runs out, it asks all that wait, and answers the same.
+    /// It changes nothing that a step or a question sees. Calls wait in queues at the pipes and files that they wait for, of which all make
+    /// progress together or none does: so it asks the pipes and files that steps touched since the last time, and of each queue there the
+    /// first call. From 0 it costs the logarithm of how many calls wait, a look at each pipe and file that was touched, and one at each call
+    /// there that is an open, a poll, a splice or a tee; from another number also one at each pipe and file where a call can make progress. The
+    /// queues take memory of their own. Where memory runs out, it asks all that wait, and answers the same.
     pub fn next_ready(&mut self, from: u64) -> Option<u64>
         ensures told { TellsNextReady {A = A} self.old from result }
         ensures same { self.new ≡ self.old }

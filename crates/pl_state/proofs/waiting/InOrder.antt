@@ -46,7 +46,7 @@ module _ {A : Type 0} where
       ∙ ap (λ ys. e ∷ ys) (put_last (e.0 + 1) next es r.1 w v)
 
   may_has : (x : Call A) (t : ℕ) → MayWait x t → HasTaken x t
-  may_has (call.Write fd bytes) t h = h
+  may_has (call.Write fd bytes) t h = (let left = h.0 in omega (arith, left), h.1)
   may_has x t h = tt
 
   from_parked : (o : Option (ParkedCall A)) (w : Waiting A numbers) → option_map waiting_of o ≡ Some w → (v : ParkedCall A) × (o ≡ Some v) × (waiting_of v ≡ w)

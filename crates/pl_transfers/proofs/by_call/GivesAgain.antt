@@ -2,7 +2,6 @@
 use Rattle.std.proofs.Common.{◌≡◌, ◌<◌, ◌≤◌, ℕ, Bool, true, Option, None, Some, IfSome, sym, ap, subst, ◌∙◌, nat_eq, nat_lt, length, arith}
 use Rattle.std.specs.Prelude.{not, min, if◌then◌else◌}
 use Rattle.std.proofs.Math.Nat.{min-le_right}
-use Rattle.pl_model.specs.declared.cases.ReadCase.{ReadCase}
 use Rattle.pl_model.specs.declared.cases.ReadCase.TheVariants.{Gives, EndOfFile, Waits}
 use Rattle.pl_model.specs.Map.{get}
 use Rattle.pl_model.specs.Numbered.{numbers}

@@ -1,5 +1,5 @@
 -- Whether a read, a write or an open that waits can get on, at the kernel's keys.
-use Rattle.std.proofs.Common.{◌≡◌, ℕ, ℤ, Bool, true, false, cond, Option, Some, None, List, refl, ◌∙◌, ap, nat_eq, length}
+use Rattle.std.proofs.Common.{◌≡◌, ℕ, ℤ, Bool, true, false, Option, Some, None, List, refl, ◌∙◌, ap, nat_eq}
 use Rattle.std.specs.Prelude.{not}
 use Rattle.std.proofs.lemmas.Bool.{eq-eqb}
 use Rattle.pl_model.specs.declared.calls.Call.TheVariants.{Read, Write}

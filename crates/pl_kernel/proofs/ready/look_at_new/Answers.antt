@@ -1,43 +1,37 @@
-use Rattle.std.proofs.Common.{◌≡◌, ◌<◌, Option, None, Some, IsSome, inl, inr, ⊎_elim, refl, sym, ◌∙◌, ap, subst, nat_eq, arith}
+use Rattle.std.proofs.Common.{◌≡◌, ◌≤◌, ℕ, None, sym, ◌∙◌, ap, nat_eq, arith}
 use Rattle.pl_model.specs.Map.{get}
-use Rattle.pl_parked.specs.declared.call.ParkedCall.{ParkedCall}
 use Rattle.pl_state.specs.Contents.{Contents, core_of}
-use Rattle.pl_state.proofs.by_call.Exiting.{below_next}
-use Rattle.pl_kernel.proofs.NextReady.{sides}
-use Rattle.pl_kernel.proofs.index.Touching.{call-found, next-is}
-use Rattle.pl_kernel.proofs.index.Asiding.{look_on}
+use Rattle.pl_kernel.proofs.index.Touching.{next-is, call-found}
+use Rattle.pl_kernel.proofs.index.Looking.{looked-on}
 use Rattle.pl_kernel.proofs.ready.look_at_new.Given.{Over}
-use Rattle.pl_kernel.proofs.ready.look_at_new.Goals.{In-Some}
+use Rattle.pl_kernel.proofs.ready.look_at_new.Goals.{After-look_to}
 use Rattle.pl_kernel.proofs.ready.look_at_new.Goals as goal
 
-module _ (g : Over) (c : In-Some g) where
-  -- a number is below the next one
-  below : c.in-Some.number < c.state.inside.parked.next
-  below = by (get nat_eq c.state.inside.parked.calls c.in-Some.number) refl c.in-Some.ensures.parked.1
-    where
-      by : (o : Option (ParkedCall g.row.A.Denot)) → get nat_eq c.state.inside.parked.calls c.in-Some.number ≡ o → IsSome o → c.in-Some.number < c.state.inside.parked.next
-      by None is there = absurd (cc)
-      by (Some w) is there = below_next 0 c.state.inside.parked.next c.in-Some.number c.state.inside.parked.calls w c.state.invariant.0.rise is
+module _ (g : Over) (c : After-look_to g) where
+  -- what is next in the kernel is next in the machine
+  next : (core_of c.args.state.now).next_call ≡ c.state.inside.parked.next
+  next = next-is c.args.state.now ∙ ap (λ (z : Contents g.row.A.Denot). z.calls.next) (sym c.state.view_is)
 
-pub look-requires-clause-below : goal.look-requires-clause-below
-look-requires-clause-below g c = (let low = below g ((goal.at.look-requires-clause-below g c).In-Some) in omega (arith, low, c.state.invariant.0.numbered))
+  -- no call waits that wasn't looked at
+  none : (number : ℕ) → c.loop-number.waiters.looked ≤ number → get nat_eq c.args.state.now.calls.calls number ≡ None
+  none number late = ap (λ (z : Contents g.row.A.Denot). get nat_eq z.calls.calls number) (sym c.state.view_is) ∙ c.in_default.ensures.none number (omega (arith, late, c.looked.ensures))
 
-pub look-requires-clause-from : goal.look-requires-clause-from
-look-requires-clause-from g c = (let on = c.in-Some.ensures.parked.0 in omega (arith, on, c.looked.ensures))
-
-pub loop-number-preserved : goal.loop-number-preserved
-loop-number-preserved g c =
-    let w = (goal.at.loop-number-preserved g c).In-Some in
-    let k = c.args.state.now in
-    let old = c.loop-number.waiters in
-    let low : c.in-Some.number < (core_of k).next_call = subst (λ n. c.in-Some.number < n) (ap (λ (z : Contents g.row.A.Denot). z.calls.next) c.state.view_is ∙ sym (next-is k)) (below g w) in
-    look_on (core_of k) old c.look.new.self c.loop-number.invariant c.look.ensures.places c.in-Some.number low c.look.ensures.looked c.look.ensures.may
-    (λ n v here. ⊎_elim (λ early. inl early)
-    (λ late.
-    let f = call-found k n v here in
-    let there : get nat_eq c.state.inside.parked.calls n ≡ Some f.0 = ap (λ (z : Contents g.row.A.Denot). get nat_eq z.calls.calls n) c.state.view_is ∙ f.1 in
-    inr (c.in-Some.ensures.least n (omega (arith, late, c.looked.ensures)) (subst (λ o. IsSome o) (sym there) refl)))
-    (sides n old.looked))
+pub returns-clause-knows : goal.returns-clause-knows
+returns-clause-knows g c =
+    let w = (goal.at.returns-clause-knows g c).After-look_to in
+    let e = c.look_to.ensures in
+    let looked = e.looked in
+    let value = c.next_number.ensures.value in
+    let same = next g w in
+    let coming = c.loop-number.invariant.coming in
+    looked-on (core_of c.args.state.now) c.loop-number.waiters c.look_to.new.self c.loop-number.invariant e.queues e.touched e.least e.lost (omega (arith, looked, value, same)) (omega (arith, looked, value, same, coming))
+    (λ number v here late. (let f = call-found c.args.state.now number v here in let no : None ≡ _ = sym (none g w number late) ∙ f.1 in absurd (cc)))
 
 pub returns-clause-none : goal.returns-clause-none
-returns-clause-none g c = λ number late. ap (λ (z : Contents g.row.A.Denot). get nat_eq z.calls.calls number) (sym c.state.view_is) ∙ c.in_default.ensures.none number (omega (arith, late, c.looked.ensures))
+returns-clause-none g c = λ number late.
+    let w = (goal.at.returns-clause-none g c).After-look_to in
+    let looked = c.look_to.ensures.looked in
+    let value = c.next_number.ensures.value in
+    let same = next g w in
+    let coming = c.loop-number.invariant.coming in
+    none g w number (omega (arith, late, looked, value, same, coming))

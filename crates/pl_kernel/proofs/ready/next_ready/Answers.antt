@@ -1,77 +1,51 @@
-use Rattle.std.proofs.Common.{◌≡◌, ◌≤◌, ◌<◌, ◌+◌, ℕ, None, true, false, ⊎_elim, sym, ◌∙◌, ap, subst, nat_eq, arith}
-use Rattle.pl_model.specs.Map.{get}
-use Rattle.pl_state.specs.Contents.{Contents, core_of}
-use Rattle.pl_kernel.specs.Progress.{is_ready, IsLeastFrom}
-use Rattle.pl_kernel.proofs.NextReady.{NoneYet, sides}
-use Rattle.pl_kernel.proofs.index.Touching.{next-is, unready}
-use Rattle.pl_kernel.proofs.index.Asiding.{spread_on, none_before, none_on, none_more}
+use Rattle.std.proofs.Common.{◌≡◌, ◌<◌, ◌⊎◌, ◌≤◌, ℕ, inl, inr, true, false, sym, ◌∙◌, subst}
+use Rattle.pl_state.specs.Contents.{core_of}
+use Rattle.pl_state.proofs.Known.{known}
+use Rattle.pl_kernel.specs.Progress.{is_ready}
+use Rattle.pl_kernel.specs.Asking.{AreAlike}
+use Rattle.pl_kernel.proofs.NextReady.{sides}
+use Rattle.pl_kernel.proofs.index.Touching.{unready}
+use Rattle.pl_kernel.proofs.index.Asking.{alike-in, numbers-in}
 use Rattle.pl_kernel.proofs.ready.next_ready.Given.{Over}
-use Rattle.pl_kernel.proofs.ready.next_ready.Goals.{In-Some, After-put_aside}
+use Rattle.pl_kernel.proofs.ready.next_ready.Goals.{After-look_at_new, After-settle}
 use Rattle.pl_kernel.proofs.ready.next_ready.Goals as goal
 
-pub returns-then-not-spread-clause-knows : goal.returns-then-not-spread-clause-knows
-returns-then-not-spread-clause-knows g c = spread_on (core_of c.args.state.now) c.look_at_new-new.new.waiters c.spread.new.self c.look_at_new-new.ensures.knows c.spread.ensures.may c.spread.ensures.places c.spread.ensures.looked
+-- what asking takes for granted
+numbers : (g : Over) (c : After-look_at_new g) (n : ℕ) → is_ready (core_of c.args.state.now) n ≡ true → n < 18446744073709551615
+numbers g c = numbers-in c.args.state.now (known c.state.inside c.state.invariant) c.state.view_is
 
-pub loop-init : goal.loop-init
-loop-init g c = record {
-  knows = spread_on (core_of c.args.state.now) c.look_at_new-new.new.waiters c.spread.new.self c.look_at_new-new.ensures.knows c.spread.ensures.may c.spread.ensures.places c.spread.ensures.looked;
-  spread = c.spread.ensures.spread c.if-not-spread.false;
-  looked = λ number late. c.look_at_new-new.ensures.none number (subst (λ n. n ≤ number) c.spread.ensures.looked late);
-  up = omega arith;
-  none = λ other on early. absurd (omega (arith, on, early));
-}
+pub settle-requires-clause-alike : goal.settle-requires-clause-alike
+settle-requires-clause-alike g c = alike-in c.args.state.now (known c.state.inside c.state.invariant) c.state.view_is c.look_at_new.new.waiters (sym c.is_lost.ensures ∙ c.if-is_lost.false) c.look_at_new.ensures.knows
 
--- no call before this one can get on
-module _ (g : Over) (c : In-Some g) where
-  none : NoneYet (is_ready (core_of c.args.state.now)) c.args.from c.in-Some.number
-  none =
-      let inv = c.loop.invariant in
-      none_before c.args.state.now c.loop.waiters inv.knows inv.looked c.args.from c.loop.least inv.none c.in-Some.number (c.in-Some.ensures.least inv.spread)
+pub settle-requires-clause-numbers : goal.settle-requires-clause-numbers
+settle-requires-clause-numbers g c = numbers g (goal.at.settle-requires-clause-numbers g c).After-look_at_new
 
-  up : c.args.from ≤ c.in-Some.number
-  up = (let on = c.in-Some.ensures.some.0 in let low = c.loop.invariant.up in omega (arith, on, low))
+-- the calls stay alike, and all that can make progress was looked at
+module _ (g : Over) (c : After-settle g) where
+  alike : (at queue : ℕ) → AreAlike (core_of c.args.state.now) c.settle.new.waiters at queue
+  alike = alike-in c.args.state.now (known c.state.inside c.state.invariant) c.state.view_is c.settle.new.waiters (c.settle.ensures.known.1 ∙ sym c.is_lost.ensures ∙ c.if-is_lost.false) c.settle.ensures.knows
 
-pub returns-then-is_ready-clause-least : goal.returns-then-is_ready-clause-least
-returns-then-is_ready-clause-least g c =
-    let w = (goal.at.returns-then-is_ready-clause-least g c).In-Some in
-    (up g w, sym c.is_ready.ensures ∙ c.if-is_ready.true, λ other on ready. ⊎_elim (λ early. absurd (let no : true ≡ false = sym ready ∙ none g w other on early in cc)) (λ late. late) (sides other c.in-Some.number))
+  looked : (n : ℕ) → is_ready (core_of c.args.state.now) n ≡ true → n < c.settle.new.waiters.looked
+  looked n ready = subst (λ l. n < l) (sym c.settle.ensures.known.0) (by (sides n c.look_at_new.new.waiters.looked))
+    where
+      by : (n < c.look_at_new.new.waiters.looked) ⊎ (c.look_at_new.new.waiters.looked ≤ n) → n < c.look_at_new.new.waiters.looked
+      by (inl low) = low
+      by (inr late) = absurd (let no : false ≡ true = sym (unready c.args.state.now n (c.look_at_new.ensures.none n late)) ∙ ready in cc)
 
--- nor this one
-module _ (g : Over) (c : After-put_aside g) where
-  none_to : c.is_ready.result ≡ false → NoneYet (is_ready (core_of c.args.state.now)) c.args.from (c.in-Some.number + 1)
-  none_to off = none_more (is_ready (core_of c.args.state.now)) c.args.from c.in-Some.number (none g (goal.at.After-put_aside g c).In-Some) (sym c.is_ready.ensures ∙ off)
+pub first_ready-requires-clause-alike : goal.first_ready-requires-clause-alike
+first_ready-requires-clause-alike g c = alike g (goal.at.first_ready-requires-clause-alike g c).After-settle
 
-  looked_on : (number : ℕ) → c.put_aside.new.waiters.looked ≤ number → get nat_eq c.args.state.now.calls.calls number ≡ None
-  looked_on number late = c.loop.invariant.looked number (subst (λ n. n ≤ number) c.put_aside.ensures.looked late)
+pub first_ready-requires-clause-numbers : goal.first_ready-requires-clause-numbers
+first_ready-requires-clause-numbers g c = numbers g (goal.at.first_ready-requires-clause-numbers g c).After-look_at_new
 
-pub loop-preserved : goal.loop-preserved
-loop-preserved g c =
-    let w = (goal.at.loop-preserved g c).In-Some in
-    let v = (goal.at.loop-preserved g c).After-put_aside in
-    let inv = c.loop.invariant in
-    let low = up g w in
-    let next = c.in_ok-least.ensures.1 in
-    record {
-      knows = c.put_aside.ensures.knows;
-      spread = record { known = sym c.is_lost-in-loop.ensures ∙ c.if-is_lost-2.false; none = c.put_aside.ensures.touched ∙ inv.spread.none };
-      looked = looked_on g v;
-      up = omega (arith, low, next);
-      none = λ other on early. none_to g v c.if-is_ready.false other on (omega (arith, early, next));
-    }
+pub first_ready-requires-clause-looked : goal.first_ready-requires-clause-looked
+first_ready-requires-clause-looked g c = looked g (goal.at.first_ready-requires-clause-looked g c).After-settle
 
-pub returns-in_err-least-clause-least : goal.returns-in_err-least-clause-least
-returns-in_err-least-clause-least g c =
-    let v = (goal.at.returns-in_err-least-clause-least g c).After-put_aside in
-    let k = c.args.state.now in
-    let most : c.loop.waiters.looked ≤ c.state.inside.parked.next = subst (λ n. c.loop.waiters.looked ≤ n) (next-is k ∙ ap (λ (z : Contents g.row.A.Denot). z.calls.next) (sym c.state.view_is)) c.loop.invariant.knows.coming in
-    let last : c.in-Some.number + 1 < 18446744073709551616 → ⊥ = c.in_err-least.ensures in
-    subst (IsLeastFrom (is_ready (core_of k)) c.args.from) (sym c.from_residual.ensures)
-    (λ other on. ⊎_elim
-    (λ early. none_to g v c.if-is_ready.false other on early)
-    (λ late. unready k other (looked_on g v other (omega (arith, late, last, most, c.state.invariant.0.numbered, c.put_aside.ensures.looked))))
-    (sides other (c.in-Some.number + 1)))
+pub first_ready_from-requires-clause-alike : goal.first_ready_from-requires-clause-alike
+first_ready_from-requires-clause-alike g c = alike g (goal.at.first_ready_from-requires-clause-alike g c).After-settle
 
-pub returns-in_default-clause-least : goal.returns-in_default-clause-least
-returns-in_default-clause-least g c =
-    let inv = c.loop.invariant in
-    none_on c.args.state.now c.loop.waiters inv.knows inv.looked c.args.from c.loop.least inv.none (c.in_default.ensures.none inv.spread)
+pub first_ready_from-requires-clause-numbers : goal.first_ready_from-requires-clause-numbers
+first_ready_from-requires-clause-numbers g c = numbers g (goal.at.first_ready_from-requires-clause-numbers g c).After-look_at_new
+
+pub first_ready_from-requires-clause-looked : goal.first_ready_from-requires-clause-looked
+first_ready_from-requires-clause-looked g c = looked g (goal.at.first_ready_from-requires-clause-looked g c).After-settle

@@ -1,4 +1,4 @@
-use Rattle.std.proofs.Common.{◌≡◌, sym, subst, ◌∙◌, IfSome, IsSome}
+use Rattle.std.proofs.Common.{◌≡◌, sym, subst, IfSome, IsSome}
 use Rattle.pl_model.specs.Packets.{front}
 use Rattle.pl_model.specs.declared.node.Node.TheVariants as node
 use Rattle.pl_model.specs.Transfer.{read_case}

@@ -1,4 +1,4 @@
-use Rattle.std.proofs.Common.{◌≡◌, ◌≤◌, false, sym, ap, subst, ◌∙◌, length, take, w32, IfSome, Some, arith}
+use Rattle.std.proofs.Common.{◌≡◌, ◌≤◌, ◌<◌, false, sym, ap, subst, ◌∙◌, length, take, w32, IfSome, Some, arith}
 use Rattle.std.specs.Prelude.{◌==◌, not, Result, Ok, Err, IfOk, OnOk}
 use Rattle.std.proofs.lemmas.Int.{to_z-of_z}
 use Rattle.std.proofs.lemmas.Bool.{ne_eqb}
@@ -20,6 +20,7 @@ use Rattle.pl_nodes.proofs.Keyed.{on_err}
 use Rattle.pl_state.proofs.by_call.Begun.{pipe_there}
 use Rattle.pl_state.proofs.Known.{Caller, caller}
 use Rattle.pl_transfers.specs.Waits.{WaitsToWrite}
+use Rattle.pl_transfers.proofs.by_call.BytesLeft.{waits_left}
 use Rattle.pl_transfers.proofs.by_call.Writing.{from_first, write-waits, write-waits-wants}
 use Rattle.pl_transfers.proofs.transfers.wait_to_write.Given.{Over}
 use Rattle.pl_transfers.proofs.transfers.wait_to_write.Goals.{After-kernel}
@@ -51,11 +52,14 @@ module _ (g : Over) (c : After-kernel g) where
   fits : FitsRoom (Waits w.from c.args.to) (length c.args.bytes) 0 (room on_pipe.0)
   fits = subst (λ z. IfSome z (λ x. FitsRoom (Waits w.from c.args.to) (length c.args.bytes) 0 (room x))) on_pipe.1 w.fits
 
+  -- it has bytes left
+  within : c.args.to < length c.args.bytes
+  within = (let none = w.some in waits_left (length c.args.bytes) 0 (room on_pipe.0) (has_reader k.opened o.pipe) (not o.nonblock) w.from c.args.to (omega (arith, none)) comes_to)
+
 pub park_write-requires-clause-may : goal.park_write-requires-clause-may
 park_write-requires-clause-may g c =
     let v = (goal.at.park_write-requires-clause-may g c).After-kernel in
-    let f = fits g v in
-    (f.2, f.4)
+    (within g v, (fits g v).4)
 
 pub park_write-requires-clause-room : goal.park_write-requires-clause-room
 park_write-requires-clause-room g c =
@@ -91,7 +95,7 @@ returns-clause-done g c =
     let told_adds = subst (λ z. Adds (with_call c.args.kernel.now (call_on o.key c.args.pid (Call.Write z c.args.bytes) to)) o.pipe (take to c.args.bytes) c.park_write.new.kernel) (to_z-of_z w32 c.args.fd c.ranges.fd) ok in
     let by_view = subst (λ z. Adds (with_call z call) o.pipe (take to c.args.bytes) c.park_write.new.kernel) (sym c.kernel.view_is) told_adds in
     let adds = subst (λ z. Adds (with_call k call) o.pipe z c.park_write.new.kernel) (sym part) by_view in
-    let does = write-waits (calls_on g v) c.args.fd c.args.bytes o (w g v).opens (some g v) p.0 p.1 from to (comes_to g v) (w g v).left c.park_write.new.kernel (fits.2, fits.4) adds in
+    let does = write-waits (calls_on g v) c.args.fd c.args.bytes o (w g v).opens (some g v) p.0 p.1 from to (comes_to g v) (w g v).left c.park_write.new.kernel (within g v, fits.4) adds in
     let told : number ≡ k.calls.next = is ∙ ap (λ z. z.calls.next) (sym c.kernel.view_is) in
     subst (λ z. MakesAtKeys z x (Parked number) c.park_write.new.kernel) c.kernel.view_is (subst (λ z. MakesAtKeys k x (Parked z) c.park_write.new.kernel) (sym told) does))
     c.park_write.ensures.number c.park_write.ensures.ok

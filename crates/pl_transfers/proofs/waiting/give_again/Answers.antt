@@ -1,4 +1,4 @@
-use Rattle.std.proofs.Common.{◌≡◌, ◌≤◌, refl, sym, ap, subst, ◌∙◌, take, length, IfSome, IsSome, arith}
+use Rattle.std.proofs.Common.{◌≡◌, ◌≤◌, refl, sym, subst, take, length, IfSome, arith}
 use Rattle.std.specs.Prelude.{min}
 use Rattle.std.proofs.Math.Nat.{min-le_right}
 use Rattle.pl_model.specs.Packets.{front, spent, lose}

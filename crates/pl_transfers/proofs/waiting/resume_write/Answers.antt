@@ -1,4 +1,4 @@
-use Rattle.std.proofs.Common.{◌≡◌, ◌≤◌, true, false, refl, sym, ap, subst, ◌∙◌, nat_eq, length, ℕ, List, Option, Some, IfSome, IsSome, Bor, arith}
+use Rattle.std.proofs.Common.{◌≡◌, ◌≤◌, ◌<◌, true, false, refl, sym, ap, subst, ◌∙◌, nat_eq, length, ℕ, List, Option, Some, IfSome, IsSome, Bor, arith}
 use Rattle.std.specs.Prelude.{slice_range, option_map}
 use Rattle.pl_model.specs.Packets.{gain}
 use Rattle.pl_model.specs.declared.node.Node.TheVariants as node
@@ -29,6 +29,7 @@ use Rattle.pl_transfers.proofs.by_call.Again.{again_sound, again_held}
 use Rattle.pl_state.proofs.holders.OnNodes.{is-pipe, kept-one}
 use Rattle.pl_state.proofs.waiting.Ending.{kept_there}
 use Rattle.pl_state.proofs.by_call.Moving.{changed_sound}
+use Rattle.pl_transfers.proofs.by_call.BytesLeft.{waits_left}
 use Rattle.pl_transfers.proofs.by_call.Resuming.{resume-write-broken, resume-write-cut, resume-write-ends, resume-write-waits, resume-write-ends-wants, resume-write-waits-wants}
 use Rattle.pl_state.proofs.Known.{parts_of, known, CallOnPipe, moved_view}
 use Rattle.pl_transfers.proofs.waiting.resume_write.Given.{Over}
@@ -82,10 +83,10 @@ module _ (g : Over) (c : After-case_of_write g) where
   may : (from to : ℕ) → c.case_of_write.result ≡ Waits from to → MayWait w.call.call to
   may from to is =
       let room_for : FitsRoom (Waits from to) c.args.length c.args.taken (room o.held) = subst (λ r. FitsRoom r c.args.length c.args.taken (room o.held)) is fits in
-      let within : to ≤ length (written w.call.call) = subst (λ n. to ≤ n) w.whole room_for.2 in
       let waiting : IsWaiting g.row.A.Denot w.call = subst (λ o. IfSome o (IsWaiting g.row.A.Denot)) w.here (c.kernel.invariant.0.waiting c.args.number) in
       let before = subst (λ z. MayWait z w.call.taken) w.asked waiting.may in
       let small : length (written w.call.call) ≤ pipe_buf → to ≡ 0 = (λ s. room_for.4 (subst (λ n. n ≤ pipe_buf) (sym w.whole) s) ∙ (sym w.taken_so_far ∙ before.1 s)) in
+      let within : to < length (written w.call.call) = waits_left (length (written w.call.call)) w.call.taken (room o.held) (has_reader k.opened o.pipe) true from to before.0 (comes_to ∙ is) in
       subst (λ z. MayWait z to) (sym w.asked) (within, small)
 
 -- the calls, with more bytes taken

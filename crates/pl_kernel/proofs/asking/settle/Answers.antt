@@ -1,0 +1,33 @@
+use Rattle.std.proofs.Common.{◌≡◌, ◌∙◌, ℕ, Option, Some, None, refl, sym}
+use Rattle.std.specs.Prelude.{IfNone}
+use Rattle.pl_state.specs.Contents.{core_of}
+use Rattle.pl_kernel.proofs.index.Settling.{knows-none, taken-out, alike-fewer}
+use Rattle.pl_kernel.proofs.asking.settle.Goals as goal
+
+none_of : (o : Option ℕ) (P : Type 0) → ((x : ℕ) → o ≡ Some x → ⊥) → IfNone o P → P
+none_of None P off h = h
+none_of (Some x) P off h = absurd (off x refl)
+
+pub ask_node-requires-clause-alike : goal.ask_node-requires-clause-alike
+ask_node-requires-clause-alike g c = alike-fewer (core_of c.args.state.now) c.loop-node.waiters c.take_touched.new.self (λ key there. sym (c.in-Some.ensures.queues key) ∙ there) c.loop-node.invariant.alike
+
+pub ask_node-requires-clause-knows : goal.ask_node-requires-clause-knows
+ask_node-requires-clause-knows g c =
+    let t = c.in-Some.ensures in
+    taken-out (core_of c.args.state.now) c.loop-node.waiters c.take_touched.new.self c.in-Some.node t.queues t.others t.least t.known c.loop-node.invariant.knows
+
+pub loop-node-preserved : goal.loop-node-preserved
+loop-node-preserved g c =
+    let inv = c.loop-node.invariant in
+    let t = c.in-Some.ensures in
+    let a = c.ask_node.ensures in
+    record {
+      alike = alike-fewer (core_of c.args.state.now) c.loop-node.waiters c.ask_node.new.waiters (λ key there. sym (t.queues key) ∙ a.fewer key there) inv.alike;
+      knows = a.knows;
+      known = (a.known.0 ∙ t.known.0 ∙ inv.known.0, a.known.1 ∙ t.known.1 ∙ inv.known.1);
+    }
+
+pub returns-clause-knows : goal.returns-clause-knows
+returns-clause-knows g c =
+    knows-none (core_of c.args.state.now) c.loop-node.waiters c.take_touched.new.self c.in_default.ensures.queues (none_of c.take_touched.result _ c.in_default.not-Some c.take_touched.ensures.same)
+    c.in_default.ensures.least c.in_default.ensures.known c.loop-node.invariant.knows

@@ -1,0 +1,21 @@
+-- What holds as touched nodes are asked.
+use Rattle.std.specs.Prelude.{ℕ, length}
+use Rattle.pl_model.specs.State.{Core}
+use Rattle.pl_model.specs.Numbered.{numbers}
+use Rattle.pl_state.specs.Contents.{core_of}
+use Rattle.pl_waiters.specs.declared.waiters.Waiters.{Waiters}
+use Rattle.pl_waiters.specs.Seen.{SameKnown}
+use Rattle.pl_kernel.specs.Asking.{AreAlike}
+use Rattle.pl_kernel.specs.Index.{Knows}
+use Rattle.pl_kernel.proofs.asking.settle.Given as goal
+
+pub record AreSettled {A : Type 0} (c : Core A numbers) (old now : Waiters A) : Type 0 where
+  pub alike : (at queue : ℕ) → AreAlike c now at queue
+  pub knows : Knows c now
+  pub known : SameKnown old now
+
+abbrev pub invariant-loop-node : goal.invariant-loop-node
+invariant-loop-node g l = AreSettled (core_of l.state) l.initial.waiters l.waiters
+
+abbrev pub decreases-loop-node : goal.decreases-loop-node
+decreases-loop-node g l = length l.waiters.touched.nodes.items

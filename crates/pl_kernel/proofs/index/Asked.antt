@@ -1,0 +1,42 @@
+-- What is known of a call that was asked.
+use Rattle.std.proofs.Common.{◌≡◌, ℕ, Bool, true, false, not, Option, refl, sym, ◌∙◌, ap, nat_eq}
+use Rattle.std.specs.declared.option.Option.TheVariants.{None, Some}
+use Rattle.std.proofs.lemmas.Bool.{eqb-true}
+use Rattle.pl_waiters.specs.declared.waiter.Waiter.{Waiter}
+use Rattle.pl_waiters.specs.Queue.{is_waiter}
+use Rattle.std.specs.Prelude.{◌&&◌, is_some, IsSome}
+use Rattle.pl_model.specs.Map.{get}
+use Rattle.pl_model.specs.State.{Core}
+use Rattle.pl_model.specs.Numbered.{numbers}
+use Rattle.pl_model.specs.Waking.{can_progress}
+use Rattle.pl_kernel.specs.Progress.{is_ready}
+
+pub was_other : (a b : Bool) → (not a && b) ≡ true → b ≡ true
+was_other true b h = absurd (cc)
+was_other false b h = h
+
+of-all : (a b d : Bool) → (a && (b && d)) ≡ true → d ≡ true
+of-all true true d h = h
+of-all true false d h = absurd (cc)
+of-all false b d h = absurd (cc)
+
+is-there : {X : Type 0} (o : Option X) → IsSome o → is_some o ≡ true
+is-there {X = X} None h = absurd (let none : IsSome {T = X} None = h in cc)
+is-there (Some x) h = refl
+
+-- a call that waits isn't one that is gone
+pub another : {A : Type 0} (c : Core A numbers) (gone key : Waiter) → is_some (get nat_eq c.parked gone.number) ≡ false → IsSome (get nat_eq c.parked key.number) → is_waiter gone key ≡ false
+another c gone key none some = by (is_waiter gone key) refl
+  where
+    by : (b : Bool) → is_waiter gone key ≡ b → b ≡ false
+    by false is = refl
+    by true is =
+        let same : gone.number ≡ key.number = eqb-true gone.number key.number (of-all (nat_eq gone.node key.node) (nat_eq gone.queue key.queue) (nat_eq gone.number key.number) is) in
+        absurd (let no : false ≡ true = sym none ∙ ap (λ n. is_some (get nat_eq c.parked n)) same ∙ is-there (get nat_eq c.parked key.number) some in cc)
+
+pub left-in : (a b : Bool) → a ≡ false → b ≡ true → (not a && b) ≡ true
+left-in true b h t = absurd (cc)
+left-in false b h t = t
+
+pub unparked-ready : {A : Type 0} (c : Core A numbers) (number : ℕ) → is_some (get nat_eq c.parked number) ≡ false → is_ready c number ≡ false
+unparked-ready c number none = ap (λ b. b && can_progress c number) none

@@ -1,0 +1,51 @@
+-- What is known once a step was made before which its nodes were touched.
+use Rattle.std.proofs.Common.{◌≡◌, ℕ, true, refl, sym, ◌∙◌, ap, subst, nat_eq}
+use Rattle.std.specs.Prelude.{Result, Ok, Err, IfOk, OnErr, IsSome}
+use Rattle.std.specs.declared.option.Option.TheVariants.{Some}
+use Rattle.std.specs.Set.{is_member}
+use Rattle.pl_model.specs.declared.calls.Step.{Step}
+use Rattle.pl_model.specs.declared.replies.Reply.{Reply}
+use Rattle.pl_model.specs.Map.{get}
+use Rattle.pl_model.specs.Keys.{NewKeys, Drawing, Plain, Draws, drawn}
+use Rattle.pl_model.specs.State.{Core, Waiting}
+use Rattle.pl_model.specs.Step.{Stepped, core_step}
+use Rattle.pl_model.specs.Numbered.{numbers}
+use Rattle.pl_model.specs.StandsFor.{AreUnused, Comes}
+use Rattle.pl_model.proofs.touching.Parked.{member_has}
+use Rattle.pl_waiters.specs.declared.waiters.Waiters.{Waiters}
+use Rattle.pl_state.specs.Contents.{Contents, contents, core_of}
+use Rattle.pl_state.specs.Makes.{MakesAtKeys}
+use Rattle.pl_state.proofs.Known.{Known}
+use Rattle.pl_kernel.specs.Index.{Knows, Touches}
+use Rattle.pl_kernel.proofs.index.Leaving.{left}
+use Rattle.pl_kernel.proofs.index.Known.{known_in, new_keys, unused_in}
+use Rattle.pl_kernel.proofs.index.Knowing.{knows_on, knows-more}
+
+-- a kernel that has these contents
+pub record Sees {A : Type 0} (s : Contents A) : Type 0 where
+  pub parts : Known A
+  pub is : contents parts.descs parts.nodes parts.calls parts.limits ≡ s
+
+module _ {A : Type 0} (s : Contents A) (old : Sees s) (new : Contents A) (now : Sees new) (x : Step A) where
+  -- what it leaves, by keys that were unused
+  abbrev Left : Type 0
+  Left = (keys : NewKeys numbers) × AreUnused (core_of s) keys × (core_of new ≡ left (core_of s) x keys)
+
+  left_by : (reply : Reply A) → (keys : NewKeys numbers) → AreUnused (core_of s) keys → (d : Drawing numbers (Stepped A numbers)) → core_step (core_of s) x ≡ d → Comes (core_of s) d reply (core_of new) → Left
+  left_by reply keys unused (Plain h) is (replied, left) = (keys, unused, left ∙ ap (λ (z : Drawing numbers (Stepped A numbers)). (drawn keys z).state) (sym is))
+  left_by reply keys unused (Draws f) is (drew, free, replied, left) = (drew, free, left ∙ ap (λ (z : Drawing numbers (Stepped A numbers)). (drawn drew z).state) (sym is))
+
+  described : (number : ℕ) (z : Waiting A numbers) → get nat_eq (core_of new).parked number ≡ Some z → (d : ℕ) → is_member nat_eq z.kept d ≡ true → IsSome ((core_of new).descriptions d)
+  described number z here d m = member_has (λ d. IsSome ((core_of new).descriptions d)) z.kept ((known_in new now.parts now.is).fit.kept number z here) d m
+
+  pub knows_made : (w u : Waiters A) → Knows (core_of s) w → Touches (core_of s) x w u → (reply : Reply A) → MakesAtKeys s x reply new → Knows (core_of new) u
+  knows_made w u knows touches reply makes =
+      let l = left_by reply (new_keys old.parts) (unused_in s old.parts old.is) (core_step (core_of s) x) refl makes in
+      subst (λ (c : Core A numbers). Knows c u) (sym l.2)
+      (knows_on (core_of s) (known_in s old.parts old.is) x l.0 l.1
+      (subst (λ (c : Core A numbers). (number : ℕ) (z : Waiting A numbers) → get nat_eq c.parked number ≡ Some z → (d : ℕ) → is_member nat_eq z.kept d ≡ true → IsSome (c.descriptions d)) l.2 described)
+      w u touches knows)
+
+  pub knows_after : {X E : Type 0} (result : Result X E) (f : X → Reply A) (w u : Waiters A) → Knows (core_of s) w → Touches (core_of s) x w u → IfOk result (λ r. MakesAtKeys s x (f r) new) → OnErr result (new ≡ s) → Knows (core_of new) u
+  knows_after (Ok r) f w u knows touches done undone = knows_made w u knows touches (f r) done
+  knows_after (Err e) f w u knows touches done undone = subst (λ (z : Contents A). Knows (core_of z) u) (sym undone) (knows-more (core_of s) w u knows touches.no_less)

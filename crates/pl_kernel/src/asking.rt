@@ -1,0 +1,307 @@
+//! The calls in the queues of the index are asked which of them can make progress.
+ghost use Rattle.std.specs.Prelude.{◌≡◌, ◌≤◌, ◌<◌, ◌^◌, ℕ, true, false, not, nat_eq, is_some, IsSome, IfSome, IfNone, Some};
+ghost use Rattle.pl_model.specs.Map.{get};
+ghost use Rattle.pl_state.specs.Contents.{core_of};
+ghost use Rattle.pl_kernel.specs.Progress.{is_ready, IsLeastFrom};
+ghost use Rattle.pl_waiters.specs.Queue.{IsBefore};
+ghost use Rattle.pl_least.specs.None.{none};
+ghost use Rattle.pl_waiters.specs.Seen.{stands, is_touched, SameTouched, SameKnown};
+ghost use Rattle.pl_least.specs.Numbers.{has_place};
+ghost use Rattle.pl_kernel.specs.Index.{Knows, KnowsBut};
+ghost use Rattle.pl_kernel.specs.Asking.{AreAlike, Prunes, Covers, CoversNode, IsDone, IsPast, lesser_of, number_if, answers_for, QueuesFit};
+
+use crate::queue::OTHERS;
+use crate::steps::can_progress;
+use pl_state::KernelState;
+use pl_transfers::read_gets_on;
+use pl_waiters::{Waiter, Waiters};
+use std::alloc::Allocator;
+
+/// What a call comes to that is asked.
+#[derive(Clone, Copy)]
+pub(crate) enum Found {
+    /// It ended, and was taken out of its queue.
+    Gone,
+    /// It can't make progress.
+    Stuck,
+    /// It can.
+    Ready,
+}
+
+/// Takes a call out of its queue, if it ended. Returns whether it did.
+pub(crate) fn drop_if_ended<A: Allocator + Copy>(
+    state: &KernelState<A>,
+    waiters: &mut Waiters<A>,
+    call: &Waiter,
+) -> bool
+    ensures prunes { Prunes (core_of {A = A} state.now) waiters.old waiters.new }
+    ensures ended { result ≡ not (is_some (get nat_eq (core_of {A = A} state.now).parked call.now.number)) }
+{
+    // A proof learns here what holds of the kernel.
+    let _ = &state.descs;
+    if state.parked.get(call.number).is_some() {
+        return false;
+    }
+    waiters.remove(call);
+    true
+}
+
+/// Takes some of the calls that ended out of their queues, where they may be more than those that wait: twice as many are looked at as were
+/// placed since the last time, so that those that ended stay fewer than those that were placed.
+pub(crate) fn drop_ended<A: Allocator + Copy>(
+    state: &KernelState<A>,
+    waiters: &mut Waiters<A>,
+    placed: usize,
+)
+    requires { Knows (core_of {A = A} state.now) waiters.old }
+    ensures knows { Knows (core_of {A = A} state.now) waiters.new }
+    ensures known { SameKnown waiters.old waiters.new }
+{
+    if waiters.len() / 2 <= state.parked.len() {
+        return;
+    }
+    for _ in 0..placed.saturating_mul(2) {
+        let Some(next) = waiters.sweep() else {
+            return;
+        };
+        let _ended = drop_if_ended(state, waiters, &next);
+    }
+}
+
+// Asks a call of a queue.
+fn ask<A: Allocator + Copy>(
+    state: &KernelState<A>,
+    waiters: &mut Waiters<A>,
+    call: &Waiter,
+) -> Found
+    ensures prunes { Prunes (core_of {A = A} state.now) waiters.old waiters.new }
+    ensures ready { result ≡ Found.Ready → is_ready (core_of {A = A} state.now) call.now.number ≡ true }
+    ensures stuck { result ≡ Found.Stuck → (IsSome (get nat_eq (core_of {A = A} state.now).parked call.now.number) × (is_ready (core_of {A = A} state.now) call.now.number ≡ false)) }
+    ensures gone { result ≡ Found.Gone → is_ready (core_of {A = A} state.now) call.now.number ≡ false }
+{
+    if drop_if_ended(state, waiters, call) {
+        return Found::Gone;
+    }
+    if can_progress(state, call.number) {
+        Found::Ready
+    } else {
+        Found::Stuck
+    }
+}
+
+// The number of a call that was asked, if it can make progress.
+fn number_if_ready(found: Found, number: u64) -> Option<u64>
+    ensures { result ≡ number_if found number }
+{
+    match found {
+        Found::Ready => Some(number),
+        Found::Stuck | Found::Gone => None,
+    }
+}
+
+// Whether what a call comes to answers for the rest of its queue: those after one that is ready have greater numbers, and where all are alike
+// the others are stuck too.
+fn answers_for_the_rest(found: Found, queue: u64) -> bool
+    ensures { result ≡ answers_for found queue }
+{
+    match found {
+        Found::Ready => true,
+        Found::Stuck => queue != OTHERS,
+        Found::Gone => false,
+    }
+}
+
+// The place from which the asking goes on: after the call, or after its whole queue.
+fn after(call: &Waiter, is_queue_done: bool) -> Option<Waiter>
+    ensures some { IfSome result (λ key. (key.node ≡ call.now.node) × IsPast key.queue key.number call.now is_queue_done) }
+    ensures on { IfSome result (λ key. IsBefore call.now.queue call.now.number key) }
+    ensures none { IfNone result ((queue number : ℕ) → queue < 2 ^ 64 → number < 2 ^ 64 → IsDone call.now is_queue_done queue number) }
+{
+    if !is_queue_done {
+        if let Some(number) = call.number.checked_add(1) {
+            return Some(Waiter { number, ..*call });
+        }
+    }
+    Some(Waiter {
+        queue: call.queue.checked_add(1)?,
+        number: 0,
+        ..*call
+    })
+}
+
+// The lesser one of two numbers, where there are any.
+fn lesser(one: Option<u64>, other: Option<u64>) -> Option<u64>
+    ensures { result ≡ lesser_of one other }
+{
+    match (one, other) {
+        (Some(one), Some(other)) => Some(one.min(other)),
+        (None, other) => other,
+        (one, None) => one,
+    }
+}
+
+// The least number, `from` or above, of the calls at a node that can make progress. Of a queue in which all are alike the first call is asked for
+// all. Calls that ended are taken out of their queues as they are found.
+fn least_at<A: Allocator + Copy>(
+    state: &KernelState<A>,
+    waiters: &mut Waiters<A>,
+    node: usize,
+    from: u64,
+) -> Option<u64>
+    requires { (at queue : ℕ) → AreAlike (core_of {A = A} state.now) waiters.old at queue }
+    ensures prunes { Prunes (core_of {A = A} state.now) waiters.old waiters.new }
+    ensures some { IfSome result (λ n. (from ≤ n) × (is_ready (core_of {A = A} state.now) n ≡ true)) }
+    ensures covers { (queue : ℕ) → queue < 2 ^ 64 → Covers (core_of {A = A} state.now) waiters.old node queue from result }
+{
+    let mut least = None;
+    let mut key = Waiter {
+        node,
+        queue: 0,
+        number: 0,
+    };
+    while let Some(next) = waiters.first_from(&key) {
+        if next.number < from {
+            key = Waiter {
+                number: from,
+                ..next
+            };
+            continue;
+        }
+        let found = ask(state, waiters, &next);
+        least = lesser(least, number_if_ready(found, next.number));
+        let Some(after) = after(&next, answers_for_the_rest(found, next.queue)) else {
+            return least;
+        };
+        key = after;
+    }
+    least
+}
+
+// Asks a node, but for whose calls all are up that can make progress.
+fn ask_node<A: Allocator + Copy>(state: &KernelState<A>, waiters: &mut Waiters<A>, node: usize)
+    requires alike { (at queue : ℕ) → AreAlike (core_of {A = A} state.now) waiters.old at queue }
+    requires numbers { (n : ℕ) → is_ready (core_of {A = A} state.now) n ≡ true → n < none }
+    requires queues { QueuesFit (core_of {A = A} state.now) }
+    requires place { has_place waiters.old.least node }
+    requires knows { KnowsBut (core_of {A = A} state.now) waiters.old (Some node) }
+    ensures knows { Knows (core_of {A = A} state.now) waiters.new }
+    ensures fewer { (key : Waiter) → stands waiters.new key ≡ true → stands waiters.old key ≡ true }
+    ensures touched { SameTouched waiters.old waiters.new }
+    ensures known { SameKnown waiters.old waiters.new }
+{
+    let least = least_at(state, waiters, node, 0);
+    waiters.set_least(node, least);
+}
+
+/// Asks the nodes that were touched. All calls of a queue are alike, and no call has the greatest number of all.
+pub(crate) fn settle<A: Allocator + Copy>(state: &KernelState<A>, waiters: &mut Waiters<A>)
+    requires alike { (at queue : ℕ) → AreAlike (core_of {A = A} state.now) waiters.old at queue }
+    requires numbers { (n : ℕ) → is_ready (core_of {A = A} state.now) n ≡ true → n < none }
+    requires queues { QueuesFit (core_of {A = A} state.now) }
+    requires knows { Knows (core_of {A = A} state.now) waiters.old }
+    ensures knows { Knows (core_of {A = A} state.now) waiters.new }
+    ensures settled { (node : ℕ) → is_touched waiters.new node ≡ false }
+    ensures known { SameKnown waiters.old waiters.new }
+{
+    while let Some(node) = waiters.take_touched() {
+        ask_node(state, waiters, node);
+    }
+}
+
+// Whether a call waits under the number, and can make progress.
+fn is_ready<A: Allocator + Copy>(state: &KernelState<A>, number: u64) -> bool
+    ensures { result ≡ is_ready (core_of {A = A} state.now) number }
+{
+    // A proof learns here what holds of the kernel.
+    let _ = &state.descs;
+    if let Some(can) = read_gets_on(state, number) {
+        return can;
+    }
+    state.parked.get(number).is_some() && can_progress(state, number)
+}
+
+// The least number, `from` or above, of a parked call that can make progress. It asks all that wait, one after another.
+#[inline(never)]
+pub(crate) fn ask_all<A: Allocator + Copy>(state: &KernelState<A>, from: u64) -> Option<u64>
+    ensures { IsLeastFrom (is_ready (core_of {A = A} state.now)) from result }
+{
+    let mut least = from;
+    while let Some(number) = state.parked.next_from(least) {
+        if can_progress(state, number) {
+            return Some(number);
+        }
+        // A proof learns here that a number is never the greatest of its type.
+        let _next = state.parked.next_number();
+        least = number + 1;
+    }
+    None
+}
+
+/// The least number of the calls that can make progress, where no node is still to be asked, and all calls were looked at. A node whose call
+/// can't make progress any more is asked again, each at most once.
+pub(crate) fn first_ready<A: Allocator + Copy>(
+    state: &KernelState<A>,
+    waiters: &mut Waiters<A>,
+) -> Option<u64>
+    requires alike { (at queue : ℕ) → AreAlike (core_of {A = A} state.now) waiters.old at queue }
+    requires numbers { (n : ℕ) → is_ready (core_of {A = A} state.now) n ≡ true → n < none }
+    requires queues { QueuesFit (core_of {A = A} state.now) }
+    requires known { waiters.old.lost ≡ false }
+    requires looked { (n : ℕ) → is_ready (core_of {A = A} state.now) n ≡ true → n < waiters.old.looked }
+    requires settled { (node : ℕ) → is_touched waiters.old node ≡ false }
+    requires knows { Knows (core_of {A = A} state.now) waiters.old }
+    ensures least { IsLeastFrom (is_ready (core_of {A = A} state.now)) 0 result }
+    ensures knows { Knows (core_of {A = A} state.now) waiters.new }
+{
+    for _ in 0..waiters.nodes().saturating_add(1) {
+        let node = waiters.first_node()?;
+        let number = waiters.least_at(node)?;
+        if is_ready(state, number) {
+            return Some(number);
+        }
+        ask_node(state, waiters, node);
+    }
+    ask_all(state, 0)
+}
+
+// The least number, `from` or above, of the calls at a node that can make progress, if one was found there before.
+fn least_if_any<A: Allocator + Copy>(
+    state: &KernelState<A>,
+    waiters: &mut Waiters<A>,
+    node: usize,
+    from: u64,
+) -> Option<u64>
+    requires { (at queue : ℕ) → AreAlike (core_of {A = A} state.now) waiters.old at queue }
+    ensures prunes { Prunes (core_of {A = A} state.now) waiters.old waiters.new }
+    ensures some { IfSome result (λ n. (from ≤ n) × (is_ready (core_of {A = A} state.now) n ≡ true)) }
+    ensures covers { CoversNode (core_of {A = A} state.now) waiters.old node from result }
+{
+    if waiters.least_at(node).is_none() {
+        return None;
+    }
+    least_at(state, waiters, node, from)
+}
+
+/// The same of the least number from one on: the nodes are gone over at which a call was found.
+pub(crate) fn first_ready_from<A: Allocator + Copy>(
+    state: &KernelState<A>,
+    waiters: &mut Waiters<A>,
+    from: u64,
+) -> Option<u64>
+    requires alike { (at queue : ℕ) → AreAlike (core_of {A = A} state.now) waiters.old at queue }
+    requires numbers { (n : ℕ) → is_ready (core_of {A = A} state.now) n ≡ true → n < none }
+    requires queues { QueuesFit (core_of {A = A} state.now) }
+    requires known { waiters.old.lost ≡ false }
+    requires looked { (n : ℕ) → is_ready (core_of {A = A} state.now) n ≡ true → n < waiters.old.looked }
+    requires settled { (node : ℕ) → is_touched waiters.old node ≡ false }
+    requires knows { Knows (core_of {A = A} state.now) waiters.old }
+    ensures least { IsLeastFrom (is_ready (core_of {A = A} state.now)) from result }
+    ensures knows { Knows (core_of {A = A} state.now) waiters.new }
+{
+    let mut least = None;
+    for node in 0..waiters.nodes() {
+        let found = least_if_any(state, waiters, node, from);
+        least = lesser(least, found);
+    }
+    least
+}

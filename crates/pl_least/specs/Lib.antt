@@ -1,0 +1,3 @@
+pub mod None
+pub mod Numbers
+pub mod Tournament

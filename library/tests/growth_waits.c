@@ -1,0 +1,325 @@
+/* What calls cost beside others that wait. growth_waits N: beside N of them. Time is compared with that beside a sixteenth of N, with a wide
+ * margin, if N is large enough to tell. */
+#define _GNU_SOURCE
+#include "growth.h"
+
+#include <limits.h>
+
+/* The seconds of one round: a fork, a read of the child that waits, and the child's exit. */
+static double seconds_of_an_exit(bindingclay clay, int32_t read_end)
+{
+    enum { ROUNDS = 2000 };
+    double least = 1e9;
+    for (int run = 0; run < 5; run++) {
+        double begun = seconds();
+        for (int i = 0; i < ROUNDS; i++) {
+            uint32_t child = (uint32_t)bindingclay_fork(clay, 1).value;
+            bindingclay_answer waits = take(clay, child, read_end, 1);
+            if (waits.kind != BINDINGCLAY_PARKED || bindingclay_exit(clay, child).kind != BINDINGCLAY_DONE)
+                HOLDS(false);
+        }
+        double taken = (seconds() - begun) / ROUNDS;
+        least = taken < least ? taken : least;
+    }
+    return least;
+}
+
+/* An exit costs what its process has, however many calls of others wait. */
+static void an_exit_beside_calls_that_wait(long count)
+{
+    bindingclay clay = kernel_with_process();
+    bindingclay_ends ends = NEW_PIPE(clay, 1, false);
+    double few = 0;
+    for (long i = 0; i < count; i++) {
+        if (i == count / 16)
+            few = seconds_of_an_exit(clay, ends.read_end);
+        if (take(clay, 1, ends.read_end, 1).kind != BINDINGCLAY_PARKED)
+            HOLDS(false);
+    }
+    double many = seconds_of_an_exit(clay, ends.read_end);
+    if (count >= LARGE)
+        HOLDS(many < 8 * few);
+    printf("an exit beside %ld calls that wait %.0f ns, beside %ld %.0f ns\n", count / 16, few * 1e9, count, many * 1e9);
+    OTHER(bindingclay_exit(clay, 1), BINDINGCLAY_DONE);
+    bindingclay_free(clay);
+}
+
+/* How many pipes have calls that wait beside the one that is measured. */
+enum { OTHER_PIPES = 100 };
+
+/* One round: a read begins to wait, and nobody can get on. A byte helps it, so it is told. It is resumed, and again nobody can. */
+static void serve_one(bindingclay clay, bindingclay_ends ends)
+{
+    uint8_t byte = 0;
+    bindingclay_answer waits = take(clay, 1, ends.read_end, 1);
+    bool as_wanted = waits.kind == BINDINGCLAY_PARKED && bindingclay_next_ready(clay, 0).kind == BINDINGCLAY_NO_CALL;
+    as_wanted = as_wanted && put(clay, 1, ends.write_end, "a").value == 1;
+    bindingclay_answer next = bindingclay_next_ready(clay, 0);
+    as_wanted = as_wanted && next.kind == BINDINGCLAY_DONE && next.value == waits.value;
+    as_wanted = as_wanted && bindingclay_resume(clay, waits.value, &byte, 1).value == 1 && byte == 'a';
+    if (!as_wanted || bindingclay_next_ready(clay, 0).kind != BINDINGCLAY_NO_CALL)
+        HOLDS(false);
+}
+
+/* The seconds of such a round: the least of five runs. */
+static double seconds_of_a_service(bindingclay clay, bindingclay_ends ends)
+{
+    enum { ROUNDS = 1000 };
+    double least = 1e9;
+    for (int run = 0; run < 5; run++) {
+        double begun = seconds();
+        for (int i = 0; i < ROUNDS; i++)
+            serve_one(clay, ends);
+        double taken = (seconds() - begun) / ROUNDS;
+        least = taken < least ? taken : least;
+    }
+    return least;
+}
+
+/* The next call that can get on is found among those at the pipe that was touched, however many wait at others. */
+static void the_next_beside_calls_that_wait(long count)
+{
+    bindingclay clay = kernel_with_process();
+    bindingclay_ends ends = NEW_PIPE(clay, 1, false), others[OTHER_PIPES];
+    for (int i = 0; i < OTHER_PIPES; i++)
+        others[i] = NEW_PIPE(clay, 1, false);
+    double few = 0;
+    for (long i = 0; i < count; i++) {
+        if (i == count / 16)
+            few = seconds_of_a_service(clay, ends);
+        if (take(clay, 1, others[i % OTHER_PIPES].read_end, 1).kind != BINDINGCLAY_PARKED)
+            HOLDS(false);
+    }
+    double many = seconds_of_a_service(clay, ends);
+    if (count >= LARGE)
+        HOLDS(many < 8 * few);
+    printf("a read that waits, is told and resumed, beside %ld calls that wait %.0f ns, beside %ld %.0f ns\n", count / 16, few * 1e9, count,
+           many * 1e9);
+    OTHER(bindingclay_exit(clay, 1), BINDINGCLAY_DONE);
+    OTHER(bindingclay_next_ready(clay, 0), BINDINGCLAY_NO_CALL);
+    bindingclay_free(clay);
+    HOLDS(bytes_left == 0);
+}
+
+/* The seconds of a question which call can get on, where none can. */
+static double seconds_of_a_question(bindingclay clay)
+{
+    double begun = seconds();
+    OTHER(bindingclay_next_ready(clay, 0), BINDINGCLAY_NO_CALL);
+    return seconds() - begun;
+}
+
+/* Calls that began to wait are asked once each, however many they are. The next question costs what it costs beside a few. */
+static void the_next_after_many_calls(long count)
+{
+    bindingclay clay = kernel_with_process();
+    bindingclay_ends ends = NEW_PIPE(clay, 1, false);
+    for (long i = 0; i < count; i++)
+        if (take(clay, 1, ends.read_end, 1).kind != BINDINGCLAY_PARKED)
+            HOLDS(false);
+    double first = seconds_of_a_question(clay), next = first;
+    for (int run = 0; run < 5; run++) {
+        double taken = seconds_of_a_question(clay);
+        next = taken < next ? taken : next;
+    }
+    if (count >= LARGE)
+        HOLDS(16 * next < first);
+    OTHER(bindingclay_exit(clay, 1), BINDINGCLAY_DONE);
+    bindingclay_free(clay);
+    HOLDS(bytes_left == 0);
+}
+
+/* The seconds of a byte that comes to a pipe, until it is read and nobody can get on any more. */
+static double seconds_of_a_byte(bindingclay clay, bindingclay_ends ends)
+{
+    enum { ROUNDS = 8 };
+    uint8_t byte = 0;
+    double begun = seconds();
+    for (int i = 0; i < ROUNDS; i++) {
+        int served = 0;
+        bindingclay_answer next;
+        if (put(clay, 1, ends.write_end, "a").value != 1)
+            HOLDS(false);
+        while ((next = bindingclay_next_ready(clay, 0)).kind == BINDINGCLAY_DONE)
+            served += bindingclay_resume(clay, next.value, &byte, 1).value == 1;
+        HOLDS(served == 1);
+    }
+    return (seconds() - begun) / ROUNDS;
+}
+
+/* Among many readers of a pipe a byte costs little more than among a few, once each was entered in the queue of the pipe. */
+static void a_byte_for_many_readers(long count)
+{
+    bindingclay clay = kernel_with_process();
+    bindingclay_ends ends = NEW_PIPE(clay, 1, false);
+    double few = 0;
+    for (long i = 0; i < count; i++) {
+        if (i == count / 16) {
+            seconds_of_a_question(clay);
+            few = seconds_of_a_byte(clay, ends);
+        }
+        if (take(clay, 1, ends.read_end, 1).kind != BINDINGCLAY_PARKED)
+            HOLDS(false);
+    }
+    seconds_of_a_question(clay);
+    double many = seconds_of_a_byte(clay, ends);
+    if (count >= LARGE)
+        HOLDS(many < 8 * few);
+    printf("a byte for one of %ld readers of a pipe %.0f ns, of %ld %.0f ns\n", count / 16, few * 1e9, count, many * 1e9);
+    bindingclay_free(clay);
+    HOLDS(bytes_left == 0);
+}
+
+/* The seconds of a step at a pipe that changes nothing, and of the question after it: the least of five runs. */
+static double seconds_of_a_step_in_vain(bindingclay clay, bindingclay_ends ends)
+{
+    enum { ROUNDS = 1000 };
+    double least = 1e9;
+    for (int run = 0; run < 5; run++) {
+        double begun = seconds();
+        for (int i = 0; i < ROUNDS; i++)
+            if (bindingclay_set_fl(clay, 1, ends.read_end, 0).kind != BINDINGCLAY_DONE
+                || bindingclay_next_ready(clay, 0).kind != BINDINGCLAY_NO_CALL)
+                HOLDS(false);
+        double taken = (seconds() - begun) / ROUNDS;
+        least = taken < least ? taken : least;
+    }
+    return least;
+}
+
+/* The bytes that a new pipe can hold. */
+enum { WHOLE = 65536 };
+
+/* The first call of a queue answers for all of it, reads of an empty pipe and writes of a byte to a full one: a step there asks no more of them. */
+static void a_step_beside_one_queue(long count, bool are_writes)
+{
+    bindingclay clay = kernel_with_process();
+    bindingclay_ends ends = NEW_PIPE(clay, 1, false);
+    if (are_writes)
+        DONE(put_many(clay, 1, ends.write_end, WHOLE), WHOLE);
+    double few = 0;
+    for (long i = 0; i < count; i++) {
+        if (i == count / 16) {
+            seconds_of_a_question(clay);
+            few = seconds_of_a_step_in_vain(clay, ends);
+        }
+        bindingclay_answer waits = are_writes ? put(clay, 1, ends.write_end, "a") : take(clay, 1, ends.read_end, 1);
+        if (waits.kind != BINDINGCLAY_PARKED)
+            HOLDS(false);
+    }
+    seconds_of_a_question(clay);
+    double many = seconds_of_a_step_in_vain(clay, ends);
+    if (count >= LARGE)
+        HOLDS(many < 8 * few);
+    printf("a step in vain beside %ld %s of one pipe %.0f ns, beside %ld %.0f ns\n", count / 16, are_writes ? "writes" : "reads", few * 1e9,
+           count, many * 1e9);
+    OTHER(bindingclay_exit(clay, 1), BINDINGCLAY_DONE);
+    bindingclay_free(clay);
+    HOLDS(bytes_left == 0);
+}
+
+/* Calls that were interrupted before anybody asked cost the next question something, and the one after it nothing. */
+static void a_question_after_interrupted_calls(long count)
+{
+    enum { STAY = 10, ROUNDS = 1000 };
+    bindingclay clay = kernel_with_process();
+    bindingclay_ends ends = NEW_PIPE(clay, 1, false);
+    for (int i = 0; i < STAY; i++)
+        HOLDS(take(clay, 1, ends.read_end, 1).kind == BINDINGCLAY_PARKED);
+    double taken[2];
+    for (int many = 0; many < 2; many++) {
+        for (long i = 0; i < (many ? count : 1); i++) {
+            bindingclay_answer waits = take(clay, 1, ends.read_end, 1);
+            if (waits.kind != BINDINGCLAY_PARKED || bindingclay_interrupt(clay, waits.value).kind != BINDINGCLAY_FAULT)
+                HOLDS(false);
+        }
+        seconds_of_a_question(clay);
+        double begun = seconds();
+        for (int i = 0; i < ROUNDS; i++)
+            if (bindingclay_next_ready(clay, 0).kind != BINDINGCLAY_NO_CALL)
+                HOLDS(false);
+        taken[many] = (seconds() - begun) / ROUNDS;
+    }
+    if (count >= LARGE)
+        HOLDS(taken[1] < 8 * taken[0]);
+    printf("a question after an interrupted call %.0f ns, after %ld %.0f ns\n", taken[0] * 1e9, count, taken[1] * 1e9);
+    bindingclay_free(clay);
+    HOLDS(bytes_left == 0);
+}
+
+/* What calls that ended left in the queues is given back, once few wait. */
+static void queues_of_calls_that_ended(long count)
+{
+    bindingclay clay = kernel_with_process();
+    bindingclay_ends ends = NEW_PIPE(clay, 1, false);
+    DONE(bindingclay_fork(clay, 1), 2);
+    for (long i = 0; i < count; i++)
+        if (take(clay, 2, ends.read_end, 1).kind != BINDINGCLAY_PARKED)
+            HOLDS(false);
+    long before = bytes_left;
+    seconds_of_a_question(clay);
+    long queues = bytes_left - before;
+    OTHER(bindingclay_exit(clay, 2), BINDINGCLAY_DONE);
+    before = bytes_left;
+    seconds_of_a_question(clay);
+    if (count >= LARGE)
+        HOLDS(queues >= 24 * count && before - bytes_left >= queues);
+    printf("queues of %ld calls took %ld bytes, of which %ld came back\n", count, queues, before - bytes_left);
+    bindingclay_free(clay);
+    HOLDS(bytes_left == 0);
+}
+
+/* From some request for memory on all are refused: the same call is told, if there is one. It returns whether a request was refused. */
+static bool the_next_without_memory(long granted)
+{
+    enum { PIPES = 3, READS = 24 };
+    bindingclay clay = kernel_with_process();
+    bindingclay_ends ends[PIPES];
+    uint64_t first = 0;
+    for (int i = 0; i < PIPES; i++)
+        ends[i] = NEW_PIPE(clay, 1, false);
+    for (int i = 0; i < READS; i++) {
+        uint64_t number = take(clay, 1, ends[i % PIPES].read_end, 1).value;
+        first = i == 2 ? number : first;
+    }
+    bool was_refused = false;
+    refuse(granted, LONG_MAX);
+    OTHER(bindingclay_next_ready(clay, 0), BINDINGCLAY_NO_CALL);
+    was_refused = refused != 0;
+    refuse_none();
+    DONE(put(clay, 1, ends[2].write_end, "a"), 1);
+    refuse(granted, LONG_MAX);
+    DONE(bindingclay_next_ready(clay, 0), first);
+    was_refused = was_refused || refused != 0;
+    OTHER(bindingclay_next_ready(clay, first + READS), BINDINGCLAY_NO_CALL);
+    refuse_none();
+    uint8_t byte = 0;
+    DONE(bindingclay_resume(clay, first, &byte, 1), 1);
+    OTHER(bindingclay_next_ready(clay, 0), BINDINGCLAY_NO_CALL);
+    bindingclay_free(clay);
+    HOLDS(bytes_left == 0);
+    return was_refused;
+}
+
+static void the_next_without_any_memory(void)
+{
+    long granted = 0;
+    while (the_next_without_memory(granted))
+        granted++;
+    HOLDS(granted >= 4);
+}
+
+int main(int words, char **word)
+{
+    long count = count_of(words, word);
+    an_exit_beside_calls_that_wait(count);
+    the_next_beside_calls_that_wait(count);
+    the_next_after_many_calls(count);
+    a_byte_for_many_readers(count);
+    a_step_beside_one_queue(count, false);
+    a_step_beside_one_queue(count, true);
+    a_question_after_interrupted_calls(count);
+    queues_of_calls_that_ended(count);
+    the_next_without_any_memory();
+    return end();
+}
