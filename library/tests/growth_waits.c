@@ -4,24 +4,37 @@
 #include "growth.h"
 
 #include <limits.h>
+#include <poll.h>
 
-/* The seconds of one round: a fork, a read of the child that waits, and the child's exit. */
-static double seconds_of_an_exit(bindingclay clay, int32_t read_end)
+/* A kernel, and the pipe in it that is measured. */
+struct place { bindingclay clay; bindingclay_ends ends; };
+
+/* The seconds of a round: the least of five runs. */
+static double least_of_five(int rounds, void (*round)(const struct place *), struct place place)
 {
-    enum { ROUNDS = 2000 };
     double least = 1e9;
     for (int run = 0; run < 5; run++) {
         double begun = seconds();
-        for (int i = 0; i < ROUNDS; i++) {
-            uint32_t child = (uint32_t)bindingclay_fork(clay, 1).value;
-            bindingclay_answer waits = take(clay, child, read_end, 1);
-            if (waits.kind != BINDINGCLAY_PARKED || bindingclay_exit(clay, child).kind != BINDINGCLAY_DONE)
-                HOLDS(false);
-        }
-        double taken = (seconds() - begun) / ROUNDS;
+        for (int i = 0; i < rounds; i++)
+            round(&place);
+        double taken = (seconds() - begun) / rounds;
         least = taken < least ? taken : least;
     }
     return least;
+}
+
+/* A fork, a read of the child that waits, and the child's exit. */
+static void exit_a_child(const struct place *place)
+{
+    uint32_t child = (uint32_t)bindingclay_fork(place->clay, 1).value;
+    bindingclay_answer waits = take(place->clay, child, place->ends.read_end, 1);
+    if (waits.kind != BINDINGCLAY_PARKED || bindingclay_exit(place->clay, child).kind != BINDINGCLAY_DONE)
+        HOLDS(false);
+}
+
+static double seconds_of_an_exit(struct place place)
+{
+    return least_of_five(2000, exit_a_child, place);
 }
 
 /* An exit costs what its process has, however many calls of others wait. */
@@ -32,11 +45,11 @@ static void an_exit_beside_calls_that_wait(long count)
     double few = 0;
     for (long i = 0; i < count; i++) {
         if (i == count / 16)
-            few = seconds_of_an_exit(clay, ends.read_end);
+            few = seconds_of_an_exit((struct place){clay, ends});
         if (take(clay, 1, ends.read_end, 1).kind != BINDINGCLAY_PARKED)
             HOLDS(false);
     }
-    double many = seconds_of_an_exit(clay, ends.read_end);
+    double many = seconds_of_an_exit((struct place){clay, ends});
     if (count >= LARGE)
         HOLDS(many < 8 * few);
     printf("an exit beside %ld calls that wait %.0f ns, beside %ld %.0f ns\n", count / 16, few * 1e9, count, many * 1e9);
@@ -48,8 +61,10 @@ static void an_exit_beside_calls_that_wait(long count)
 enum { OTHER_PIPES = 100 };
 
 /* One round: a read begins to wait, and nobody can get on. A byte helps it, so it is told. It is resumed, and again nobody can. */
-static void serve_one(bindingclay clay, bindingclay_ends ends)
+static void serve_one(const struct place *place)
 {
+    bindingclay clay = place->clay;
+    bindingclay_ends ends = place->ends;
     uint8_t byte = 0;
     bindingclay_answer waits = take(clay, 1, ends.read_end, 1);
     bool as_wanted = waits.kind == BINDINGCLAY_PARKED && bindingclay_next_ready(clay, 0).kind == BINDINGCLAY_NO_CALL;
@@ -61,19 +76,9 @@ static void serve_one(bindingclay clay, bindingclay_ends ends)
         HOLDS(false);
 }
 
-/* The seconds of such a round: the least of five runs. */
-static double seconds_of_a_service(bindingclay clay, bindingclay_ends ends)
+static double seconds_of_a_service(struct place place)
 {
-    enum { ROUNDS = 1000 };
-    double least = 1e9;
-    for (int run = 0; run < 5; run++) {
-        double begun = seconds();
-        for (int i = 0; i < ROUNDS; i++)
-            serve_one(clay, ends);
-        double taken = (seconds() - begun) / ROUNDS;
-        least = taken < least ? taken : least;
-    }
-    return least;
+    return least_of_five(1000, serve_one, place);
 }
 
 /* The next call that can get on is found among those at the pipe that was touched, however many wait at others. */
@@ -86,11 +91,11 @@ static void the_next_beside_calls_that_wait(long count)
     double few = 0;
     for (long i = 0; i < count; i++) {
         if (i == count / 16)
-            few = seconds_of_a_service(clay, ends);
+            few = seconds_of_a_service((struct place){clay, ends});
         if (take(clay, 1, others[i % OTHER_PIPES].read_end, 1).kind != BINDINGCLAY_PARKED)
             HOLDS(false);
     }
-    double many = seconds_of_a_service(clay, ends);
+    double many = seconds_of_a_service((struct place){clay, ends});
     if (count >= LARGE)
         HOLDS(many < 8 * few);
     printf("a read that waits, is told and resumed, beside %ld calls that wait %.0f ns, beside %ld %.0f ns\n", count / 16, few * 1e9, count,
@@ -170,49 +175,88 @@ static void a_byte_for_many_readers(long count)
     HOLDS(bytes_left == 0);
 }
 
-/* The seconds of a step at a pipe that changes nothing, and of the question after it: the least of five runs. */
-static double seconds_of_a_step_in_vain(bindingclay clay, bindingclay_ends ends)
+/* A step at a pipe that changes nothing, and the question after it. */
+static void step_in_vain(const struct place *place)
 {
-    enum { ROUNDS = 1000 };
-    double least = 1e9;
-    for (int run = 0; run < 5; run++) {
-        double begun = seconds();
-        for (int i = 0; i < ROUNDS; i++)
-            if (bindingclay_set_fl(clay, 1, ends.read_end, 0).kind != BINDINGCLAY_DONE
-                || bindingclay_next_ready(clay, 0).kind != BINDINGCLAY_NO_CALL)
-                HOLDS(false);
-        double taken = (seconds() - begun) / ROUNDS;
-        least = taken < least ? taken : least;
-    }
-    return least;
+    if (bindingclay_set_fl(place->clay, 1, place->ends.read_end, 0).kind != BINDINGCLAY_DONE
+        || bindingclay_next_ready(place->clay, 0).kind != BINDINGCLAY_NO_CALL)
+        HOLDS(false);
 }
 
-/* The bytes that a new pipe can hold. */
-enum { WHOLE = 65536 };
+static double seconds_of_a_step_in_vain(struct place place)
+{
+    return least_of_five(1000, step_in_vain, place);
+}
 
-/* The first call of a queue answers for all of it, reads of an empty pipe and writes of a byte to a full one: a step there asks no more of them. */
-static void a_step_beside_one_queue(long count, bool are_writes)
+/* The bytes that a new pipe can hold, and how many sizes of writes wait at one, the least of which doesn't fit. */
+enum { WHOLE = 65536, SIZES = 64, ROOM = 64 };
+
+/* What waits at the pipe that is measured. */
+enum waiting { READS, WRITES, WRITES_OF_MANY_SIZES, POLLS, POLLS_OF_MANY, SPLICES, TEES };
+
+/* How calls of a kind are named, how many entries its polls have, and how many bytes are in the pipe. */
+static const struct kind {
+    const char *name;
+    size_t entries;
+    uint32_t bytes;
+} kinds[] = {
+    [READS] = {"reads", 0, 0},
+    [WRITES] = {"writes", 0, WHOLE},
+    [WRITES_OF_MANY_SIZES] = {"writes of 64 sizes", 0, WHOLE - ROOM},
+    [POLLS] = {"polls", 1, 0},
+    [POLLS_OF_MANY] = {"polls of 16 entries", 16, 0},
+    [SPLICES] = {"splices", 0, 0},
+    [TEES] = {"tees", 0, 0},
+};
+
+/* A call of this kind waits at the pipe; a splice and a tee wait to give to another one. */
+static bindingclay_answer wait_there(enum waiting kind, struct place place, bindingclay_ends other, long round)
+{
+    static const uint8_t bytes[ROOM + SIZES];
+    bindingclay_pollfd entries[16];
+    for (size_t i = 0; i < kinds[kind].entries; i++)
+        entries[i] = (bindingclay_pollfd){i % 2 == 0 ? place.ends.read_end : other.read_end, POLLIN, 0};
+    switch (kind) {
+    case READS:
+        return take(place.clay, 1, place.ends.read_end, 1);
+    case WRITES:
+        return put(place.clay, 1, place.ends.write_end, "a");
+    case WRITES_OF_MANY_SIZES:
+        return bindingclay_write(place.clay, 1, place.ends.write_end, bytes, ROOM + 1 + (size_t)(round % SIZES));
+    case POLLS:
+    case POLLS_OF_MANY:
+        return bindingclay_poll(place.clay, 1, entries, kinds[kind].entries, true);
+    case SPLICES:
+        return bindingclay_splice(place.clay, 1, place.ends.read_end, NULL, other.write_end, NULL, 1, 0);
+    case TEES:
+        return bindingclay_tee(place.clay, 1, place.ends.read_end, other.write_end, 1, 0);
+    }
+    abort();
+}
+
+/* The first call of a queue answers for all of it, and a write that is too large for all larger ones: a step at the pipe asks no more of them. */
+static void a_step_beside_one_queue(long count, enum waiting kind)
 {
     bindingclay clay = kernel_with_process();
-    bindingclay_ends ends = NEW_PIPE(clay, 1, false);
-    if (are_writes)
-        DONE(put_many(clay, 1, ends.write_end, WHOLE), WHOLE);
+    struct place place = {clay, NEW_PIPE(clay, 1, false)};
+    bindingclay_ends other = NEW_PIPE(clay, 1, false);
+    if (kinds[kind].bytes != 0)
+        DONE(put_many(clay, 1, place.ends.write_end, kinds[kind].bytes), kinds[kind].bytes);
     double few = 0;
     for (long i = 0; i < count; i++) {
         if (i == count / 16) {
             seconds_of_a_question(clay);
-            few = seconds_of_a_step_in_vain(clay, ends);
+            few = seconds_of_a_step_in_vain(place);
         }
-        bindingclay_answer waits = are_writes ? put(clay, 1, ends.write_end, "a") : take(clay, 1, ends.read_end, 1);
-        if (waits.kind != BINDINGCLAY_PARKED)
+        if (wait_there(kind, place, other, i).kind != BINDINGCLAY_PARKED)
             HOLDS(false);
     }
     seconds_of_a_question(clay);
-    double many = seconds_of_a_step_in_vain(clay, ends);
+    double many = seconds_of_a_step_in_vain(place);
     if (count >= LARGE)
         HOLDS(many < 8 * few);
-    printf("a step in vain beside %ld %s of one pipe %.0f ns, beside %ld %.0f ns\n", count / 16, are_writes ? "writes" : "reads", few * 1e9,
-           count, many * 1e9);
+    printf("a step in vain beside %ld %s of one pipe %.0f ns, beside %ld %.0f ns\n", count / 16, kinds[kind].name, few * 1e9, count,
+           many * 1e9);
     OTHER(bindingclay_exit(clay, 1), BINDINGCLAY_DONE);
     bindingclay_free(clay);
     HOLDS(bytes_left == 0);
@@ -316,8 +360,8 @@ int main(int words, char **word)
     the_next_beside_calls_that_wait(count);
     the_next_after_many_calls(count);
     a_byte_for_many_readers(count);
-    a_step_beside_one_queue(count, false);
-    a_step_beside_one_queue(count, true);
+    for (enum waiting kind = READS; kind <= TEES; kind++)
+        a_step_beside_one_queue(count, kind);
     a_question_after_interrupted_calls(count);
     queues_of_calls_that_ended(count);
     the_next_without_any_memory();

@@ -1,3 +1,9 @@
+-- What the places of a call say of it.
+pub mod Places
+-- Which calls wait in which queues.
+pub mod Kinds
+-- When a call is open.
+pub mod Opening
 -- What a step leaves of the calls that wait.
 pub mod Leaving
 -- What the index knows of the calls that a step leaves.
@@ -22,6 +28,8 @@ pub mod Nodes
 pub mod Settling
 -- The least of all calls that can make progress, by the least numbers of the nodes.
 pub mod First
+-- At which places the ends are that a call keeps.
+pub mod Placing
 -- What the index knows as a call is placed in its queues.
 pub mod Looking
 -- What asking the queues takes for granted.

@@ -4,14 +4,15 @@ ghost use Rattle.pl_model.specs.Map.{get};
 ghost use Rattle.pl_state.specs.Contents.{core_of};
 ghost use Rattle.pl_kernel.specs.Progress.{is_ready, IsLeastFrom};
 ghost use Rattle.pl_waiters.specs.Queue.{IsBefore};
-ghost use Rattle.pl_least.specs.None.{none};
 ghost use Rattle.pl_waiters.specs.Seen.{stands, is_touched, SameTouched, SameKnown};
 ghost use Rattle.pl_least.specs.Numbers.{has_place};
-ghost use Rattle.pl_kernel.specs.Index.{Knows, KnowsBut};
-ghost use Rattle.pl_kernel.specs.Asking.{AreAlike, Prunes, Covers, CoversNode, IsDone, IsPast, lesser_of, number_if, answers_for, QueuesFit};
+ghost use Rattle.pl_kernel.specs.Index.{Knows, KnowsBut, is_open};
+ghost use Rattle.pl_kernel.specs.Queues.{polls_of_pipes, is_polls, finds};
+ghost use Rattle.pl_kernel.specs.Asking.{AreUnderstood, Prunes, Covers, CoversNode, IsDone, IsPast, lesser_of, number_if, answered_to};
 
-use crate::queue::OTHERS;
+use crate::queue::{OTHERS, POLLS, asked_by, found_of_file, is_of_polls, last_answered, mode_of};
 use crate::steps::can_progress;
+use pl_polls::end_is_ready;
 use pl_state::KernelState;
 use pl_transfers::read_gets_on;
 use pl_waiters::{Waiter, Waiters};
@@ -68,21 +69,50 @@ pub(crate) fn drop_ended<A: Allocator + Copy>(
     }
 }
 
-// Asks a call of a queue.
+// Whether the polls of a queue find something of the node of a key.
+fn finds<A: Allocator + Copy>(state: &KernelState<A>, key: usize, queue: u64) -> bool
+    requires polls { is_polls queue ≡ true }
+    requires there { polls_of_pipes ≤ queue → IsSome ((core_of {A = A} state.now).pipes key) }
+    ensures { result ≡ finds (core_of {A = A} state.now) key queue }
+{
+    let kind = queue - POLLS;
+    if let Some(found) = found_of_file(kind) {
+        return found;
+    }
+    end_is_ready(state, key, mode_of(kind), asked_by(kind))
+}
+
+// Whether a call that waits can make progress for the sake of its queue.
+fn is_open<A: Allocator + Copy>(state: &KernelState<A>, call: &Waiter) -> bool
+    requires parked { IsSome (get nat_eq (core_of {A = A} state.now).parked call.now.number) }
+    requires there { is_polls call.now.queue ≡ true → polls_of_pipes ≤ call.now.queue → IsSome ((core_of {A = A} state.now).pipes call.now.node) }
+    ensures { result ≡ is_open (core_of {A = A} state.now) call.now }
+{
+    if is_of_polls(call.queue) {
+        finds(state, call.node, call.queue)
+    } else {
+        can_progress(state, call.number)
+    }
+}
+
+// Asks a call that stands in a queue whether it can make progress for the sake of that queue.
 fn ask<A: Allocator + Copy>(
     state: &KernelState<A>,
     waiters: &mut Waiters<A>,
     call: &Waiter,
 ) -> Found
+    requires there { IsSome (get nat_eq (core_of {A = A} state.now).parked call.now.number) → is_polls call.now.queue ≡ true → polls_of_pipes ≤ call.now.queue → IsSome ((core_of {A = A} state.now).pipes call.now.node) }
     ensures prunes { Prunes (core_of {A = A} state.now) waiters.old waiters.new }
-    ensures ready { result ≡ Found.Ready → is_ready (core_of {A = A} state.now) call.now.number ≡ true }
-    ensures stuck { result ≡ Found.Stuck → (IsSome (get nat_eq (core_of {A = A} state.now).parked call.now.number) × (is_ready (core_of {A = A} state.now) call.now.number ≡ false)) }
-    ensures gone { result ≡ Found.Gone → is_ready (core_of {A = A} state.now) call.now.number ≡ false }
+    ensures ready { result ≡ Found.Ready → is_open (core_of {A = A} state.now) call.now ≡ true }
+    ensures stuck { result ≡ Found.Stuck → (IsSome (get nat_eq (core_of {A = A} state.now).parked call.now.number) × (is_open (core_of {A = A} state.now) call.now ≡ false)) }
+    ensures gone { result ≡ Found.Gone → is_open (core_of {A = A} state.now) call.now ≡ false }
 {
+    // A proof learns here what holds of the kernel.
+    let _ = &state.descs;
     if drop_if_ended(state, waiters, call) {
         return Found::Gone;
     }
-    if can_progress(state, call.number) {
+    if is_open(state, call) {
         Found::Ready
     } else {
         Found::Stuck
@@ -99,31 +129,33 @@ fn number_if_ready(found: Found, number: u64) -> Option<u64>
     }
 }
 
-// Whether what a call comes to answers for the rest of its queue: those after one that is ready have greater numbers, and where all are alike
-// the others are stuck too.
-fn answers_for_the_rest(found: Found, queue: u64) -> bool
-    ensures { result ≡ answers_for found queue }
+// Up to which queue what a call comes to answers for the calls from there on, if it does: those of its queue after one that is ready have
+// greater numbers, and where all are alike the others are stuck too.
+fn answered_to(found: Found, queue: u64) -> Option<u64>
+    ensures { result ≡ answered_to found queue }
 {
     match found {
-        Found::Ready => true,
-        Found::Stuck => queue != OTHERS,
-        Found::Gone => false,
+        Found::Ready => Some(queue),
+        Found::Stuck if queue != OTHERS => Some(last_answered(queue)),
+        Found::Stuck | Found::Gone => None,
     }
 }
 
-// The place from which the asking goes on: after the call, or after its whole queue.
-fn after(call: &Waiter, is_queue_done: bool) -> Option<Waiter>
-    ensures some { IfSome result (λ key. (key.node ≡ call.now.node) × IsPast key.queue key.number call.now is_queue_done) }
+// The place from which the asking goes on: after the call, or after the last queue for which it answered, if it did.
+fn after(call: &Waiter, last: Option<u64>) -> Option<Waiter>
+    requires { IfSome last (λ last. call.now.queue ≤ last) }
+    ensures some { IfSome result (λ key. (key.node ≡ call.now.node) × IsPast key.queue key.number call.now last) }
     ensures on { IfSome result (λ key. IsBefore call.now.queue call.now.number key) }
-    ensures none { IfNone result ((queue number : ℕ) → queue < 2 ^ 64 → number < 2 ^ 64 → IsDone call.now is_queue_done queue number) }
+    ensures none { IfNone result ((queue number : ℕ) → queue < 2 ^ 64 → number < 2 ^ 64 → IsDone call.now last queue number) }
 {
-    if !is_queue_done {
+    if last.is_none() {
         if let Some(number) = call.number.checked_add(1) {
             return Some(Waiter { number, ..*call });
         }
     }
+    let last = last.unwrap_or(call.queue);
     Some(Waiter {
-        queue: call.queue.checked_add(1)?,
+        queue: last.checked_add(1)?,
         number: 0,
         ..*call
     })
@@ -148,7 +180,7 @@ fn least_at<A: Allocator + Copy>(
     node: usize,
     from: u64,
 ) -> Option<u64>
-    requires { (at queue : ℕ) → AreAlike (core_of {A = A} state.now) waiters.old at queue }
+    requires { AreUnderstood (core_of {A = A} state.now) waiters.old }
     ensures prunes { Prunes (core_of {A = A} state.now) waiters.old waiters.new }
     ensures some { IfSome result (λ n. (from ≤ n) × (is_ready (core_of {A = A} state.now) n ≡ true)) }
     ensures covers { (queue : ℕ) → queue < 2 ^ 64 → Covers (core_of {A = A} state.now) waiters.old node queue from result }
@@ -169,7 +201,7 @@ fn least_at<A: Allocator + Copy>(
         }
         let found = ask(state, waiters, &next);
         least = lesser(least, number_if_ready(found, next.number));
-        let Some(after) = after(&next, answers_for_the_rest(found, next.queue)) else {
+        let Some(after) = after(&next, answered_to(found, next.queue)) else {
             return least;
         };
         key = after;
@@ -179,12 +211,11 @@ fn least_at<A: Allocator + Copy>(
 
 // Asks a node, but for whose calls all are up that can make progress.
 fn ask_node<A: Allocator + Copy>(state: &KernelState<A>, waiters: &mut Waiters<A>, node: usize)
-    requires alike { (at queue : ℕ) → AreAlike (core_of {A = A} state.now) waiters.old at queue }
-    requires numbers { (n : ℕ) → is_ready (core_of {A = A} state.now) n ≡ true → n < none }
-    requires queues { QueuesFit (core_of {A = A} state.now) }
+    requires understood { AreUnderstood (core_of {A = A} state.now) waiters.old }
     requires place { has_place waiters.old.least node }
     requires knows { KnowsBut (core_of {A = A} state.now) waiters.old (Some node) }
     ensures knows { Knows (core_of {A = A} state.now) waiters.new }
+    ensures understood { AreUnderstood (core_of {A = A} state.now) waiters.new }
     ensures fewer { (key : Waiter) → stands waiters.new key ≡ true → stands waiters.old key ≡ true }
     ensures touched { SameTouched waiters.old waiters.new }
     ensures known { SameKnown waiters.old waiters.new }
@@ -193,11 +224,9 @@ fn ask_node<A: Allocator + Copy>(state: &KernelState<A>, waiters: &mut Waiters<A
     waiters.set_least(node, least);
 }
 
-/// Asks the nodes that were touched. All calls of a queue are alike, and no call has the greatest number of all.
+/// Asks the nodes that were touched.
 pub(crate) fn settle<A: Allocator + Copy>(state: &KernelState<A>, waiters: &mut Waiters<A>)
-    requires alike { (at queue : ℕ) → AreAlike (core_of {A = A} state.now) waiters.old at queue }
-    requires numbers { (n : ℕ) → is_ready (core_of {A = A} state.now) n ≡ true → n < none }
-    requires queues { QueuesFit (core_of {A = A} state.now) }
+    requires understood { AreUnderstood (core_of {A = A} state.now) waiters.old }
     requires knows { Knows (core_of {A = A} state.now) waiters.old }
     ensures knows { Knows (core_of {A = A} state.now) waiters.new }
     ensures settled { (node : ℕ) → is_touched waiters.new node ≡ false }
@@ -243,9 +272,7 @@ pub(crate) fn first_ready<A: Allocator + Copy>(
     state: &KernelState<A>,
     waiters: &mut Waiters<A>,
 ) -> Option<u64>
-    requires alike { (at queue : ℕ) → AreAlike (core_of {A = A} state.now) waiters.old at queue }
-    requires numbers { (n : ℕ) → is_ready (core_of {A = A} state.now) n ≡ true → n < none }
-    requires queues { QueuesFit (core_of {A = A} state.now) }
+    requires understood { AreUnderstood (core_of {A = A} state.now) waiters.old }
     requires known { waiters.old.lost ≡ false }
     requires looked { (n : ℕ) → is_ready (core_of {A = A} state.now) n ≡ true → n < waiters.old.looked }
     requires settled { (node : ℕ) → is_touched waiters.old node ≡ false }
@@ -271,7 +298,7 @@ fn least_if_any<A: Allocator + Copy>(
     node: usize,
     from: u64,
 ) -> Option<u64>
-    requires { (at queue : ℕ) → AreAlike (core_of {A = A} state.now) waiters.old at queue }
+    requires { AreUnderstood (core_of {A = A} state.now) waiters.old }
     ensures prunes { Prunes (core_of {A = A} state.now) waiters.old waiters.new }
     ensures some { IfSome result (λ n. (from ≤ n) × (is_ready (core_of {A = A} state.now) n ≡ true)) }
     ensures covers { CoversNode (core_of {A = A} state.now) waiters.old node from result }
@@ -288,9 +315,7 @@ pub(crate) fn first_ready_from<A: Allocator + Copy>(
     waiters: &mut Waiters<A>,
     from: u64,
 ) -> Option<u64>
-    requires alike { (at queue : ℕ) → AreAlike (core_of {A = A} state.now) waiters.old at queue }
-    requires numbers { (n : ℕ) → is_ready (core_of {A = A} state.now) n ≡ true → n < none }
-    requires queues { QueuesFit (core_of {A = A} state.now) }
+    requires understood { AreUnderstood (core_of {A = A} state.now) waiters.old }
     requires known { waiters.old.lost ≡ false }
     requires looked { (n : ℕ) → is_ready (core_of {A = A} state.now) n ≡ true → n < waiters.old.looked }
     requires settled { (node : ℕ) → is_touched waiters.old node ≡ false }

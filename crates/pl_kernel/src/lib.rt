@@ -7,6 +7,7 @@
 mod asking;
 mod kernel;
 mod noted;
+mod placing;
 mod queue;
 mod ready;
 mod sizes;

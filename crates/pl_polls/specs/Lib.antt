@@ -1,3 +1,4 @@
+pub mod Ends
 pub mod Masks
 pub mod Waiting
 pub mod Counts

@@ -105,9 +105,6 @@ module _ (places : List Place) (more : BTreeSet Waiter) (kept : ArePlaced places
               let at = h.0 in
               apart (omega (arith, up, down, at))
 
-  pub not-in-set : (place_at places least.node).has_more ≡ false → IsFirstOf InSet None
-  not-in-set off = record { some = tt; first = tt; none = λ k h. (let no : false ≡ true = sym (kept.none k (ap (λ n. (place_at places n).has_more) h.0 ∙ off)) ∙ h.2 in cc) }
-
   abbrev has : Waiter → Bool
   has k = is_one (place_at places k.node).one k || contains waiter_order more k
 

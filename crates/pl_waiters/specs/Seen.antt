@@ -5,12 +5,26 @@ use Rattle.pl_least.specs.Numbers.{number_at}
 use Rattle.pl_waiters.specs.declared.waiter.Waiter.{Waiter}
 use Rattle.pl_waiters.specs.declared.waiters.Waiters.{Waiters}
 use Rattle.pl_waiters.specs.Marks.{is_marked}
+use Rattle.std.specs.BTreeSet.{btree_set_len, contains}
+use Rattle.pl_waiters.specs.Queue.{waiter_order, place_at}
 use Rattle.pl_waiters.specs.Queues.{has_waiter}
 
 module _ {A : Type 0} where
   -- the call stands in the queue
   abbrev pub stands : Waiters A → Waiter → Bool
   stands w key = has_waiter w.queues key
+
+  -- the call that has the plain place of the node, if one has
+  abbrev pub one_at : Waiters A → (node : ℕ) → Option Waiter
+  one_at w node = (place_at w.queues.places.items node).one
+
+  -- the call stands in the set, beside the ones of the nodes
+  abbrev pub is_further : Waiters A → Waiter → Bool
+  is_further w key = contains waiter_order w.queues.more key
+
+  -- how many do
+  abbrev pub further : Waiters A → ℕ
+  further w = btree_set_len w.queues.more
 
   -- the node is still to be asked
   abbrev pub is_touched : Waiters A → (node : ℕ) → Bool

@@ -76,7 +76,7 @@ impl<A: Allocator> Marks<A> {
     /// Takes the mark of a node away, if there is one.
     pub(crate) fn take(&mut self) -> Option<usize>
         ensures room { length self.new.marked.items ≡ length self.old.marked.items }
-        ensures some { IfSome result (λ node. has_room self.new node × (is_marked self.old node ≡ true)) }
+        ensures some { IfSome result (λ node. has_room self.new node × (is_marked self.old node ≡ true) × (is_marked self.new node ≡ false)) }
         ensures others { IfSome result (λ node. (other : ℕ) → other ≢ node → is_marked self.new other ≡ is_marked self.old other) }
         ensures none { IfNone result ((other : ℕ) → is_marked self.new other ≡ false) }
         ensures same { IfNone result ((other : ℕ) → is_marked self.old other ≡ false) }

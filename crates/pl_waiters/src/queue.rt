@@ -88,12 +88,14 @@ impl<A: Allocator + Copy> Queues<A> {
 
 impl<A: Allocator> Queues<A> {
     ghost use Rattle.std.specs.Prelude.{◌≡◌, ℕ, ◌&&◌, not, false, true, IfSome, IfNone};
-    ghost use Rattle.std.specs.BTreeSet.{contains};
+    ghost use Rattle.std.specs.BTreeSet.{btree_set_len, contains};
     ghost use Rattle.pl_waiters.specs.Queue.{waiter_order, is_waiter, place_at, IsBehind};
     ghost use Rattle.pl_waiters.specs.Queues.{has_one, has_waiter};
 
     /// How many calls stand in the set. A call that is in several queues is one in each.
-    pub(crate) fn len(&self) -> usize {
+    pub(crate) fn len(&self) -> usize
+        ensures { result ≡ btree_set_len self.now.more }
+    {
         self.more.len()
     }
 
@@ -109,7 +111,9 @@ impl<A: Allocator> Queues<A> {
     }
 
     /// The call at a node that has its plain place, if one has.
-    pub(crate) fn one_at(&self, node: usize) -> Option<Waiter> {
+    pub(crate) fn one_at(&self, node: usize) -> Option<Waiter>
+        ensures { result ≡ (place_at self.now.places.items node).one }
+    {
         self.place(node).one
     }
 

@@ -38,11 +38,13 @@ impl<A: Allocator + Copy> Waiters<A> {
     ghost use Rattle.pl_waiters.specs.Marks.{has_room};
     ghost use Rattle.pl_waiters.specs.Queue.{is_waiter};
     ghost use Rattle.pl_waiters.specs.Queues.{has_place as has_queues};
-    ghost use Rattle.pl_waiters.specs.Seen.{stands, SameQueues, SameMarks, SameNumbers, SameKnown};
+    ghost use Rattle.pl_waiters.specs.Seen.{stands, is_touched, least, SameQueues, SameMarks, SameNumbers, SameKnown};
 
     /// Of no call anything is known, so each may make progress. It takes no memory.
     pub fn new(alloc: A) -> Self
         ensures queues { (key : Waiter) → stands result key ≡ false }
+        ensures touched { (node : ℕ) → is_touched result node ≡ false }
+        ensures least { (node : ℕ) → least result node ≡ None }
         ensures looked { result.looked ≡ 0 }
         ensures known { result.lost ≡ false }
     {
@@ -65,7 +67,7 @@ impl<A: Allocator + Copy> Waiters<A> {
         ensures looked { self.new.looked ≡ self.old.looked }
     {
         if self.reserve(call.node).is_err() || self.queues.add(call).is_err() {
-            self.lost = true;
+            self.lose();
         }
     }
 
@@ -86,11 +88,11 @@ impl<A: Allocator + Copy> Waiters<A> {
 }
 
 impl<A: Allocator> Waiters<A> {
-    ghost use Rattle.std.specs.Prelude.{◌≡◌, ◌≢◌, ℕ, ◌&&◌, ◌<◌, length, not, true, false, IfSome, IfNone, None, Some, nat_eq, if◌then◌else◌};
+    ghost use Rattle.std.specs.Prelude.{◌≡◌, ◌≢◌, ℕ, ◌+◌, ◌&&◌, ◌<◌, length, min, not, true, false, IfSome, IfNone, None, Some, nat_eq, if◌then◌else◌};
     ghost use Rattle.pl_least.specs.None.{none};
     ghost use Rattle.pl_least.specs.Numbers.{has_place};
-    ghost use Rattle.pl_waiters.specs.Seen.{stands, is_touched, least, IsFirst, SameQueues, SameTouched, SameLeast, SameKnown};
-    ghost use Rattle.pl_waiters.specs.Queue.{is_waiter, IsBehind};
+    ghost use Rattle.pl_waiters.specs.Seen.{stands, is_touched, least, further, is_further, one_at, IsFirst, SameQueues, SameTouched, SameLeast, SameKnown};
+    ghost use Rattle.pl_waiters.specs.Queue.{waiter, is_waiter, IsBehind};
 
     /// Whether nothing is known any more.
     pub fn is_lost(&self) -> bool
@@ -100,7 +102,9 @@ impl<A: Allocator> Waiters<A> {
     }
 
     /// How many calls stand in queues beside the one of each node. A call that stands in several is one in each.
-    pub fn len(&self) -> usize {
+    pub fn len(&self) -> usize
+        ensures { result ≡ further self.now }
+    {
         self.queues.len()
     }
 
@@ -114,6 +118,9 @@ impl<A: Allocator> Waiters<A> {
     /// Nothing is known any more.
     pub fn lose(&mut self)
         ensures lost { self.new.lost ≡ true }
+        ensures queues { SameQueues self.old self.new }
+        ensures touched { SameTouched self.old self.new }
+        ensures least { SameLeast self.old self.new }
         ensures looked { self.new.looked ≡ self.old.looked }
     {
         self.lost = true;
@@ -134,6 +141,7 @@ impl<A: Allocator> Waiters<A> {
     pub fn touch(&mut self, node: usize)
         ensures here { (key : Waiter) → key.node ≡ node → stands self.old key ≡ true → is_touched self.new node ≡ true }
         ensures more { (other : ℕ) → is_touched self.old other ≡ true → is_touched self.new other ≡ true }
+        ensures others { (other : ℕ) → other ≢ node → is_touched self.new other ≡ is_touched self.old other }
         ensures queues { SameQueues self.old self.new }
         ensures least { SameLeast self.old self.new }
         ensures known { SameKnown self.old self.new }
@@ -146,6 +154,7 @@ impl<A: Allocator> Waiters<A> {
     /// A node that is to be asked, which from now on it isn't.
     pub fn take_touched(&mut self) -> Option<usize>
         ensures place { IfSome result (has_place self.new.least) }
+        ensures taken { IfSome result (λ node. (is_touched self.old node ≡ true) × (is_touched self.new node ≡ false)) }
         ensures others { IfSome result (λ node. (other : ℕ) → other ≢ node → is_touched self.new other ≡ is_touched self.old other) }
         ensures none { IfNone result ((other : ℕ) → is_touched self.new other ≡ false) }
         ensures same { IfNone result ((other : ℕ) → is_touched self.old other ≡ false) }
@@ -179,13 +188,20 @@ impl<A: Allocator> Waiters<A> {
         self.queues.first_from(least)
     }
 
-    /// One of the calls at a node, which mostly is the only one. That there is none says nothing.
-    pub fn one_at(&self, node: usize) -> Option<Waiter> {
+    /// The call that has the plain place of a node, which mostly is the only one there. Where none has it, others may stand at the node.
+    pub fn one_at(&self, node: usize) -> Option<Waiter>
+        ensures { result ≡ one_at self.now node }
+    {
         self.queues.one_at(node)
     }
 
     /// The next call of a sweep through those that aren't the only one of their node, or `None` at its end, after which it begins again.
     pub fn sweep(&mut self) -> Option<Waiter>
+        ensures some { IfSome result (λ key. (is_further self.old key ≡ true) × IsBehind self.old.swept key) }
+        ensures first { IfSome result (λ key. (other : Waiter) → is_further self.old other ≡ true → IsBehind self.old.swept other → IsBehind key other) }
+        ensures none { IfNone result ((other : Waiter) → IsBehind self.old.swept other → is_further self.old other ≡ false) }
+        ensures on { IfSome result (λ key. self.new.swept ≡ waiter key.node key.queue (min (key.number + 1) 18446744073709551615)) }
+        ensures again { IfNone result (self.new.swept ≡ waiter 0 0 0) }
         ensures queues { SameQueues self.old self.new }
         ensures touched { SameTouched self.old self.new }
         ensures least { SameLeast self.old self.new }
@@ -223,7 +239,8 @@ impl<A: Allocator> Waiters<A> {
 
     /// How many nodes there are places for: at each that has a number, the key is below this.
     pub fn nodes(&self) -> usize
-        ensures { (node number : ℕ) → least self.now node ≡ Some number → node < result }
+        ensures value { result ≡ self.now.least.places }
+        ensures most { (node number : ℕ) → least self.now node ≡ Some number → node < result }
     {
         self.least.places()
     }

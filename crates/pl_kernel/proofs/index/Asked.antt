@@ -1,5 +1,5 @@
 -- What is known of a call that was asked.
-use Rattle.std.proofs.Common.{◌≡◌, ℕ, Bool, true, false, not, Option, refl, sym, ◌∙◌, ap, nat_eq}
+use Rattle.std.proofs.Common.{◌≡◌, Bool, true, false, not, cond, Option, refl, sym, ◌∙◌, ap, nat_eq}
 use Rattle.std.specs.declared.option.Option.TheVariants.{None, Some}
 use Rattle.std.proofs.lemmas.Bool.{eqb-true}
 use Rattle.pl_waiters.specs.declared.waiter.Waiter.{Waiter}
@@ -9,7 +9,8 @@ use Rattle.pl_model.specs.Map.{get}
 use Rattle.pl_model.specs.State.{Core}
 use Rattle.pl_model.specs.Numbered.{numbers}
 use Rattle.pl_model.specs.Waking.{can_progress}
-use Rattle.pl_kernel.specs.Progress.{is_ready}
+use Rattle.pl_kernel.specs.Queues.{is_polls, finds}
+use Rattle.pl_kernel.specs.Index.{is_open}
 
 pub was_other : (a b : Bool) → (not a && b) ≡ true → b ≡ true
 was_other true b h = absurd (cc)
@@ -38,5 +39,5 @@ pub left-in : (a b : Bool) → a ≡ false → b ≡ true → (not a && b) ≡ t
 left-in true b h t = absurd (cc)
 left-in false b h t = t
 
-pub unparked-ready : {A : Type 0} (c : Core A numbers) (number : ℕ) → is_some (get nat_eq c.parked number) ≡ false → is_ready c number ≡ false
-unparked-ready c number none = ap (λ b. b && can_progress c number) none
+pub unparked-open : {A : Type 0} (c : Core A numbers) (key : Waiter) → is_some (get nat_eq c.parked key.number) ≡ false → is_open c key ≡ false
+unparked-open c key none = ap (λ b. b && cond (is_polls key.queue) (finds c key.node key.queue) (can_progress c key.number)) none

@@ -1,39 +1,55 @@
 -- What the index knows of the calls that a step leaves.
-use Rattle.std.proofs.Common.{◌≡◌, ℕ, ◌<◌, ◌≤◌, Bool, true, false, inl, inr, refl, sym, ◌∙◌, ap, subst, nat_eq, arith}
-use Rattle.std.specs.Prelude.{◌&&◌, IsSome}
+use Rattle.std.proofs.Common.{◌≡◌, ℕ, ◌+◌, ◌-◌, ◌<◌, ◌≤◌, Bool, true, false, cond, List, [], ◌∷◌, length, map, inl, inr, refl, sym, ◌∙◌, ap, subst, nat_eq, nat_lt, nat_le, arith}
+use Rattle.std.specs.Prelude.{◌&&◌, ◌||◌, not, unwrap_or, option_map, IsSome}
 use Rattle.std.specs.declared.option.Option.{Option}
 use Rattle.std.specs.declared.option.Option.TheVariants.{None, Some}
 use Rattle.std.specs.List.{list_any}
 use Rattle.std.specs.Set.{is_member}
-use Rattle.std.proofs.lemmas.Bool.{eqb-true}
+use Rattle.std.proofs.lemmas.Bool.{eq-eqb}
 use Rattle.pl_model.specs.declared.calls.Call.{Call}
+use Rattle.pl_model.specs.declared.calls.Mode.{Mode}
 use Rattle.pl_model.specs.declared.calls.Step.{Step}
-use Rattle.pl_model.specs.declared.calls.Step.TheVariants.{Start, Begin, Resume, Interrupt}
+use Rattle.pl_model.specs.declared.flags.PollMask.{PollMask}
 use Rattle.pl_model.specs.Modes.{any_mode}
+use Rattle.pl_model.specs.Modes as modes
+use Rattle.pl_model.specs.Numbers.{pipe_buf}
 use Rattle.pl_model.specs.Map.{get}
-use Rattle.pl_model.specs.Keys.{Node, NewKeys, same_node}
-use Rattle.pl_model.specs.State.{Core, Description, Waiting}
-use Rattle.pl_model.specs.Live.{is_end}
+use Rattle.pl_model.specs.Keys.{Node, NewKeys, PipeNode, FileNode, same_node, drawn}
+use Rattle.pl_model.specs.State.{Core, Pipe, Description, Waiting, empty_pipe}
+use Rattle.pl_model.specs.Live.{readers, is_end}
+use Rattle.pl_model.specs.Trial.{pipe_at}
+use Rattle.pl_model.specs.Transfer.{room}
 use Rattle.pl_model.specs.Settle.{settle}
+use Rattle.pl_model.specs.Step.{Stepped, happen}
+use Rattle.pl_model.specs.Poll.{is_ready as is_mask_ready, mask_of, bits_if}
+use Rattle.pl_model.specs.declared.cases.Polled.{Polled}
 use Rattle.pl_model.specs.Numbered.{numbers}
 use Rattle.pl_model.specs.StandsFor.{AreUnused}
 use Rattle.pl_model.specs.Waking.{can_progress}
-use Rattle.pl_model.specs.Touching.{keeps_at, waits_at, touches, is_of_call, is_exit}
-use Rattle.pl_model.proofs.settling.Members.{and_left, member_found, member_passes}
+use Rattle.pl_model.specs.Touching.{keeps_at, touches}
+use Rattle.pl_model.proofs.by_call.Keeps.{end}
+use Rattle.pl_model.proofs.settling.Members.{and_left, or_left, or_right, member_found, member_passes}
 use Rattle.pl_model.proofs.settling.Opening.{same_is, same_refl}
+use Rattle.pl_model.proofs.settling.WhoIsLive.{is_on, readers-is, has_end-same}
 use Rattle.pl_model.proofs.streams.StayingMet.{IsOfCall, happen_met, holds_at_first}
-use Rattle.pl_model.proofs.touching.Parked.{core_step-is, member_has}
-use Rattle.pl_model.proofs.touching.Places.{kept_stays, node_stays}
-use Rattle.pl_model.proofs.touching.InVain.{idle_resumed}
+use Rattle.pl_model.proofs.touching.SameAt.{SameAt}
+use Rattle.pl_model.proofs.touching.Ending.{settle-same}
+use Rattle.pl_model.proofs.touching.Happening.{happened, of_another}
+use Rattle.pl_model.proofs.touching.Parked.{core_step-is, kept-live, member_has}
+use Rattle.pl_model.proofs.touching.Places.{kept_stays, end_stays}
 use Rattle.pl_model.proofs.touching.Untouched.{untouched_by_another}
-use Rattle.pl_kernel.specs.ToldNodes.{key_of}
-use Rattle.pl_kernel.proofs.index.Leaving.{IsKnown, left, rises, none_comes, interrupts, exits}
-use Rattle.pl_waiters.specs.declared.waiters.Waiters.{Waiters}
 use Rattle.pl_least.specs.Numbers.{number_at}
+use Rattle.pl_waiters.specs.declared.waiter.Waiter.{Waiter}
+use Rattle.pl_waiters.specs.declared.waiters.Waiters.{Waiters}
 use Rattle.pl_waiters.specs.Queue.{waiter}
 use Rattle.pl_waiters.specs.Seen.{stands}
-use Rattle.pl_kernel.specs.Queues.{queue_of}
-use Rattle.pl_kernel.specs.Index.{IsUp, IsIndexed, Knows, IsNoLess, Touches}
+use Rattle.pl_kernel.specs.ToldNodes.{key_of}
+use Rattle.pl_kernel.specs.Queues.{polls, is_polls, mode_of, rest_of, asks_in, asks_out, is_end_ready, queue_of_entry, finds, end_of, ends, places, is_place, is_placed}
+use Rattle.pl_kernel.specs.Index.{is_open, IsIn, IsUpBut, IsUpSomewhere, Knows, IsNoLess, Touches}
+use Rattle.pl_kernel.proofs.index.Leaving.{IsKnown, left, rises, none_comes}
+use Rattle.pl_kernel.proofs.index.Places.{KeepsEnd}
+use Rattle.pl_kernel.proofs.index.Kinds.{IsNoPoll, IsOfKind, place-kind, some-place, keeps-one, entry-polls}
+use Rattle.pl_kernel.proofs.index.Opening.{open-poll, open-call, open-parked}
 
 -- What stays parked under a number asks what was asked there.
 module _ {A : Type 0} (call : Call A) where
@@ -43,13 +59,40 @@ module _ {A : Type 0} (call : Call A) where
   asks_stays : IsOfCall asks
   asks_stays = record { taken = λ w t k. k; met = λ w k. k }
 
--- a step that tries a call again touches what it keeps
-resume-touches : {A : Type 0} (c : Core A numbers) (number : ℕ) (v : Waiting A numbers) → get nat_eq c.parked number ≡ Some v → (node : Node numbers) → keeps_at c node v ≡ true → touches c (Resume number) node ≡ true
-unfolding touches
-resume-touches c number v here node keeps = ap (waits_at c node) here ∙ keeps
+-- what is the same of each member is the same of the list
+map-same : {X : Type 0} (f g : ℕ → X) (ks : List ℕ) → ((d : ℕ) → is_member nat_eq ks d ≡ true → f d ≡ g d) → map f ks ≡ map g ks
+map-same f g [] same = refl
+map-same f g (k ∷ ks) same = λ i. same k (or_left (nat_eq k k) (is_member nat_eq ks k) (eq-eqb k k refl)) i ∷ map-same f g ks (λ d m. same d (or_right (nat_eq d k) (is_member nat_eq ks d) m)) i
+
+-- a list with a member isn't empty
+some-member : (ks : List ℕ) (d : ℕ) → is_member nat_eq ks d ≡ true → 0 < length ks
+some-member [] d m = absurd (cc)
+some-member (k ∷ ks) d m = omega arith
+
+-- what polls find of a node is the same in two states where the node is
+module _ {A : Type 0} (c u : Core A numbers) where
+  end-same : (p : ℕ) → SameAt c u (PipeNode p) → (mode : Mode) (to_read to_write : Bool) → is_end_ready u p mode to_read to_write ≡ is_end_ready c p mode to_read to_write
+  end-same p same mode to_read to_write =
+      λ i. (modes.reads mode && ((to_read && nat_lt 0 (length (pipe i).bytes)) || (pipe i).hung)) || (modes.writes mode && ((to_write && nat_le pipe_buf (room (pipe i))) || not (reader i)))
+    where
+      pipe : pipe_at u p ≡ pipe_at c p
+      pipe = ap (λ (z : Option Pipe × Option (List ℕ)). unwrap_or z.0 empty_pipe) same.held
+
+      reader : nat_lt 0 (readers u p) ≡ nat_lt 0 (readers c p)
+      reader = readers-is u p ∙ has_end-same c u (PipeNode p) same.ends modes.reads ∙ sym (readers-is c p)
+
+  by-file : (f : ℕ) (b : Bool) → finds u f (polls + bits_if b 1) ≡ finds c f (polls + bits_if b 1)
+  by-file f true = refl
+  by-file f false = refl
+
+  finds-same : (node : Node numbers) → SameAt c u node → (mode : Mode) (asked : PollMask) → finds u (key_of node) (queue_of_entry node mode asked) ≡ finds c (key_of node) (queue_of_entry node mode asked)
+  finds-same (PipeNode p) same mode asked =
+      let kind = queue_of_entry (PipeNode p) mode asked - polls in
+      ap (λ b. cond (nat_lt kind 4) (nat_eq kind 1) b) (end-same p same (mode_of kind) (asks_in (rest_of kind)) (asks_out (rest_of kind)))
+  finds-same (FileNode f) same mode asked = by-file f (is_mask_ready (mask_of Polled.File asked))
 
 module _ {A : Type 0} (c : Core A numbers) (known : IsKnown c) (x : Step A) (new : NewKeys numbers) (unused : AreUnused c new) where
-  open known use {fit, order, belong}
+  open known use {fit, order, keeps}
 
   abbrev c' : Core A numbers
   c' = left c x new
@@ -60,122 +103,50 @@ module _ {A : Type 0} (c : Core A numbers) (known : IsKnown c) (x : Step A) (new
       happen_met n (asks w.call) (asks_stays w.call) new c order (order.below n w here) (holds_at_first (asks w.call) (asks_stays w.call) c.parked n w here refl) x v
       (ap (λ z. get nat_eq z.state.parked n) (sym (core_step-is c x new)) ∙ there)
 
-  -- A call that waits before and afterwards keeps the same nodes.
-  module _ (described : (number : ℕ) (z : Waiting A numbers) → get nat_eq c'.parked number ≡ Some z → (d : ℕ) → is_member nat_eq z.kept d ≡ true → IsSome (c'.descriptions d))
-      (number : ℕ) (v z : Waiting A numbers) (here : get nat_eq c.parked number ≡ Some v) (there : get nat_eq c'.parked number ≡ Some z) where
+  -- A call that waits before and afterwards waits at the same places.
+  module _ (known' : IsKnown c') (number : ℕ) (v z : Waiting A numbers) (here : get nat_eq c.parked number ≡ Some v) (there : get nat_eq c'.parked number ≡ Some z) where
     same_kept : z.kept ≡ v.kept
     same_kept = kept_stays c x new order number v here z there
-
-    node_on : (d : ℕ) (node : Node numbers) (o p : Option (Description numbers)) → c.descriptions d ≡ o → c'.descriptions d ≡ p → IsSome o → IsSome p → is_end any_mode node p ≡ is_end any_mode node o
-    node_on d node None p e f some some' = absurd (let none : IsSome {T = Description numbers} None = some in cc)
-    node_on d node (Some y) None e f some some' = absurd (let none : IsSome {T = Description numbers} None = some' in cc)
-    node_on d node (Some y) (Some u) e f some some' = λ i. same_node (node_stays d y.node c x new unused y e refl u f i) node && true
 
     was_described : (d : ℕ) → is_member nat_eq v.kept d ≡ true → IsSome (c.descriptions d)
     was_described d m = member_has (λ d. IsSome (c.descriptions d)) v.kept (fit.kept number v here) d m
 
     is_described : (d : ℕ) → is_member nat_eq v.kept d ≡ true → IsSome (c'.descriptions d)
-    is_described d m = described number z there d (ap (λ kept. is_member nat_eq kept d) same_kept ∙ m)
+    is_described d m = member_has (λ d. IsSome (c'.descriptions d)) z.kept (known'.fit.kept number z there) d (ap (λ kept. is_member nat_eq kept d) same_kept ∙ m)
 
-    same_end : (d : ℕ) (node : Node numbers) → is_member nat_eq v.kept d ≡ true → is_end any_mode node (c'.descriptions d) ≡ is_end any_mode node (c.descriptions d)
-    same_end d node m = node_on d node (c.descriptions d) (c'.descriptions d) refl refl (was_described d m) (is_described d m)
+    same_end : (d : ℕ) → is_member nat_eq v.kept d ≡ true → option_map end_of (c'.descriptions d) ≡ option_map end_of (c.descriptions d)
+    same_end d m = by (c.descriptions d) (c'.descriptions d) refl refl (was_described d m) (is_described d m)
+      where
+        by : (o p : Option (Description numbers)) → c.descriptions d ≡ o → c'.descriptions d ≡ p → IsSome o → IsSome p → option_map end_of p ≡ option_map end_of o
+        by None p e f some some' = absurd (let none : IsSome {T = Description numbers} None = some in cc)
+        by (Some y) None e f some some' = absurd (let none : IsSome {T = Description numbers} None = some' in cc)
+        by (Some y) (Some u) e f some some' = ap (λ e. Some e) (end_stays d (end y) c x new unused y e refl u f)
 
-    back : (node : Node numbers) → keeps_at c' node z ≡ true → keeps_at c node v ≡ true
-    back node keeps =
-        let f = member_found (λ d. is_end any_mode node (c'.descriptions d)) v.kept (ap (list_any (λ d. is_end any_mode node (c'.descriptions d))) (sym same_kept) ∙ keeps) in
-        member_passes (λ d. is_end any_mode node (c.descriptions d)) v.kept f.0 f.1 (sym (same_end f.0 node f.1) ∙ f.2)
+    same_ends : ends c' z.kept ≡ ends c v.kept
+    same_ends = ap (ends c') same_kept ∙ map-same (λ d. option_map end_of (c'.descriptions d)) (λ d. option_map end_of (c.descriptions d)) v.kept same_end
 
-    forth : (node : Node numbers) → keeps_at c node v ≡ true → keeps_at c' node z ≡ true
-    forth node keeps =
-        let f = member_found (λ d. is_end any_mode node (c.descriptions d)) v.kept keeps in
-        ap (list_any (λ d. is_end any_mode node (c'.descriptions d))) same_kept
-        ∙ member_passes (λ d. is_end any_mode node (c'.descriptions d)) v.kept f.0 f.1 (same_end f.0 node f.1 ∙ f.2)
+    same_places : places z.call (ends c' z.kept) ≡ places v.call (ends c v.kept)
+    same_places = λ i. places (call_stays number v here z there i) (same_ends i)
 
-    -- If each node that the step touches was touched in the index, what is known of the call is known of it afterwards.
-    module _ (w u : Waiters A) (t : Touches c x w u) (i : IsIndexed c w number v) where
-      placed_on : (node : Node numbers) → keeps_at c' node z ≡ true → stands u (waiter (key_of node) (queue_of z.call) number) ≡ true
-      placed_on node keeps =
-          ap (λ (call : Call A). stands u (waiter (key_of node) (queue_of call) number)) (call_stays number v here z there)
-          ∙ t.no_less.queues (waiter (key_of node) (queue_of v.call) number) ∙ i.placed node (back node keeps)
+    pub back : (key : Waiter) → IsIn c' key z → IsIn c key v
+    back key h = ap (λ ps. is_place ps key.node key.queue) (sym same_places) ∙ h
 
-      up_on : (key : ℕ) → IsUp w key number → IsUp u key number
-      up_on key (inl touched) = inl (t.no_less.more key touched)
-      up_on key (inr found) = inr (found.0, ap (λ l. number_at l key) t.no_less.least_ones ∙ found.1, found.2)
+    pub forth : (key : Waiter) → IsIn c key v → IsIn c' key z
+    forth key h = ap (λ ps. is_place ps key.node key.queue) same_places ∙ h
 
-      -- the step touches what the description is on
-      abbrev hit : Option (Description numbers) → Bool
-      hit None = false
-      hit (Some y) = touches c x y.node
+    pub placed_stays : is_placed v.call (ends c v.kept) ≡ true → is_placed z.call (ends c' z.kept) ≡ true
+    placed_stays h = (λ i. is_placed (call_stays number v here z there i) (same_ends i)) ∙ h
 
-      abbrev IsTold : Type 0
-      IsTold = (node : Node numbers) × (keeps_at c' node z ≡ true) × IsUp u (key_of node) number
-
-      hits : (d : ℕ) → is_member nat_eq v.kept d ≡ true → (o : Option (Description numbers)) → c.descriptions d ≡ o → hit o ≡ true → IsTold
-      hits d m None e h = absurd (cc)
-      hits d m (Some y) e h =
-          let keeps : keeps_at c y.node v ≡ true = member_passes (λ d. is_end any_mode y.node (c.descriptions d)) v.kept d m (ap (is_end any_mode y.node) e ∙ (λ k. same_refl y.node k && true)) in
-          (y.node, forth y.node keeps, inl (t.touched y.node h (waiter (key_of y.node) (queue_of v.call) number) refl (subst (λ o. IsSome o) (sym here) refl) (i.placed y.node keeps)))
-
-      away : list_any (λ d. hit (c.descriptions d)) v.kept ≡ false → (node : Node numbers) → keeps_at c node v ≡ true → touches c x node ≡ false
-      away none node keeps = by (touches c x node) refl
-        where
-          f : (d : ℕ) × (is_member nat_eq v.kept d ≡ true) × (is_end any_mode node (c.descriptions d) ≡ true)
-          f = member_found (λ d. is_end any_mode node (c.descriptions d)) v.kept keeps
-
-          found : touches c x node ≡ true → (o : Option (Description numbers)) → is_end any_mode node o ≡ true → hit o ≡ true
-          found on None at = absurd (cc)
-          found on (Some y) at = ap (touches c x) (same_is y.node node (and_left (same_node y.node node) true at)) ∙ on
-
-          by : (b : Bool) → touches c x node ≡ b → b ≡ false
-          by false on = refl
-          by true on = absurd (let no : false ≡ true = sym none ∙ member_passes (λ d. hit (c.descriptions d)) v.kept f.0 f.1 (found on (c.descriptions f.0) f.2) in cc)
-
-      -- a call that the step leaves as it was
-      stays : (can_progress c' number ≡ can_progress c number) → can_progress c' number ≡ true → IsTold
-      stays same can = (let old = i.told (sym same ∙ can) in (old.0, forth old.0 old.1, up_on (key_of old.0) old.2))
-
-      own : ((node : Node numbers) → keeps_at c node v ≡ true → touches c x node ≡ false) → is_of_call x number v ≡ true → can_progress c' number ≡ true → IsTold
-      own off of_it can = at x refl of_it
-        where
-          no : true ≡ false → ⊥
-          no e = cc
-
-          ends : (pid : ℕ) (call : Call A) → Begin pid call ≡ x → (is_exit call && nat_eq v.pid pid) ≡ true → ⊥
-          ends pid Call.Exit is of_it =
-              let of_pid : v.pid ≡ pid = eqb-true v.pid pid of_it in
-              exits c new order number v here pid of_pid (ap c.processes (sym of_pid) ∙ belong number v here) z (subst (λ (s : Step A). get nat_eq (left c s new).parked number ≡ Some z) (sym is) there)
-          ends pid call is of_it = absurd (cc)
-
-          again : x ≡ Resume number → IsTold
-          again is = by (can_progress c number) refl
-            where
-              by : (b : Bool) → can_progress c number ≡ b → IsTold
-              by true could = (let old = i.told could in absurd (no (sym (ap (λ s. touches c s old.0) is ∙ resume-touches c number v here old.0 old.1) ∙ off old.0 old.1)))
-              by false stuck = stays (ap (λ s. can_progress (left c s new) number) is ∙ (idle_resumed c number new fit stuck number v here).1) can
-
-          at : (y : Step A) → y ≡ x → is_of_call y number v ≡ true → IsTold
-          at Start is of_it = absurd (cc)
-          at (Begin pid call) is of_it = absurd (ends pid call is of_it)
-          at (Resume k) is of_it = again (sym is ∙ ap (λ n. Resume n) (eqb-true k number of_it))
-          at (Interrupt k) is of_it = absurd (interrupts c new order number v here z (subst (λ (s : Step A). get nat_eq (left c s new).parked number ≡ Some z) (sym is ∙ ap (λ n. Interrupt n) (eqb-true k number of_it)) there))
-
-      told_on : can_progress c' number ≡ true → IsTold
-      told_on can = by (list_any (λ d. hit (c.descriptions d)) v.kept) refl
-        where
-          another : ((node : Node numbers) → keeps_at c node v ≡ true → touches c x node ≡ false) → (b : Bool) → is_of_call x number v ≡ b → IsTold
-          another off false other = stays (untouched_by_another c x new unused fit number v here off other).1 can
-          another off true it = own off it can
-
-          by : (b : Bool) → list_any (λ d. hit (c.descriptions d)) v.kept ≡ b → IsTold
-          by true some = (let f = member_found (λ d. hit (c.descriptions d)) v.kept some in hits f.0 f.1 (c.descriptions f.0) refl f.2)
-          by false none = another (away none) (is_of_call x number v) refl
-
-      pub indexed_on : IsIndexed c' u number z
-      indexed_on = record { placed = placed_on; told = told_on }
+  -- a node that the step doesn't touch, and at which a call waits, is as it was
+  same_at : (number : ℕ) (v : Waiting A numbers) → get nat_eq c.parked number ≡ Some v → (d : ℕ) → is_member nat_eq v.kept d ≡ true → (y : Description numbers) → c.descriptions d ≡ Some y → touches c x y.node ≡ false → SameAt c c' y.node
+  same_at number v here d m y at off =
+      let live = kept-live c fit number v here d m in
+      let on : is_on y.node (c.descriptions d) ≡ true = ap (is_on y.node) at ∙ (λ k. same_refl y.node k && true) in
+      subst (λ (z : Stepped A numbers). SameAt c z.state y.node) (sym (core_step-is c x new))
+      (settle-same c (drawn new (happen c x)).state fit.settled y.node d live on (happened c x new unused fit y.node d live on off))
 
   -- What a step leaves is known, if each node that it touches was touched in the index before.
-  module _ (described : (number : ℕ) (z : Waiting A numbers) → get nat_eq c'.parked number ≡ Some z → (d : ℕ) → is_member nat_eq z.kept d ≡ true → IsSome (c'.descriptions d))
-      (w u : Waiters A) (t : Touches c x w u) (knows : Knows c w) where
+  module _ (known' : IsKnown c') (w u : Waiters A) (t : Touches c x w u) (knows : Knows c w) where
     -- what was looked at and waits afterwards, waited before
     waited : (number : ℕ) (z : Waiting A numbers) → get nat_eq c'.parked number ≡ Some z → number < w.looked → (v : Waiting A numbers) × (get nat_eq c.parked number ≡ Some v)
     waited number z there low = by (get nat_eq c.parked number) refl
@@ -187,38 +158,133 @@ module _ {A : Type 0} (c : Core A numbers) (known : IsKnown c) (x : Step A) (new
     low-before : (number : ℕ) → number < u.looked → number < w.looked
     low-before number low = subst (λ n. number < n) t.no_less.known.0 low
 
-    known-before : u.lost ≡ false → w.lost ≡ false
-    known-before e = sym t.no_less.known.1 ∙ e
+    module _ (kept : u.lost ≡ false) where
+      before : w.lost ≡ false
+      before = sym t.no_less.known.1 ∙ kept
+
+      stood : (key : Waiter) → stands u key ≡ true → stands w key ≡ true
+      stood key there = sym (t.no_less.queues key) ∙ there
+
+      up_on : (key number : ℕ) → IsUpBut w None key number → IsUpBut u None key number
+      up_on key number (inl at) = absurd (cc)
+      up_on key number (inr (inl touched)) = inr (inl (t.no_less.more key touched))
+      up_on key number (inr (inr found)) = inr (inr (found.0, ap (λ l. number_at l key) t.no_less.least_ones ∙ found.1, found.2))
+
+      -- the node of a call that stands there was touched, if the step touches it
+      touched_at : (key : Waiter) (v : Waiting A numbers) → get nat_eq c.parked key.number ≡ Some v → stands w key ≡ true → (node : Node numbers) → key_of node ≡ key.node → touches c x node ≡ true → IsUpBut u None key.node key.number
+      touched_at key v here there node at on = subst (λ n. IsUpBut u None n key.number) at (inr (inl (t.touched node on key (sym at) (subst (λ o. IsSome o) (sym here) refl) there)))
+
+      polled_on : (key : Waiter) → is_polls key.queue ≡ true → stands u key ≡ true → is_open c' key ≡ true → IsUpBut u None key.node key.number
+      polled_on key is_poll there opens =
+          let z = open-parked c' key opens in
+          let low = knows.early before key (stood key there) in
+          let v = waited key.number z.0 z.1 low in
+          by v.0 v.1 (open-poll c' key z.0 z.1 is_poll) (place-kind c v.0.call v.0.kept key.node key.queue (knows.right before key (stood key there) v.0 v.1))
+        where
+          by : (v : Waiting A numbers) → get nat_eq c.parked key.number ≡ Some v → is_open c' key ≡ finds c' key.node key.queue → IsOfKind c v.call v.kept key.node key.queue → IsUpBut u None key.node key.number
+          by v here told (inr n) = absurd (let no : false ≡ true = sym n.apart.0 ∙ is_poll in cc)
+          by v here told (inl p) = at (touches c x e.x.node) refl
+            where
+              e : KeepsEnd c v.kept key.node
+              e = p.3.end
+
+              at : (b : Bool) → touches c x e.x.node ≡ b → IsUpBut u None key.node key.number
+              at true on = touched_at key v here (stood key there) e.x.node e.at on
+              at false off =
+                  let same = finds-same c c' e.x.node (same_at key.number v here e.d e.member e.x e.here off) e.x.mode p.3.asked in
+                  let found : finds c key.node key.queue ≡ true = (λ i. finds c (sym e.at i) (sym p.3.of i)) ∙ sym same ∙ (λ i. finds c' (e.at i) (p.3.of i)) ∙ sym told ∙ opens in
+                  up_on key.node key.number (knows.polled before key is_poll (stood key there) (open-poll c key v here is_poll ∙ found))
+
+      -- the step touches what the description is on
+      abbrev hit : Option (Description numbers) → Bool
+      hit None = false
+      hit (Some y) = touches c x y.node
+
+      -- A call that is no poll, and can get on afterwards.
+      module _ (key : Waiter) (no_poll : is_polls key.queue ≡ false) (there : stands u key ≡ true) (v : Waiting A numbers) (here : get nat_eq c.parked key.number ≡ Some v) (low : key.number < w.looked) (can : can_progress c' key.number ≡ true) (off : IsNoPoll v.call) where
+        touched : (d : ℕ) → is_member nat_eq v.kept d ≡ true → (o : Option (Description numbers)) → c.descriptions d ≡ o → hit o ≡ true → IsUpSomewhere u None key.number
+        touched d m None e h = absurd (cc)
+        touched d m (Some y) e h =
+            let q = some-place c v.kept (member_has (λ d. IsSome (c.descriptions d)) v.kept (fit.kept key.number v here)) d y m e v.call (keeps key.number v here) off in
+            let other = waiter (key_of y.node) q.0 key.number in
+            let stands_w : stands w other ≡ true = knows.placed before other v here low q.1 in
+            record { key = other; of_it = refl; no_poll = q.2.0; there = t.no_less.queues other ∙ stands_w; up = touched_at other v here stands_w y.node refl h }
+
+        away : list_any (λ d. hit (c.descriptions d)) v.kept ≡ false → (node : Node numbers) → keeps_at c node v ≡ true → touches c x node ≡ false
+        away none node keeps = at (touches c x node) refl
+          where
+            f : (d : ℕ) × (is_member nat_eq v.kept d ≡ true) × (is_end any_mode node (c.descriptions d) ≡ true)
+            f = member_found (λ d. is_end any_mode node (c.descriptions d)) v.kept keeps
+
+            found : touches c x node ≡ true → (o : Option (Description numbers)) → is_end any_mode node o ≡ true → hit o ≡ true
+            found on None at = absurd (cc)
+            found on (Some y) at = ap (touches c x) (same_is y.node node (and_left (same_node y.node node) true at)) ∙ on
+
+            at : (b : Bool) → touches c x node ≡ b → b ≡ false
+            at false on = refl
+            at true on = absurd (let no : false ≡ true = sym none ∙ member_passes (λ d. hit (c.descriptions d)) v.kept f.0 f.1 (found on (c.descriptions f.0) f.2) in cc)
+
+        stayed : ((node : Node numbers) → keeps_at c node v ≡ true → touches c x node ≡ false) → IsUpSomewhere u None key.number
+        stayed off_nodes =
+            let d = keeps-one v.call v.kept (keeps key.number v here) off in
+            let other = of_another c fit key.number v here (some-member v.kept d.0 d.1) x off_nodes in
+            let same = untouched_by_another c x new unused fit key.number v here off_nodes other in
+            let old = knows.told before key no_poll (stood key there) (open-call c key v here no_poll ∙ sym same.1 ∙ can) in
+            record { key = old.key; of_it = old.of_it; no_poll = old.no_poll; there = t.no_less.queues old.key ∙ old.there; up = up_on old.key.node key.number old.up }
+
+        somewhere : IsUpSomewhere u None key.number
+        somewhere = by (list_any (λ d. hit (c.descriptions d)) v.kept) refl
+          where
+            by : (b : Bool) → list_any (λ d. hit (c.descriptions d)) v.kept ≡ b → IsUpSomewhere u None key.number
+            by true some = (let f = member_found (λ d. hit (c.descriptions d)) v.kept some in touched f.0 f.1 (c.descriptions f.0) refl f.2)
+            by false none = stayed (away none)
+
+      told_on : (key : Waiter) → is_polls key.queue ≡ false → stands u key ≡ true → is_open c' key ≡ true → IsUpSomewhere u None key.number
+      told_on key no_poll there opens =
+          let z = open-parked c' key opens in
+          let low = knows.early before key (stood key there) in
+          let v = waited key.number z.0 z.1 low in
+          by v.0 v.1 low (sym (open-call c' key z.0 z.1 no_poll) ∙ opens) (place-kind c v.0.call v.0.kept key.node key.queue (knows.right before key (stood key there) v.0 v.1))
+        where
+          by : (v : Waiting A numbers) → get nat_eq c.parked key.number ≡ Some v → key.number < w.looked → can_progress c' key.number ≡ true → IsOfKind c v.call v.kept key.node key.queue → IsUpSomewhere u None key.number
+          by v here low can (inl p) = absurd (let no : false ≡ true = sym no_poll ∙ ap is_polls (sym p.3.of) ∙ entry-polls p.3.end.x.node p.3.end.x.mode p.3.asked in cc)
+          by v here low can (inr n) = somewhere key no_poll there v here low can n.no_poll
 
     pub knows_on : Knows c' u
     knows_on = record {
       coming = (let up = rises c x new in let coming = knows.coming in let looked = t.no_less.known.0 in omega (arith, up, coming, looked));
-      calls = λ kept number z there low.
-          let v = waited number z there (low-before number low) in
-          indexed_on described number v.0 z v.1 there w u t (knows.calls (known-before kept) number v.0 v.1 (low-before number low));
+      placed = λ kept key z there low in_it.
+          let before = low-before key.number low in
+          let v = waited key.number z there before in
+          t.no_less.queues key ∙ knows.placed (sym t.no_less.known.1 ∙ kept) key v.0 v.1 before (back known' key.number v.0 z v.1 there key in_it);
+      whole = λ kept number z there low.
+          let before = low-before number low in
+          let v = waited number z there before in
+          placed_stays known' number v.0 z v.1 there (knows.whole (sym t.no_less.known.1 ∙ kept) number v.0 v.1 before);
+      polled = λ kept. polled_on kept;
+      told = λ kept. told_on kept;
       right = λ kept key stands_u z there.
           let stands_w : stands w key ≡ true = sym (t.no_less.queues key) ∙ stands_u in
-          let v = waited key.number z there (knows.early (known-before kept) key stands_w) in
-          let old = knows.right (known-before kept) key stands_w v.0 v.1 in
-          (ap queue_of (call_stays key.number v.0 v.1 z there) ∙ old.0, (old.1.0, forth described key.number v.0 z v.1 there old.1.0 old.1.1, old.1.2));
-      early = λ kept key stands_u. subst (λ n. key.number < n) (sym t.no_less.known.0) (knows.early (known-before kept) key (sym (t.no_less.queues key) ∙ stands_u));
+          let v = waited key.number z there (knows.early (sym t.no_less.known.1 ∙ kept) key stands_w) in
+          forth known' key.number v.0 z v.1 there key (knows.right (sym t.no_less.known.1 ∙ kept) key stands_w v.0 v.1);
+      early = λ kept key stands_u. subst (λ n. key.number < n) (sym t.no_less.known.0) (knows.early (sym t.no_less.known.1 ∙ kept) key (sym (t.no_less.queues key) ∙ stands_u));
     }
 
 -- More nodes that are to be asked are known no worse.
 module _ {A : Type 0} (c : Core A numbers) (w u : Waiters A) where
-  up-more : IsNoLess w u → (key number : ℕ) → IsUp w key number → IsUp u key number
-  up-more less key number (inl touched) = inl (less.more key touched)
-  up-more less key number (inr found) = inr (found.0, ap (λ l. number_at l key) less.least_ones ∙ found.1, found.2)
+  up-more : IsNoLess w u → (key number : ℕ) → IsUpBut w None key number → IsUpBut u None key number
+  up-more less key number (inl at) = inl at
+  up-more less key number (inr (inl touched)) = inr (inl (less.more key touched))
+  up-more less key number (inr (inr found)) = inr (inr (found.0, ap (λ l. number_at l key) less.least_ones ∙ found.1, found.2))
 
   pub knows-more : Knows c w → IsNoLess w u → Knows c u
   knows-more k less = record {
     coming = subst (λ n. n ≤ c.next_call) (sym less.known.0) k.coming;
-    calls = λ kept number v here low.
-        let i = k.calls (sym less.known.1 ∙ kept) number v here (subst (λ n. number < n) less.known.0 low) in
-        record {
-          placed = λ node keeps. less.queues (waiter (key_of node) (queue_of v.call) number) ∙ i.placed node keeps;
-          told = λ can. (let t = i.told can in (t.0, t.1, up-more less (key_of t.0) number t.2));
-        };
+    placed = λ kept key v here low in_it. less.queues key ∙ k.placed (sym less.known.1 ∙ kept) key v here (subst (λ n. key.number < n) less.known.0 low) in_it;
+    whole = λ kept number v here low. k.whole (sym less.known.1 ∙ kept) number v here (subst (λ n. number < n) less.known.0 low);
+    polled = λ kept key is_poll there opens. up-more less key.node key.number (k.polled (sym less.known.1 ∙ kept) key is_poll (sym (less.queues key) ∙ there) opens);
+    told = λ kept key no_poll there opens. (let s = k.told (sym less.known.1 ∙ kept) key no_poll (sym (less.queues key) ∙ there) opens in
+        record { key = s.key; of_it = s.of_it; no_poll = s.no_poll; there = less.queues s.key ∙ s.there; up = up-more less s.key.node key.number s.up });
     right = λ kept key there v here. k.right (sym less.known.1 ∙ kept) key (sym (less.queues key) ∙ there) v here;
     early = λ kept key there. subst (λ n. key.number < n) (sym less.known.0) (k.early (sym less.known.1 ∙ kept) key (sym (less.queues key) ∙ there));
   }

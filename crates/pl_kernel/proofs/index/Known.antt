@@ -1,6 +1,6 @@
 -- What a kernel's state is known to be.
-use Rattle.std.proofs.Common.{◌≡◌, ℕ, true, false, List, [], ◌∷◌, length, get_or, refl, sym, ◌∙◌, ap, subst, nat_eq}
-use Rattle.std.specs.Prelude.{All, IsSome, IfSome, IsTrue, is_some, option_map}
+use Rattle.std.proofs.Common.{◌≡◌, ℕ, false, List, [], ◌∷◌, length, get_or, refl, subst, nat_eq}
+use Rattle.std.specs.Prelude.{All, IsSome, IfSome, is_some, option_map}
 use Rattle.std.specs.declared.option.Option.{Option}
 use Rattle.std.specs.declared.option.Option.TheVariants.{None, Some}
 use Rattle.std.proofs.lemmas.Bool.{eq-eqb}
@@ -17,6 +17,7 @@ use Rattle.pl_desc.specs.Descs.{Opened}
 use Rattle.pl_model.specs.declared.node.Node.{Node}
 use Rattle.pl_model.specs.declared.node.Node.TheVariants.{Pipe, File}
 use Rattle.pl_state.specs.Contents.{Contents, contents, IsThere, core_of, description_of, node_of}
+use Rattle.pl_state.specs.Sound.{IsWaiting, Keeps}
 use Rattle.pl_state.proofs.Known.{Known, parts_of}
 use Rattle.pl_state.proofs.waiting.Ending.{member_there}
 use Rattle.pl_state.proofs.waiting.InOrder.{order_of}
@@ -78,16 +79,14 @@ module _ {A : Type 0} (m : Known A) where
   unfolding core_of
   fit = record { settled = sound.settled; once = (order_of k sound).once; rows = λ pid fd none. no_rows descs.tables pid fd none; kept = all_kept; there = there }
 
-  belong : (number : ℕ) (v : Waiting A numbers) → get nat_eq c.parked number ≡ Some v → c.processes v.pid ≡ true
-  unfolding core_of
-  belong number v here =
+  kept_as : (number : ℕ) (v : Waiting A numbers) → get nat_eq c.parked number ≡ Some v → Keeps v.call v.kept
+  kept_as number v here =
       let f = call-found k number v here in
-      let mine : IfSome (get nat_eq calls.calls number) (λ w. IsTrue (is_pid descs.tables w.pid)) = sound.belong number in
-      let its : IsTrue (is_pid descs.tables f.0.pid) = subst (λ o. IfSome o (λ w. IsTrue (is_pid descs.tables w.pid))) f.1 mine in
-      ap (is_pid descs.tables) (ap (λ (z : Waiting A numbers). z.pid) (sym f.2)) ∙ its
+      let waits : IsWaiting A f.0 = subst (λ o. IfSome o (IsWaiting A)) f.1 (sound.waiting number) in
+      subst (λ (z : Waiting A numbers). Keeps z.call z.kept) f.2 waits.keeps
 
   pub known : IsKnown c
-  known = record { fit = fit; order = order_of k sound; belong = belong }
+  known = record { fit = fit; order = order_of k sound; keeps = kept_as }
 
   -- Some keys are unused.
   abbrev pub new_keys : NewKeys numbers

@@ -1,12 +1,11 @@
 -- What is known of a node as the calls of its queues are asked, in order.
 use Rattle.std.proofs.Common.{◌≡◌, ◌≢◌, ℕ, ◌+◌, ◌-◌, ◌*◌, ◌<◌, ◌≤◌, ◌^◌, Bool, true, false, Option, ◌⊎◌, inl, inr, ⊎_elim, refl, sym, ◌∙◌, ap, subst, nat_eq, arith}
-use Rattle.std.specs.Prelude.{◌&&◌, not, is_some, IsSome, IfSome, min}
+use Rattle.std.specs.Prelude.{IsSome, IfSome, min, if◌then◌else◌}
 use Rattle.std.specs.declared.option.Option.TheVariants.{None, Some}
 use Rattle.std.proofs.lemmas.Bool.{cases_lt}
 use Rattle.pl_model.specs.Map.{get}
-use Rattle.pl_model.specs.State.{Core, Waiting}
+use Rattle.pl_model.specs.State.{Core}
 use Rattle.pl_model.specs.Numbered.{numbers}
-use Rattle.pl_model.specs.Waking.{can_progress}
 use Rattle.pl_kernel.specs.Progress.{is_ready}
 use Rattle.pl_kernel.specs.declared.asking.Found.{Found}
 use Rattle.pl_kernel.specs.declared.asking.Found.TheVariants.{Gone, Stuck, Ready}
@@ -14,8 +13,10 @@ use Rattle.pl_waiters.specs.declared.waiter.Waiter.{Waiter}
 use Rattle.pl_waiters.specs.declared.waiters.Waiters.{Waiters}
 use Rattle.pl_waiters.specs.Queue.{waiter, IsBehind, IsBefore}
 use Rattle.pl_waiters.specs.Seen.{stands}
-use Rattle.pl_kernel.specs.Queues.{others}
-use Rattle.pl_kernel.specs.Asking.{AreAlike, Prunes, Covers, IsDone, IsPast, lesser_of, number_if, answers_for}
+use Rattle.pl_kernel.specs.Queues.{others, answers_to}
+use Rattle.pl_kernel.specs.Asking.{AreUnderstood, Prunes, Covers, IsDone, IsPast, lesser_of, number_if, answered_to}
+use Rattle.pl_kernel.specs.Index.{is_open}
+use Rattle.pl_kernel.proofs.index.Opening.{open-parked}
 use Rattle.pl_waiters.proofs.InOrder.{in-order, behind-or-before}
 
 -- The calls of the node that stand before the place are done: none can make progress that is below what was found.
@@ -23,15 +24,7 @@ pub record AreAsked {A : Type 0} (c : Core A numbers) (old now : Waiters A) (nod
   pub prunes : Prunes c old now
   pub some : IfSome found (λ n. (from ≤ n) × (is_ready c n ≡ true))
   pub at : key.node ≡ node
-  pub done : (q n : ℕ) → from ≤ n → n < 2 ^ 64 → IsBefore q n key → stands old (waiter node q n) ≡ true → is_ready c n ≡ true → (m : ℕ) × (found ≡ Some m) × (m ≤ n)
-
--- what can make progress is parked
-pub parked-ready : {A : Type 0} (c : Core A numbers) (n : ℕ) → is_ready c n ≡ true → IsSome (get nat_eq c.parked n)
-parked-ready {A = A} c n h = by (get nat_eq c.parked n) h
-  where
-    by : (o : Option (Waiting A numbers)) → (is_some o && can_progress c n) ≡ true → IsSome o
-    by None h = absurd (cc)
-    by (Some v) h = refl
+  pub done : (q n : ℕ) → from ≤ n → n < 2 ^ 64 → IsBefore q n key → stands old (waiter node q n) ≡ true → is_open c (waiter node q n) ≡ true → (m : ℕ) × (found ≡ Some m) × (m ≤ n)
 
 -- the lesser one is at most each
 pub first-at-most : (a b : Option ℕ) (other : ℕ) → (n : ℕ) × (a ≡ Some n) × (n ≤ other) → (n : ℕ) × (lesser_of a b ≡ Some n) × (n ≤ other)
@@ -69,14 +62,14 @@ module _ {A : Type 0} (c : Core A numbers) (a b d : Waiters A) where
   }
 
 module _ {A : Type 0} (c : Core A numbers) (old now : Waiters A) (node from : ℕ) (key : Waiter) (least : Option ℕ) (inv : AreAsked c old now node from key least) where
-  -- a call that can make progress is done, or stands from the place on
-  reached : (q n : ℕ) → from ≤ n → n < 2 ^ 64 → stands old (waiter node q n) ≡ true → is_ready c n ≡ true →
+  -- a call that is open is done, or stands from the place on
+  reached : (q n : ℕ) → from ≤ n → n < 2 ^ 64 → stands old (waiter node q n) ≡ true → is_open c (waiter node q n) ≡ true →
       ((m : ℕ) × (least ≡ Some m) × (m ≤ n)) ⊎ ((stands now (waiter node q n) ≡ true) × IsBehind key (waiter node q n))
   reached q n l fits there ready = by (behind-or-before key (waiter node q n) inv.at)
     where
       by : IsBefore q n key ⊎ IsBehind key (waiter node q n) → ((m : ℕ) × (least ≡ Some m) × (m ≤ n)) ⊎ ((stands now (waiter node q n) ≡ true) × IsBehind key (waiter node q n))
       by (inl before) = inl (inv.done q n l fits before there ready)
-      by (inr behind) = inr (inv.prunes.kept (waiter node q n) (parked-ready c n ready) there, behind)
+      by (inr behind) = inr (inv.prunes.kept (waiter node q n) (subst (λ o. IsSome o) (sym (open-parked c (waiter node q n) ready).1) refl) there, behind)
 
   -- where nothing stands from the place on, all is done
   pub none-left : ((other : Waiter) → other.node ≡ key.node → IsBehind key other → stands now other ≡ false) → (q : ℕ) → Covers c old node q from least
@@ -87,7 +80,7 @@ module _ {A : Type 0} (c : Core A numbers) (old now : Waiters A) (node from : �
     same = with ∙ inv.at
 
     -- what stands before the next one is done
-    before-next : (q n : ℕ) → from ≤ n → n < 2 ^ 64 → IsBefore q n next → stands old (waiter node q n) ≡ true → is_ready c n ≡ true → (m : ℕ) × (least ≡ Some m) × (m ≤ n)
+    before-next : (q n : ℕ) → from ≤ n → n < 2 ^ 64 → IsBefore q n next → stands old (waiter node q n) ≡ true → is_open c (waiter node q n) ≡ true → (m : ℕ) × (least ≡ Some m) × (m ≤ n)
     before-next q n l fits before there ready = ⊎_elim (λ d. d) (λ s. absurd (no before (in-order next (waiter node q n) (first (waiter node q n) (sym inv.at) s.0 s.1)))) (reached q n l fits there ready)
       where
         no : IsBefore q n next → (next.node ≤ node) × (next.node ≡ node → (next.queue ≤ q) × (next.queue ≡ q → next.number ≤ n)) → ⊥
@@ -108,61 +101,83 @@ module _ {A : Type 0} (c : Core A numbers) (old now : Waiters A) (node from : �
         earlier q n l (inr at) = (let e = at.1 in absurd (omega (arith, l, e)))
 
     -- the next one was asked
-    module _ (on : from ≤ next.number) (after : Waiters A) (prunes : Prunes c now after) (there : stands now next ≡ true) (alike : (at queue : ℕ) → AreAlike c old at queue) (found : Found)
-        (ready : found ≡ Ready → is_ready c next.number ≡ true) (stuck : found ≡ Stuck → IsSome (get nat_eq c.parked next.number) × (is_ready c next.number ≡ false)) (gone : found ≡ Gone → is_ready c next.number ≡ false) where
+    module _ (on : from ≤ next.number) (after : Waiters A) (prunes : Prunes c now after) (there : stands now next ≡ true) (u : AreUnderstood c old) (found : Found)
+        (ready : found ≡ Ready → is_open c next ≡ true) (stuck : found ≡ Stuck → IsSome (get nat_eq c.parked next.number) × (is_open c next ≡ false)) (gone : found ≡ Gone → is_open c next ≡ false) where
       abbrev told : Option ℕ
       told = lesser_of least (number_if found next.number)
 
+      was_there : stands old next ≡ true
+      was_there = inv.prunes.fewer next there
+
       its : (f : Found) → found ≡ f → IfSome (number_if f next.number) (λ n. (from ≤ n) × (is_ready c n ≡ true))
-      its Ready is = (on, ready is)
+      its Ready is = (on, u.sound next was_there (ready is))
       its Stuck is = tt
       its Gone is = tt
+
+      pub told-some : IfSome told (λ n. (from ≤ n) × (is_ready c n ≡ true))
+      told-some = both-some (λ n. (from ≤ n) × (is_ready c n ≡ true)) least (number_if found next.number) inv.some (its found refl)
 
       -- if it can make progress, what was found is no more than its number
       is_it : (f : Found) → found ≡ f → (n : ℕ) → next.number ≤ n → f ≡ Ready → (m : ℕ) × (told ≡ Some m) × (m ≤ n)
       is_it f is n l r = second-at-most least (number_if found next.number) n (next.number, ap (λ f. number_if f next.number) (is ∙ r), l)
 
-      itself : (f : Found) → found ≡ f → is_ready c next.number ≡ true → (m : ℕ) × (told ≡ Some m) × (m ≤ next.number)
+      here-on : (q n : ℕ) → q ≡ next.queue → n ≡ next.number → (b : Bool) → is_open c (waiter node q n) ≡ b → is_open c next ≡ b
+      here-on q n e f b opens = (λ i. is_open c (waiter (same i) (sym e i) (sym f i))) ∙ opens
+
+      itself : (f : Found) → found ≡ f → is_open c next ≡ true → (m : ℕ) × (told ≡ Some m) × (m ≤ next.number)
       itself Ready is r = is_it Ready is next.number (omega arith) refl
       itself Stuck is r = absurd (let no : false ≡ true = sym (stuck is).1 ∙ r in cc)
       itself Gone is r = absurd (let no : false ≡ true = sym (gone is) ∙ r in cc)
 
-      -- what it came to answers for those behind it in its queue
-      rest : (f : Found) → found ≡ f → answers_for f next.queue ≡ true → (n : ℕ) → from ≤ n → n < 2 ^ 64 → stands old (waiter node next.queue n) ≡ true → is_ready c n ≡ true → (m : ℕ) × (told ≡ Some m) × (m ≤ n)
-      rest Gone is a n l fits t r = absurd (cc)
-      rest Ready is a n l fits t r = by (cases_lt n next.number)
+      abbrev Found-below : ℕ → Type 0
+      Found-below n = (m : ℕ) × (told ≡ Some m) × (m ≤ n)
+
+      -- what it came to answers for those from it on, up to a queue
+      rest : (f : Found) → found ≡ f → (last : ℕ) → answered_to f next.queue ≡ Some last → (q n : ℕ) → next.queue ≤ q → q ≤ last → from ≤ n → n < 2 ^ 64 → stands old (waiter node q n) ≡ true → is_open c (waiter node q n) ≡ true → Found-below n
+      rest Gone is last a q n up down l fits t r = absurd (cc)
+      rest Ready is last a q n up down l fits t r = by (cases_lt n next.number)
         where
-          by : (n < next.number) ⊎ (next.number ≤ n) → (m : ℕ) × (told ≡ Some m) × (m ≤ n)
-          by (inl early) = first-at-most least (number_if found next.number) n (before-next next.queue n l fits (inr (refl, early)) t r)
+          same_queue : q ≡ next.queue
+          same_queue = (let e : next.queue ≡ last = cc in omega (arith, up, down, e))
+
+          by : (n < next.number) ⊎ (next.number ≤ n) → Found-below n
+          by (inl early) = first-at-most least (number_if found next.number) n (before-next q n l fits (inr (same_queue, early)) t r)
           by (inr late) = is_it Ready is n late refl
-      rest Stuck is a n l fits t r = absurd (let no : false ≡ true = sym off ∙ r in cc)
+      rest Stuck is last a q n up down l fits t r = at (nat_eq next.queue others) refl a
         where
-          apart : next.queue ≢ others
-          apart e = (let yes : nat_eq next.queue others ≡ true = ap (λ q. nat_eq q others) e in let no : answers_for Stuck next.queue ≡ false = ap (λ b. not b) yes in cc)
+          at : (b : Bool) → nat_eq next.queue others ≡ b → (if b then None else Some (answers_to next.queue)) ≡ Some last → Found-below n
+          at true e h = absurd (cc)
+          at false e h = absurd (let no : false ≡ true = sym off ∙ r in cc)
+            where
+              apart : next.queue ≢ others
+              apart s = (let yes : nat_eq next.queue others ≡ true = ap (λ q. nat_eq q others) s in let no : false ≡ true = sym e ∙ yes in cc)
 
-          one : stands old (waiter node next.queue next.number) ≡ true
-          one = subst (λ n. stands old (waiter n next.queue next.number) ≡ true) same (inv.prunes.fewer next there)
+              one : stands old (waiter node next.queue next.number) ≡ true
+              one = subst (λ n. stands old (waiter n next.queue next.number) ≡ true) same was_there
 
-          off : is_ready c n ≡ false
-          off = alike node next.queue apart next.number n one t (stuck is).0 (stuck is).1
+              its_last : answers_to next.queue ≡ last
+              its_last = cc
 
-      done-more : (is_done : Bool) → is_done ≡ answers_for found next.queue → (q n : ℕ) → from ≤ n → n < 2 ^ 64 → IsDone next is_done q n → stands old (waiter node q n) ≡ true → is_ready c n ≡ true → (m : ℕ) × (told ≡ Some m) × (m ≤ n)
-      done-more is_done is q n l fits (inl before) t r = first-at-most least (number_if found next.number) n (before-next q n l fits before t r)
-      done-more is_done is q n l fits (inr (at, inl it)) t r =
-          subst (λ k. (m : ℕ) × (told ≡ Some m) × (m ≤ k)) (sym it) (itself found refl (subst (λ k. is_ready c k ≡ true) it r))
-      done-more is_done is q n l fits (inr (at, inr whole)) t r = rest found refl (sym is ∙ whole) n l fits (subst (λ q. stands old (waiter node q n) ≡ true) at t) r
+              off : is_open c (waiter node q n) ≡ false
+              off = u.alike node next.queue q next.number n apart up (omega (arith, down, its_last)) one t (stuck is).0 (subst (λ n. is_open c (waiter n next.queue next.number) ≡ false) same (stuck is).1)
 
-      pub goes-on : (place : Waiter) (is_done : Bool) → is_done ≡ answers_for found next.queue → place.node ≡ next.node → IsPast place.queue place.number next is_done → AreAsked c old after node from place told
-      goes-on place is_done is at past = record {
+      done-more : (last : Option ℕ) → last ≡ answered_to found next.queue → (q n : ℕ) → from ≤ n → n < 2 ^ 64 → IsDone next last q n → stands old (waiter node q n) ≡ true → is_open c (waiter node q n) ≡ true → Found-below n
+      done-more None is q n l fits (inl before) t r = first-at-most least (number_if found next.number) n (before-next q n l fits before t r)
+      done-more None is q n l fits (inr at) t r = subst Found-below (sym at.1) (itself found refl (here-on q n at.0 at.1 true r))
+      done-more (Some last) is q n l fits (inl before) t r = first-at-most least (number_if found next.number) n (before-next q n l fits before t r)
+      done-more (Some last) is q n l fits (inr at) t r = rest found refl last (sym is) q n at.0 at.1 l fits t r
+
+      pub goes-on : (place : Waiter) (last : Option ℕ) → last ≡ answered_to found next.queue → place.node ≡ next.node → IsPast place.queue place.number next last → AreAsked c old after node from place told
+      goes-on place last is at past = record {
         prunes = prunes-then c old now after inv.prunes prunes;
-        some = both-some (λ n. (from ≤ n) × (is_ready c n ≡ true)) least (number_if found next.number) inv.some (its found refl);
+        some = told-some;
         at = at ∙ same;
-        done = λ q n l fits before t r. done-more is_done is q n l fits (past q n fits before) t r;
+        done = λ q n l fits before t r. done-more last is q n l fits (past q n fits before) t r;
       }
 
       -- where no place is left behind it, all is done
-      pub ends : (is_done : Bool) → is_done ≡ answers_for found next.queue → ((q n : ℕ) → q < 2 ^ 64 → n < 2 ^ 64 → IsDone next is_done q n) → (q : ℕ) → q < 2 ^ 64 → Covers c old node q from told
-      ends is_done is past q low n l fits t r = done-more is_done is q n l fits (past q n low fits) t r
+      pub ends : (last : Option ℕ) → last ≡ answered_to found next.queue → ((q n : ℕ) → q < 2 ^ 64 → n < 2 ^ 64 → IsDone next last q n) → (q : ℕ) → q < 2 ^ 64 → Covers c old node q from told
+      ends last is past q low n l fits t r = done-more last is q n l fits (past q n low fits) t r
 
 -- How much is left to ask is less behind a place: there are 2^128 places of a node.
 pub less-left : (q n : ℕ) (key : Waiter) → n < 2 ^ 64 → key.queue < 2 ^ 64 → key.number < 2 ^ 64 → IsBefore q n key

@@ -1,23 +1,19 @@
 -- What is known once a step was made before which its nodes were touched.
-use Rattle.std.proofs.Common.{◌≡◌, ℕ, true, refl, sym, ◌∙◌, ap, subst, nat_eq}
-use Rattle.std.specs.Prelude.{Result, Ok, Err, IfOk, OnErr, IsSome}
-use Rattle.std.specs.declared.option.Option.TheVariants.{Some}
-use Rattle.std.specs.Set.{is_member}
+use Rattle.std.proofs.Common.{◌≡◌, refl, sym, ◌∙◌, ap, subst}
+use Rattle.std.specs.Prelude.{Result, Ok, Err, IfOk, OnErr}
 use Rattle.pl_model.specs.declared.calls.Step.{Step}
 use Rattle.pl_model.specs.declared.replies.Reply.{Reply}
-use Rattle.pl_model.specs.Map.{get}
 use Rattle.pl_model.specs.Keys.{NewKeys, Drawing, Plain, Draws, drawn}
-use Rattle.pl_model.specs.State.{Core, Waiting}
+use Rattle.pl_model.specs.State.{Core}
 use Rattle.pl_model.specs.Step.{Stepped, core_step}
 use Rattle.pl_model.specs.Numbered.{numbers}
 use Rattle.pl_model.specs.StandsFor.{AreUnused, Comes}
-use Rattle.pl_model.proofs.touching.Parked.{member_has}
 use Rattle.pl_waiters.specs.declared.waiters.Waiters.{Waiters}
 use Rattle.pl_state.specs.Contents.{Contents, contents, core_of}
 use Rattle.pl_state.specs.Makes.{MakesAtKeys}
 use Rattle.pl_state.proofs.Known.{Known}
 use Rattle.pl_kernel.specs.Index.{Knows, Touches}
-use Rattle.pl_kernel.proofs.index.Leaving.{left}
+use Rattle.pl_kernel.proofs.index.Leaving.{IsKnown, left}
 use Rattle.pl_kernel.proofs.index.Known.{known_in, new_keys, unused_in}
 use Rattle.pl_kernel.proofs.index.Knowing.{knows_on, knows-more}
 
@@ -35,16 +31,10 @@ module _ {A : Type 0} (s : Contents A) (old : Sees s) (new : Contents A) (now : 
   left_by reply keys unused (Plain h) is (replied, left) = (keys, unused, left ∙ ap (λ (z : Drawing numbers (Stepped A numbers)). (drawn keys z).state) (sym is))
   left_by reply keys unused (Draws f) is (drew, free, replied, left) = (drew, free, left ∙ ap (λ (z : Drawing numbers (Stepped A numbers)). (drawn drew z).state) (sym is))
 
-  described : (number : ℕ) (z : Waiting A numbers) → get nat_eq (core_of new).parked number ≡ Some z → (d : ℕ) → is_member nat_eq z.kept d ≡ true → IsSome ((core_of new).descriptions d)
-  described number z here d m = member_has (λ d. IsSome ((core_of new).descriptions d)) z.kept ((known_in new now.parts now.is).fit.kept number z here) d m
-
   pub knows_made : (w u : Waiters A) → Knows (core_of s) w → Touches (core_of s) x w u → (reply : Reply A) → MakesAtKeys s x reply new → Knows (core_of new) u
   knows_made w u knows touches reply makes =
       let l = left_by reply (new_keys old.parts) (unused_in s old.parts old.is) (core_step (core_of s) x) refl makes in
-      subst (λ (c : Core A numbers). Knows c u) (sym l.2)
-      (knows_on (core_of s) (known_in s old.parts old.is) x l.0 l.1
-      (subst (λ (c : Core A numbers). (number : ℕ) (z : Waiting A numbers) → get nat_eq c.parked number ≡ Some z → (d : ℕ) → is_member nat_eq z.kept d ≡ true → IsSome (c.descriptions d)) l.2 described)
-      w u touches knows)
+      subst (λ (c : Core A numbers). Knows c u) (sym l.2) (knows_on (core_of s) (known_in s old.parts old.is) x l.0 l.1 (subst (λ (c : Core A numbers). IsKnown c) l.2 (known_in new now.parts now.is)) w u touches knows)
 
   pub knows_after : {X E : Type 0} (result : Result X E) (f : X → Reply A) (w u : Waiters A) → Knows (core_of s) w → Touches (core_of s) x w u → IfOk result (λ r. MakesAtKeys s x (f r) new) → OnErr result (new ≡ s) → Knows (core_of new) u
   knows_after (Ok r) f w u knows touches done undone = knows_made w u knows touches (f r) done

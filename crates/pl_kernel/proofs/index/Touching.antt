@@ -17,7 +17,7 @@ use Rattle.pl_model.specs.Numbered.{numbers}
 use Rattle.pl_model.specs.State.{Core, Waiting}
 use Rattle.pl_model.specs.Live.{is_end}
 use Rattle.pl_model.proofs.settling.Members.{and_left, and_right, or_elim, any_number}
-use Rattle.pl_model.proofs.settling.Opening.{same_is, same_refl}
+use Rattle.pl_model.proofs.settling.Opening.{same_is}
 use Rattle.pl_model.specs.Map.{Map, get, EachOnce}
 use Rattle.pl_model.specs.Numbers.{open_max, numbers_from}
 use Rattle.pl_model.specs.Touching.{is_at, keeps_at, waits_at, has_at, touches}
@@ -48,15 +48,6 @@ any-past t [] zero l = refl
 any-past t [] (suc i) l = refl
 any-past t (k ∷ ks) zero l = absurd (omega (arith, l))
 any-past t (k ∷ ks) (suc i) l = any-past t ks i (omega (arith, l))
-
--- a description is on the node that was told
-pub end-on : {A : Type 0} (k : Contents A) (d : ℕ) (n : Node) → option_map (λ (o : Opened). o.node) (at k.opened d) ≡ Some n → is_end any_mode (node_of n) ((core_of k).descriptions d) ≡ true
-unfolding core_of
-end-on k d n told = by (at k.opened d) told
-  where
-    by : (o : Option Opened) → option_map (λ (o : Opened). o.node) o ≡ Some n → is_end any_mode (node_of n) (option_map description_of o) ≡ true
-    by None e = absurd (cc)
-    by (Some o) e = (let is : o.node ≡ n = cc in ap (λ m. same_node (node_of m) (node_of n) && true) is ∙ (λ i. same_refl (node_of n) i && true))
 
 -- the node of a description has the key of the one that it is on
 pub key-on : {A : Type 0} (k : Contents A) (d : ℕ) (n : Node) → option_map (λ (o : Opened). o.node) (at k.opened d) ≡ Some n → (node : KeyNode numbers) → is_end any_mode node ((core_of k).descriptions d) ≡ true → key_of (node_of n) ≡ key_of node

@@ -16,7 +16,7 @@ use Rattle.pl_model.specs.Numbered.{numbers, State, next_numbers, step_of, step}
 use Rattle.pl_model.specs.OnNodes.{Keeps}
 use Rattle.pl_model.specs.StandsFor.{IsUnusedNode}
 use Rattle.pl_model.proofs.by_call.Keeps as all_keep
-use Rattle.pl_model.proofs.by_call.Keeps.{Changes, node_of, kept_node, step-keeps}
+use Rattle.pl_model.proofs.by_call.Keeps.{Changes, end, end_of, kept_node, step-keeps}
 use Rattle.pl_model.proofs.streams.Maps.{differ}
 
 -- the description is on the node, if it is there
@@ -39,15 +39,15 @@ module _ {A : Type 0} (d : ℕ) (node : Node numbers) where
   on_other : (s : Core A numbers) (k : ℕ) (x : Description numbers) → k ≢ d → IsOn d node s → IfSome (cond (nat_eq k d) (Some x) (s.descriptions d)) (λ x. x.node ≡ node)
   on_other s k x n h = subst (λ b. IfSome (cond b (Some x) (s.descriptions d)) (λ x. x.node ≡ node)) (sym (differ k d n)) h
 
-  on_set : (s : Core A numbers) (k : ℕ) (x : Description numbers) → node_of s k ≡ Some x.node → IsOn d node s → IfSome (cond (nat_eq k d) (Some x) (s.descriptions d)) (λ x. x.node ≡ node)
+  on_set : (s : Core A numbers) (k : ℕ) (x : Description numbers) → end_of s k ≡ Some (end x) → IsOn d node s → IfSome (cond (nat_eq k d) (Some x) (s.descriptions d)) (λ x. x.node ≡ node)
   on_set s k x on h = at (nat_eq k d) refl
     where
-      there : (o : Option (Description numbers)) → option_map (λ (x : Description numbers). x.node) o ≡ Some x.node → IfSome o (λ x. x.node ≡ node) → x.node ≡ node
+      there : (o : Option (Description numbers)) → option_map end o ≡ Some (end x) → IfSome o (λ x. x.node ≡ node) → x.node ≡ node
       there None e h = absurd (cc)
-      there (Some y) e h = (let same : y.node ≡ x.node = cc in sym same ∙ h)
+      there (Some y) e h = (let same : end y ≡ end x = cc in sym (ap (λ e. e.0) same) ∙ h)
 
       at : (b : Bool) → nat_eq k d ≡ b → IfSome (cond b (Some x) (s.descriptions d)) (λ x. x.node ≡ node)
-      at true e = there (s.descriptions d) (ap (node_of s) (sym (eqb-true k d e)) ∙ on) h
+      at true e = there (s.descriptions d) (ap (end_of s) (sym (eqb-true k d e)) ∙ on) h
       at false e = h
 
   on_flowed : (s : Core A numbers) (flow : Flow numbers) → IsOn d node s → IsOn d node (flowed s flow)

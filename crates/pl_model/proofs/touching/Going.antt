@@ -1,5 +1,5 @@
 -- A call that waits goes on waiting through each step that isn't of it.
-use Rattle.std.proofs.Common.{◌≡◌, ℕ, ◌+◌, Bool, true, false, cond, List, [], ◌∷◌, ◌++◌, Option, nat_eq, refl, sym, ap, subst, ◌∙◌}
+use Rattle.std.proofs.Common.{◌≡◌, ℕ, Bool, true, false, cond, List, Option, nat_eq, refl, sym, ap, subst, ◌∙◌}
 use Rattle.std.specs.Prelude.{◌&&◌, ◌==◌, option_map}
 use Rattle.std.specs.declared.option.Option.TheVariants.{None, Some}
 use Rattle.pl_model.specs.declared.calls.Call.{Call}
@@ -11,15 +11,14 @@ use Rattle.pl_model.specs.declared.replies.Reply.TheVariants.{NoProcess, CallsSp
 use Rattle.pl_model.specs.Numbers.{last_call}
 use Rattle.pl_model.specs.Map.{Map, get}
 use Rattle.pl_model.specs.Keys.{Node, NewKeys, Plain, Draws, PipeNode, FileNode, drawn, drawing_map}
-use Rattle.pl_model.specs.State.{Core, Waiting, named, can_wait}
+use Rattle.pl_model.specs.State.{Core, Waiting, can_wait}
 use Rattle.pl_model.specs.Trial.{Trial, Flow, Done, Wait, Begun, Begins, Refused, Answered, Tried, flowed}
 use Rattle.pl_model.specs.Tables.{lowest_pid}
 use Rattle.pl_model.specs.Fifo.{meet, meets}
 use Rattle.pl_model.specs.Begin.{open_named, begin_open_name}
-use Rattle.pl_model.specs.Settle.{settle}
-use Rattle.pl_model.specs.Step.{Stepped, try, begin, begun, first_tried, waiting, stepped, parked, happen, core_step, ended, resumed, tried_again, interrupted, started, without_call}
+use Rattle.pl_model.specs.Step.{Stepped, try, begin, begun, first_tried, waiting, stepped, parked, happen, core_step, resumed, tried_again, interrupted, started, without_call}
 use Rattle.pl_model.specs.Touching.{is_exit, is_of_call}
-use Rattle.pl_model.specs.TouchingLaw.{opens_name, GoesOn}
+use Rattle.pl_model.specs.TouchingLaw.{GoesOn}
 use Rattle.pl_model.specs.Numbered.{numbers}
 use Rattle.pl_model.proofs.by_call.Ways.{BegunAll, LeadsTo, TrialAll, ways}
 use Rattle.pl_model.proofs.settling.Meeting.{met_by, meet-get}

@@ -1,8 +1,9 @@
--- A call that stays parked keeps the same descriptions, and each that stays is on the node that it was on.
+-- A call that stays parked keeps the same descriptions, and each that stays has the node and the mode that it had.
 use Rattle.std.proofs.Common.{◌≡◌, ◌≢◌, ℕ, Bool, true, false, cond, Option, List, nat_eq, refl, sym, ◌∙◌, ap, subst}
 use Rattle.std.specs.Prelude.{option_map}
 use Rattle.std.specs.declared.option.Option.TheVariants.{None, Some}
 use Rattle.std.proofs.lemmas.Bool.{eqb-true}
+use Rattle.pl_model.specs.declared.calls.Mode.{Mode}
 use Rattle.pl_model.specs.declared.calls.Step.{Step}
 use Rattle.pl_model.specs.Map.{get, kept_if}
 use Rattle.pl_model.specs.Keys.{Node, NewKeys, drawn}
@@ -15,7 +16,7 @@ use Rattle.pl_model.specs.Numbered.{numbers}
 use Rattle.pl_model.specs.InOrder.{AreInOrder}
 use Rattle.pl_model.specs.StandsFor.{AreUnused}
 use Rattle.pl_model.proofs.by_call.Keeps as all_keep
-use Rattle.pl_model.proofs.by_call.Keeps.{Changes, node_of, step-keeps}
+use Rattle.pl_model.proofs.by_call.Keeps.{Changes, end, end_of, step-keeps}
 use Rattle.pl_model.proofs.streams.Maps.{differ}
 use Rattle.pl_model.proofs.streams.StayingMet.{IsOfCall, happen_met, holds_at_first}
 use Rattle.pl_model.proofs.touching.Parked.{core_step-is}
@@ -35,22 +36,22 @@ module _ {A : Type 0} (c : Core A numbers) (x : Step A) (new : NewKeys numbers) 
       happen_met n (keeps_these w.kept) (keeps_these_stays w.kept) new c order (order.below n w here) (holds_at_first (keeps_these w.kept) (keeps_these_stays w.kept) c.parked n w here refl) x v
       (ap (λ z. get nat_eq z.state.parked n) (sym (core_step-is c x new)) ∙ there)
 
-module _ {A : Type 0} (d : ℕ) (node : Node numbers) where
-  -- the description of the key is on the node, if it is there
+module _ {A : Type 0} (d : ℕ) (had : Node numbers × Mode) where
+  -- the description of the key is on the node, with the mode, if it is there
   abbrev IsOn : Core A numbers → Type 0
-  IsOn s = (x : Description numbers) → s.descriptions d ≡ Some x → x.node ≡ node
+  IsOn s = (x : Description numbers) → s.descriptions d ≡ Some x → end x ≡ had
 
   on_other : (s : Core A numbers) (k : ℕ) (y : Description numbers) → k ≢ d → IsOn s → IsOn (set_description s k y)
   on_other s k y apart h x e = h x (subst (λ b. cond b (Some y) (s.descriptions d) ≡ Some x) (differ k d apart) e)
 
-  on_node : (s : Core A numbers) (k : ℕ) (y : Description numbers) → node_of s k ≡ Some y.node → IsOn s → IsOn (set_description s k y)
+  on_node : (s : Core A numbers) (k : ℕ) (y : Description numbers) → end_of s k ≡ Some (end y) → IsOn s → IsOn (set_description s k y)
   on_node s k y on h x e = at (nat_eq k d) refl e where
-    own : (o : Option (Description numbers)) → s.descriptions d ≡ o → option_map (λ z. z.node) o ≡ Some y.node → y.node ≡ node
+    own : (o : Option (Description numbers)) → s.descriptions d ≡ o → option_map end o ≡ Some (end y) → end y ≡ had
     own None is on = absurd (cc)
-    own (Some z) is on = (let same : z.node ≡ y.node = cc in sym same ∙ h z is)
+    own (Some z) is on = (let same : end z ≡ end y = cc in sym same ∙ h z is)
 
-    at : (b : Bool) → nat_eq k d ≡ b → cond b (Some y) (s.descriptions d) ≡ Some x → x.node ≡ node
-    at true is e = (let same : y ≡ x = cc in ap (λ (z : Description numbers). z.node) (sym same) ∙ own (s.descriptions d) refl (ap (node_of s) (sym (eqb-true k d is)) ∙ on))
+    at : (b : Bool) → nat_eq k d ≡ b → cond b (Some y) (s.descriptions d) ≡ Some x → end x ≡ had
+    at true is e = (let same : y ≡ x = cc in ap end (sym same) ∙ own (s.descriptions d) refl (ap (end_of s) (sym (eqb-true k d is)) ∙ on))
     at false is e = h x e
 
   on_flowed : (s : Core A numbers) (flow : Flow numbers) → IsOn s → IsOn (flowed s flow)
@@ -67,7 +68,7 @@ module _ {A : Type 0} (d : ℕ) (node : Node numbers) where
   on_settled : (before s : Core A numbers) → IsOn s → IsOn (settle before s)
   unfolding settle
   on_settled before s h x e = at (is_live s d) e where
-    at : (b : Bool) → kept_if b (s.descriptions d) ≡ Some x → x.node ≡ node
+    at : (b : Bool) → kept_if b (s.descriptions d) ≡ Some x → end x ≡ had
     at true e = h x e
     at false e = absurd (cc)
 
@@ -100,12 +101,12 @@ module _ {A : Type 0} (d : ℕ) (node : Node numbers) where
         settle = on_settled;
       }
 
-  -- A description that stays is on the node that it was on.
-  pub node_stays : (c : Core A numbers) (x : Step A) (new : NewKeys numbers) → AreUnused c new → (y : Description numbers) → c.descriptions d ≡ Some y → y.node ≡ node →
-      (z : Description numbers) → (drawn new (core_step c x)).state.descriptions d ≡ Some z → z.node ≡ node
-  node_stays c x new unused y here on z there = step-keeps (on_kept new (apart new.description unused.description.descriptions) (apart new.other_description unused.other_description.descriptions)) c x first z there where
+  -- A description that stays has the node and the mode that it had.
+  pub end_stays : (c : Core A numbers) (x : Step A) (new : NewKeys numbers) → AreUnused c new → (y : Description numbers) → c.descriptions d ≡ Some y → end y ≡ had →
+      (z : Description numbers) → (drawn new (core_step c x)).state.descriptions d ≡ Some z → end z ≡ had
+  end_stays c x new unused y here on z there = step-keeps (on_kept new (apart new.description unused.description.descriptions) (apart new.other_description unused.other_description.descriptions)) c x first z there where
     first : IsOn c
-    first v e = (let same : y ≡ v = one (sym here ∙ e) in ap (λ (u : Description numbers). u.node) (sym same) ∙ on)
+    first v e = (let same : y ≡ v = one (sym here ∙ e) in ap end (sym same) ∙ on)
       where
         one : Some y ≡ Some v → y ≡ v
         one e = cc

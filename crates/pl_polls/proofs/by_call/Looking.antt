@@ -18,6 +18,7 @@ use Rattle.pl_desc.specs.Descs.{Opened, ends_on}
 use Rattle.pl_state.specs.Contents.{Contents, node_of, description_of, core_of}
 use Rattle.pl_state.specs.Sound.{IsWhole}
 use Rattle.pl_state.proofs.by_call.Begun.{ends-is, pipe_there, there}
+use Rattle.pl_polls.specs.Ends.{end_at}
 
 module _ {A : Type 0} (k : Contents A) (whole : IsWhole A k) (key : ℕ) (some : IsSome (at k.opened key)) where
   abbrev c : Core A numbers
@@ -89,6 +90,18 @@ module _ {A : Type 0} (k : Contents A) (whole : IsWhole A k) (key : ℕ) (some :
         → LooksAt (Polled.Pipe Mode.Both held free (nat_lt 0 many) hung)
     looks_at_both m held free many hung h f r g = looks Mode.Both m (Polled.Pipe Mode.Both held free (nat_lt 0 many) hung)
         (λ asked i. mask_of (Polled.Pipe Mode.Both (of_pipe (λ x. held ≡ length x.bytes) h i) (of_pipe (λ x. free ≡ room x) f i) (has_reader many r i) (of_pipe (λ x. hung ≡ x.hung) g i)) asked)
+
+-- what is told of a pipe that is there is what the machine looks at of its ends
+pub sees-end : {A : Type 0} (k : Contents A) → IsWhole A k → (p : ℕ) → IsSome (at k.nodes.pipes p) → (mode : Mode) (held free many : ℕ) (hung : Bool) → IfSome (at k.nodes.pipes p) (λ x. held ≡ length x.bytes) →
+    IfSome (at k.nodes.pipes p) (λ x. free ≡ room x) → many ≡ ends_on reads k.opened (node.Pipe p) → IfSome (at k.nodes.pipes p) (λ x. hung ≡ x.hung) → Polled.Pipe mode held free (nat_lt 0 many) hung ≡ end_at (core_of k) p mode
+unfolding core_of
+sees-end k whole p some mode held free many hung h f r g = by (at k.nodes.pipes p) (λ i. at k.nodes.pipes p) some h f g
+  where
+    by : (o : Option Pipe) → at k.nodes.pipes p ≡ o → IsSome o → IfSome o (λ x. held ≡ length x.bytes) → IfSome o (λ x. free ≡ room x) → IfSome o (λ x. hung ≡ x.hung) → Polled.Pipe mode held free (nat_lt 0 many) hung ≡ end_at (core_of k) p mode
+    by None at_none none h f g = absurd (let no : IsSome {T = Pipe} None = none in cc)
+    by (Some x) at_some some h f g =
+        (λ i. Polled.Pipe mode (h i) (f i) ((ap (nat_lt 0) r ∙ sym (readers-is (core_of k) p ∙ ends-is k whole reads (node.Pipe p))) i) (g i))
+        ∙ ap (λ o. Polled.Pipe mode (length (unwrap_or o empty_pipe).bytes) (room (unwrap_or o empty_pipe)) (nat_lt 0 (readers (core_of k) p)) (unwrap_or o empty_pipe).hung) (sym at_some)
 
 -- the mask of a description
 pub mask_is : {A : Type 0} (k : Contents A) (key : ℕ) → IsSome (at k.opened key) → (asked m : PollMask) → IfSome (at k.opened key) (λ o. m ≡ mask_of (polled (core_of k) (description_of o) (node_of o.node)) asked)

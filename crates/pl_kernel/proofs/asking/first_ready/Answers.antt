@@ -18,11 +18,11 @@ pub returns-in_err-node-clause-least : goal.returns-in_err-node-clause-least
 returns-in_err-node-clause-least g c =
     let inv = c.loop.invariant in
     subst (λ (o : Option ℕ). IsLeastFrom (is_ready (core_of c.args.state.now)) 0 o) (sym c.from_residual.ensures)
-    (nothing (core_of c.args.state.now) c.loop.waiters inv.knows (inv.known.1 ∙ c.requires.known) (λ n r. subst (λ l. n < l) (sym inv.known.0) (c.requires.looked n r)) inv.settled
+    (nothing (core_of c.args.state.now) c.loop.waiters inv.understood inv.knows (inv.known.1 ∙ c.requires.known) (λ n r. subst (λ l. n < l) (sym inv.known.0) (c.requires.looked n r)) inv.settled
     (none_of c.first_node.result _ c.in_err-node.was c.first_node.ensures.none))
 
 pub returns-then-is_ready-clause-least : goal.returns-then-is_ready-clause-least
 returns-then-is_ready-clause-least g c =
     let inv = c.loop.invariant in
-    it-is (core_of c.args.state.now) c.loop.waiters inv.knows (inv.known.1 ∙ c.requires.known) (λ n r. subst (λ l. n < l) (sym inv.known.0) (c.requires.looked n r)) inv.settled
+    it-is (core_of c.args.state.now) c.loop.waiters inv.understood inv.knows (inv.known.1 ∙ c.requires.known) (λ n r. subst (λ l. n < l) (sym inv.known.0) (c.requires.looked n r)) inv.settled
     c.in_ok-node.node c.in_ok-number.number c.in_ok-node.ensures.some (sym c.in_ok-number.ensures) (sym c.is_ready.ensures ∙ c.if-is_ready.true)

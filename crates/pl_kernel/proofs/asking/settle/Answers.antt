@@ -1,15 +1,17 @@
 use Rattle.std.proofs.Common.{◌≡◌, ◌∙◌, ℕ, Option, Some, None, refl, sym}
 use Rattle.std.specs.Prelude.{IfNone}
 use Rattle.pl_state.specs.Contents.{core_of}
-use Rattle.pl_kernel.proofs.index.Settling.{knows-none, taken-out, alike-fewer}
+use Rattle.pl_kernel.proofs.index.Settling.{knows-none, taken-out, understood-fewer}
 use Rattle.pl_kernel.proofs.asking.settle.Goals as goal
 
 none_of : (o : Option ℕ) (P : Type 0) → ((x : ℕ) → o ≡ Some x → ⊥) → IfNone o P → P
 none_of None P off h = h
 none_of (Some x) P off h = absurd (off x refl)
 
-pub ask_node-requires-clause-alike : goal.ask_node-requires-clause-alike
-ask_node-requires-clause-alike g c = alike-fewer (core_of c.args.state.now) c.loop-node.waiters c.take_touched.new.self (λ key there. sym (c.in-Some.ensures.queues key) ∙ there) c.loop-node.invariant.alike
+pub ask_node-requires-clause-understood : goal.ask_node-requires-clause-understood
+ask_node-requires-clause-understood g c =
+    let t = c.in-Some.ensures in
+    understood-fewer (core_of c.args.state.now) c.loop-node.waiters c.take_touched.new.self (λ key there. sym (t.queues key) ∙ there) (λ key some there. t.queues key ∙ there) t.known.0 c.loop-node.invariant.understood
 
 pub ask_node-requires-clause-knows : goal.ask_node-requires-clause-knows
 ask_node-requires-clause-knows g c =
@@ -22,7 +24,7 @@ loop-node-preserved g c =
     let t = c.in-Some.ensures in
     let a = c.ask_node.ensures in
     record {
-      alike = alike-fewer (core_of c.args.state.now) c.loop-node.waiters c.ask_node.new.waiters (λ key there. sym (t.queues key) ∙ a.fewer key there) inv.alike;
+      understood = a.understood;
       knows = a.knows;
       known = (a.known.0 ∙ t.known.0 ∙ inv.known.0, a.known.1 ∙ t.known.1 ∙ inv.known.1);
     }

@@ -1,16 +1,16 @@
 -- What holds as touched nodes are asked.
-use Rattle.std.specs.Prelude.{ℕ, length}
+use Rattle.std.specs.Prelude.{length}
 use Rattle.pl_model.specs.State.{Core}
 use Rattle.pl_model.specs.Numbered.{numbers}
 use Rattle.pl_state.specs.Contents.{core_of}
 use Rattle.pl_waiters.specs.declared.waiters.Waiters.{Waiters}
 use Rattle.pl_waiters.specs.Seen.{SameKnown}
-use Rattle.pl_kernel.specs.Asking.{AreAlike}
+use Rattle.pl_kernel.specs.Asking.{AreUnderstood}
 use Rattle.pl_kernel.specs.Index.{Knows}
 use Rattle.pl_kernel.proofs.asking.settle.Given as goal
 
 pub record AreSettled {A : Type 0} (c : Core A numbers) (old now : Waiters A) : Type 0 where
-  pub alike : (at queue : ℕ) → AreAlike c now at queue
+  pub understood : AreUnderstood c now
   pub knows : Knows c now
   pub known : SameKnown old now
 
