@@ -55,16 +55,26 @@ impl<K: Ord, V, A: Allocator + Copy> BTreeMap<K, V, A> {
         if self.chunks[chunk].len() < MOST {
             return Ok((chunk, place));
         }
+        // An entry that comes after a full chunk begins the next one, so that entries in rising order fill their chunks.
+        let next = chunk + 1;
+        let has_room = self.chunks.get(next).is_some_and(|next| next.len() < MOST);
+        if place == MOST && has_room {
+            return Ok((next, 0));
+        }
         let mut upper = Vec::with_capacity(self.alloc, MOST)?;
         self.chunks.try_reserve(1)?;
+        if place == MOST {
+            self.chunks.insert_reserved(next, upper);
+            return Ok((next, 0));
+        }
         for entry in self.chunks[chunk].drain(MOST / 2..) {
             upper.push_reserved(entry);
         }
-        self.chunks.insert_reserved(chunk + 1, upper);
+        self.chunks.insert_reserved(next, upper);
         Ok(if place <= MOST / 2 {
             (chunk, place)
         } else {
-            (chunk + 1, place - MOST / 2)
+            (next, place - MOST / 2)
         })
     }
 }

@@ -121,3 +121,24 @@ fn a_set_refuses_likewise() {
     assert_eq!(ours.insert(1), Ok(false));
     assert!(ours.remove(&1) && !ours.remove(&1));
 }
+
+/// The bytes that an item takes, where so many runs of items rise side by side.
+fn bytes_of_an_item(runs: u64) -> f64 {
+    const ITEMS: u64 = 20_000;
+    let meter = Meter::new();
+    let mut ours = BTreeSet::new(&meter);
+    for n in 0..ITEMS {
+        assert_eq!(ours.insert((n % runs, n)), Ok(true));
+    }
+    assert_eq!(ours.range((0, 0)..).count() as u64, ITEMS);
+    meter.held() as f64 / ITEMS as f64
+}
+
+#[test]
+fn items_that_rise_fill_their_chunks() {
+    assert!(bytes_of_an_item(1) < 17.0, "{}", bytes_of_an_item(1));
+    for runs in [2, 7, 64] {
+        let bytes = bytes_of_an_item(runs);
+        assert!(bytes < 32.0, "{runs} runs: {bytes}");
+    }
+}
