@@ -9,7 +9,7 @@ use std::collections::BTreeSet;
 /// A call that waits, in a group. By this order the calls of one group stand together, in rising order of number.
 #[derive(Clone, Copy, PartialEq, Eq, PartialOrd, Ord)]
 pub struct GroupedCall {
-    /// What the calls of the group have in common, as the pid of their process or the key of a node.
+    /// What the calls of the group have in common: the pid of their process.
     pub group: u64,
     /// The number that it is parked under.
     pub number: u64,
