@@ -23,6 +23,7 @@ use Rattle.pl_waiters.specs.Seen.{stands}
 use Rattle.pl_state.specs.Contents.{Contents, contents, core_of}
 use Rattle.pl_state.specs.Sound.{IsWaiting, KeepsNodes, Keeps, MayWait}
 use Rattle.pl_state.proofs.Known.{Known, parts_of}
+use Rattle.pl_state.proofs.by_call.Begun.{there}
 use Rattle.pl_state.proofs.waiting.Ending.{member_there}
 use Rattle.pl_state.proofs.waiting.InOrder.{order_of}
 use Rattle.pl_kernel.specs.Progress.{is_ready}
@@ -32,7 +33,7 @@ use Rattle.pl_kernel.specs.Index.{is_open, Knows}
 use Rattle.pl_kernel.specs.Asking.{AreUnderstood}
 use Rattle.pl_kernel.proofs.index.Deciding.{polls-decide}
 use Rattle.pl_kernel.proofs.index.Places.{PollPlace, finds-at, found-is}
-use Rattle.pl_kernel.proofs.index.Kinds.{IsOfKind, place-kind, some-place, keeps-one, there-is, entry-polls, entry-of-file, polls-low, high-no-polls}
+use Rattle.pl_kernel.proofs.index.Kinds.{IsOfKind, place-kind, some-place, keeps-one, entry-polls, entry-of-file, polls-low, high-no-polls}
 use Rattle.pl_kernel.proofs.index.Alike.{condition, stuck-too, decided-at}
 use Rattle.pl_kernel.proofs.index.Opening.{open-poll, open-call, open-parked, ready-parked, ready-is}
 use Rattle.pl_kernel.proofs.index.Known.{known}
@@ -136,7 +137,7 @@ module _ {A : Type 0} (m : Known A) where
         single v here off =
             let i = is-kept n v here in
             let d = keeps-one v.call v.kept i.keeps off in
-            let x = there-is c d.0 (i.described d.0 d.1) in
+            let x = there (c.descriptions d.0) (i.described d.0 d.1) in
             let q = some-place c v.kept i.described d.0 x.0 d.1 x.1 v.call i.keeps off in
             (waiter (key_of x.0.node) q.0 n, refl, knows.placed kept (waiter (key_of x.0.node) q.0 n) v here low q.1, open-call c (waiter (key_of x.0.node) q.0 n) v here q.2.0 ∙ can v here)
 

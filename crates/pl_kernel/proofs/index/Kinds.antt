@@ -3,8 +3,7 @@ use Rattle.std.proofs.Common.{◌≡◌, ℕ, ℤ, ◌+◌, ◌<◌, ◌≤◌, 
 use Rattle.std.specs.Prelude.{◌||◌, IsSome}
 use Rattle.std.specs.List.{flat_map}
 use Rattle.std.specs.Set.{is_member}
-use Rattle.std.specs.declared.option.Option.{Option}
-use Rattle.std.specs.declared.option.Option.TheVariants.{None, Some}
+use Rattle.std.specs.declared.option.Option.TheVariants.{Some}
 use Rattle.std.proofs.lemmas.Bool.{eq-eqb, eqb-true}
 use Rattle.std.proofs.lemmas.Bool.Decides.{nat_tests}
 use Rattle.pl_model.specs.declared.calls.Call.{Call}
@@ -20,6 +19,7 @@ use Rattle.pl_model.specs.Poll.{bits_if, is_ready, mask_of}
 use Rattle.pl_model.specs.Numbered.{numbers}
 use Rattle.pl_model.proofs.settling.Members.{or_elim}
 use Rattle.pl_state.specs.Sound.{Keeps}
+use Rattle.pl_state.proofs.by_call.Begun.{there}
 use Rattle.pl_kernel.specs.ToldNodes.{key_of}
 use Rattle.pl_kernel.specs.Queues.{reads, others, writes_of, large_writes, queue_of_len, polls, is_polls, kind_of, queue_of_entry, to_pipes, from_pipes, to_pipe, from_pipe, queue_at_source, queue_at_target, ends, place_in, move_places, places, is_place}
 use Rattle.pl_kernel.proofs.index.Places.{KeepsEnd, KeepsBoth, MovePlace, PollPlace, in-queue, to-queue, in-move, at-source, at-target, in-poll}
@@ -143,13 +143,6 @@ module _ {A : Type 0} (c : Core A numbers) where
   place-kind (call.Write fd bytes) kept key queue h = queued (call.Write fd bytes) (λ entries wait e. cc) (queue_of_len (length bytes)) kept key queue (apart-len (length bytes)) (in-queue c (queue_of_len (length bytes)) kept key queue h)
   place-kind x kept key queue h = queued x (λ entries wait e. cc) others kept key queue (refl, omega arith) (in-queue c others kept key queue h)
 
-  pub there-is : (d : ℕ) → IsSome (c.descriptions d) → (x : Description numbers) × (c.descriptions d ≡ Some x)
-  there-is d some = by (c.descriptions d) refl some
-    where
-      by : (o : Option (Description numbers)) → c.descriptions d ≡ o → IsSome (c.descriptions d) → (x : Description numbers) × (c.descriptions d ≡ Some x)
-      by None is some = absurd (let none : IsSome {T = Description numbers} None = subst (λ o. IsSome o) is some in cc)
-      by (Some x) is some = (x, is)
-
   one-of-both : (kept : List ℕ) (a b d : ℕ) → kept ≡ a ∷ b ∷ [] → is_member nat_eq kept d ≡ true → (d ≡ a) ⊎ (d ≡ b)
   one-of-both kept a b d both member =
       or_elim (nat_eq d a) (nat_eq d b || false) (λ e. inl (eqb-true d a e)) (λ r. or_elim (nat_eq d b) false (λ e. inr (eqb-true d b e)) (λ no. absurd (cc)) r) (sym (ap (λ ks. is_member nat_eq ks d) both) ∙ member)
@@ -163,7 +156,7 @@ module _ {A : Type 0} (c : Core A numbers) where
     moves-there a b both = ⊎_elim from to (one-of-both kept a b d both member)
       where
         at : (e : ℕ) → is_member nat_eq (a ∷ b ∷ []) e ≡ true → (x : Description numbers) × (c.descriptions e ≡ Some x)
-        at e m = there-is e (described e (ap (λ ks. is_member nat_eq ks e) both ∙ m))
+        at e m = there (c.descriptions e) (described e (ap (λ ks. is_member nat_eq ks e) both ∙ m))
 
         second : (x : Bool) → (x || (nat_eq b b || false)) ≡ true
         second true = refl

@@ -1,7 +1,7 @@
-use Rattle.std.proofs.Common.{◌≡◌, ◌≤◌, ◌+◌, ℕ, zero, suc, length, refl, slice_index_or, Some, List, [], ◌∷◌, ◌++◌, drop, sym, ◌∙◌, ap, subst, arith}
+use Rattle.std.proofs.Common.{◌≡◌, ◌+◌, slice_index_or, Some, ◌++◌, drop, sym, ◌∙◌, ap, subst, arith}
 use Rattle.std.specs.Prelude.{IsSome, option_map}
 use Rattle.std.specs.List.{flat_map}
-use Rattle.std.proofs.lemmas.List.{drop_more}
+use Rattle.std.proofs.lemmas.List.{drop_more, drop_all}
 use Rattle.pl_desc.specs.Rows.{at}
 use Rattle.pl_desc.specs.Descs.{Opened}
 use Rattle.pl_state.specs.Contents.{Contents, core_of}
@@ -32,16 +32,9 @@ loop-key-preserved g c = λ u rest.
     (subst (λ ps. Adds (core_of k) c.loop-key.waiters u c.args.number (ps ++ flat_map (place_in c.args.queue) (ends (core_of k) (drop (i + 1) keys)))) (sym (place-of k d c.node.result told c.args.queue))
     (adds_then (core_of k) c.args.number c.loop-key.waiters c.place_node.new.waiters u _ (flat_map (place_in c.args.queue) (ends (core_of k) (drop (i + 1) keys))) c.requires.parked c.place_node.ensures rest)))
 
--- past the end nothing is left
-past : (ks : List ℕ) (i : ℕ) → length ks ≤ i → drop i ks ≡ []
-past [] zero l = refl
-past [] (suc i) l = refl
-past (k ∷ ks) zero l = absurd (omega (arith, l))
-past (k ∷ ks) (suc i) l = past ks i (omega (arith, l))
-
 pub returns : goal.returns
 returns g c =
     let k = c.args.state.now in
     c.loop-key.invariant c.loop-key.waiters
-    (subst (λ ks. Adds (core_of k) c.loop-key.waiters c.loop-key.waiters c.args.number (flat_map (place_in c.args.queue) (ends (core_of k) ks))) (sym (past c.args.kept.now c.loop-key.key-index (omega (arith, c.loop-key-test.false))))
+    (subst (λ ks. Adds (core_of k) c.loop-key.waiters c.loop-key.waiters c.args.number (flat_map (place_in c.args.queue) (ends (core_of k) ks))) (sym (drop_all c.loop-key.key-index c.args.kept.now (omega (arith, c.loop-key-test.false))))
     (adds_none (core_of k) c.args.number c.loop-key.waiters))

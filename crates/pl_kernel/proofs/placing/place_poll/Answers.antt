@@ -1,6 +1,6 @@
-use Rattle.std.proofs.Common.{◌≡◌, ◌≤◌, ◌+◌, ℕ, ℤ, pos, negsuc, zero, suc, true, false, List, [], ◌∷◌, ◌++◌, length, drop, slice_index_or, Option, refl, sym, ◌∙◌, ap, subst, FitsSigned, w32, rules, arith}
+use Rattle.std.proofs.Common.{◌≡◌, ◌+◌, ℤ, pos, negsuc, true, false, List, ◌∷◌, ◌++◌, drop, slice_index_or, Option, refl, sym, ◌∙◌, ap, subst, FitsSigned, w32, rules, arith}
 use Rattle.std.specs.Prelude.{option_map}
-use Rattle.std.proofs.lemmas.List.{drop_more}
+use Rattle.std.proofs.lemmas.List.{drop_more, drop_all}
 use Rattle.std.proofs.lemmas.Int.{to_z-of_z}
 use Rattle.pl_model.specs.declared.flags.PollMask.{PollMask}
 use Rattle.pl_state.specs.Contents.{core_of}
@@ -28,13 +28,6 @@ first (negsuc n, asked) entries x es h = absurd (cc)
 first-kept : (e : ℤ × PollMask) (entries : List (ℤ × PollMask)) (x : Option End) (es : List (Option End)) → is_skipped e.0 ≡ false → are_kept (e ∷ entries) (x ∷ es) ≡ are_kept entries es
 first-kept (pos n, asked) entries x es h = refl
 first-kept (negsuc n, asked) entries x es h = absurd (cc)
-
--- past the end nothing is left
-past : (entries : List (ℤ × PollMask)) (i : ℕ) → length entries ≤ i → drop i entries ≡ []
-past [] zero l = refl
-past [] (suc i) l = refl
-past (e ∷ entries) zero l = absurd (omega (arith, l))
-past (e ∷ entries) (suc i) l = past entries i (omega (arith, l))
 
 abbrev none : ℤ × PollMask
 none = (pos 0, record { 0 = 0 })
@@ -89,4 +82,4 @@ returns-clause-adds g c =
     let core = core_of c.args.state.now in
     let es = ends core (drop c.loop-fd.before c.args.kept.now) in
     c.loop-fd.invariant.adds c.loop-fd.waiters
-    (subst (Adds core c.loop-fd.waiters c.loop-fd.waiters c.args.number) (sym (ap (λ xs. poll_places xs es) (past c.args.entries.now c.loop-fd.fd-index (omega (arith, c.loop-fd-test.false))))) (adds_none core c.args.number c.loop-fd.waiters))
+    (subst (Adds core c.loop-fd.waiters c.loop-fd.waiters c.args.number) (sym (ap (λ xs. poll_places xs es) (drop_all c.loop-fd.fd-index c.args.entries.now (omega (arith, c.loop-fd-test.false))))) (adds_none core c.args.number c.loop-fd.waiters))
