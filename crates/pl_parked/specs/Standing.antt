@@ -15,14 +15,14 @@ stands first rest group number = option_eq nat_eq first (Some number) || has_cal
 abbrev pub SaysMore : (more : Bool) → (rest : BTreeSet GroupedCall) → (group : ℕ) → Type 0
 SaysMore more rest group = more ≡ false → (number : ℕ) → has_call rest (call_in group number) ≡ false
 
--- the place of a node
+-- the place of a process
 abbrev pub place_at : List Place → ℕ → Place
-place_at firsts node = slice_index_or firsts node (record { first = None; more = false })
+place_at firsts pid = slice_index_or firsts pid (record { first = None; more = false })
 
--- the call stands at the node
-abbrev pub at_node : List Place → BTreeSet GroupedCall → (node number : ℕ) → Bool
-at_node firsts rest node number = stands (place_at firsts node).first rest node number
+-- the call is one of the process
+abbrev pub at_node : List Place → BTreeSet GroupedCall → (pid number : ℕ) → Bool
+at_node firsts rest pid number = stands (place_at firsts pid).first rest pid number
 
--- the same of all nodes
+-- the same of all processes
 abbrev pub SayMore : List Place → BTreeSet GroupedCall → Type 0
-SayMore firsts rest = (node : ℕ) → SaysMore (place_at firsts node).more rest node
+SayMore firsts rest = (pid : ℕ) → SaysMore (place_at firsts pid).more rest pid

@@ -14,6 +14,4 @@ mod places;
 
 pub use call::ParkedCall;
 pub use fault::ParkFault;
-pub use groups::{GroupedCall, Groups};
 pub use parked::Parked;
-pub use places::Places;

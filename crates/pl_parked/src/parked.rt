@@ -17,6 +17,9 @@ use pl_model::{KeyList, Mode};
 use std::alloc::{Allocator, Global};
 use std::marker::Model;
 
+/// Room for so many calls is kept when they end.
+const KEPT: usize = 64;
+
 /// The calls that wait, by number, and the number that the next one gets. Contracts see the list of them, in rising order
 /// of number.
 #[derive(Drop)]
@@ -239,6 +242,16 @@ impl<A: Allocator> Parked<A> {
         if self.empty > self.entries.len() / 2 {
             self.entries.retain(|entry| entry.1.is_some());
             self.empty = 0;
+            self.give_back();
+        }
+    }
+
+    // Gives memory back that the calls don't need, where they need less than a quarter of it. It is kept where it can't be moved.
+    fn give_back(&mut self)
+        ensures { self.new ≡ self.old }
+    {
+        if self.entries.capacity() > KEPT && self.entries.len() < self.entries.capacity() / 4 {
+            self.entries.shrink_to_fit();
         }
     }
 }

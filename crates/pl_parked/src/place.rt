@@ -1,10 +1,10 @@
-//! What stands at one node.
+//! The calls of one process.
 
-/// What stands at one node: mostly no call, or one.
+/// The calls of one process: mostly none, or one.
 #[derive(Clone, Copy)]
 pub(crate) struct Place {
-    /// A call that waits at the node.
+    /// A call of the process.
     pub(crate) first: Option<u64>,
-    /// Whether further calls may wait there.
+    /// Whether it may have further ones.
     pub(crate) more: bool,
 }

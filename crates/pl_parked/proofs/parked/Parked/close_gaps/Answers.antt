@@ -16,6 +16,7 @@ invariant_of-self g c =
 pub returns-then-self-len : goal.returns-then-self-len
 returns-then-self-len g c =
     let kept = filter_same _ _ _ (λ x b f' k. search rules) _ _ c.retain.ensures.filtered in
-    ap (λ es. record { calls = calls_in es; next = c.self.inside.next }) kept
+    c.give_back.ensures
+    ∙ ap (λ es. record { calls = calls_in es; next = c.self.inside.next }) kept
     ∙ ap (λ cs. record { calls = cs; next = c.self.inside.next }) (full-calls c.self.inside.entries.items)
     ∙ c.self.view_is
