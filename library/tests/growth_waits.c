@@ -134,6 +134,32 @@ static void the_next_after_many_calls(long count)
     HOLDS(bytes_left == 0);
 }
 
+/* Where there is no memory for queues all calls are asked, and then none until the next step. */
+static void a_question_without_memory(long count)
+{
+    bindingclay clay = kernel_with_process();
+    bindingclay_ends ends = NEW_PIPE(clay, 1, false);
+    for (long i = 0; i < count; i++)
+        if (take(clay, 1, ends.read_end, 1).kind != BINDINGCLAY_PARKED)
+            HOLDS(false);
+    refuse(0, LONG_MAX);
+    double first = seconds_of_a_question(clay);
+    HOLDS(refused != 0);
+    long before = refused;
+    double next = first;
+    for (int run = 0; run < 5; run++) {
+        double taken = seconds_of_a_question(clay);
+        next = taken < next ? taken : next;
+    }
+    HOLDS(refused == before);
+    refuse_none();
+    if (count >= LARGE)
+        HOLDS(16 * next < first);
+    printf("a question of %ld calls without memory %.0f ns, the next one %.0f ns\n", count, first * 1e9, next * 1e9);
+    bindingclay_free(clay);
+    HOLDS(bytes_left == 0);
+}
+
 /* The seconds of a byte that comes to a pipe, until it is read and nobody can get on any more. */
 static double seconds_of_a_byte(bindingclay clay, bindingclay_ends ends)
 {
@@ -359,6 +385,7 @@ int main(int words, char **word)
     an_exit_beside_calls_that_wait(count);
     the_next_beside_calls_that_wait(count);
     the_next_after_many_calls(count);
+    a_question_without_memory(count);
     a_byte_for_many_readers(count);
     for (enum waiting kind = READS; kind <= TEES; kind++)
         a_step_beside_one_queue(count, kind);

@@ -8,6 +8,7 @@ use Rattle.pl_model.specs.State.{Core, Waiting}
 use Rattle.pl_model.specs.Numbered.{numbers}
 use Rattle.pl_model.specs.Waking.{can_progress}
 use Rattle.pl_model.specs.Touching.{touches}
+use Rattle.pl_kernel.specs.Progress.{is_ready}
 use Rattle.pl_kernel.specs.ToldNodes.{key_of}
 use Rattle.pl_waiters.specs.declared.waiter.Waiter.{Waiter}
 use Rattle.pl_waiters.specs.declared.waiters.Waiters.{Waiters}
@@ -88,3 +89,7 @@ module _ {A : Type 0} where
     pub kept : new.lost ≡ false → (key : Waiter) → IsSome (get nat_eq c.parked key.number) → stands old key ≡ true → stands new key ≡ true
     pub only : new.lost ≡ false → (key : Waiter) → stands new key ≡ true → (stands old key ≡ true) ⊎ ((key.number ≡ number) × (is_place ps key.node key.queue ≡ true))
     pub added : new.lost ≡ false → (key : Waiter) → key.number ≡ number → is_place ps key.node key.queue ≡ true → (stands new key ≡ true) × (is_touched new key.node ≡ true)
+
+-- where it was found out that no call can make progress, none can
+abbrev pub FindsNone : {A : Type 0} → Core A numbers → (none_ready : Bool) → Type 0
+FindsNone c none_ready = none_ready ≡ true → (number : ℕ) → is_ready c number ≡ false

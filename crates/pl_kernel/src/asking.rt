@@ -209,11 +209,16 @@ fn least_at<A: Allocator + Copy>(
     least
 }
 
-// Asks a node, but for whose calls all are up that can make progress.
-fn ask_node<A: Allocator + Copy>(state: &KernelState<A>, waiters: &mut Waiters<A>, node: usize)
+// Asks a node, but for whose calls all are up that can make progress. Returns the least number of those there that can.
+fn ask_node<A: Allocator + Copy>(
+    state: &KernelState<A>,
+    waiters: &mut Waiters<A>,
+    node: usize,
+) -> Option<u64>
     requires understood { AreUnderstood (core_of {A = A} state.now) waiters.old }
     requires place { has_place waiters.old.least node }
     requires knows { KnowsBut (core_of {A = A} state.now) waiters.old (Some node) }
+    ensures ready { IfSome result (λ n. is_ready (core_of {A = A} state.now) n ≡ true) }
     ensures knows { Knows (core_of {A = A} state.now) waiters.new }
     ensures understood { AreUnderstood (core_of {A = A} state.now) waiters.new }
     ensures fewer { (key : Waiter) → stands waiters.new key ≡ true → stands waiters.old key ≡ true }
@@ -222,19 +227,27 @@ fn ask_node<A: Allocator + Copy>(state: &KernelState<A>, waiters: &mut Waiters<A
 {
     let least = least_at(state, waiters, node, 0);
     waiters.set_least(node, least);
+    least
 }
 
-/// Asks the nodes that were touched.
-pub(crate) fn settle<A: Allocator + Copy>(state: &KernelState<A>, waiters: &mut Waiters<A>)
+/// Asks the nodes that were touched. Returns the least number that was found there.
+pub(crate) fn settle<A: Allocator + Copy>(
+    state: &KernelState<A>,
+    waiters: &mut Waiters<A>,
+) -> Option<u64>
     requires understood { AreUnderstood (core_of {A = A} state.now) waiters.old }
     requires knows { Knows (core_of {A = A} state.now) waiters.old }
     ensures knows { Knows (core_of {A = A} state.now) waiters.new }
     ensures settled { (node : ℕ) → is_touched waiters.new node ≡ false }
     ensures known { SameKnown waiters.old waiters.new }
+    ensures ready { IfSome result (λ n. is_ready (core_of {A = A} state.now) n ≡ true) }
 {
+    let mut least = None;
     while let Some(node) = waiters.take_touched() {
-        ask_node(state, waiters, node);
+        let found = ask_node(state, waiters, node);
+        least = lesser(least, found);
     }
+    least
 }
 
 // Whether a call waits under the number, and can make progress.
@@ -266,12 +279,24 @@ pub(crate) fn ask_all<A: Allocator + Copy>(state: &KernelState<A>, from: u64) ->
     None
 }
 
+// Whether there is a call, and it has this number.
+fn is_number(call: Option<u64>, number: u64) -> bool
+    ensures { result ≡ true → call ≡ Some number }
+{
+    match call {
+        Some(found) => found == number,
+        None => false,
+    }
+}
+
 /// The least number of the calls that can make progress, where no node is still to be asked, and all calls were looked at. A node whose call
-/// can't make progress any more is asked again, each at most once.
+/// can't make progress any more is asked again, each at most once. `asked` was found since the last step, if it is a call, and isn't asked again.
 pub(crate) fn first_ready<A: Allocator + Copy>(
     state: &KernelState<A>,
     waiters: &mut Waiters<A>,
+    asked: Option<u64>,
 ) -> Option<u64>
+    requires asked { IfSome asked (λ n. is_ready (core_of {A = A} state.now) n ≡ true) }
     requires understood { AreUnderstood (core_of {A = A} state.now) waiters.old }
     requires known { waiters.old.lost ≡ false }
     requires looked { (n : ℕ) → is_ready (core_of {A = A} state.now) n ≡ true → n < waiters.old.looked }
@@ -283,10 +308,13 @@ pub(crate) fn first_ready<A: Allocator + Copy>(
     for _ in 0..waiters.nodes().saturating_add(1) {
         let node = waiters.first_node()?;
         let number = waiters.least_at(node)?;
+        if is_number(asked, number) {
+            return asked;
+        }
         if is_ready(state, number) {
             return Some(number);
         }
-        ask_node(state, waiters, node);
+        let _least = ask_node(state, waiters, node);
     }
     ask_all(state, 0)
 }

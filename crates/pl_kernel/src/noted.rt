@@ -12,6 +12,8 @@ ghost use Rattle.pl_polls.specs.Entries.{asked, entries_after};
 ghost use Rattle.pl_polls.specs.Into.{told as poll_told};
 ghost use Rattle.pl_kernel.specs.Index.{Knows};
 
+use crate::asking::drop_if_ended;
+use crate::queue::waiting_read;
 use crate::steps;
 use crate::touch::{touch_again, touch_named, touch_read_again, touch_step};
 use pl_model::{Call, Reply, Step};
@@ -197,5 +199,7 @@ pub(crate) fn resume_read_into<A: Allocator + Copy>(
     give_again(kernel, number, read, &mut into[..read.count]);
     // The same once the step was made.
     let _ = &kernel.descs;
+    // It leaves its queue at once, where it would be found again as the pipe is asked.
+    let _ended = drop_if_ended(kernel, waiters, &waiting_read(read.pipe, number));
     ReadReply::Read(read.count)
 }

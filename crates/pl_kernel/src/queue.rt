@@ -4,11 +4,13 @@ ghost use Rattle.pl_model.specs.Flags.{has, poll_in, poll_out};
 ghost use Rattle.pl_model.specs.Poll.{is_ready, mask_of};
 ghost use Rattle.pl_model.specs.declared.cases.Polled.TheVariants.{File as PolledFile};
 ghost use Rattle.pl_state.specs.Contents.{node_of};
-ghost use Rattle.pl_kernel.specs.Queues.{queue_of as queue_of_call, queue_of_len, queue_of_end, queue_of_entry as queue_of_node, to_pipe, from_pipe, queue_at_source, queue_at_target, answers_to, is_polls, mode_of, rest_of, asks_in, asks_out, found_of_file};
+ghost use Rattle.pl_waiters.specs.Queue.{waiter};
+ghost use Rattle.pl_kernel.specs.Queues.{reads, queue_of as queue_of_call, queue_of_len, queue_of_end, queue_of_entry as queue_of_node, to_pipe, from_pipe, queue_at_source, queue_at_target, answers_to, is_polls, mode_of, rest_of, asks_in, asks_out, found_of_file};
 
 use bitflags::Flags;
 use pl_model::numbers::PIPE_BUF;
 use pl_model::{Call, Mode, Node, PollMask};
+use pl_waiters::Waiter;
 use std::alloc::Allocator;
 
 /// The queue of the reads.
@@ -64,6 +66,17 @@ pub(crate) fn queue_of<A: Allocator + Copy>(call: &Call<A>) -> u64
         Call::Read { .. } => READS,
         Call::Write { bytes, .. } => queue_of_write(bytes.as_slice().len()),
         _ => OTHERS,
+    }
+}
+
+/// A read that waits at a pipe.
+pub(crate) fn waiting_read(pipe: usize, number: u64) -> Waiter
+    ensures { result ≡ waiter pipe reads number }
+{
+    Waiter {
+        node: pipe,
+        queue: READS,
+        number,
     }
 }
 

@@ -50,9 +50,9 @@ pub(crate) fn next_ready<A: Allocator + Copy>(
     if waiters.is_lost() {
         return ask_all(state, from);
     }
-    settle(state, waiters);
+    let asked = settle(state, waiters);
     if from == 0 {
-        first_ready(state, waiters)
+        first_ready(state, waiters, asked)
     } else {
         first_ready_from(state, waiters, from)
     }

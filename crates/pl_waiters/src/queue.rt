@@ -151,8 +151,12 @@ impl<A: Allocator> Queues<A> {
         ensures more { (key : Waiter) → contains waiter_order self.new.more key ≡ (not (is_waiter call.now key) && contains waiter_order self.old.more key) }
     {
         let place = self.place(call.node);
-        if place.has_more {
-            self.more.remove(call);
+        if !place.has_more {
+            return;
+        }
+        self.more.remove(call);
+        // While another call has the plain place, nobody looks whether it is the only one: that would be a search for each that goes.
+        if place.one.is_none() {
             let has_more = self.has_further(call.node);
             self.places[call.node] = Place { has_more, ..place };
         }

@@ -51,6 +51,7 @@ impl<A: Allocator + Copy> Kernel<A> {
         // A proof learns here that nothing was left to settle, so that a refused step leaves the very state.
         let state = &self.state;
         let _ = &state.descs;
+        self.none_ready = false;
         begin_write_from(&mut self.state, &mut self.waiters, pid, fd, bytes)
     }
 
@@ -85,6 +86,7 @@ impl<A: Allocator + Copy> Kernel<A> {
         // A proof learns here that nothing was left to settle, so that a refused step leaves the very state.
         let state = &self.state;
         let _ = &state.descs;
+        self.none_ready = false;
         begin_read_into(&mut self.state, &mut self.waiters, pid, fd, into)
     }
 
@@ -111,6 +113,7 @@ impl<A: Allocator + Copy> Kernel<A> {
         // A proof learns here that nothing was left to settle, so that a refused step leaves the very state.
         let state = &self.state;
         let _ = &state.descs;
+        self.none_ready = false;
         begin_poll_into(&mut self.state, &self.waiters, pid, entries, wait)
     }
 
@@ -141,6 +144,7 @@ impl<A: Allocator + Copy> Kernel<A> {
             // A proof learns here that nothing was left to settle, so that a refused step leaves the very state.
             let state = &self.state;
             let _ = &state.descs;
+            self.none_ready = false;
             return Ok(Resumed::Other(try_again(&mut self.state, &mut self.waiters, number)?));
         };
         Ok(resumed)
@@ -171,6 +175,7 @@ impl<A: Allocator + Copy> Kernel<A> {
         if into.len() < read.count {
             return Some(Resumed::Short(read.count as u32));
         }
+        self.none_ready = false;
         Some(Resumed::Read(resume_read_into(
             &mut self.state,
             &mut self.waiters,

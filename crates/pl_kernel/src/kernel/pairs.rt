@@ -100,6 +100,7 @@ impl<A: Allocator + Copy> Kernel<A> {
         let sizes = reply_sizes(state, &step);
         let bytes = Vec::with_capacity(state.alloc, sizes.bytes)?;
         let masks = Vec::with_capacity(state.alloc, sizes.masks)?;
+        self.none_ready = false;
         let reply = act(&mut self.state, &mut self.waiters, step)?;
         let again = copy_reply(&reply, bytes, masks);
         Ok((reply, again))

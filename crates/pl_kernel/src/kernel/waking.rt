@@ -36,14 +36,19 @@ impl<A: Allocator + Copy> Kernel<A> {
     ///
     /// It changes nothing that a step or a question sees. Calls wait in queues at the pipes and files that they wait for, of which all make
     /// progress together or none does: so it asks the pipes and files that steps touched since the last time, and of each queue there the
-    /// first call. From 0 it costs the logarithm of how many calls wait, a look at each pipe and file that was touched, and one at each call
+    /// first call. Where it answered `None` for 0, and no step was made since, it costs nothing. Else it costs from 0 the logarithm of how many calls wait, a look at each pipe and file that was touched, and one at each call
     /// there that is an open, a poll, a splice or a tee; from another number also one at each pipe and file where a call can make progress. The
     /// queues take memory of their own. Where memory runs out, it asks all that wait, and answers the same.
     pub fn next_ready(&mut self, from: u64) -> Option<u64>
         ensures told { TellsNextReady {A = A} self.old from result }
         ensures same { self.new ≡ self.old }
     {
-        next_ready(&self.state, &mut self.waiters, from)
+        if self.none_ready {
+            return None;
+        }
+        let next = next_ready(&self.state, &mut self.waiters, from);
+        self.none_ready = from == 0 && next.is_none();
+        next
     }
 
     /// How many entries the parked call of a number has, if it is a poll that can get on: a Resume made now answers as many masks. Else 0. It

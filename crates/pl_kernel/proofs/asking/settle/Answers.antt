@@ -1,6 +1,8 @@
-use Rattle.std.proofs.Common.{◌≡◌, ◌∙◌, ℕ, Option, Some, None, refl, sym}
-use Rattle.std.specs.Prelude.{IfNone}
+use Rattle.std.proofs.Common.{◌≡◌, ◌∙◌, ℕ, Option, Some, None, true, refl, sym, subst}
+use Rattle.std.specs.Prelude.{IfNone, IfSome}
+use Rattle.pl_kernel.specs.Progress.{is_ready}
 use Rattle.pl_state.specs.Contents.{core_of}
+use Rattle.pl_kernel.proofs.index.Nodes.{both-some}
 use Rattle.pl_kernel.proofs.index.Settling.{knows-none, taken-out, understood-fewer}
 use Rattle.pl_kernel.proofs.asking.settle.Goals as goal
 
@@ -8,13 +10,13 @@ none_of : (o : Option ℕ) (P : Type 0) → ((x : ℕ) → o ≡ Some x → ⊥)
 none_of None P off h = h
 none_of (Some x) P off h = absurd (off x refl)
 
-pub ask_node-requires-clause-understood : goal.ask_node-requires-clause-understood
-ask_node-requires-clause-understood g c =
+pub ask_node-found-requires-clause-understood : goal.ask_node-found-requires-clause-understood
+ask_node-found-requires-clause-understood g c =
     let t = c.in-Some.ensures in
     understood-fewer (core_of c.args.state.now) c.loop-node.waiters c.take_touched.new.self (λ key there. sym (t.queues key) ∙ there) (λ key some there. t.queues key ∙ there) t.known.0 c.loop-node.invariant.understood
 
-pub ask_node-requires-clause-knows : goal.ask_node-requires-clause-knows
-ask_node-requires-clause-knows g c =
+pub ask_node-found-requires-clause-knows : goal.ask_node-found-requires-clause-knows
+ask_node-found-requires-clause-knows g c =
     let t = c.in-Some.ensures in
     taken-out (core_of c.args.state.now) c.loop-node.waiters c.take_touched.new.self c.in-Some.node t.queues t.others t.least t.known c.loop-node.invariant.knows
 
@@ -22,11 +24,12 @@ pub loop-node-preserved : goal.loop-node-preserved
 loop-node-preserved g c =
     let inv = c.loop-node.invariant in
     let t = c.in-Some.ensures in
-    let a = c.ask_node.ensures in
+    let a = c.ask_node-found.ensures in
     record {
       understood = a.understood;
       knows = a.knows;
       known = (a.known.0 ∙ t.known.0 ∙ inv.known.0, a.known.1 ∙ t.known.1 ∙ inv.known.1);
+      ready = subst (λ o. IfSome o (λ n. is_ready (core_of c.args.state.now) n ≡ true)) (sym c.lesser-least.ensures) (both-some (λ n. is_ready (core_of c.args.state.now) n ≡ true) c.loop-node.least c.ask_node-found.result inv.ready a.ready);
     }
 
 pub returns-clause-knows : goal.returns-clause-knows

@@ -4,7 +4,9 @@ use Rattle.pl_model.specs.declared.calls.Step.TheVariants.{Resume}
 use Rattle.pl_model.specs.declared.replies.Reply.TheVariants.{Bytes}
 use Rattle.pl_state.specs.Makes.{MakesAtKeys}
 use Rattle.pl_state.proofs.Known.{known}
+use Rattle.pl_state.specs.Contents.{core_of}
 use Rattle.pl_kernel.proofs.index.Stepping.{knows_made}
+use Rattle.pl_kernel.proofs.index.Settling.{pruned-knows}
 use Rattle.pl_kernel.proofs.noted.resume_read_into.Goals as goal
 
 pub returns-clause-done : goal.returns-clause-done
@@ -29,6 +31,7 @@ returns-clause-rest g c =
 
 pub returns-clause-knows : goal.returns-clause-knows
 returns-clause-knows g c =
-    knows_made c.args.kernel.now (record { parts = known c.kernel.inside c.kernel.invariant; is = c.kernel.view_is })
+    pruned-knows (core_of c.give_again.new.kernel) c.touch_read_again.new.waiters c.drop_if_ended-ended.new.waiters c.drop_if_ended-ended.ensures.prunes
+    (knows_made c.args.kernel.now (record { parts = known c.kernel.inside c.kernel.invariant; is = c.kernel.view_is })
     c.give_again.new.kernel (record { parts = known c.kernel-2.inside c.kernel-2.invariant; is = c.kernel-2.view_is })
-    (Resume c.args.number) c.args.waiters.now c.touch_read_again.new.waiters c.requires.knows c.touch_read_again.ensures (Bytes c.give_again.new.into) c.give_again.ensures.done
+    (Resume c.args.number) c.args.waiters.now c.touch_read_again.new.waiters c.requires.knows c.touch_read_again.ensures (Bytes c.give_again.new.into) c.give_again.ensures.done)

@@ -12,7 +12,7 @@ use Rattle.pl_waiters.proofs.queue.Queues.remove_further.Goals as goal
 module _ (g : Over) (c : After-remove g) where
   -- the node has a place
   there : c.args.call.now.node < length c.args.self.now.places.items
-  there = within c.args.self.now.places.items c.args.call.now.node c.place-place.result c.place-place.ensures (λ empty. (let no : false ≡ true = sym (ap (λ (p : Place). p.has_more) empty) ∙ c.if-place.true in cc))
+  there = within c.args.self.now.places.items c.args.call.now.node c.place-place.result c.place-place.ensures (λ empty. (let no : false ≡ true = sym (ap (λ (p : Place). p.has_more) empty) ∙ c.if-not-place.false in cc))
 
   -- no call came into the set
   less : (key : Waiter) → contains waiter_order c.args.self.now.more key ≡ false → contains waiter_order c.remove.new.self key ≡ false
@@ -21,9 +21,9 @@ module _ (g : Over) (c : After-remove g) where
 pub invariant_of-self : goal.invariant_of-self
 invariant_of-self g c = (let w = (goal.at.invariant_of-self g c).After-remove in record { kept = fewer c.args.self.now.places.items c.args.self.now.more c.remove.new.self c.args.self.now.kept (less g w) })
 
-pub invariant_of-self-then-place : goal.invariant_of-self-then-place
-invariant_of-self-then-place g c =
-    let w = (goal.at.invariant_of-self-then-place g c).After-remove in
+pub invariant_of-self-then-is_none : goal.invariant_of-self-then-is_none
+invariant_of-self-then-is_none g c =
+    let w = (goal.at.invariant_of-self-then-is_none g c).After-remove in
     let q = c.args.self.now in
     let node = c.args.call.now.node in
     record {
@@ -33,7 +33,7 @@ invariant_of-self-then-place g c =
           (λ key apart off. less g w key off);
     }
 
-pub returns-then-place-clause-one : goal.returns-then-place-clause-one
-returns-then-place-clause-one g c = λ key.
-    let w = (goal.at.returns-then-place-clause-one g c).After-remove in
+pub returns-then-is_none-clause-one : goal.returns-then-is_none-clause-one
+returns-then-is_none-clause-one g c = λ key.
+    let w = (goal.at.returns-then-is_none-clause-one g c).After-remove in
     ap (λ o. is_one o key) (same-one c.args.self.now.places.items c.args.call.now.node (record { one = c.place-place.result.one; has_more = c.has_further-has_more.result }) (there g w) (ap (λ (p : Place). p.one) c.place-place.ensures) key.node)
