@@ -6,10 +6,10 @@
 
 mod asking;
 mod kernel;
-mod noted;
 mod placing;
 mod queue;
 mod ready;
+mod resuming;
 mod sizes;
 mod stats;
 mod steps;

@@ -1,5 +1,5 @@
 -- What is known once a step was made before which its nodes were touched.
-use Rattle.std.proofs.Common.{◌≡◌, refl, sym, ◌∙◌, ap, subst}
+use Rattle.std.proofs.Common.{◌≡◌, false, true, refl, sym, ◌∙◌, ap, subst}
 use Rattle.std.specs.Prelude.{Result, Ok, Err, IfOk, OnErr}
 use Rattle.pl_model.specs.declared.calls.Step.{Step}
 use Rattle.pl_model.specs.declared.replies.Reply.{Reply}
@@ -12,7 +12,7 @@ use Rattle.pl_waiters.specs.declared.waiters.Waiters.{Waiters}
 use Rattle.pl_state.specs.Contents.{Contents, contents, core_of}
 use Rattle.pl_state.specs.Makes.{MakesAtKeys}
 use Rattle.pl_state.proofs.Known.{Known}
-use Rattle.pl_kernel.specs.Index.{Knows, Touches}
+use Rattle.pl_kernel.specs.Index.{Knows, Touches, FindsNone}
 use Rattle.pl_kernel.proofs.index.Leaving.{IsKnown, left}
 use Rattle.pl_kernel.proofs.index.Known.{known_in, new_keys, unused_in}
 use Rattle.pl_kernel.proofs.index.Knowing.{knows_on, knows-more}
@@ -39,3 +39,7 @@ module _ {A : Type 0} (s : Contents A) (old : Sees s) (new : Contents A) (now : 
   pub knows_after : {X E : Type 0} (result : Result X E) (f : X → Reply A) (w u : Waiters A) → Knows (core_of s) w → Touches (core_of s) x w u → IfOk result (λ r. MakesAtKeys s x (f r) new) → OnErr result (new ≡ s) → Knows (core_of new) u
   knows_after (Ok r) f w u knows touches done undone = knows_made w u knows touches (f r) done
   knows_after (Err e) f w u knows touches done undone = subst (λ (z : Contents A). Knows (core_of z) u) (sym undone) (knows-more (core_of s) w u knows touches.no_less)
+
+-- after a step it isn't known yet that no call can make progress
+pub none-found : {A : Type 0} (c : Core A numbers) → FindsNone c false
+none-found c e = absurd (let no : false ≡ true = e in cc)

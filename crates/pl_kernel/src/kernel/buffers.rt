@@ -12,10 +12,11 @@ ghost use Rattle.pl_kernel.specs.Taken.{TellsTaken};
 ghost use Rattle.pl_kernel.specs.Buffers.{Parks, resumed_count, IsRead, IsOfRead, IsOfOther, IsWaitingRead, Resumes, ResumesByReply};
 
 use super::Kernel;
-use crate::noted::{
-    begin_poll_into, begin_read_into, begin_write_from, resume_read_into, try_again,
+use crate::resuming::resume_read_into;
+use crate::steps::{
+    begin_poll_into, begin_read_into, begin_write_from, refusal_of_write, try_again,
 };
-use crate::steps::refusal_of_write;
+use crate::touch::{touch_again, touch_named};
 use pl_model::{Call, Reply, Step};
 use pl_polls::{PollEntry, PollReply};
 use pl_state::NoMemory;
@@ -52,7 +53,12 @@ impl<A: Allocator + Copy> Kernel<A> {
         let state = &self.state;
         let _ = &state.descs;
         self.none_ready = false;
-        begin_write_from(&mut self.state, &mut self.waiters, pid, fd, bytes)
+        touch_named(state, &mut self.waiters, pid, fd);
+        let made = begin_write_from(&mut self.state, pid, fd, bytes);
+        // The same once the step was made.
+        let state = &self.state;
+        let _ = &state.descs;
+        made
     }
 
     /// What the step at which the process of a pid begins a Write of so many bytes, not none, answers where it is refused: whatever
@@ -87,7 +93,12 @@ impl<A: Allocator + Copy> Kernel<A> {
         let state = &self.state;
         let _ = &state.descs;
         self.none_ready = false;
-        begin_read_into(&mut self.state, &mut self.waiters, pid, fd, into)
+        touch_named(state, &mut self.waiters, pid, fd);
+        let made = begin_read_into(&mut self.state, pid, fd, into);
+        // The same once the step was made.
+        let state = &self.state;
+        let _ = &state.descs;
+        made
     }
 
     /// Makes the step at which the process of a pid begins a Poll of what the caller's entries ask. Where it is answered, what was found
@@ -114,7 +125,11 @@ impl<A: Allocator + Copy> Kernel<A> {
         let state = &self.state;
         let _ = &state.descs;
         self.none_ready = false;
-        begin_poll_into(&mut self.state, &self.waiters, pid, entries, wait)
+        let made = begin_poll_into(&mut self.state, pid, entries, wait);
+        // The same once the step was made. It touches nothing.
+        let state = &self.state;
+        let _ = &state.descs;
+        made
     }
 
     /// Makes the step that tries the parked call of a number again, where a read gives its bytes into the first of the caller's; the
@@ -145,7 +160,12 @@ impl<A: Allocator + Copy> Kernel<A> {
             let state = &self.state;
             let _ = &state.descs;
             self.none_ready = false;
-            return Ok(Resumed::Other(try_again(&mut self.state, &mut self.waiters, number)?));
+            touch_again(state, &mut self.waiters, number);
+            let made = try_again(&mut self.state, number);
+            // The same once the step was made.
+            let state = &self.state;
+            let _ = &state.descs;
+            return Ok(Resumed::Other(made?));
         };
         Ok(resumed)
     }

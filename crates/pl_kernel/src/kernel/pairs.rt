@@ -6,8 +6,9 @@ ghost use Rattle.pl_state.specs.Makes.{Makes, LeavesByReply, WantsMemory};
 ghost use Rattle.pl_kernel.specs.Sizes.{sizes_of};
 
 use super::Kernel;
-use crate::noted::act;
 use crate::sizes::reply_sizes;
+use crate::steps::act;
+use crate::touch::touch_step;
 use pl_model::{Bytes8, MaskList, PollMask, Reply, Step};
 use pl_state::NoMemory;
 use std::alloc::Allocator;
@@ -101,7 +102,12 @@ impl<A: Allocator + Copy> Kernel<A> {
         let bytes = Vec::with_capacity(state.alloc, sizes.bytes)?;
         let masks = Vec::with_capacity(state.alloc, sizes.masks)?;
         self.none_ready = false;
-        let reply = act(&mut self.state, &mut self.waiters, step)?;
+        touch_step(state, &mut self.waiters, &step);
+        let made = act(&mut self.state, step);
+        // The same once the step was made.
+        let state = &self.state;
+        let _ = &state.descs;
+        let reply = made?;
         let again = copy_reply(&reply, bytes, masks);
         Ok((reply, again))
     }

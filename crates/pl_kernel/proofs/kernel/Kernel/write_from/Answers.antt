@@ -7,25 +7,44 @@ use Rattle.pl_transfers.specs.Waits.{reply_of}
 use Rattle.pl_nodes.proofs.Keyed.{if_ok}
 use Rattle.pl_kernel.proofs.Stepping.{makes, leaves, wants}
 use Rattle.pl_kernel.proofs.Buffering.{if_err}
+use Rattle.pl_model.specs.Touching.{touches_by}
+use Rattle.pl_model.specs.declared.calls.Step.{Step}
+use Rattle.pl_kernel.proofs.index.Stepping.{knows_after, none-found}
+use Rattle.pl_state.proofs.Known.{known}
+use Rattle.pl_state.specs.Contents.{core_of}
 use Rattle.pl_kernel.proofs.kernel.Kernel.write_from.Goals as goal
+
+-- the queues know what waits after it
+pub invariant_of-self : goal.invariant_of-self
+unfolding touches_by
+invariant_of-self g c =
+    let fits : SFits w32 c.args.fd = search rules in
+    let x : Step g.row.A.Denot = Begin c.args.pid (Call.Write c.args.fd c.args.bytes.now) in (
+      knows_after c.self.inside.state (record { parts = known c.state.inside c.state.invariant; is = c.state.view_is })
+          c.begin_write_from-made.new.kernel (record { parts = known c.state-2.inside c.state-2.invariant; is = c.state-2.view_is })
+          x c.begin_write_from-made.result reply_of c.self.inside.waiters c.touch_named.new.waiters c.self.invariant.0
+          ((rw (to_z-of_z w32 c.args.fd fits) at c.touch_named.ensures) (Call.Write c.args.fd c.args.bytes.now) (λ node h. h))
+          (rw (to_z-of_z w32 c.args.fd fits) at c.begin_write_from-made.ensures.done) c.begin_write_from-made.ensures.undone,
+      none-found (core_of c.begin_write_from-made.new.kernel),
+    )
 
 pub returns-clause-made : goal.returns-clause-made
 returns-clause-made g c =
     let fits : SFits w32 c.args.fd = search rules in
     let x = Begin c.args.pid (Call.Write c.args.fd c.args.bytes.now) in
-    rw (← c.self.view_is) (if_ok c.begin_write_from.result (λ reply does. makes c.self.inside.state c.begin_write_from.new.kernel x (reply_of reply) does) (rw (to_z-of_z w32 c.args.fd fits) at c.begin_write_from.ensures.done))
+    rw (← c.self.view_is) (if_ok c.begin_write_from-made.result (λ reply does. makes c.self.inside.state c.begin_write_from-made.new.kernel x (reply_of reply) does) (rw (to_z-of_z w32 c.args.fd fits) at c.begin_write_from-made.ensures.done))
 
 pub returns-clause-refused : goal.returns-clause-refused
 returns-clause-refused g c =
     let fits : SFits w32 c.args.fd = search rules in
     let x = Begin c.args.pid (Call.Write c.args.fd c.args.bytes.now) in
     let old = c.self.inside.state in
-    let new = c.begin_write_from.new.kernel in
+    let new = c.begin_write_from-made.new.kernel in
     let sound = subst (IsSound g.row.A.Denot) c.state.view_is c.state.invariant.0 in
-    rw (← c.self.view_is) (if_ok c.begin_write_from.result (λ reply does. leaves old new sound x (reply_of reply) (makes old new x (reply_of reply) does)) (rw (to_z-of_z w32 c.args.fd fits) at c.begin_write_from.ensures.done))
+    rw (← c.self.view_is) (if_ok c.begin_write_from-made.result (λ reply does. leaves old new sound x (reply_of reply) (makes old new x (reply_of reply) does)) (rw (to_z-of_z w32 c.args.fd fits) at c.begin_write_from-made.ensures.done))
 
 pub returns-clause-wanted : goal.returns-clause-wanted
 returns-clause-wanted g c =
     let fits : SFits w32 c.args.fd = search rules in
     let x = Begin c.args.pid (Call.Write c.args.fd c.args.bytes.now) in
-    rw (← c.self.view_is) (if_err c.begin_write_from.result (λ may. wants c.self.inside.state x may refl) (rw (to_z-of_z w32 c.args.fd fits) at c.begin_write_from.ensures.wanted))
+    rw (← c.self.view_is) (if_err c.begin_write_from-made.result (λ may. wants c.self.inside.state x may refl) (rw (to_z-of_z w32 c.args.fd fits) at c.begin_write_from-made.ensures.wanted))

@@ -7,7 +7,7 @@ use Rattle.pl_state.proofs.Known.{known}
 use Rattle.pl_state.specs.Contents.{core_of}
 use Rattle.pl_kernel.proofs.index.Stepping.{knows_made}
 use Rattle.pl_kernel.proofs.index.Settling.{pruned-knows}
-use Rattle.pl_kernel.proofs.noted.resume_read_into.Goals as goal
+use Rattle.pl_kernel.proofs.resuming.resume_read_into.Goals as goal
 
 pub returns-clause-done : goal.returns-clause-done
 returns-clause-done g c =

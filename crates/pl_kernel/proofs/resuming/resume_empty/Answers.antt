@@ -3,7 +3,7 @@ use Rattle.pl_model.specs.declared.calls.Step.TheVariants.{Resume}
 use Rattle.pl_state.proofs.Known.{known}
 use Rattle.pl_transfers.specs.ReadInto.{told}
 use Rattle.pl_kernel.proofs.index.Stepping.{knows_made}
-use Rattle.pl_kernel.proofs.noted.resume_empty.Goals as goal
+use Rattle.pl_kernel.proofs.resuming.resume_empty.Goals as goal
 
 pub resume_read_into-reply-requires-clause-waits : goal.resume_read_into-reply-requires-clause-waits
 resume_read_into-reply-requires-clause-waits g c = c.requires.found.waits
