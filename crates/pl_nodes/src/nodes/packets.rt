@@ -110,18 +110,4 @@ impl<A: Allocator + Copy> Nodes<A> {
         let count = count.min(self.front(key));
         self.read_pipe(key, count)
     }
-
-    /// Takes the first packet of a packet pipe, which has at least as many bytes as the list, and fills the list with them. The others
-    /// go. It takes no memory.
-    pub fn read_packet_into(&mut self, key: usize, into: &mut [u8])
-        requires here { IsSome (at self.old.pipes key) }
-        requires packets { IfSome (at self.old.pipes key) (λ x. IsSome x.packets) }
-        requires some { IfSome (at self.old.pipes key) (λ x. IfSome x.packets (λ lengths. 1 ≤ length lengths)) }
-        requires held { IfSome (at self.old.pipes key) (λ x. length into.old ≤ front x) }
-        ensures bytes { IfSome (at self.old.pipes key) (λ x. into.new ≡ take (length into.old) x.bytes) }
-        ensures ok { at self.new.pipes ≡ change_at key (λ x. lose (front x) x) (at self.old.pipes) }
-        ensures files { SameFiles self.old self.new }
-    {
-        self.read_pipe_into(key, into);
-    }
 }
