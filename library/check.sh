@@ -237,6 +237,7 @@ done
 build memory "$counted" && run memory
 build index_memory "$counted" && run index_memory
 build storms "$counted" && run storms 500 && plainly storms 20000
+build queues_drawn "$counted" && plainly queues_drawn 100000 && under_valgrind queues_drawn 10000
 for name in growth growth_waits; do
     if build "$name" "$counted"; then
         plainly "$name" 65536 && sed "s/^/$name: /" "$work/log"
