@@ -149,7 +149,7 @@ static void give_up(bc_shared *shared, struct bc_waiter *waiter, int error)
     answer_waiter(shared, waiter, interrupted(shared, waiter->number, error));
 }
 
-/* Tries again a call that can get on. */
+/* Tries again a call that can make progress. */
 static void try_again(bc_shared *shared, uint64_t number)
 {
     struct bc_waiter *waiter = waiter_of(shared, number);

@@ -206,7 +206,7 @@ static inline bool bc_in(const bc_process *process)
     return bc_out_of_none(shared);
 }
 
-/* Tries again the calls that can get on, gives the lock back, and wakes the threads whose calls are answered. The step that was made may have
+/* Tries again the calls that can make progress, gives the lock back, and wakes the threads whose calls are answered. The step that was made may have
  * helped so many of the calls that wait. */
 static inline void bc_out_behind(bc_shared *shared, uint32_t helped)
 {

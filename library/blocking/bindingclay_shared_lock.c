@@ -117,7 +117,7 @@ bool bc_may_yield(bc_shared *shared, struct bc_yield *yield)
 {
     yield->begun = now();
     yield->steps = BC_KNOWS_ATOMICS ? atomic_load_explicit(&shared->steps, memory_order_relaxed) : 0;
-    /* if there is a hook of sleeps, nobody else gets on and no signal comes until the thread is in it */
+    /* if there is a hook of sleeps, nobody else makes progress and no signal comes until the thread is in it */
     bool is_useful = BC_KNOWS_ATOMICS && shared->sleep_hook == NULL;
     return is_useful && yield->begun >= atomic_load_explicit(&shared->yields_from, memory_order_relaxed);
 }

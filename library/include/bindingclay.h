@@ -117,7 +117,7 @@ enum bindingclay_kind {
     BINDINGCLAY_CALLS_SPENT = 5,
     /* There is no memory. Nothing changed. */
     BINDINGCLAY_NO_MEMORY = 6,
-    /* A read that is resumed would give more bytes than there is room for, or a file has more. value: how many. A poll that can get on was
+    /* A read that is resumed would give more bytes than there is room for, or a file has more. value: how many. A poll that can make progress was
      * resumed without entries. value: how many it has. Nothing changed. */
     BINDINGCLAY_SHORT = 7
 };
@@ -130,7 +130,7 @@ typedef struct {
     /* A process would get SIGPIPE here: with EPIPE, and with the count of a write that is resumed after its last reader left. */
     bool sigpipe;
     /* With BINDINGCLAY_PARKED of bindingclay_write, bindingclay_resume and bindingclay_resume_poll: a write put some of its bytes into the pipe,
-     * and waits with the others. So another call may get on. bindingclay_taken tells how many bytes went in so far. */
+     * and waits with the others. So another call may make progress. bindingclay_taken tells how many bytes went in so far. */
     bool moved;
 } bindingclay_answer;
 
@@ -288,7 +288,7 @@ bindingclay_answer bindingclay_exit(bindingclay clay, uint32_t pid);
  * always enough. If size is less than what the read gives, BINDINGCLAY_SHORT tells how many bytes that is, and the read still waits. The
  * bytes behind what it read stay as they are. A read that is resumed asks for no memory.
  *
- * Other calls leave all bytes at into alone, and size may be 0. A poll that can get on isn't ended, since its revents have no room here:
+ * Other calls leave all bytes at into alone, and size may be 0. A poll that can make progress isn't ended, since its revents have no room here:
  * BINDINGCLAY_SHORT tells how many entries it has, and bindingclay_resume_poll resumes it. If no call of this number waits, the answer is
  * BINDINGCLAY_NO_CALL. If size is above BINDINGCLAY_MOST_SIZE, it is EINVAL before all else, and the call still waits. */
 bindingclay_answer bindingclay_resume(bindingclay clay, uint64_t number, uint8_t *into, size_t size);
@@ -300,14 +300,14 @@ bindingclay_answer bindingclay_resume(bindingclay clay, uint64_t number, uint8_t
  * a size of 0. */
 bindingclay_answer bindingclay_resume_poll(bindingclay clay, uint64_t number, bindingclay_pollfd *entries, size_t count);
 
-/* Tells whether the call that waits under a number can get on: if it is tried again now, it is answered, or it is a write that puts in more of
+/* Tells whether the call that waits under a number can make progress: if it is tried again now, it is answered, or it is a write that puts in more of
  * its bytes. If it can't, trying it again answers BINDINGCLAY_PARKED and moves no byte. If no call of this number waits, the answer is
  * true, since trying it again answers BINDINGCLAY_NO_CALL at once. Asks for no memory, and changes nothing. */
 bool bindingclay_can_progress(bindingclay clay, uint64_t number);
 
-/* Tells the least number, `from` or above, of a call that waits and can get on. Value: that number. If no call from there on can, the answer
+/* Tells the least number, `from` or above, of a call that waits and can make progress. Value: that number. If no call from there on can, the answer
  * is BINDINGCLAY_NO_CALL. A call that answers BINDINGCLAY_SHORT or BINDINGCLAY_NO_MEMORY when it is tried again still waits, and still can
- * get on: ask from the number behind it to pass over it. Changes nothing that another call tells. Asks for memory of its own, and answers the
+ * make progress: ask from the number behind it to pass over it. Changes nothing that another call tells. Asks for memory of its own, and answers the
  * same if there is none. */
 bindingclay_answer bindingclay_next_ready(bindingclay clay, uint64_t from);
 

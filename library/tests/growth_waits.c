@@ -60,7 +60,7 @@ static void an_exit_beside_calls_that_wait(long count)
 /* How many pipes have calls that wait beside the one that is measured. */
 enum { OTHER_PIPES = 100 };
 
-/* One round: a read begins to wait, and nobody can get on. A byte helps it, so it is told. It is resumed, and again nobody can. */
+/* One round: a read begins to wait, and nobody can make progress. A byte helps it, so it is told. It is resumed, and again nobody can. */
 static void serve_one(const struct place *place)
 {
     bindingclay clay = place->clay;
@@ -81,7 +81,7 @@ static double seconds_of_a_service(struct place place)
     return least_of_five(1000, serve_one, place);
 }
 
-/* The next call that can get on is found among those at the pipe that was touched, however many wait at others. */
+/* The next call that can make progress is found among those at the pipe that was touched, however many wait at others. */
 static void the_next_beside_calls_that_wait(long count)
 {
     bindingclay clay = kernel_with_process();
@@ -106,7 +106,7 @@ static void the_next_beside_calls_that_wait(long count)
     HOLDS(bytes_left == 0);
 }
 
-/* The seconds of a question which call can get on, where none can. */
+/* The seconds of a question which call can make progress, where none can. */
 static double seconds_of_a_question(bindingclay clay)
 {
     double begun = seconds();
@@ -160,7 +160,7 @@ static void a_question_without_memory(long count)
     HOLDS(bytes_left == 0);
 }
 
-/* The seconds of a byte that comes to a pipe, until it is read and nobody can get on any more. */
+/* The seconds of a byte that comes to a pipe, until it is read and nobody can make progress any more. */
 static double seconds_of_a_byte(bindingclay clay, bindingclay_ends ends)
 {
     enum { ROUNDS = 8 };

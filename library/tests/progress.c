@@ -1,4 +1,4 @@
-/* Whether a call that waits can get on: each kind of call that waits for bytes or room, beside each step that may help it. The answers are
+/* Whether a call that waits can make progress: each kind of call that waits for bytes or room, beside each step that may help it. The answers are
  * those of read, write and poll of POSIX.1-2017, of splice(2), tee(2) and pipe(7), and of the header. */
 #define _GNU_SOURCE
 #include "progress.h"
@@ -102,7 +102,7 @@ static void other_waits(bindingclay clay, int32_t from, int32_t to)
     PARKED(bindingclay_splice(clay, 1, from, NULL, to, NULL, 8192, 0), 2);
 }
 
-/* What may help call 1, in two steps: after the first one it still waits, and after the second one it can get on. */
+/* What may help call 1, in two steps: after the first one it still waits, and after the second one it can make progress. */
 typedef void step(bindingclay clay);
 
 struct helps {

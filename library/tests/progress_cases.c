@@ -1,9 +1,9 @@
-/* Whether a call that waits can get on: amounts of bytes and of room, packets, files, FIFOs, polls and numbers. The answers are those of
+/* Whether a call that waits can make progress: amounts of bytes and of room, packets, files, FIFOs, polls and numbers. The answers are those of
  * write, open and poll of POSIX.1-2017, of splice(2), pipe(2), pipe(7) and fifo(7), and of the header. */
 #define _GNU_SOURCE
 #include "progress.h"
 
-/* A large write gets on by a byte of room. Each time it has taken as many bytes as went in. */
+/* A large write makes progress by a byte of room. Each time it has taken as many bytes as went in. */
 static void a_large_write_in_turns(void)
 {
     bindingclay clay = kernel_with_process();
@@ -91,7 +91,7 @@ static void what_moved(void)
     bindingclay_free(clay);
 }
 
-/* Two reads wait, and one of them gets what came. A read that is told to have too little room can still get on. */
+/* Two reads wait, and one of them gets what came. A read that is told to have too little room can still make progress. */
 static void who_comes_first(void)
 {
     bindingclay clay = kernel_with_process();
@@ -207,7 +207,7 @@ static void files(void)
     bindingclay_free(clay);
 }
 
-/* An open of a FIFO gets on once it met its other end, and then for good. */
+/* An open of a FIFO makes progress once it met its other end, and then for good. */
 static void opens(void)
 {
     for (int way = 0; way < 4; way++) {
@@ -275,7 +275,7 @@ static void an_open_that_fails(void)
     bindingclay_free(clay);
 }
 
-/* A poll can get on where one of its entries can: entries with a negative descriptor never do, and no entries neither. */
+/* A poll can make progress where one of its entries can: entries with a negative descriptor never do, and no entries neither. */
 static void polls(void)
 {
     bindingclay clay = kernel_with_process();

@@ -7,7 +7,7 @@
  * Each script is run as it is, and then nothing is left of it. What is to take no memory asks for none. A script that makes at most
  * MOST_REQUESTS requests for memory is run again with each of them refused in turn: the call that finds no memory has changed nothing, and
  * is made once more. Of one that makes up to ten times as many, only the first FIRST_REQUESTS are refused in turn. Before a call is tried
- * again, the kernel is asked whether it can get on, and that is held to what the trial does. With --record each script is run once while its
+ * again, the kernel is asked whether it can make progress, and that is held to what the trial does. With --record each script is run once while its
  * steps are recorded, and the records are written to FOLDER, for piperun --check. */
 #define _GNU_SOURCE
 #include "counted.h"
@@ -72,7 +72,7 @@ static uint64_t in_kernel(const struct script *script, const char *word)
     return strtoull(word, NULL, 10) - script->first_call + first_number;
 }
 
-/* How often a call that waited was tried again after it was told that it can get on, and after it was told that it can't: in all runs. */
+/* How often a call that waited was tried again after it was told that it can make progress, and after it was told that it can't: in all runs. */
 static long tried_in_time, tried_in_vain;
 
 /* A call that was tried again got on exactly if that was told before: it was answered, or it took more bytes than it had taken before. */

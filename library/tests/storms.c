@@ -1,6 +1,6 @@
 /* Many calls that wait, and processes that end under them. 200 calls of one process wait, and it exits. Then four guests make calls at random
  * in one kernel: they end each other's processes and calls, and use numbers of calls that are gone. Which processes there are, and whose calls
- * wait, is kept here too, and each answer is held to it. So is what is told of each call before it is tried again: whether it can get on. At
+ * wait, is kept here too, and each answer is held to it. So is what is told of each call before it is tried again: whether it can make progress. At
  * the end nothing is left. Link with -Wl,--wrap=malloc,--wrap=realloc,--wrap=free.
  *
  *   storms CALLS    so many calls of each guest */
@@ -201,7 +201,7 @@ static bool is_end(bindingclay_answer answer)
         && (answer.kind == BINDINGCLAY_DONE || (answer.kind == BINDINGCLAY_FAULT && answer.error != 0 && answer.value == 0));
 }
 
-/* How many calls that waited were tried again after it was told that they can get on, and after it was told that they can't. */
+/* How many calls that waited were tried again after it was told that they can make progress, and after it was told that they can't. */
 static long tried_in_time, tried_in_vain;
 
 /* How many bytes the call of a number has taken, if it waits. */
@@ -215,7 +215,7 @@ static uint64_t taken_by(uint64_t number)
     return taken.value;
 }
 
-/* Tries a call again, and it gets on exactly if that was told before. There is room for all that a read may give, so only a poll is told to be
+/* Tries a call again, and it makes progress exactly if that was told before. There is room for all that a read may give, so only a poll is told to be
  * short: of its one entry. */
 static void resume(uint64_t number)
 {
@@ -346,7 +346,7 @@ static void owners_are_told(void)
             OTHER(bindingclay_owner(clay, number), BINDINGCLAY_NO_CALL);
 }
 
-/* Just the calls that wait and can get on are told, one after another. */
+/* Just the calls that wait and can make progress are told, one after another. */
 static void tells_all_ready(void)
 {
     bindingclay_answer next = bindingclay_next_ready(clay, 0);
@@ -358,7 +358,7 @@ static void tells_all_ready(void)
     OTHER(next, BINDINGCLAY_NO_CALL);
 }
 
-/* Tries each call again that can get on, until none is told. Then none of those that wait gets on. */
+/* Tries each call again that can make progress, until none is told. Then none of those that wait makes progress. */
 static void try_all(void)
 {
     bindingclay_answer next;
@@ -397,7 +397,7 @@ static void start(struct guest *guest)
     DONE(bindingclay_set_pipe_sz(clay, guest->pid, ends.write_end, 4096), 4096);
 }
 
-/* All calls of the guests, in turns, of which some wait. Now and then those are tried again that can get on. */
+/* All calls of the guests, in turns, of which some wait. Now and then those are tried again that can make progress. */
 static void storm(long calls)
 {
     first_number = next_number;
@@ -470,7 +470,7 @@ static void crowd_step(struct guest *guest, long waiting)
     }
 }
 
-/* Many calls wait at once. After each step just those are told that can get on. Now and then a guest's process ends. */
+/* Many calls wait at once. After each step just those are told that can make progress. Now and then a guest's process ends. */
 static void crowd(long steps)
 {
     clay = new_kernel(0, BINDINGCLAY_MOST_FILE_BYTES);

@@ -134,7 +134,7 @@ impl ParkedCall {
         self.number
     }
 
-    /// Whether the method that gave this handle in its answer put bytes of a write into the pipe: then another call may get on. It is `false`
+    /// Whether the method that gave this handle in its answer put bytes of a write into the pipe: then another call may make progress. It is `false`
     /// of a handle that came back in an error, or was made of a number.
     ///
     /// ```

@@ -44,7 +44,7 @@ pub enum NotDone {
     NoMemory,
     /// There is no memory to resume this call. Nothing changed: it still waits.
     NoMemoryToResume(ParkedCall),
-    /// The resumed read would give so many bytes, and has room for fewer. Or a poll that can get on has so many entries, and was resumed
+    /// The resumed read would give so many bytes, and has room for fewer. Or a poll that can make progress has so many entries, and was resumed
     /// without them. Nothing changed: it still waits.
     Short {
         /// The call, which still waits.

@@ -77,7 +77,7 @@ impl ParkedCall {
         self.number
     }
 
-    /// Whether the method that gave this handle in its answer put bytes of a write into the pipe: then another call may get on. It is false of
+    /// Whether the method that gave this handle in its answer put bytes of a write into the pipe: then another call may make progress. It is false of
     /// a handle that came back in an error, or was made of a number.
     pub const fn moved(&self) -> bool {
         self.moved
@@ -130,7 +130,7 @@ pub enum NotDone {
     NoMemory,
     /// There is no memory to resume this call. Nothing changed: it still waits.
     NoMemoryToResume(ParkedCall),
-    /// The resumed read would give so many bytes, and has room for fewer. Or a poll that can get on has so many entries, and was resumed
+    /// The resumed read would give so many bytes, and has room for fewer. Or a poll that can make progress has so many entries, and was resumed
     /// without them. Nothing changed: it still waits.
     Short { call: ParkedCall, wants: u64 },
 }

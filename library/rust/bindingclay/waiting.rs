@@ -1,4 +1,4 @@
-//! Calls that wait: what tries them again or ends them, whose they are, and whether they can get on.
+//! Calls that wait: what tries them again or ends them, whose they are, and whether they can make progress.
 
 use super::Clay;
 use super::answers::{Answer, Done, NotDone, ParkedCall, Result};
@@ -11,7 +11,7 @@ impl Clay {
     /// whether more bytes of a write went in.
     ///
     /// `resume_read` resumes a read, and `resume_poll` a poll. Resumed by this, a read that has bytes to give is `Short`, and so is a poll that
-    /// can get on.
+    /// can make progress.
     ///
     /// # Errors
     ///
@@ -75,13 +75,13 @@ impl Clay {
         unsafe { bindingclay_owner(self.0, call.number) }.number()
     }
 
-    /// Whether a call that waits can get on: a try now would answer it, or is of a write and would put in more of its bytes. Otherwise a try
+    /// Whether a call that waits can make progress: a try now would answer it, or is of a write and would put in more of its bytes. Otherwise a try
     /// is `Parked`, and moves no byte. If no call of this number waits, it is true: a try is `NoCall`.
     pub fn can_progress(&self, call: &ParkedCall) -> bool {
         unsafe { bindingclay_can_progress(self.0, call.number) }
     }
 
-    /// The least number, `from` or above, of a call that waits and can get on; `None` if no call from there on can. Resume what it answers
+    /// The least number, `from` or above, of a call that waits and can make progress; `None` if no call from there on can. Resume what it answers
     /// for 0 until it is `None`: then no call waits that could go on. It changes nothing that another call tells. Without memory for its index it
     /// answers the same.
     pub fn next_ready(&mut self, from: u64) -> Option<u64> {

@@ -1,4 +1,4 @@
-//! The lock, and what is done before it is let go: whoever can get on is answered, and woken behind it.
+//! The lock, and what is done before it is let go: whoever can make progress is answered, and woken behind it.
 
 use super::super::{Clay, NotDone, ParkedCall};
 use super::lock::{Held, Lock};
@@ -23,7 +23,7 @@ pub(super) struct Front {
     yields: Yields,
 }
 
-/// The kernel, while its lock is held. As it is dropped, the calls that can get on are answered, and those who wait for them are woken.
+/// The kernel, while its lock is held. As it is dropped, the calls that can make progress are answered, and those who wait for them are woken.
 pub(super) struct Locked<'a> {
     front: &'a Front,
     /// There until it is dropped.
@@ -101,7 +101,7 @@ impl Front {
         }
     }
 
-    /// Answers the calls that can get on, and wakes those who wait for them. Nobody is woken under the lock: a thread would at once wait for
+    /// Answers the calls that can make progress, and wakes those who wait for them. Nobody is woken under the lock: a thread would at once wait for
     /// it, and a waker may run anything.
     #[cold]
     fn answer_and_wake<'a>(&'a self, mut held: Held<'a, Inner>) {

@@ -2,7 +2,8 @@
 //!
 //! [`Shared`] has a kernel behind a lock. A [`Process`] of it makes pipes, whose ends are a [`PipeReader`] and a [`PipeWriter`] as those of
 //! `std::io::pipe`, and opens a [`File`] as `std::fs` does. A call that would wait puts its thread to sleep, without the lock. Whoever
-//! makes a step answers the calls of other threads that can get on by now. It wakes these threads, the tasks that can get on, and no others.
+//! makes a step answers the calls of other threads that can make progress by now. It wakes these threads, the tasks that can make progress, and
+//! no others.
 //!
 //! ```
 //! use bindingclay::shared::Shared;

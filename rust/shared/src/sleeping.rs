@@ -48,7 +48,7 @@ impl Slot {
         Ok(())
     }
 
-    /// Tries a call once more that can get on.
+    /// Tries a call once more that can make progress.
     fn resume(&mut self, clay: &mut Clay, number: u64) -> Result<Answer<usize>, NotDone> {
         let call = ParkedCall::from_number(number);
         if !self.entries.is_empty() {
@@ -94,7 +94,7 @@ impl Sleeper {
         self.slot.lock().unwrap_or_else(PoisonError::into_inner)
     }
 
-    /// Under the lock of the kernel: tries its call, which can get on. Tells whether it is answered.
+    /// Under the lock of the kernel: tries its call, which can make progress. Tells whether it is answered.
     pub(super) fn try_again(&self, clay: &mut Clay, number: u64) -> bool {
         let mut slot = self.slot();
         let answer = match slot.resume(clay, number) {

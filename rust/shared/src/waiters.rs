@@ -1,4 +1,4 @@
-//! The calls that wait, each with who is to be told once it gets on.
+//! The calls that wait, each with who is to be told once it makes progress.
 
 use super::super::Clay;
 use super::recording::interrupt;
@@ -44,7 +44,7 @@ struct Waiter {
 pub(super) enum Stand {
     /// It waits.
     Waits,
-    /// It has ended, as the task's call can get on.
+    /// It has ended, as the task's call can make progress.
     Named,
     /// Somebody ended the task's call.
     Ended(io::Result<usize>),
@@ -177,7 +177,7 @@ impl Waiters {
         self.calls.get_mut(&number)?.who.replace(Who::Task(waker))
     }
 
-    /// Answers the calls that can get on, until none is left.
+    /// Answers the calls that can make progress, until none is left.
     pub(super) fn answer_ready(&mut self, clay: &mut Clay) {
         while self.count() != 0 {
             let Some(number) = clay.next_ready(0) else {
@@ -187,7 +187,7 @@ impl Waiters {
         }
     }
 
-    /// Tries a call that can get on.
+    /// Tries a call that can make progress.
     fn try_again(&mut self, clay: &mut Clay, number: u64) {
         let waits_on = match self
             .calls

@@ -1,4 +1,4 @@
-//! Parked calls: what tries them again or ends them, whose they are, and whether they can get on.
+//! Parked calls: what tries them again or ends them, whose they are, and whether they can make progress.
 
 use super::{Kernel, answer_of_read};
 use crate::answers::{Answer, ParkedCall};
@@ -60,7 +60,7 @@ impl<A: Allocator + Copy> Kernel<A> {
     ///
     /// # Errors
     ///
-    /// [`NotDone::Short`] if the read would give more bytes than the caller has room for, or if the call is a poll that can get on. It gives
+    /// [`NotDone::Short`] if the read would give more bytes than the caller has room for, or if the call is a poll that can make progress. It gives
     /// the call back, which still waits, and leaves the kernel as it was. All others come as of `resume`, but
     /// [`NotDone::NoMemoryToResume`] never if the call is a read, but while steps are recorded.
     ///
@@ -192,11 +192,11 @@ impl<A: Allocator + Copy> Kernel<A> {
         self.inner.taken(call.number())
     }
 
-    /// Whether a parked call can get on: tried again now it is answered, or it is a write that puts in more of its bytes. If it can't, a try
+    /// Whether a parked call can make progress: tried again now it is answered, or it is a write that puts in more of its bytes. If it can't, a try
     /// is [`Answer::Parked`] and moves no byte. If no call is parked under its number, it is true, and a try is [`NotDone::NoCall`].
     /// Nothing changes, and it takes no memory.
     ///
-    /// After any step, ask it for each parked call, and try those that can get on, until none can.
+    /// After any step, ask it for each parked call, and try those that can make progress, until none can.
     ///
     /// ```
     /// use bindingclay::memory::Global;
@@ -215,7 +215,7 @@ impl<A: Allocator + Copy> Kernel<A> {
         self.inner.can_progress(call.number())
     }
 
-    /// The least number, `from` or above, of a parked call that can get on; `None` if no call from there on can. Resume what it answers for 0
+    /// The least number, `from` or above, of a parked call that can make progress; `None` if no call from there on can. Resume what it answers for 0
     /// until it is `None`: then no call waits that could go on, and none was tried in vain.
     ///
     /// It changes nothing that a step or another question tells. It keeps an index of the calls that wait, so it asks only those that may have
