@@ -32,6 +32,7 @@ PROGRAMS = [
     Program("calls", ("calls.c", "queue.c")),
     Program("moves", ("moves.c",)),
     Program("waiting", ("waiting.c",)),
+    Program("queues", ("queues.c",)),
     Program("threads", ("threads.c", "queue.c"), "bindingclay_shared"),
     Program("memory", ("memory.c", "queue.c")),
 ]
