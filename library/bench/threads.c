@@ -324,11 +324,20 @@ static void await_sleepers(enum kind kind)
         usleep(WHILE_OF_HOST);
 }
 
+/* Begins a thread with a small stack, as there may be many. */
+static pthread_t small_thread(void *(*start)(void *), void *argument)
+{
+    pthread_attr_t attributes;
+    pthread_t thread;
+    need(pthread_attr_init(&attributes) == 0 && pthread_attr_setstacksize(&attributes, STACK) == 0, "a stack");
+    need(pthread_create(&thread, &attributes, start, argument) == 0, "a thread");
+    pthread_attr_destroy(&attributes);
+    return thread;
+}
+
 /* Many threads that wait, each at a pipe of its own. */
 static void put_to_sleep(enum kind kind)
 {
-    pthread_attr_t attributes;
-    need(pthread_attr_init(&attributes) == 0 && pthread_attr_setstacksize(&attributes, STACK) == 0, "a stack");
     atomic_store(&fallen_asleep, 0);
     for (int i = 0; i < sleeper_count; i++) {
         struct sleeper *sleeper = &sleepers[i];
@@ -338,9 +347,8 @@ static void put_to_sleep(enum kind kind)
         else if (kind == FRONT)
             sleeper->pipes.process = sleeper[-1].pipes.process;
         new_pipe(&sleeper->pipes, sleeper->ends);
-        need(pthread_create(&sleeper->thread, &attributes, sleep_long, sleeper) == 0, "a thread");
+        sleeper->thread = small_thread(sleep_long, sleeper);
     }
-    pthread_attr_destroy(&attributes);
     await_sleepers(kind);
 }
 
@@ -375,6 +383,57 @@ static void sleeping(const struct pipes *ours, const struct pipes *host)
     compare(&(struct row){ "threads", "a byte there and back, beside threads that wait", size, "ns", 12, TURNS }, sides, count);
 }
 
+/* Workers that take jobs from one pipe, and answer by another. A job is a byte, of which one ends the worker. */
+struct pool {
+    struct pipes pipes;
+    unsigned workers;
+};
+
+enum { JOB = 'j', NO_MORE = 'n' };
+
+static void *work(void *argument)
+{
+    const struct pool *pool = argument;
+    char job;
+    while (get(&pool->pipes, pool->pipes.there[0], &job, 1) == 1 && job != NO_MORE)
+        need(put(&pool->pipes, pool->pipes.back[1], &job, 1) == 1, "write");
+    return NULL;
+}
+
+/* A job for one of them, and its answer. */
+static double jobs(const void *subject, int times)
+{
+    static pthread_t workers[MOST_SLEEPERS];
+    struct pool pool = *(const struct pool *)subject;
+    const struct pipes *pipes = &pool.pipes;
+    char job = JOB, no_more = NO_MORE;
+    for (unsigned i = 0; i < pool.workers; i++)
+        workers[i] = small_thread(work, &pool);
+    usleep(WHILE_OF_HOST);
+    double begun = now();
+    for (int i = 0; i < times; i++) {
+        need(put(pipes, pipes->there[1], &job, 1) == 1, "write");
+        need(get(pipes, pipes->back[0], &job, 1) == 1, "read");
+    }
+    double each = (now() - begun) / times;
+    for (unsigned i = 0; i < pool.workers; i++)
+        need(put(pipes, pipes->there[1], &no_more, 1) == 1, "write");
+    for (unsigned i = 0; i < pool.workers; i++)
+        pthread_join(workers[i], NULL);
+    return each;
+}
+
+static void pools(void)
+{
+    static const unsigned WORKERS[] = { 63, 300, 1000 };
+    struct pool ours = { .pipes = new_pipes(FRONT) }, host = { .pipes = new_pipes(HOST) };
+    const struct side sides[] = { { "bindingclay", jobs, &ours }, { "host's pipe", jobs, &host } };
+    for (size_t i = 0; i < (pace == QUICK ? 1 : sizeof WORKERS / sizeof *WORKERS); i++) {
+        ours.workers = host.workers = WORKERS[i];
+        compare(&(struct row){ "threads", "a job for one of so many threads, and its answer", WORKERS[i], "ns", 12, TURNS }, sides, 2);
+    }
+}
+
 int main(int count, char **words)
 {
     begin(count, words);
@@ -391,5 +450,6 @@ int main(int count, char **words)
     compare(&of_stream, streams, 2);
     compare(&(struct row){ "threads", "a message among 160 threads, in four groups", MESSAGE, "ns", 30, MESSAGES }, groups, 2);
     sleeping(&ours, &host);
+    pools();
     return 0;
 }

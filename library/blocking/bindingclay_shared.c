@@ -270,6 +270,14 @@ static void sleep_until(bc_shared *shared, struct bc_waiter *waiter, const struc
         bc_unlock(shared);
 }
 
+/* Under the lock: whether no other read or write waits where this one does. Where others do, the next step answers one of those that came before, so
+ * that a yield would be in vain. */
+static bool is_alone_at_its_pipe(const bc_shared *shared, const struct bc_waiter *waiter)
+{
+    bool has_pipe = waiter->room.kind == BC_READS || waiter->room.kind == BC_WRITES;
+    return !has_pipe || shared->waiting_at[waiter->room.kind][waiter->group] == 1;
+}
+
 /* Yields some times, and tells whether the call is answered then. */
 static bool is_answered_by_yields(bc_shared *shared, struct bc_waiter *waiter)
 {
@@ -298,8 +306,9 @@ static void sleep_by_hook(bc_shared *shared, struct bc_waiter *waiter)
 /* Under the lock: gives it back, and sleeps until the call is answered. Signals of the host end no call, unless the hook of sleeps tells of one. */
 static void sleep_on(bc_shared *shared, struct bc_waiter *waiter)
 {
+    bool may_be_next = is_alone_at_its_pipe(shared, waiter);
     bc_unlock(shared);
-    if (is_answered_by_yields(shared, waiter))
+    if (may_be_next && is_answered_by_yields(shared, waiter))
         return;
     if (shared->sleep_hook != NULL)
         sleep_by_hook(shared, waiter);

@@ -18,31 +18,6 @@ static bool is_size(size_t size)
     return is_one;
 }
 
-/* Whether the last read of this thread waited, or had nothing to read at first. */
-static _Thread_local bool had_nothing;
-
-/* Under the lock, in a thread whose last read had nothing to read: yields once if this read has nothing either. So two threads that answer each
- * other park no call in the kernel, whose cost grows with the calls that wait. Returns whether the thread has the lock again, and else the process
- * is gone. */
-static bool yielded_for(const bc_process *process, int fd)
-{
-    bc_shared *shared = process->shared;
-    struct bc_yield yield;
-    bindingclay_node_facts facts;
-    /* a poll would be a step, which stands in a record */
-    bindingclay_answer answer = bindingclay_fd_facts(shared->clay, process->pid, fd, &facts);
-    had_nothing = answer.kind == BINDINGCLAY_DONE && facts.kind != BINDINGCLAY_FILE && facts.size == 0;
-    if (!had_nothing || process->has_deadline || !bc_may_yield(shared, &yield))
-        return true;
-    bc_stay(shared);
-    bc_unlock(shared);
-    bc_yield(shared, &yield);
-    bool is_in = bc_in(process);
-    /* it may have the lock: none yields who would take it here */
-    bc_go(shared);
-    return is_in;
-}
-
 /* Under the lock, with the answer of a read or a write that waits: waits to the deadline of the handle, and tells what the call returns. Out of
  * line, so that a call that is answered at once stores no room. */
 static ssize_t waited(const bc_process *process, bindingclay_answer parked, struct bc_room room)
@@ -52,10 +27,9 @@ static ssize_t waited(const bc_process *process, bindingclay_answer parked, stru
 
 ssize_t bc_read(const bc_process *process, int fd, void *into, size_t size)
 {
-    if (!is_size(size) || !bc_in(process) || (had_nothing && !yielded_for(process, fd)))
+    if (!is_size(size) || !bc_in(process))
         return -1;
     bindingclay_answer answer = bindingclay_read(process->shared->clay, process->pid, fd, into, size);
-    had_nothing = had_nothing || answer.kind == BINDINGCLAY_PARKED;
     if (answer.kind == BINDINGCLAY_PARKED)
         return waited(process, answer, (struct bc_room){ .kind = BC_READS, .fd = fd, .into = into, .size = size });
     bc_out_behind(process->shared, bc_helped(process, BC_READS, fd));

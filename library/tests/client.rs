@@ -233,16 +233,18 @@ fn memory_to_resume(checks: &mut Checks) {
     };
     checks.is((large.number(), large.moved()), (1, true));
     checks.is(clay.read(1, 0, &mut [0; 4_096]), done(4_096));
-    // a file and another pipe take all segments that are left
+    // a file and other pipes take all segments that are left: an empty pipe has places for two, and needs no longer list for them
     checks.is(clay.open_name(1, b"f", O_WRONLY | O_CREAT), done(2));
-    checks.is(
-        clay.pipe(1, true),
-        Ok(Ends {
-            read_end: 3,
-            write_end: 4,
-        }),
-    );
-    for fd in [2, 4] {
+    for fd in [3, 5, 7] {
+        checks.is(
+            clay.pipe(1, true),
+            Ok(Ends {
+                read_end: fd,
+                write_end: fd + 1,
+            }),
+        );
+    }
+    for fd in [2, 4, 6, 8] {
         while clay.write(1, fd, &[0; 4_096]) == done(4_096) {}
         checks.is(clay.write(1, fd, &[0; 4_096]), Err(NotDone::NoMemory));
     }
@@ -258,7 +260,7 @@ fn memory_to_resume(checks: &mut Checks) {
         (clay.can_progress(&call(1)), clay.taken(&call(1))),
         (true, Ok(65_536)),
     );
-    checks.is(clay.open_name(1, b"f", O_WRONLY | O_TRUNC), done(5));
+    checks.is(clay.open_name(1, b"f", O_WRONLY | O_TRUNC), done(9));
     checks.is(moved(clay.resume(large)), Some(true));
     checks.is(clay.taken(&call(1)), Ok(69_632));
     checks.is(clay.read(1, 0, &mut [0; 4_096]), done(4_096));

@@ -1,15 +1,13 @@
 //! A call that may wait, from its begin to its end, in a thread.
 
-use super::super::{Answer, Clay, NodeKind, NotDone, ParkedCall, PollEntry};
-use super::front::{Inner, Locked};
-use super::lock::Held;
+use super::super::{Answer, Clay, NotDone, ParkedCall, PollEntry};
+use super::front::Locked;
 use super::polling::POLLOUT;
 use super::process::Owner;
 use super::recording::interrupt;
 use super::sleeping::{Sleeper, Slot};
 use super::waiters::Who;
 use super::ways::{Place, Way};
-use std::cell::Cell;
 use std::io;
 use std::sync::Arc;
 use std::time::Instant;
@@ -193,30 +191,6 @@ impl Call<'_> {
     }
 }
 
-thread_local! {
-    /// Whether the last read of this thread waited, or had nothing to read at first.
-    static HAD_NOTHING: Cell<bool> = const { Cell::new(false) };
-}
-
-/// In a thread whose last read had nothing to read: yields once if this read has nothing either. So two threads that answer each other park no
-/// call in the kernel, whose cost grows with the calls that wait.
-#[cold]
-fn yielded_for<'a>(owner: &'a Owner, held: Held<'a, Inner>, fd: i32) -> Held<'a, Inner> {
-    // a poll would be a step, which stands in a record
-    let facts = held.clay.fd_facts(owner.pid, fd);
-    let has_nothing = facts.is_ok_and(|facts| facts.kind != NodeKind::File && facts.size == 0);
-    HAD_NOTHING.set(has_nothing);
-    if !has_nothing {
-        return held;
-    }
-    let Some(begun) = owner.front.may_yield() else {
-        return held;
-    };
-    drop(held);
-    owner.front.yield_once(&begun);
-    owner.front.hold()
-}
-
 /// Makes a call of a process, and waits for its end.
 #[inline(always)]
 pub(super) fn run(
@@ -226,10 +200,6 @@ pub(super) fn run(
 ) -> io::Result<usize> {
     let front = &*owner.front;
     let mut held = front.hold();
-    match call {
-        Call::Read { fd, .. } if HAD_NOTHING.get() => held = yielded_for(owner, held, fd),
-        _ => {}
-    }
     if owner.is_gone() {
         return Err(NotDone::NoProcess.into());
     }
@@ -254,9 +224,6 @@ fn wait(
     call: Call<'_>,
     deadline: Option<Instant>,
 ) -> io::Result<usize> {
-    if let Call::Read { .. } = call {
-        HAD_NOTHING.set(true);
-    }
     Sleeper::with(|sleeper| wait_by(sleeper, owner, locked, parked, call, deadline))
 }
 
@@ -270,9 +237,9 @@ fn wait_by<'a>(
 ) -> io::Result<usize> {
     loop {
         let room_at = call.awaits_room_at().map(|fd| (fd, owner.closes(fd)));
-        let number = enlist(owner, locked, parked, &call, sleeper)?;
+        let (number, may_be_next) = enlist(owner, locked, parked, &call, sleeper)?;
         let count = sleeper
-            .sleep(&owner.front, deadline)
+            .sleep(&owner.front, deadline, may_be_next)
             .unwrap_or_else(|| give_up(owner, sleeper, number))?;
         let Some((fd, closes)) = room_at else {
             call.give(&mut sleeper.slot(), count);
@@ -291,14 +258,15 @@ fn wait_by<'a>(
     }
 }
 
-/// Adds a call to those that wait, lets go of the lock, and tells the number of the call.
+/// Adds a call to those that wait, and lets go of the lock. Returns the number of the call, and whether the next step may answer it: where others wait
+/// at its pipe, it answers one of those that came before.
 fn enlist(
     owner: &Owner,
     mut locked: Locked<'_>,
     parked: ParkedCall,
     call: &Call<'_>,
     sleeper: &Arc<Sleeper>,
-) -> io::Result<u64> {
+) -> io::Result<(u64, bool)> {
     // an open that waits is seen by another open, and a write may have put in some bytes
     let has_helped = parked.moved() || matches!(call, Call::Open { .. });
     let number = parked.into_number();
@@ -310,13 +278,14 @@ fn enlist(
     let place = call
         .way()
         .map(|(way, fd)| Place::of(locked.clay(), owner.pid, fd, way));
-    locked
-        .waiters()
-        .add(number, owner.pid, Who::Thread(Arc::clone(sleeper)), place);
+    let may_be_next =
+        locked
+            .waiters()
+            .add(number, owner.pid, Who::Thread(Arc::clone(sleeper)), place);
     if !has_helped {
         locked.helped_none();
     }
-    Ok(number)
+    Ok((number, may_be_next))
 }
 
 /// Ends a call whose next try finds no memory: it would be named for ever. A write that put in some bytes tells how many.

@@ -135,14 +135,15 @@ impl Sleeper {
         self.take()
     }
 
-    /// Sleeps until its call is answered; nothing if the deadline is over before.
+    /// Sleeps until its call is answered; nothing if the deadline is over before. If the next step may answer it, it yields some times before.
     pub(super) fn sleep(
         &self,
         front: &Front,
         deadline: Option<Instant>,
+        may_be_next: bool,
     ) -> Option<io::Result<usize>> {
-        self.yield_some_times(front)
-            .or_else(|| self.sleep_at_once(deadline))
+        let yielded = may_be_next.then(|| self.yield_some_times(front)).flatten();
+        yielded.or_else(|| self.sleep_at_once(deadline))
     }
 
     fn yield_some_times(&self, front: &Front) -> Option<io::Result<usize>> {

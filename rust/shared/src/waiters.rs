@@ -131,8 +131,8 @@ impl Waiters {
         Ok(())
     }
 
-    /// Adds a call that was parked just now. If it is a read or a write, it has a place.
-    pub(super) fn add(&mut self, number: u64, pid: u32, who: Who, place: Option<Place>) {
+    /// Adds a call that was parked just now. If it is a read or a write, it has a place. Returns whether no other one waits there.
+    pub(super) fn add(&mut self, number: u64, pid: u32, who: Who, place: Option<Place>) -> bool {
         self.calls.insert(
             number,
             Waiter {
@@ -142,9 +142,7 @@ impl Waiters {
                 ended: None,
             },
         );
-        if let Some(place) = place {
-            self.counts.add(place);
-        }
+        place.is_none_or(|place| self.counts.add(place) == 1)
     }
 
     /// Takes a call out, if it waits. Who waited is dropped by the caller without the lock: a task may go with its waker, and its handles.

@@ -43,9 +43,11 @@ impl Counts {
         }
     }
 
-    pub(super) fn add(&mut self, Place { way, group }: Place) {
+    /// Counts one more. Returns how many wait at its place.
+    pub(super) fn add(&mut self, Place { way, group }: Place) -> usize {
         self.all[way as usize] += 1;
         self.at[way as usize][group] += 1;
+        self.at[way as usize][group]
     }
 
     pub(super) fn remove(&mut self, Place { way, group }: Place) {
