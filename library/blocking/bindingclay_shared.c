@@ -270,8 +270,8 @@ static void sleep_until(bc_shared *shared, struct bc_waiter *waiter, const struc
         bc_unlock(shared);
 }
 
-/* Under the lock: whether no other read or write waits where this one does. Where others do, the next step answers one of those that came before, so
- * that a yield would be in vain. */
+/* Under the lock: whether no other call of its kind waits at the pipes of its group. Where others wait at its own, the next step answers one that came
+ * before, so that a yield would be in vain. */
 static bool is_alone_at_its_pipe(const bc_shared *shared, const struct bc_waiter *waiter)
 {
     bool has_pipe = waiter->room.kind == BC_READS || waiter->room.kind == BC_WRITES;

@@ -114,6 +114,17 @@ static double seconds_of_a_question(bindingclay clay)
     return seconds() - begun;
 }
 
+/* The least of five such questions. */
+static double least_of_five_questions(bindingclay clay)
+{
+    double least = 1e9;
+    for (int run = 0; run < 5; run++) {
+        double taken = seconds_of_a_question(clay);
+        least = taken < least ? taken : least;
+    }
+    return least;
+}
+
 /* Calls that began to wait are asked once each, however many they are. The next question costs what it costs beside a few. */
 static void the_next_after_many_calls(long count)
 {
@@ -122,11 +133,7 @@ static void the_next_after_many_calls(long count)
     for (long i = 0; i < count; i++)
         if (take(clay, 1, ends.read_end, 1).kind != BINDINGCLAY_PARKED)
             HOLDS(false);
-    double first = seconds_of_a_question(clay), next = first;
-    for (int run = 0; run < 5; run++) {
-        double taken = seconds_of_a_question(clay);
-        next = taken < next ? taken : next;
-    }
+    double first = seconds_of_a_question(clay), next = least_of_five_questions(clay);
     if (count >= LARGE)
         HOLDS(16 * next < first);
     OTHER(bindingclay_exit(clay, 1), BINDINGCLAY_DONE);
@@ -146,11 +153,7 @@ static void a_question_without_memory(long count)
     double first = seconds_of_a_question(clay);
     HOLDS(refused != 0);
     long before = refused;
-    double next = first;
-    for (int run = 0; run < 5; run++) {
-        double taken = seconds_of_a_question(clay);
-        next = taken < next ? taken : next;
-    }
+    double next = least_of_five_questions(clay);
     HOLDS(refused == before);
     refuse_none();
     if (count >= LARGE)
@@ -317,24 +320,26 @@ static void a_question_after_interrupted_calls(long count)
     HOLDS(bytes_left == 0);
 }
 
-/* What calls that ended left in the queues is given back, once few wait. */
-static void queues_of_calls_that_ended(long count)
+/* What calls that ended had is given back, once few wait: their table as they end, and their queues at the next question. */
+static void memory_of_calls_that_ended(long count)
 {
     bindingclay clay = kernel_with_process();
     bindingclay_ends ends = NEW_PIPE(clay, 1, false);
     DONE(bindingclay_fork(clay, 1), 2);
+    long at_first = bytes_left;
     for (long i = 0; i < count; i++)
         if (take(clay, 2, ends.read_end, 1).kind != BINDINGCLAY_PARKED)
             HOLDS(false);
-    long before = bytes_left;
+    long before = bytes_left, calls = before - at_first;
     seconds_of_a_question(clay);
     long queues = bytes_left - before;
     OTHER(bindingclay_exit(clay, 2), BINDINGCLAY_DONE);
     before = bytes_left;
     seconds_of_a_question(clay);
+    long left = bytes_left - at_first;
     if (count >= LARGE)
-        HOLDS(queues >= 24 * count && before - bytes_left >= queues);
-    printf("queues of %ld calls took %ld bytes, of which %ld came back\n", count, queues, before - bytes_left);
+        HOLDS(queues >= 24 * count && before - bytes_left >= queues && calls >= 64 * count && 64 * left < calls);
+    printf("%ld calls took %ld bytes, and their queues %ld; %ld are left of both\n", count, calls, queues, left);
     bindingclay_free(clay);
     HOLDS(bytes_left == 0);
 }
@@ -390,7 +395,7 @@ int main(int words, char **word)
     for (enum waiting kind = READS; kind <= TEES; kind++)
         a_step_beside_one_queue(count, kind);
     a_question_after_interrupted_calls(count);
-    queues_of_calls_that_ended(count);
+    memory_of_calls_that_ended(count);
     the_next_without_any_memory();
     return end();
 }

@@ -36,9 +36,10 @@ impl<A: Allocator + Copy> Kernel<A> {
     ///
     /// It changes nothing that a step or a question sees. Calls wait in queues at the pipes and files that they wait for, of which all make
     /// progress together or none does: so it asks the pipes and files that steps touched since the last time, and of each queue there the
-    /// first call. Where it answered `None` for 0, and no step was made since, it costs nothing. Else it costs from 0 the logarithm of how many calls wait, a look at each pipe and file that was touched, and one at each call
-    /// there that is an open, a poll, a splice or a tee; from another number also one at each pipe and file where a call can make progress. The
-    /// queues take memory of their own. Where memory runs out, it asks all that wait, and answers the same.
+    /// first call. Where it answered `None` for 0, and no step was made since, it costs nothing. Else it costs from 0 the logarithm of how many
+    /// calls wait for each queue at a pipe or file that was touched, and a look at each open and each splice from a file there; from another
+    /// number also a look at each pipe and file where a call can make progress. The queues take memory of their own. Where memory runs out, it
+    /// asks all that wait, and answers the same.
     pub fn next_ready(&mut self, from: u64) -> Option<u64>
         ensures told { TellsNextReady {A = A} self.old from result }
         ensures same { self.new ≡ self.old }
