@@ -236,6 +236,7 @@ for name in processes pipes packets packet_waits descriptors files fifos splices
 done
 build memory "$counted" && run memory
 build index_memory "$counted" && run index_memory
+build left_behind && run left_behind && sed 's/^/left_behind: /' "$work/log"
 build storms "$counted" && run storms 500 && plainly storms 20000
 build queues_drawn "$counted" && plainly queues_drawn 100000 && under_valgrind queues_drawn 10000
 for name in growth growth_waits; do

@@ -88,6 +88,28 @@ impl<T, A: Allocator> Slab<T, A> {
         self.get(key).is_some()
     }
 
+    /// The keys and the values, by rising key.
+    pub fn iter(&self) -> impl Iterator<Item = (usize, &T)> {
+        (0..self.entries.len()).filter_map(|key| Some((key, self.get(key)?)))
+    }
+
+    /// Drops the entries after the last value, and gives back the memory that isn't needed. No key changes.
+    pub fn shrink_to_fit(&mut self) {
+        let before = self.entries.len();
+        while let Some(Entry::Vacant(_)) = self.entries.last() {
+            self.entries.pop();
+        }
+        self.entries.shrink_to_fit();
+        if self.entries.len() != before {
+            self.next = self.entries.len();
+            for key in (0..self.entries.len()).rev() {
+                if let Entry::Vacant(next) = &mut self.entries[key] {
+                    *next = core::mem::replace(&mut self.next, key);
+                }
+            }
+        }
+    }
+
     #[inline(always)]
     pub fn get(&self, key: usize) -> Option<&T> {
         match self.entries.get(key) {

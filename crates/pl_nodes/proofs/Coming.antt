@@ -13,6 +13,7 @@ use Rattle.pl_segments.specs.Turns.{Turns}
 use Rattle.pl_segments.specs.Sharing.{slots_at, AreShared}
 use Rattle.slab.specs.Slab.{Slab, Updates}
 use Rattle.pl_nodes.specs.declared.content.Content.{Content}
+use Rattle.pl_nodes.specs.declared.upper.Upper.{Upper}
 use Rattle.pl_nodes.specs.declared.nodes.Nodes.TheInside.{Inside}
 use Rattle.pl_nodes.specs.Nodes.{Nodes, Shrinks, memory_of}
 use Rattle.pl_nodes.specs.NodesView.{slots_in, lists, named_as, named_packet, AreNamed, view_of, IsSound}
@@ -38,8 +39,8 @@ module _ {A : Type 0} (k : Inside A) (sound : IsSound k) where
     ]
 
     -- it had no name
-    pub gone-sound : NamedAlike (Some old) None → store.room ≤ most_spare → IsSound (record k { store = store; contents = after })
-    gone-sound alike spare = record {
+    pub gone-sound : NamedAlike (Some old) None → store.room ≤ most_spare → (upper : Upper) → IsSound (record k { store = store; contents = after; upper = upper })
+    gone-sound alike spare upper = record {
       shared = gone-shared (segment_at k.store) (segment_at store) k.contents after key old there sound.shared turned u;
       short = λ q. subst (λ (xs : List Slice). length xs ≤ most_file_bytes) (sym (gone-lists (segment_at k.store) (segment_at store) k.contents after key old there sound.shared turned u q)) (gone-short q);
       named = still-named k.contents.slots after.slots key u.others (Some old) None there u.changed alike k.names.entries sound.named;
@@ -72,8 +73,9 @@ module _ {A : Type 0} (k : Inside A) (sound : IsSound k) where
     pub came-unnamed : NamedAlike None (Some new) → AreNamed k.names.entries after.slots
     came-unnamed alike = still-named before.slots after.slots key u.others None (Some new) free u.changed alike k.names.entries (subst (λ cs. AreNamed k.names.entries cs) (sym same) sound.named)
 
-    pub came-sound : (names : BTreeMap (Vec ℕ A) Node) → AreNamed names.entries after.slots → named_packet (Some new) ≡ false → IsSound (record k { contents = after; names = names })
-    came-sound names named is = record {
+    pub came-sound : (names : BTreeMap (Vec ℕ A) Node) → AreNamed names.entries after.slots → named_packet (Some new) ≡ false → (upper : Upper)
+        → IsSound (record k { contents = after; names = names; upper = upper })
+    came-sound names named is upper = record {
       shared = new-shared (segment_at k.store) before after key new free came-shared empty u;
       short = λ q.
           subst (λ (xs : List Slice). length xs ≤ most_file_bytes) (sym (new-lists (segment_at k.store) before after key new free came-shared empty u q ∙ ap (λ cs. slots_at (lists cs) q) same))

@@ -13,7 +13,7 @@ use Rattle.pl_segments.specs.Slices.{all_read}
 use Rattle.pl_segments.specs.Turns.{Holds, Turns}
 use Rattle.pl_segments.specs.Sharing.{slots_at, AreShared}
 use Rattle.pl_segments.proofs.Shared.{one-held, shared-turned, others-same}
-use Rattle.slab.specs.Slab.{Slab, Updates}
+use Rattle.slab.specs.Slab.{Slab, Updates, SameValues}
 use Rattle.pl_nodes.specs.declared.content.Content.{Content}
 use Rattle.pl_nodes.specs.declared.content.Content.TheVariants.{Pipe, File}
 use Rattle.pl_nodes.specs.NodesView.{pipe_in, file_in, slots_in, lists}
@@ -112,6 +112,10 @@ module _ {A : Type 0} (m : Map) (contents : List (Option (Content A))) (key : �
             let was = length-map contents (s.see m) in
             same-list (map (s.see n) (slice_set contents key (Some new))) (map (s.see m) contents) (now ∙ sym was) (kept-seen e)
 
+-- a table that is cut after its last value keeps what was changed
+pub cut-updates : {T : Type 0} (before after cut : Slab T) (key : ℕ) (slot : Option T) → Updates before after key slot → SameValues after cut → Updates before cut key slot
+cut-updates before after cut key slot u same = record { changed = same key ∙ u.changed; others = λ q d. same q ∙ u.others q d }
+
 -- a content goes, with its slots
 module _ {A : Type 0} (m n : Map) (before after : Slab (Content A)) (key : ℕ) (old : Content A) (there : at before.slots key ≡ Some old) (shared : AreShared m (lists before.slots))
     (turned : Turns m (slots_in (Some old)) n []) (u : Updates before after key None) where
@@ -134,14 +138,8 @@ module _ {A : Type 0} (m n : Map) (before after : Slab (Content A)) (key : ℕ) 
         (λ q d. seen-at s n after.slots q ∙ ap (s.see n) (u.others q d) ∙ others m before.slots key old there shared n [] turned s q d ∙ sym (seen-at s m before.slots q))
 
     -- where it wasn't seen nothing is missed
-    gone-unseen : s.see m (Some old) ≡ None → seen s n after.slots ≡ seen s m before.slots
+    pub gone-unseen : s.see m (Some old) ≡ None → seen s n after.slots ≡ seen s m before.slots
     gone-unseen e = gone-seen ∙ sym (is_set_at (seen s m before.slots) (seen s m before.slots) key None (seen-at s m before.slots key ∙ ap (s.see m) there ∙ e) (λ q d. refl))
-
-    pub gone-list : s.see m (Some old) ≡ None → after.slots ≡ slice_set before.slots key None → map (s.see n) after.slots ≡ map (s.see m) before.slots
-    gone-list e slots =
-        let now = length-map after.slots (s.see n) ∙ ap (λ (xs : List (Option (Content A))). length xs) slots ∙ length-set before.slots key None in
-        let was = length-map before.slots (s.see m) in
-        same-list (map (s.see n) after.slots) (map (s.see m) before.slots) (now ∙ sym was) (gone-unseen e)
 
 -- a content without slots comes under a key that was free
 module _ {A : Type 0} (m : Map) (before after : Slab (Content A)) (key : ℕ) (new : Content A) (free : at before.slots key ≡ None) (shared : AreShared m (lists before.slots))

@@ -1,6 +1,6 @@
 -- Of slots: which lie within others, which segments they name, and how many segments are there.
 use Rattle.std.proofs.Common.{◌≡◌, ℕ, zero, suc, ◌+◌, ◌-◌, ◌≤◌, Bool, true, false, cond, List, [], ◌∷◌, ◌++◌, Option, Some, None, refl, sym, ◌∙◌, ap, inl, inr, nat_eq, nat_lt, set, arith}
-use Rattle.std.specs.Prelude.{if◌then◌else◌, nat_le, is_some, not, count_by, ◌&&◌, ◌||◌}
+use Rattle.std.specs.Prelude.{if◌then◌else◌, nat_le, is_some, count_by, ◌&&◌, ◌||◌}
 use Rattle.std.specs.List.{range_with_len}
 use Rattle.std.proofs.lemmas.Bool.{and_from, and_parts, leb-true, le-leb, cases_lt, ltb_from_iff}
 use Rattle.std.proofs.lemmas.Bool.Decides.{leb_tells, eqb_tells}

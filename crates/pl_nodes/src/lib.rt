@@ -9,6 +9,7 @@ mod content;
 mod fault;
 mod nodes;
 mod queue;
+mod upper;
 
 pub use fault::{MakeFault, NoSuchName};
 pub use nodes::Nodes;

@@ -5,6 +5,7 @@ ghost use Rattle.pl_segments.specs.Segments.{most_spare, at};
 ghost use Rattle.pl_nodes.specs.Nodes.{NamesBelow, segments_named};
 
 use crate::content::Content;
+use crate::upper::Upper;
 use pl_model::Node;
 use pl_segments::Store;
 use slab::Slab;
@@ -26,6 +27,7 @@ pub struct Nodes<A: Allocator = Global> {
     alloc: A,
     store: Store<A>,
     contents: Slab<Content<A>, A>,
+    upper: Upper,
     names: BTreeMap<Vec<u8, A>, Node, A>,
     file_max: usize,
 }
@@ -55,6 +57,7 @@ impl<A: Allocator + Copy> Nodes<A> {
             alloc,
             store: Store::new(alloc),
             contents: Slab::new(alloc),
+            upper: Upper::new(),
             names: BTreeMap::new(alloc),
             file_max,
         }

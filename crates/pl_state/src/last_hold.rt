@@ -4,7 +4,7 @@ ghost use Rattle.pl_model.specs.Map.{set_at, kept_if};
 ghost use Rattle.pl_model.specs.Nodes.{has_name};
 ghost use Rattle.pl_desc.specs.Rows.{at, count_at, change_count, one_less};
 ghost use Rattle.pl_desc.specs.Descs.{IsTidy, last_hold};
-ghost use Rattle.pl_nodes.specs.Nodes.{SameFiles, SamePipes, Shrinks, memory_of};
+ghost use Rattle.pl_nodes.specs.Nodes.{Shrinks, memory_of};
 ghost use Rattle.pl_state.specs.Contents.{IsThere, nodes_of};
 ghost use Rattle.pl_state.specs.LastHold.{with_these_ends, Leaves, ReleasesAll};
 ghost use Rattle.pl_state.specs.Sound.{AreThere, times};
@@ -27,7 +27,9 @@ fn leave_pipe<A: Allocator + Copy>(
 )
     requires { IsSome (at nodes.old.pipes pipe) }
     ensures pipes { at nodes.new.pipes ≡ set_at nat_eq (at nodes.old.pipes) pipe (option_map (with_these_ends has_reader has_writer had_writer) (kept_if ((has_reader || has_writer) || has_name nodes.old.names (Node.Pipe pipe)) (at nodes.old.pipes pipe))) }
-    ensures files { SameFiles nodes.old nodes.new }
+    ensures files { at nodes.new.files ≡ at nodes.old.files }
+    ensures names { nodes.new.names ≡ nodes.old.names }
+    ensures file_max { nodes.new.file_max ≡ nodes.old.file_max }
     ensures shrinks { Shrinks (memory_of nodes.old) (memory_of nodes.new) }
 {
     let was_hung = nodes.is_hung(pipe);
@@ -53,7 +55,9 @@ fn leave_file<A: Allocator + Copy>(
 )
     requires { IsSome (at nodes.old.files file) }
     ensures files { at nodes.new.files ≡ set_at nat_eq (at nodes.old.files) file (kept_if ((has_reader || has_writer) || has_name nodes.old.names (Node.File file)) (at nodes.old.files file)) }
-    ensures pipes { SamePipes nodes.old nodes.new }
+    ensures pipes { at nodes.new.pipes ≡ at nodes.old.pipes }
+    ensures names { nodes.new.names ≡ nodes.old.names }
+    ensures file_max { nodes.new.file_max ≡ nodes.old.file_max }
     ensures shrinks { Shrinks (memory_of nodes.old) (memory_of nodes.new) }
 {
     if has_reader || has_writer || nodes.has_name(Node::File(file)) {

@@ -50,6 +50,7 @@ impl<A: Allocator + Copy> Nodes<A> {
         let Ok(_previous) = self.names.insert(name, Node::Pipe(key)) else {
             return Err(MakeFault::NoMemory);
         };
+        self.upper.comes(&self.contents);
         Ok(
             self.contents.insert_reserved(Content::Pipe(PipeNode {
                 queue: Queue::Bytes(ring),

@@ -114,13 +114,16 @@ impl<A: Allocator + Copy> Nodes<A> {
         requires here { IsSome (at self.old.files key) }
         requires unnamed { has_name self.old.names (Node.File key) ≡ false }
         ensures ok { at self.new.files ≡ set_at nat_eq (at self.old.files) key None }
-        ensures pipes { SamePipes self.old self.new }
+        ensures pipes { at self.new.pipes ≡ at self.old.pipes }
+        ensures names { self.new.names ≡ self.old.names }
+        ensures file_max { self.new.file_max ≡ self.old.file_max }
         ensures shrinks { Shrinks (memory_of self.old) (memory_of self.new) }
     {
         let Content::File(gone) = self.contents.remove(key) else {
             unreachable!()
         };
         let_go(&mut self.store, gone.file);
+        self.upper.went(&mut self.contents, key);
         // A proof learns here that a segment that is there is held.
         let _segments = self.store.in_use();
     }

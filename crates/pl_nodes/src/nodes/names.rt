@@ -45,6 +45,7 @@ impl<A: Allocator + Copy> Nodes<A> {
         let Ok(_previous) = self.names.insert(name, Node::File(key)) else {
             return Err(MakeFault::NoMemory);
         };
+        self.upper.comes(&self.contents);
         Ok(
             self.contents.insert_reserved(Content::File(FileNode {
                 file: File::new(self.alloc),

@@ -33,6 +33,7 @@ impl<A: Allocator + Copy> Nodes<A> {
     {
         self.contents.reserve(1)?;
         let ring = PacketRing::new(self.alloc, FIRST_CAPACITY)?;
+        self.upper.comes(&self.contents);
         Ok(
             self.contents.insert_reserved(Content::Pipe(PipeNode {
                 queue: Queue::Packets(ring),

@@ -36,6 +36,7 @@ impl<A: Allocator + Copy> Nodes<A> {
     {
         self.contents.reserve(1)?;
         let ring = Ring::new(self.alloc, FIRST_CAPACITY)?;
+        self.upper.comes(&self.contents);
         Ok(
             self.contents.insert_reserved(Content::Pipe(PipeNode {
                 queue: Queue::Bytes(ring),
@@ -231,13 +232,16 @@ impl<A: Allocator + Copy> Nodes<A> {
         requires here { IsSome (at self.old.pipes key) }
         requires unnamed { has_name self.old.names (Node.Pipe key) ≡ false }
         ensures ok { at self.new.pipes ≡ set_at nat_eq (at self.old.pipes) key None }
-        ensures files { SameFiles self.old self.new }
+        ensures files { at self.new.files ≡ at self.old.files }
+        ensures names { self.new.names ≡ self.old.names }
+        ensures file_max { self.new.file_max ≡ self.old.file_max }
         ensures shrinks { Shrinks (memory_of self.old) (memory_of self.new) }
     {
         let Content::Pipe(gone) = self.contents.remove(key) else {
             unreachable!()
         };
         gone.queue.let_go(&mut self.store);
+        self.upper.went(&mut self.contents, key);
         // A proof learns here that a segment that is there is held.
         let _segments = self.store.in_use();
     }

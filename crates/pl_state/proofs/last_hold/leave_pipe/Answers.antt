@@ -1,4 +1,5 @@
-use Rattle.std.proofs.Common.{◌∙◌, sym, subst}
+use Rattle.std.proofs.Common.{◌∙◌, sym, subst, ap}
+use Rattle.pl_desc.specs.Rows.{at}
 use Rattle.pl_state.proofs.holders.Hung.{left_hung, left_reset, left_none}
 use Rattle.pl_nodes.specs.Nodes.{Shrinks, memory_of}
 use Rattle.pl_state.proofs.holders.Shrinking.{shrinks-same}
@@ -21,3 +22,9 @@ returns-else-has_name-clause-pipes g c =
 
 pub returns-in-Some-clause-shrinks : goal.returns-in-Some-clause-shrinks
 returns-in-Some-clause-shrinks g c = subst (Shrinks (memory_of c.args.nodes.now)) (sym c.set_hung.ensures.memory) (shrinks-same (memory_of c.args.nodes.now))
+
+pub returns-in-Some-clause-files : goal.returns-in-Some-clause-files
+returns-in-Some-clause-files g c = ap at c.set_hung.ensures.files.files
+
+pub returns-then-has_name-clause-files : goal.returns-then-has_name-clause-files
+returns-then-has_name-clause-files g c = ap at c.reset_pipe.ensures.files.files

@@ -10,6 +10,6 @@ discard_file-requires-clause-here g c =
     let k = c.self.inside in
     let now = c.if-not-has_name.nodes in
     elim c.if-not-has_name.branch [
-      | then-not-has_name w ↦ stays-same (at k.nodes.files) (at now.files) (ap (λ (v : Nodes). at v.files) w.nodes-is ∙ ap at w.discard_pipe.ensures.files.files) k.file c.self.invariant.2
+      | then-not-has_name w ↦ stays-same (at k.nodes.files) (at now.files) (ap (λ (v : Nodes). at v.files) w.nodes-is ∙ w.discard_pipe.ensures.files) k.file c.self.invariant.2
       | else-not-has_name w ↦ stays-same (at k.nodes.files) (at now.files) (ap (λ (v : Nodes). at v.files) w.nodes-is) k.file c.self.invariant.2
     ]

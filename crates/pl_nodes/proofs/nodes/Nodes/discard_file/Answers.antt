@@ -6,7 +6,7 @@ use Rattle.pl_nodes.specs.declared.content.Content.TheVariants.{File}
 use Rattle.pl_nodes.specs.Nodes.{Nodes}
 use Rattle.pl_nodes.specs.NodesView.{file_named}
 use Rattle.pl_nodes.proofs.AtKey.{held}
-use Rattle.pl_nodes.proofs.OneChanged.{pipes_seen, files_seen, gone-seen, gone-list}
+use Rattle.pl_nodes.proofs.OneChanged.{pipes_seen, files_seen, gone-seen, gone-unseen, cut-updates}
 use Rattle.pl_nodes.proofs.Slices.{none-left}
 use Rattle.pl_nodes.proofs.Coming.{says-unnamed, gone-sound, gone-shrinks}
 use Rattle.pl_nodes.proofs.nodes.Nodes.discard_file.Goals as goal
@@ -18,31 +18,26 @@ pub invariant_of-self : goal.invariant_of-self
 invariant_of-self g c =
     let k = c.self.inside in
     let there = c.remove.ensures.value ∙ ap (λ x. Some x) c.in-File.is in
-    gone-sound k c.self.invariant c.let_go.new.store c.remove.new.self c.args.key (File c.in-File.gone) there c.let_go.ensures.turns c.remove.ensures.updates
-    (refl, sym (sym (ap file_named there) ∙ says-unnamed k c.self.invariant c.args.self.now c.self.view_is (node.File c.args.key) c.requires.unnamed)) (c.let_go.ensures.spare c.self.invariant.spare)
+    gone-sound k c.self.invariant c.let_go.new.store c.went.new.table c.args.key (File c.in-File.gone) there c.let_go.ensures.turns (cut-updates c.self.inside.contents c.remove.new.self c.went.new.table c.args.key None c.remove.ensures.updates c.went.ensures)
+    (refl, sym (sym (ap file_named there) ∙ says-unnamed k c.self.invariant c.args.self.now c.self.view_is (node.File c.args.key) c.requires.unnamed)) (c.let_go.ensures.spare c.self.invariant.spare) c.went.new.self
 
 pub returns-clause-ok : goal.returns-clause-ok
 returns-clause-ok g c =
     let k = c.self.inside in
-    gone-seen (segment_at k.store) (segment_at c.let_go.new.store) k.contents c.remove.new.self c.args.key (File c.in-File.gone) (c.remove.ensures.value ∙ ap (λ x. Some x) c.in-File.is)
-    c.self.invariant.shared c.let_go.ensures.turns c.remove.ensures.updates files_seen
+    gone-seen (segment_at k.store) (segment_at c.let_go.new.store) k.contents c.went.new.table c.args.key (File c.in-File.gone) (c.remove.ensures.value ∙ ap (λ x. Some x) c.in-File.is)
+    c.self.invariant.shared c.let_go.ensures.turns (cut-updates c.self.inside.contents c.remove.new.self c.went.new.table c.args.key None c.remove.ensures.updates c.went.ensures) files_seen
     ∙ ap (λ (v : Nodes). set_at nat_eq (at v.files) c.args.key None) c.self.view_is
 
 pub returns-clause-pipes : goal.returns-clause-pipes
 returns-clause-pipes g c =
     let k = c.self.inside in
-    record {
-      pipes =
-          gone-list (segment_at k.store) (segment_at c.let_go.new.store) k.contents c.remove.new.self c.args.key (File c.in-File.gone) (c.remove.ensures.value ∙ ap (λ x. Some x) c.in-File.is)
-          c.self.invariant.shared c.let_go.ensures.turns c.remove.ensures.updates pipes_seen refl c.remove.ensures.slots
-          ∙ ap (λ (v : Nodes). v.pipes) c.self.view_is;
-      names = ap (λ (v : Nodes). v.names) c.self.view_is;
-      file_max = ap (λ (v : Nodes). v.file_max) c.self.view_is;
-    }
+    gone-unseen (segment_at k.store) (segment_at c.let_go.new.store) k.contents c.went.new.table c.args.key (File c.in-File.gone) (c.remove.ensures.value ∙ ap (λ x. Some x) c.in-File.is)
+    c.self.invariant.shared c.let_go.ensures.turns (cut-updates c.self.inside.contents c.remove.new.self c.went.new.table c.args.key None c.remove.ensures.updates c.went.ensures) pipes_seen refl
+    ∙ ap (λ (v : Nodes). at v.pipes) c.self.view_is
 
 pub returns-clause-shrinks : goal.returns-clause-shrinks
 returns-clause-shrinks g c =
     let k = c.self.inside in
     let there = c.remove.ensures.value ∙ ap (λ x. Some x) c.in-File.is in
-    gone-shrinks k c.self.invariant c.let_go.new.store c.remove.new.self c.args.key (File c.in-File.gone) there c.let_go.ensures.turns c.remove.ensures.updates
+    gone-shrinks k c.self.invariant c.let_go.new.store c.went.new.table c.args.key (File c.in-File.gone) there c.let_go.ensures.turns (cut-updates c.self.inside.contents c.remove.new.self c.went.new.table c.args.key None c.remove.ensures.updates c.went.ensures)
     (none-left k.store.held c.let_go.new.store.held c.in-File.gone.file c.in_use-segments.ensures.good c.let_go.ensures.turns) c.args.self.now c.self.view_is

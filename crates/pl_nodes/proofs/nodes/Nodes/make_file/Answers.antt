@@ -40,7 +40,7 @@ invariant_of-self-2 g c =
     c.in-Ok-insert.ensures.entries ∙ ap (λ key. insert_entry (λ x y. slice_cmp nat_cmp x.items y.items) k.names.entries c.args.name (FileNode key)) (c.vacant_key-key.ensures.value ∙ sym c.insert_reserved.ensures.key) in
     let named = subst (λ cs. AreNamed k.names.entries cs) (sym (same g c)) c.self.invariant.named in
     came-sound k c.self.invariant c.reserve.new.self c.insert_reserved.new.self (same g c) c.insert_reserved.result (File file) c.insert_reserved.ensures.was_vacant c.new.ensures u
-    c.insert.new.self (subst (λ es. AreNamed es c.insert_reserved.new.self.slots) (sym entries) (new-named k.names.entries c.args.name c.reserve.new.self.slots c.insert_reserved.new.self.slots (FileNode c.insert_reserved.result) (File file) vacant u.others c.insert_reserved.ensures.was_vacant u.changed refl named)) refl
+    c.insert.new.self (subst (λ es. AreNamed es c.insert_reserved.new.self.slots) (sym entries) (new-named k.names.entries c.args.name c.reserve.new.self.slots c.insert_reserved.new.self.slots (FileNode c.insert_reserved.result) (File file) vacant u.others c.insert_reserved.ensures.was_vacant u.changed refl named)) refl c.comes.new.self
 
 pub returns-clause-ok : goal.returns-clause-ok
 returns-clause-ok g c =

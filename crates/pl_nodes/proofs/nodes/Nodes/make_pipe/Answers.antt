@@ -29,7 +29,7 @@ invariant_of-self-2 g c =
     let empty = ap (λ (r : Ring). r.slots) c.in_ok-ring.ensures in
     let u = c.insert_reserved.ensures.updates in
     came-sound k c.self.invariant c.reserve.new.self c.insert_reserved.new.self (same g c) c.insert_reserved.result new c.insert_reserved.ensures.was_vacant empty u
-    k.names (came-unnamed k c.self.invariant c.reserve.new.self c.insert_reserved.new.self (same g c) c.insert_reserved.result new c.insert_reserved.ensures.was_vacant empty u (refl, refl)) refl
+    k.names (came-unnamed k c.self.invariant c.reserve.new.self c.insert_reserved.new.self (same g c) c.insert_reserved.result new c.insert_reserved.ensures.was_vacant empty u (refl, refl)) refl c.comes.new.self
 
 pub returns-clause-ok : goal.returns-clause-ok
 returns-clause-ok g c =
