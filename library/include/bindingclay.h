@@ -27,8 +27,8 @@
  * bindingclay_open_within sets how many bytes a kernel may hold. If a call would want more, there is no memory for it. bindingclay_memory
  * tells how many bytes the kernel holds. It may tell more after a call that found no memory, as a table may have grown. The next call that
  * wants that table uses it. Close, exit, interrupt and a read that is resumed always find what they need, so a guest at its limit can free
- * what it has. Up to 1,048,576 bytes of that stay with the kernel (spare). Its tables stay too, each as long as it ever was. They take up
- * to 170 bytes for each segment and process, and up to 350 for each waiting call, each description, and each pipe or file.
+ * what it has. Up to 1,048,576 bytes of that stay with the kernel (spare). The tables of segments, processes and descriptions stay too,
+ * each as long as it ever was. They take up to 170 bytes for each. Those of waiting calls, pipes and files become shorter as these go.
  *
  * Pointers. A pointer may be null only if it points to 0 bytes or to 0 entries, or is an offset of bindingclay_splice. What a call writes
  * to overlaps nothing else that the call is given, and nothing that it is given overlaps the kernel's own memory. The library keeps no

@@ -114,55 +114,6 @@ static double seconds_of_a_question(bindingclay clay)
     return seconds() - begun;
 }
 
-/* The least of five such questions. */
-static double least_of_five_questions(bindingclay clay)
-{
-    double least = 1e9;
-    for (int run = 0; run < 5; run++) {
-        double taken = seconds_of_a_question(clay);
-        least = taken < least ? taken : least;
-    }
-    return least;
-}
-
-/* Calls that began to wait are asked once each, however many they are. The next question costs what it costs beside a few. */
-static void the_next_after_many_calls(long count)
-{
-    bindingclay clay = kernel_with_process();
-    bindingclay_ends ends = NEW_PIPE(clay, 1, false);
-    for (long i = 0; i < count; i++)
-        if (take(clay, 1, ends.read_end, 1).kind != BINDINGCLAY_PARKED)
-            HOLDS(false);
-    double first = seconds_of_a_question(clay), next = least_of_five_questions(clay);
-    if (count >= LARGE)
-        HOLDS(16 * next < first);
-    OTHER(bindingclay_exit(clay, 1), BINDINGCLAY_DONE);
-    bindingclay_free(clay);
-    HOLDS(bytes_left == 0);
-}
-
-/* Where there is no memory for queues all calls are asked, and then none until the next step. */
-static void a_question_without_memory(long count)
-{
-    bindingclay clay = kernel_with_process();
-    bindingclay_ends ends = NEW_PIPE(clay, 1, false);
-    for (long i = 0; i < count; i++)
-        if (take(clay, 1, ends.read_end, 1).kind != BINDINGCLAY_PARKED)
-            HOLDS(false);
-    refuse(0, LONG_MAX);
-    double first = seconds_of_a_question(clay);
-    HOLDS(refused != 0);
-    long before = refused;
-    double next = least_of_five_questions(clay);
-    HOLDS(refused == before);
-    refuse_none();
-    if (count >= LARGE)
-        HOLDS(16 * next < first);
-    printf("a question of %ld calls without memory %.0f ns, the next one %.0f ns\n", count, first * 1e9, next * 1e9);
-    bindingclay_free(clay);
-    HOLDS(bytes_left == 0);
-}
-
 /* The seconds of a byte that comes to a pipe, until it is read and nobody can make progress any more. */
 static double seconds_of_a_byte(bindingclay clay, bindingclay_ends ends)
 {
@@ -215,6 +166,33 @@ static void step_in_vain(const struct place *place)
 static double seconds_of_a_step_in_vain(struct place place)
 {
     return least_of_five(1000, step_in_vain, place);
+}
+
+/* Where no memory is left hardly any call more can begin to wait, as it would have no place in a queue: so questions cost what they did. */
+static void questions_without_memory(long count)
+{
+    bindingclay clay = kernel_with_process();
+    struct place place = {clay, NEW_PIPE(clay, 1, false)};
+    /* the table of calls has room for more of them then */
+    for (long i = 0; i < count - count / 8; i++)
+        if (take(clay, 1, place.ends.read_end, 1).kind != BINDINGCLAY_PARKED)
+            HOLDS(false);
+    double with_memory = seconds_of_a_step_in_vain(place);
+    refuse(0, LONG_MAX);
+    long more = 0;
+    uint8_t byte;
+    while (bindingclay_read(clay, 1, place.ends.read_end, &byte, 1).kind == BINDINGCLAY_PARKED)
+        more++;
+    HOLDS(refused != 0 && more < 1024);
+    double without = seconds_of_a_step_in_vain(place);
+    refuse_none();
+    if (count >= LARGE)
+        HOLDS(without < 16 * with_memory);
+    printf("a step in vain beside %ld calls %.0f ns, and once memory had run out, beside %ld more, %.0f ns\n", count, with_memory * 1e9, more,
+           without * 1e9);
+    HOLDS(take(clay, 1, place.ends.read_end, 1).kind == BINDINGCLAY_PARKED);
+    bindingclay_free(clay);
+    HOLDS(bytes_left == 0);
 }
 
 /* The bytes that a new pipe can hold, and how many sizes of writes wait at one, the least of which doesn't fit. */
@@ -330,56 +308,58 @@ static void memory_of_calls_that_ended(long count)
     for (long i = 0; i < count; i++)
         if (take(clay, 2, ends.read_end, 1).kind != BINDINGCLAY_PARKED)
             HOLDS(false);
-    long before = bytes_left, calls = before - at_first;
-    seconds_of_a_question(clay);
-    long queues = bytes_left - before;
+    long taken = bytes_left - at_first;
     OTHER(bindingclay_exit(clay, 2), BINDINGCLAY_DONE);
-    before = bytes_left;
+    long before = bytes_left;
     seconds_of_a_question(clay);
-    long left = bytes_left - at_first;
+    long queues = before - bytes_left, left = bytes_left - at_first;
     if (count >= LARGE)
-        HOLDS(queues >= 24 * count && before - bytes_left >= queues && calls >= 64 * count && 64 * left < calls);
-    printf("%ld calls took %ld bytes, and their queues %ld; %ld are left of both\n", count, calls, queues, left);
+        HOLDS(queues >= 24 * count && taken >= queues + 64 * count && 64 * left < taken);
+    printf("%ld calls took %ld bytes, %ld of them for their queues; %ld are left\n", count, taken, queues, left);
     bindingclay_free(clay);
     HOLDS(bytes_left == 0);
 }
 
-/* From some request for memory on all are refused: the same call is told, if there is one. It returns whether a request was refused. */
-static bool the_next_without_memory(long granted)
+/* From some request for memory on all are refused: of the calls that wait all the same one is told. It returns whether a request was refused. */
+static bool waits_without_memory(long granted)
 {
     enum { PIPES = 3, READS = 24 };
     bindingclay clay = kernel_with_process();
     bindingclay_ends ends[PIPES];
     uint64_t first = 0;
+    uint8_t byte = 0;
     for (int i = 0; i < PIPES; i++)
         ends[i] = NEW_PIPE(clay, 1, false);
-    for (int i = 0; i < READS; i++) {
-        uint64_t number = take(clay, 1, ends[i % PIPES].read_end, 1).value;
-        first = i == 2 ? number : first;
-    }
-    bool was_refused = false;
     refuse(granted, LONG_MAX);
+    for (int i = 0; i < READS; i++) {
+        bindingclay_answer waits = bindingclay_read(clay, 1, ends[i % PIPES].read_end, &byte, 1);
+        if (waits.kind == BINDINGCLAY_PARKED && i % PIPES == 2 && first == 0)
+            first = waits.value;
+    }
     OTHER(bindingclay_next_ready(clay, 0), BINDINGCLAY_NO_CALL);
-    was_refused = refused != 0;
+    bool was_refused = refused != 0;
     refuse_none();
     DONE(put(clay, 1, ends[2].write_end, "a"), 1);
-    refuse(granted, LONG_MAX);
-    DONE(bindingclay_next_ready(clay, 0), first);
-    was_refused = was_refused || refused != 0;
-    OTHER(bindingclay_next_ready(clay, first + READS), BINDINGCLAY_NO_CALL);
+    refuse(0, LONG_MAX);
+    bindingclay_answer next = bindingclay_next_ready(clay, 0);
     refuse_none();
-    uint8_t byte = 0;
-    DONE(bindingclay_resume(clay, first, &byte, 1), 1);
-    OTHER(bindingclay_next_ready(clay, 0), BINDINGCLAY_NO_CALL);
+    if (first == 0) {
+        HOLDS(next.kind == BINDINGCLAY_NO_CALL);
+    } else {
+        DONE(next, first);
+        OTHER(bindingclay_next_ready(clay, first + READS), BINDINGCLAY_NO_CALL);
+        DONE(bindingclay_resume(clay, first, &byte, 1), 1);
+        OTHER(bindingclay_next_ready(clay, 0), BINDINGCLAY_NO_CALL);
+    }
     bindingclay_free(clay);
     HOLDS(bytes_left == 0);
     return was_refused;
 }
 
-static void the_next_without_any_memory(void)
+static void waits_without_any_memory(void)
 {
     long granted = 0;
-    while (the_next_without_memory(granted))
+    while (waits_without_memory(granted))
         granted++;
     HOLDS(granted >= 4);
 }
@@ -389,13 +369,12 @@ int main(int words, char **word)
     long count = count_of(words, word);
     an_exit_beside_calls_that_wait(count);
     the_next_beside_calls_that_wait(count);
-    the_next_after_many_calls(count);
-    a_question_without_memory(count);
+    questions_without_memory(count);
     a_byte_for_many_readers(count);
     for (enum waiting kind = READS; kind <= TEES; kind++)
         a_step_beside_one_queue(count, kind);
     a_question_after_interrupted_calls(count);
     memory_of_calls_that_ended(count);
-    the_next_without_any_memory();
+    waits_without_any_memory();
     return end();
 }

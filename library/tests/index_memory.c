@@ -1,4 +1,4 @@
-/* What a kernel takes that it doesn't count, and what bindingclay_next_ready takes for its queues, as docs/EMBEDDING.md says both. */
+/* What a kernel takes that it doesn't count, and what polls that wait take with their places in queues, as docs/EMBEDDING.md says both. */
 #define _GNU_SOURCE
 #include "check.h"
 #include "counted.h"
@@ -21,43 +21,43 @@ static uint64_t held(bindingclay clay)
     return bindingclay_memory(clay).held;
 }
 
-/* The bytes that the first question takes beside polls of so many entries each, at pipes of their own. Later questions take no more, if the kernel can
- * keep what it has. */
-static uint64_t index_of_polls(size_t entries)
+/* The bytes that polls of so many entries each take, at pipes of their own. Once they were asked about, questions take no more. */
+static uint64_t memory_of_polls(size_t entries)
 {
     bindingclay clay = kernel_with_process();
     bindingclay_ends ends[PIPES];
     bindingclay_pollfd asked[PIPES];
     for (int i = 0; i < PIPES; i++)
         ends[i] = NEW_PIPE(clay, 1, false);
+    uint64_t before = held(clay);
     for (size_t call = 0; call < CALLS; call++) {
         for (size_t i = 0; i < entries; i++)
             asked[i] = (bindingclay_pollfd){ .fd = ends[(call + i) % PIPES].read_end, .events = POLLIN };
         PARKED(bindingclay_poll(clay, 1, asked, entries, true), call + 1);
     }
-    uint64_t before = held(clay);
     OTHER(bindingclay_next_ready(clay, 0), BINDINGCLAY_NO_CALL);
-    uint64_t index = held(clay) - before;
+    uint64_t memory = held(clay) - before;
     OTHER(bindingclay_next_ready(clay, 0), BINDINGCLAY_NO_CALL);
-    HOLDS(held(clay) - before == index);
+    HOLDS(held(clay) - before == memory);
     /* a byte that comes and goes touches one pipe, at which each poll waits that has it */
     DONE(put(clay, 1, ends[0].write_end, "a"), 1);
     DONE(take(clay, 1, ends[0].read_end, 1), 1);
     OTHER(bindingclay_next_ready(clay, 0), BINDINGCLAY_NO_CALL);
     bindingclay_free(clay);
-    return index;
+    return memory;
 }
 
-/* A poll stands in a queue at each pipe at which it waits. */
+/* A poll stands in a queue at each pipe at which it waits. Beside that it has what it asks and what it keeps of each entry. */
 static void polls_are_indexed_by_entries(void)
 {
-    enum { KEY = 160, CALL = 60, MOST_KEYS = 2 * PIPES };
+    enum { KEY = 160, CALL = 350, ENTRY = 32, PLACE = 60, MOST_KEYS = 2 * PIPES };
     static const size_t entries[] = { 1, 10, PIPES };
     for (int i = 0; i < 3; i++) {
-        uint64_t index = index_of_polls(entries[i]);
-        printf("polls of %zu entries: %.1f bytes an entry\n", entries[i], (double)index / (double)(CALLS * entries[i]));
-        HOLDS(index <= KEY * MOST_KEYS + CALL * CALLS * entries[i]);
-        HOLDS(index >= CALL / 2 * (CALLS * entries[i] - PIPES));
+        size_t places = CALLS * entries[i];
+        uint64_t memory = memory_of_polls(entries[i]);
+        printf("polls of %zu entries: %.1f bytes an entry\n", entries[i], (double)memory / (double)places);
+        HOLDS(memory <= KEY * MOST_KEYS + CALL * CALLS + (ENTRY + PLACE) * places);
+        HOLDS(memory >= PLACE / 2 * (places - PIPES));
     }
 }
 

@@ -1,6 +1,6 @@
 /* The queues of calls that wait, beside each call asked by itself: after every step of a drawn course bindingclay_next_ready names just the least
  * of the calls that bindingclay_can_progress tells of, from 0 and from a drawn number on. Calls of all kinds wait, with polls of up to 16 entries.
- * Now and then memory is refused to a step, and in some rounds to the questions, so that queues are lost and begin anew.
+ * Now and then memory is refused to a step, and in some rounds to half of the steps and to all questions, so that calls wait without places.
  *
  *   queues_drawn STEPS */
 #define _GNU_SOURCE
@@ -184,7 +184,9 @@ static void a_round(void)
     bool lacks_memory = drawn(4) == 0;
     begin();
     for (int i = 0; i < ROUND; i++) {
-        if (drawn(10) == 0)
+        if (lacks_memory && drawn(2) == 0)
+            refuse((long)drawn(4), LONG_MAX);
+        else if (drawn(10) == 0)
             refuse((long)drawn(6), 1 + (long)drawn(4));
         bindingclay_answer answer = step();
         refuse_none();
@@ -209,7 +211,7 @@ int main(int words, char **word)
         a_round();
     for (int kind = 1; kind < KINDS; kind++)
         HOLDS(began[kind] * 1000 >= steps);
-    HOLDS(named * 20 >= steps && refused_questions * 1000 >= steps);
+    HOLDS(named * 20 >= steps && refused_questions * 5000 >= steps);
     printf("%ld steps: %ld reads, %ld writes, %ld opens, %ld splices, %ld tees and %ld polls waited; %ld questions named one, and %ld lacked memory\n",
         steps, began[1], began[2], began[3], began[4], began[5], began[6], named, refused_questions);
     return end();

@@ -1,5 +1,5 @@
 -- What is known of the calls of a queue.
-use Rattle.std.specs.Prelude.{◌≡◌, ◌≢◌, ◌≤◌, ◌<◌, ◌^◌, ◌⊎◌, ℕ, true, false, nat_eq, min, Option, IsSome, if◌then◌else◌}
+use Rattle.std.specs.Prelude.{◌≡◌, ◌≢◌, ◌≤◌, ◌<◌, ◌^◌, ◌⊎◌, ℕ, true, false, nat_eq, min, Option, IsSome, IfSome, if◌then◌else◌}
 use Rattle.std.specs.declared.option.Option.TheVariants.{None, Some}
 use Rattle.pl_model.specs.Map.{get}
 use Rattle.pl_model.specs.State.{Core}
@@ -47,6 +47,11 @@ module _ {A : Type 0} (c : Core A numbers) where
   -- So it is of each queue of the node, if a call was found there before.
   abbrev pub CoversNode : Waiters A → (node from : ℕ) → Option ℕ → Type 0
   CoversNode w node from found = (m : ℕ) → least w node ≡ Some m → (queue : ℕ) → queue < 2 ^ 64 → Covers w node queue from found
+
+  -- What was found can get on, and is at most any other that can, from a number on and below another.
+  pub record FindsBelow (from looked : ℕ) (found : Option ℕ) : Type 0 where
+    pub some : IfSome found (λ n. (from ≤ n) × (is_ready c n ≡ true))
+    pub most : (n : ℕ) → from ≤ n → n < looked → is_ready c n ≡ true → (m : ℕ) × (found ≡ Some m) × (m ≤ n)
 
 -- It stands before the call that was asked, or is that one, or is of a queue for which it answered, if it did so for any: up to the last one.
 abbrev pub IsDone : (asked : Waiter) → (last : Option ℕ) → (queue number : ℕ) → Type 0

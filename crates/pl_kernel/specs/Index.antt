@@ -40,16 +40,16 @@ module _ {A : Type 0} where
     pub there : stands w key ≡ true
     pub up : IsUpBut w hole key.node number
 
-  -- What is known of the calls that were looked at, but for the node that is just being asked: each stands in its queues, and no other does. A
-  -- poll is up at each node where it finds something, any other call that can get on at some node.
+  -- What is known of the calls, but for the node that is just being asked: each that was looked at stands in its queues. A poll is up at each node
+  -- where it finds something, any other call that was looked at and can get on at some node. What stands in a queue was parked, and waits there.
   pub record KnowsBut (c : Core A numbers) (w : Waiters A) (hole : Option ℕ) : Type 0 where
     pub coming : w.looked ≤ c.next_call
-    pub placed : w.lost ≡ false → (key : Waiter) (v : Waiting A numbers) → get nat_eq c.parked key.number ≡ Some v → key.number < w.looked → IsIn c key v → stands w key ≡ true
-    pub whole : w.lost ≡ false → (number : ℕ) (v : Waiting A numbers) → get nat_eq c.parked number ≡ Some v → number < w.looked → is_placed v.call (ends c v.kept) ≡ true
-    pub polled : w.lost ≡ false → (key : Waiter) → is_polls key.queue ≡ true → stands w key ≡ true → is_open c key ≡ true → IsUpBut w hole key.node key.number
-    pub told : w.lost ≡ false → (key : Waiter) → is_polls key.queue ≡ false → stands w key ≡ true → is_open c key ≡ true → IsUpSomewhere w hole key.number
-    pub right : w.lost ≡ false → (key : Waiter) → stands w key ≡ true → (v : Waiting A numbers) → get nat_eq c.parked key.number ≡ Some v → IsIn c key v
-    pub early : w.lost ≡ false → (key : Waiter) → stands w key ≡ true → key.number < w.looked
+    pub placed : (key : Waiter) (v : Waiting A numbers) → get nat_eq c.parked key.number ≡ Some v → key.number < w.looked → IsIn c key v → stands w key ≡ true
+    pub whole : (number : ℕ) (v : Waiting A numbers) → get nat_eq c.parked number ≡ Some v → number < w.looked → is_placed v.call (ends c v.kept) ≡ true
+    pub polled : (key : Waiter) → is_polls key.queue ≡ true → stands w key ≡ true → is_open c key ≡ true → IsUpBut w hole key.node key.number
+    pub told : (key : Waiter) → is_polls key.queue ≡ false → stands w key ≡ true → is_open c key ≡ true → key.number < w.looked → IsUpSomewhere w hole key.number
+    pub right : (key : Waiter) → stands w key ≡ true → (v : Waiting A numbers) → get nat_eq c.parked key.number ≡ Some v → IsIn c key v
+    pub given : (key : Waiter) → stands w key ≡ true → key.number < c.next_call
 
   -- where no node is being asked
   abbrev pub Knows : Core A numbers → Waiters A → Type 0
@@ -80,15 +80,15 @@ module _ {A : Type 0} where
     pub no_less : IsNoLess old new
     pub touched : (node : Node numbers) → touches c x node ≡ true → (key : Waiter) → key.node ≡ key_of node → IsSome (get nat_eq c.parked key.number) → stands old key ≡ true → is_touched new (key_of node) ≡ true
 
-  -- The call of this number was added to these queues, whose nodes are to be asked, and to no other. No call that waits was taken out.
-  pub record Adds (c : Core A numbers) (old new : Waiters A) (number : ℕ) (ps : List (ℕ × ℕ)) : Type 0 where
-    pub lost : old.lost ≡ true → new.lost ≡ true
+  -- The call of this number was added to some of these queues, whose nodes are to be asked, and to no other; where it is done, to all. No call
+  -- that waits was taken out.
+  pub record Adds (c : Core A numbers) (old new : Waiters A) (number : ℕ) (ps : List (ℕ × ℕ)) (done : Bool) : Type 0 where
     pub looked : new.looked ≡ old.looked
     pub least_ones : SameNumbers old new
     pub more : (key : ℕ) → is_touched old key ≡ true → is_touched new key ≡ true
-    pub kept : new.lost ≡ false → (key : Waiter) → IsSome (get nat_eq c.parked key.number) → stands old key ≡ true → stands new key ≡ true
-    pub only : new.lost ≡ false → (key : Waiter) → stands new key ≡ true → (stands old key ≡ true) ⊎ ((key.number ≡ number) × (is_place ps key.node key.queue ≡ true))
-    pub added : new.lost ≡ false → (key : Waiter) → key.number ≡ number → is_place ps key.node key.queue ≡ true → (stands new key ≡ true) × (is_touched new key.node ≡ true)
+    pub kept : (key : Waiter) → IsSome (get nat_eq c.parked key.number) → stands old key ≡ true → stands new key ≡ true
+    pub only : (key : Waiter) → stands new key ≡ true → (stands old key ≡ true) ⊎ ((key.number ≡ number) × (is_place ps key.node key.queue ≡ true) × (is_touched new key.node ≡ true))
+    pub added : done ≡ true → (key : Waiter) → key.number ≡ number → is_place ps key.node key.queue ≡ true → (stands new key ≡ true) × (is_touched new key.node ≡ true)
 
 -- where it was found out that no call can make progress, none can
 abbrev pub FindsNone : {A : Type 0} → Core A numbers → (none_ready : Bool) → Type 0

@@ -8,7 +8,7 @@ ghost use Rattle.pl_waiters.specs.Seen.{stands, is_touched, SameTouched, SameKno
 ghost use Rattle.pl_least.specs.Numbers.{has_place};
 ghost use Rattle.pl_kernel.specs.Index.{Knows, KnowsBut, is_open};
 ghost use Rattle.pl_kernel.specs.Queues.{polls_of_pipes, is_polls, finds};
-ghost use Rattle.pl_kernel.specs.Asking.{AreUnderstood, Prunes, Covers, CoversNode, IsDone, IsPast, lesser_of, number_if, answered_to};
+ghost use Rattle.pl_kernel.specs.Asking.{AreUnderstood, Prunes, Covers, CoversNode, FindsBelow, IsDone, IsPast, lesser_of, number_if, answered_to};
 
 use crate::queue::{OTHERS, POLLS, asked_by, found_of_file, is_of_polls, last_answered, mode_of};
 use crate::steps::can_progress;
@@ -289,8 +289,9 @@ fn is_number(call: Option<u64>, number: u64) -> bool
     }
 }
 
-/// The least number of the calls that can make progress, where no node is still to be asked, and all calls were looked at. A node whose call
-/// can't make progress any more is asked again, each at most once. `asked` was found since the last step, if it is a call, and isn't asked again.
+/// A call that can make progress, and whose number is at most that of each that was looked at and can, where no node is still to be asked. A node
+/// whose call can't make progress any more is asked again, each at most once. `asked` was found since the last step, if it is a call, and isn't asked
+/// again.
 pub(crate) fn first_ready<A: Allocator + Copy>(
     state: &KernelState<A>,
     waiters: &mut Waiters<A>,
@@ -298,11 +299,9 @@ pub(crate) fn first_ready<A: Allocator + Copy>(
 ) -> Option<u64>
     requires asked { IfSome asked (λ n. is_ready (core_of {A = A} state.now) n ≡ true) }
     requires understood { AreUnderstood (core_of {A = A} state.now) waiters.old }
-    requires known { waiters.old.lost ≡ false }
-    requires looked { (n : ℕ) → is_ready (core_of {A = A} state.now) n ≡ true → n < waiters.old.looked }
     requires settled { (node : ℕ) → is_touched waiters.old node ≡ false }
     requires knows { Knows (core_of {A = A} state.now) waiters.old }
-    ensures least { IsLeastFrom (is_ready (core_of {A = A} state.now)) 0 result }
+    ensures finds { FindsBelow (core_of {A = A} state.now) 0 waiters.old.looked result }
     ensures knows { Knows (core_of {A = A} state.now) waiters.new }
 {
     for _ in 0..waiters.nodes().saturating_add(1) {
@@ -337,18 +336,16 @@ fn least_if_any<A: Allocator + Copy>(
     least_at(state, waiters, node, from)
 }
 
-/// The same of the least number from one on: the nodes are gone over at which a call was found.
+/// The same from a number on: the nodes are gone over at which a call was found.
 pub(crate) fn first_ready_from<A: Allocator + Copy>(
     state: &KernelState<A>,
     waiters: &mut Waiters<A>,
     from: u64,
 ) -> Option<u64>
     requires understood { AreUnderstood (core_of {A = A} state.now) waiters.old }
-    requires known { waiters.old.lost ≡ false }
-    requires looked { (n : ℕ) → is_ready (core_of {A = A} state.now) n ≡ true → n < waiters.old.looked }
     requires settled { (node : ℕ) → is_touched waiters.old node ≡ false }
     requires knows { Knows (core_of {A = A} state.now) waiters.old }
-    ensures least { IsLeastFrom (is_ready (core_of {A = A} state.now)) from result }
+    ensures finds { FindsBelow (core_of {A = A} state.now) from waiters.old.looked result }
     ensures knows { Knows (core_of {A = A} state.now) waiters.new }
 {
     let mut least = None;

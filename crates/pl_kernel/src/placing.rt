@@ -1,5 +1,5 @@
 //! Calls that began to wait are placed in their queues.
-ghost use Rattle.std.specs.Prelude.{◌≡◌, ◌≤◌, ◌+◌, ℕ, true, nat_eq, IsSome, IfSome, IfNone, None, false, [], ◌∷◌, option_map};
+ghost use Rattle.std.specs.Prelude.{◌≡◌, ◌≤◌, ◌+◌, ℕ, true, nat_eq, IsSome, IfSome, IfNone, OnSome, None, [], ◌∷◌, option_map};
 ghost use Rattle.std.specs.List.{flat_map};
 ghost use Rattle.std.specs.Set.{is_member};
 ghost use Rattle.pl_model.specs.Map.{get};
@@ -45,23 +45,28 @@ fn drop_one<A: Allocator + Copy>(state: &KernelState<A>, waiters: &mut Waiters<A
 }
 
 // The call of a number waits in a queue of a node, which is to be asked. The one call that has the plain place of the node leaves it, if it ended.
+// Returns whether there was memory for it, as the functions after it do.
 fn place_node<A: Allocator + Copy>(
     state: &KernelState<A>,
     waiters: &mut Waiters<A>,
     node: Node,
     queue: u64,
     number: u64,
-)
-    ensures { Adds (core_of {A = A} state.now) waiters.old waiters.new number ((key_of (node_of node), queue) ∷ []) }
+) -> bool
+    ensures { Adds (core_of {A = A} state.now) waiters.old waiters.new number ((key_of (node_of node), queue) ∷ []) result }
 {
     let node = key_of_node(node);
     drop_one(state, waiters, node);
-    waiters.add(Waiter {
+    let call = Waiter {
         node,
         queue,
         number,
-    });
+    };
+    if waiters.add(call).is_err() {
+        return false;
+    }
     waiters.touch(node);
+    true
 }
 
 // The call of a number waits in a queue of the nodes of these descriptions.
@@ -71,16 +76,19 @@ fn place_kept<A: Allocator + Copy>(
     kept: &[usize],
     queue: u64,
     number: u64,
-)
+) -> bool
     requires described { (key : ℕ) → is_member nat_eq kept.now key ≡ true → IsSome (at state.now.opened key) }
     requires parked { IsSome (get nat_eq (core_of {A = A} state.now).parked number) }
-    ensures { Adds (core_of {A = A} state.now) waiters.old waiters.new number (flat_map (place_in queue) (ends (core_of {A = A} state.now) kept.now)) }
+    ensures { Adds (core_of {A = A} state.now) waiters.old waiters.new number (flat_map (place_in queue) (ends (core_of {A = A} state.now) kept.now)) result }
 {
     // A proof learns here what holds of the kernel.
     let _ = &state.descs;
     for key in kept {
-        place_node(state, waiters, state.descs.node(*key), queue, number);
+        if !place_node(state, waiters, state.descs.node(*key), queue, number) {
+            return false;
+        }
     }
+    true
 }
 
 // The splice or the tee of a number waits at the nodes of these two descriptions.
@@ -89,20 +97,22 @@ fn place_move<A: Allocator + Copy>(
     waiters: &mut Waiters<A>,
     kept: &[usize],
     number: u64,
-)
+) -> bool
     requires described { (key : ℕ) → is_member nat_eq kept.now key ≡ true → IsSome (at state.now.opened key) }
     requires parked { IsSome (get nat_eq (core_of {A = A} state.now).parked number) }
-    ensures { Adds (core_of {A = A} state.now) waiters.old waiters.new number (move_places (ends (core_of {A = A} state.now) kept.now)) }
+    ensures { Adds (core_of {A = A} state.now) waiters.old waiters.new number (move_places (ends (core_of {A = A} state.now) kept.now)) result }
 {
     // A proof learns here what holds of the kernel.
     let _ = &state.descs;
     if kept.len() < 2 {
-        return;
+        return true;
     }
     let from = state.descs.node(kept[0]);
     let to = state.descs.node(kept[1]);
-    place_node(state, waiters, from, queue_of_source(from, to), number);
-    place_node(state, waiters, to, queue_of_target(from, to), number);
+    if !place_node(state, waiters, from, queue_of_source(from, to), number) {
+        return false;
+    }
+    place_node(state, waiters, to, queue_of_target(from, to), number)
 }
 
 // The poll of a number waits at the node of a description, of which it asks this.
@@ -112,15 +122,15 @@ fn place_entry<A: Allocator + Copy>(
     key: usize,
     asked: PollMask,
     number: u64,
-)
+) -> bool
     requires { IsSome (at state.now.opened key) }
-    ensures { Adds (core_of {A = A} state.now) waiters.old waiters.new number (entry_place asked (option_map end_of ((core_of {A = A} state.now).descriptions key))) }
+    ensures { Adds (core_of {A = A} state.now) waiters.old waiters.new number (entry_place asked (option_map end_of ((core_of {A = A} state.now).descriptions key))) result }
 {
     // A proof learns here what holds of the kernel.
     let _ = &state.descs;
     let node = state.descs.node(key);
     let queue = queue_of_entry(node, state.descs.mode(key), asked);
-    place_node(state, waiters, node, queue, number);
+    place_node(state, waiters, node, queue, number)
 }
 
 // Whether a poll skips an entry with this descriptor (POSIX.1-2017, poll).
@@ -130,18 +140,18 @@ fn is_skipped(fd: i32) -> bool
     fd < 0
 }
 
-// The poll of a number waits where its entries ask something. Where one of them keeps nothing, the index is given up.
+// The poll of a number waits where its entries ask something. One of which an entry kept nothing would have no place.
 fn place_poll<A: Allocator + Copy>(
     state: &KernelState<A>,
     waiters: &mut Waiters<A>,
     entries: &[(i32, PollMask)],
     kept: &[usize],
     number: u64,
-)
+) -> bool
     requires described { (key : ℕ) → is_member nat_eq kept.now key ≡ true → IsSome (at state.now.opened key) }
     requires parked { IsSome (get nat_eq (core_of {A = A} state.now).parked number) }
-    ensures adds { Adds (core_of {A = A} state.now) waiters.old waiters.new number (poll_places entries.now (ends (core_of {A = A} state.now) kept.now)) }
-    ensures whole { waiters.new.lost ≡ false → are_kept entries.now (ends (core_of {A = A} state.now) kept.now) ≡ true }
+    ensures adds { Adds (core_of {A = A} state.now) waiters.old waiters.new number (poll_places entries.now (ends (core_of {A = A} state.now) kept.now)) result }
+    ensures whole { result ≡ true → are_kept entries.now (ends (core_of {A = A} state.now) kept.now) ≡ true }
 {
     // A proof learns here what holds of the kernel.
     let _ = &state.descs;
@@ -151,12 +161,14 @@ fn place_poll<A: Allocator + Copy>(
             continue;
         }
         if before >= kept.len() {
-            waiters.lose();
-            return;
+            return false;
         }
-        place_entry(state, waiters, kept[before], *asked, number);
+        if !place_entry(state, waiters, kept[before], *asked, number) {
+            return false;
+        }
         before += 1;
     }
+    true
 }
 
 // The call of a number is placed in its queues.
@@ -166,11 +178,11 @@ fn place<A: Allocator + Copy>(
     call: &Call<A>,
     kept: &[usize],
     number: u64,
-)
+) -> bool
     requires described { (key : ℕ) → is_member nat_eq kept.now key ≡ true → IsSome (at state.now.opened key) }
     requires parked { IsSome (get nat_eq (core_of {A = A} state.now).parked number) }
-    ensures adds { Adds (core_of {A = A} state.now) waiters.old waiters.new number (places call.now (ends (core_of {A = A} state.now) kept.now)) }
-    ensures whole { waiters.new.lost ≡ false → is_placed call.now (ends (core_of {A = A} state.now) kept.now) ≡ true }
+    ensures adds { Adds (core_of {A = A} state.now) waiters.old waiters.new number (places call.now (ends (core_of {A = A} state.now) kept.now)) result }
+    ensures whole { result ≡ true → is_placed call.now (ends (core_of {A = A} state.now) kept.now) ≡ true }
 {
     match call {
         Call::Poll { entries, .. } => place_poll(state, waiters, entries.as_slice(), kept, number),
@@ -179,41 +191,55 @@ fn place<A: Allocator + Copy>(
     }
 }
 
-// The first call that wasn't looked at is placed in its queues. Returns in how many it was placed, at most.
+// The first call that wasn't looked at is placed in its queues. Returns in how many it was placed, at most; or `None` if there is no memory for them.
 fn look_at<A: Allocator + Copy>(
     state: &KernelState<A>,
     waiters: &mut Waiters<A>,
     number: u64,
-) -> usize
+) -> Option<usize>
     requires knows { Knows (core_of {A = A} state.now) waiters.old }
     requires from { waiters.old.looked ≤ number }
     requires parked { IsSome (get nat_eq state.now.calls.calls number) }
     requires first { (other : ℕ) → waiters.old.looked ≤ other → IsSome (get nat_eq state.now.calls.calls other) → number ≤ other }
     ensures knows { Knows (core_of {A = A} state.now) waiters.new }
-    ensures looked { waiters.new.looked ≡ number + 1 }
+    ensures looked { OnSome result (waiters.new.looked ≡ number + 1) }
 {
     // A proof learns here what holds of the kernel.
     let _ = &state.descs;
     // A proof learns here that a number is never the greatest of its type.
     let _next = state.parked.next_number();
     let Some(call) = state.parked.get(number) else {
-        return 0;
+        return None;
     };
     let kept = call.kept.as_slice();
-    place(state, waiters, &call.call, kept, number);
+    if !place(state, waiters, &call.call, kept, number) {
+        return None;
+    }
     waiters.look_to(number + 1);
-    kept.len()
+    Some(kept.len())
 }
 
-/// The calls that were parked since the last time are placed in their queues.
+/// The calls that were parked since the last time are placed in their queues. Where memory runs out, the first that has none and those after it
+/// aren't looked at.
 pub(crate) fn look_at_new<A: Allocator + Copy>(state: &KernelState<A>, waiters: &mut Waiters<A>)
     requires { Knows (core_of {A = A} state.now) waiters.old }
-    ensures knows { Knows (core_of {A = A} state.now) waiters.new }
-    ensures none { (number : ℕ) → waiters.new.looked ≤ number → get nat_eq state.now.calls.calls number ≡ None }
+    ensures { Knows (core_of {A = A} state.now) waiters.new }
 {
     while let Some(number) = next_new(&state.parked, waiters.looked()) {
-        let placed = look_at(state, waiters, number);
+        let Some(placed) = look_at(state, waiters, number) else {
+            return;
+        };
         drop_ended(state, waiters, placed);
     }
     waiters.look_to(state.parked.next_number());
+}
+
+/// The calls that were parked since the last time are placed in their queues, and a few more may be parked.
+pub(crate) fn make_places<A: Allocator + Copy>(state: &mut KernelState<A>, waiters: &mut Waiters<A>)
+    requires { Knows (core_of {A = A} state.old) waiters.old }
+    ensures knows { Knows (core_of {A = A} state.new) waiters.new }
+    ensures same { state.new ≡ state.old }
+{
+    look_at_new(state, waiters);
+    state.parked.place_below(waiters.looked());
 }

@@ -20,6 +20,9 @@ use std::marker::Model;
 /// Room for so many calls is kept when they end.
 const KEPT: usize = 64;
 
+/// So many calls may be parked that have no place in an index.
+const UNPLACED: u64 = 8;
+
 /// The calls that wait, by number, and the number that the next one gets. Contracts see the list of them, in rising order
 /// of number.
 #[derive(Drop)]
@@ -32,6 +35,8 @@ pub struct Parked<A: Allocator = Global> {
     /// The calls that are opens of FIFOs which wait and weren't met.
     opens: Opens<A>,
     next: u64,
+    /// From this number on no call is parked, before more have places.
+    bound: u64,
 }
 
 impl<A: Allocator> Model for Parked<A> {
@@ -58,6 +63,7 @@ impl<A: Allocator + Copy> Parked<A> {
             owners: Places::new(alloc),
             opens: Opens::new(alloc),
             next: first,
+            bound: first.saturating_add(UNPLACED),
         }
     }
 
@@ -67,7 +73,7 @@ impl<A: Allocator + Copy> Parked<A> {
     ///
     /// - `CallsSpent` exactly where no number is left: the next would be 18,446,744,073,709,551,615, which is never given. It
     ///   takes no memory.
-    /// - `NoMemory` where a number is left, and there is no memory for one call more.
+    /// - `NoMemory` where a number is left, and there is no memory for one call more, or eight were parked that have no places yet.
     pub fn park(&mut self, call: ParkedCall<A>) -> Result<u64, ParkFault>
         ensures number { IfOk result (λ number. number ≡ self.old.next) }
         ensures ok { OnOk result (self.new ≡ record { calls = self.old.calls ++ (self.old.next, call) ∷ []; next = self.old.next + 1 }) }
@@ -76,6 +82,9 @@ impl<A: Allocator + Copy> Parked<A> {
     {
         if self.spent() {
             return Err(ParkFault::CallsSpent);
+        }
+        if self.next >= self.bound {
+            return Err(ParkFault::NoMemory);
         }
         let number = self.next;
         if self.entries.try_reserve(1).is_err() || !self.owners.add(call.pid as usize, number) {
@@ -97,6 +106,13 @@ impl<A: Allocator> Parked<A> {
         ensures { result ≡ (self.now.next == last_call) }
     {
         self.next == LAST_CALL
+    }
+
+    /// The calls below a number have places in an index, so that those that can make progress are found. Eight more may be parked.
+    pub fn place_below(&mut self, number: u64)
+        ensures { self.new ≡ self.old }
+    {
+        self.bound = number.saturating_add(UNPLACED);
     }
 
     /// How many calls wait.

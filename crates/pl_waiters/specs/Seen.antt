@@ -60,6 +60,6 @@ module _ {A : Type 0} where
   abbrev pub SameLeast : (old new : Waiters A) → Type 0
   SameLeast old new = new.least ≡ old.least
 
-  -- as much is known
+  -- as many calls were looked at
   abbrev pub SameKnown : (old new : Waiters A) → Type 0
-  SameKnown old new = (new.looked ≡ old.looked) × (new.lost ≡ old.lost)
+  SameKnown old new = new.looked ≡ old.looked

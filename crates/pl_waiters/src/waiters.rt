@@ -15,8 +15,7 @@ const FIRST: Waiter = Waiter {
 };
 
 /// An index of calls that wait: the queues in which they stand, at the nodes at which they wait. It keeps for each node the least number of a
-/// call that was found able to make progress there, and the nodes that were touched since they were asked. Where memory runs out it loses all that it
-/// knows: then any call may make progress.
+/// call that was found able to make progress there, and the nodes that were touched since they were asked. Only to add a call takes memory.
 #[derive(Drop)]
 pub struct Waiters<A: Allocator = Global> {
     pub(crate) queues: Queues<A>,
@@ -24,51 +23,50 @@ pub struct Waiters<A: Allocator = Global> {
     pub(crate) touched: Marks<A>,
     /// By the key of a node, the least number of those that could make progress when it was asked.
     pub(crate) least: Least<A>,
-    /// Nothing is known of the calls of this number or above.
+    /// All calls below this number were looked at.
     pub(crate) looked: u64,
-    /// Nothing is known.
-    pub(crate) lost: bool,
     /// Where the sweep goes on.
     pub(crate) swept: Waiter,
     ghost kept: { HavePlaces queues touched least },
 }
 
 impl<A: Allocator + Copy> Waiters<A> {
-    ghost use Rattle.std.specs.Prelude.{◌≡◌, ℕ, ◌||◌, true, false, None, OnOk};
+    ghost use Rattle.std.specs.Prelude.{◌≡◌, ℕ, ◌||◌, false, None, OnOk, OnErr};
     ghost use Rattle.pl_waiters.specs.Marks.{has_room};
     ghost use Rattle.pl_waiters.specs.Queue.{is_waiter};
     ghost use Rattle.pl_waiters.specs.Queues.{has_place as has_queues};
     ghost use Rattle.pl_waiters.specs.Seen.{stands, is_touched, least, SameQueues, SameMarks, SameNumbers, SameKnown};
 
-    /// Of no call anything is known, so each may make progress. It takes no memory.
+    /// No call stands in a queue, and none was looked at. It takes no memory.
     pub fn new(alloc: A) -> Self
         ensures queues { (key : Waiter) → stands result key ≡ false }
         ensures touched { (node : ℕ) → is_touched result node ≡ false }
         ensures least { (node : ℕ) → least result node ≡ None }
         ensures looked { result.looked ≡ 0 }
-        ensures known { result.lost ≡ false }
     {
         Waiters {
             queues: Queues::new(alloc),
             touched: Marks::new(alloc),
             least: Least::new(alloc),
             looked: 0,
-            lost: false,
             swept: FIRST,
         }
     }
 
-    /// A call stands in a queue too. Where there is no memory, all is lost.
-    pub fn add(&mut self, call: Waiter)
-        ensures lost { self.old.lost ≡ true → self.new.lost ≡ true }
-        ensures added { self.new.lost ≡ false → (key : Waiter) → stands self.new key ≡ (is_waiter call key || stands self.old key) }
+    /// A call stands in a queue too.
+    ///
+    /// # Errors
+    ///
+    /// `AllocError` where there is no memory for it. Then it stands in no more queues than before.
+    pub fn add(&mut self, call: Waiter) -> Result<(), AllocError>
+        ensures added { OnOk result ((key : Waiter) → stands self.new key ≡ (is_waiter call key || stands self.old key)) }
+        ensures err { OnErr result (SameQueues self.old self.new) }
         ensures touched { SameMarks self.old self.new }
         ensures least { SameNumbers self.old self.new }
         ensures looked { self.new.looked ≡ self.old.looked }
     {
-        if self.reserve(call.node).is_err() || self.queues.add(call).is_err() {
-            self.lose();
-        }
+        self.reserve(call.node)?;
+        self.queues.add(call)
     }
 
     // Makes a place for a node.
@@ -94,13 +92,6 @@ impl<A: Allocator> Waiters<A> {
     ghost use Rattle.pl_waiters.specs.Seen.{stands, is_touched, least, further, is_further, one_at, IsFirst, SameQueues, SameTouched, SameLeast, SameKnown};
     ghost use Rattle.pl_waiters.specs.Queue.{waiter, is_waiter, IsBehind};
 
-    /// Whether nothing is known any more.
-    pub fn is_lost(&self) -> bool
-        ensures { result ≡ self.now.lost }
-    {
-        self.lost
-    }
-
     /// How many calls stand in queues beside the one of each node. A call that stands in several is one in each.
     pub fn len(&self) -> usize
         ensures { result ≡ further self.now }
@@ -108,22 +99,11 @@ impl<A: Allocator> Waiters<A> {
         self.queues.len()
     }
 
-    /// Nothing is known of the calls of this number or above.
+    /// All calls below this number were looked at.
     pub fn looked(&self) -> u64
         ensures { result ≡ self.now.looked }
     {
         self.looked
-    }
-
-    /// Nothing is known any more.
-    pub fn lose(&mut self)
-        ensures lost { self.new.lost ≡ true }
-        ensures queues { SameQueues self.old self.new }
-        ensures touched { SameTouched self.old self.new }
-        ensures least { SameLeast self.old self.new }
-        ensures looked { self.new.looked ≡ self.old.looked }
-    {
-        self.lost = true;
     }
 
     /// All calls below this number were looked at.
@@ -132,7 +112,6 @@ impl<A: Allocator> Waiters<A> {
         ensures touched { SameTouched self.old self.new }
         ensures least { SameLeast self.old self.new }
         ensures looked { self.new.looked ≡ number }
-        ensures lost { self.new.lost ≡ self.old.lost }
     {
         self.looked = number;
     }

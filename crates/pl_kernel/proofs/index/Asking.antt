@@ -71,7 +71,7 @@ module _ {A : Type 0} (m : Known A) where
             (decided-at k f.0 waits on (λ d member. member_there (parts_of m) number f.0 f.1 d member) key queue apart no_poll) in_it;
       }
 
-  module _ (w : Waiters A) (kept : w.lost ≡ false) (knows : Knows c w) where
+  module _ (w : Waiters A) (knows : Knows c w) where
     -- where one stands for sure, another one of its queue does the same
     alike : (at one other a b : ℕ) → one ≢ others → one ≤ other → other ≤ answers_to one → stands w (waiter at one a) ≡ true → stands w (waiter at other b) ≡ true → IsSome (get nat_eq c.parked a) →
         is_open c (waiter at one a) ≡ false → is_open c (waiter at other b) ≡ false
@@ -106,8 +106,8 @@ module _ {A : Type 0} (m : Known A) where
             let off = no_other no_poll in
             let one_kept = is-kept a v here in
             let other_kept = is-kept b z there in
-            let closed : condition c at one ≡ false = sym (one_kept.decides at one (knows.right kept (waiter at one a) there_a v here) apart no_poll) ∙ sym (open-call c (waiter at one a) v here no_poll) ∙ stuck in
-            open-call c (waiter at other b) z there off.0 ∙ other_kept.decides at other (knows.right kept (waiter at other b) there_b z there) off.1 off.0 ∙ stuck-too c at one other up down closed
+            let closed : condition c at one ≡ false = sym (one_kept.decides at one (knows.right (waiter at one a) there_a v here) apart no_poll) ∙ sym (open-call c (waiter at one a) v here no_poll) ∙ stuck in
+            open-call c (waiter at other b) z there off.0 ∙ other_kept.decides at other (knows.right (waiter at other b) there_b z there) off.1 off.0 ∙ stuck-too c at one other up down closed
 
     -- a poll that finds something of a node can get on
     found-ready : (number key queue : ℕ) (v : Waiting A numbers) → get nat_eq c.parked number ≡ Some v → (entries : List (ℤ × PollMask)) (wait : Bool) → v.call ≡ call.Poll entries wait → PollPlace c entries v.kept key queue → finds c key queue ≡ true → can_progress c number ≡ true
@@ -117,7 +117,7 @@ module _ {A : Type 0} (m : Known A) where
         ap (progresses c) here ∙ polls-decide c v entries wait is may.0 ∙ p.counts (found-is c p.end.d p.end.x p.asked p.end.here ∙ (λ j. finds c (p.end.at j) (p.of j)) ∙ found)
 
     sound-of : (key : Waiter) → stands w key ≡ true → is_open c key ≡ true → is_ready c key.number ≡ true
-    sound-of key there opens = (let v = open-parked c key opens in by v.0 v.1 (is_polls key.queue) refl (place-kind c v.0.call v.0.kept key.node key.queue (knows.right kept key there v.0 v.1)))
+    sound-of key there opens = (let v = open-parked c key opens in by v.0 v.1 (is_polls key.queue) refl (place-kind c v.0.call v.0.kept key.node key.queue (knows.right key there v.0 v.1)))
       where
         by : (v : Waiting A numbers) → get nat_eq c.parked key.number ≡ Some v → (t : Bool) → is_polls key.queue ≡ t → IsOfKind c v.call v.kept key.node key.queue → is_ready c key.number ≡ true
         by v here false no_poll kind = ready-is c key.number v here ∙ sym (open-call c key v here no_poll) ∙ opens
@@ -139,17 +139,17 @@ module _ {A : Type 0} (m : Known A) where
             let d = keeps-one v.call v.kept i.keeps off in
             let x = there (c.descriptions d.0) (i.described d.0 d.1) in
             let q = some-place c v.kept i.described d.0 x.0 d.1 x.1 v.call i.keeps off in
-            (waiter (key_of x.0.node) q.0 n, refl, knows.placed kept (waiter (key_of x.0.node) q.0 n) v here low q.1, open-call c (waiter (key_of x.0.node) q.0 n) v here q.2.0 ∙ can v here)
+            (waiter (key_of x.0.node) q.0 n, refl, knows.placed (waiter (key_of x.0.node) q.0 n) v here low q.1, open-call c (waiter (key_of x.0.node) q.0 n) v here q.2.0 ∙ can v here)
 
         polled : (v : Waiting A numbers) → get nat_eq c.parked n ≡ Some v → (entries : List (ℤ × PollMask)) (wait : Bool) → v.call ≡ call.Poll entries wait → Somewhere
         polled v here entries wait is =
             let i = is-kept n v here in
             let may = subst (λ (x : Call A). MayWait x v.taken) is i.may in
-            let all = subst (λ (x : Call A). is_placed x (ends c v.kept) ≡ true) is (knows.whole kept n v here low) in
+            let all = subst (λ (x : Call A). is_placed x (ends c v.kept) ≡ true) is (knows.whole n v here low) in
             let f = finds-at c entries v.kept i.described all (sym (ap (progresses c) here ∙ polls-decide c v entries wait is may.0) ∙ can v here) in
             let q = queue_of_entry f.x.node f.x.mode f.asked in
             let key = waiter (key_of f.x.node) q n in
-            (key, refl, knows.placed kept key v here low (ap (λ x. is_place (places x (ends c v.kept)) (key_of f.x.node) q) is ∙ f.place), open-poll c key v here (entry-polls f.x.node f.x.mode f.asked) ∙ sym (found-is c f.d f.x f.asked f.here) ∙ f.found)
+            (key, refl, knows.placed key v here low (ap (λ x. is_place (places x (ends c v.kept)) (key_of f.x.node) q) is ∙ f.place), open-poll c key v here (entry-polls f.x.node f.x.mode f.asked) ∙ sym (found-is c f.d f.x f.asked f.here) ∙ f.found)
 
         no_poll_or : (v : Waiting A numbers) → get nat_eq c.parked n ≡ Some v → (x : Call A) → v.call ≡ x → ((entries : List (ℤ × PollMask)) (wait : Bool) → x ≡ call.Poll entries wait → ⊥) → Somewhere
         no_poll_or v here x is off = single v here (λ entries wait e. off entries wait (sym is ∙ e))
@@ -174,7 +174,7 @@ module _ {A : Type 0} (m : Known A) where
 
         by : (o : Option (Waiting A numbers)) → get nat_eq c.parked key.number ≡ o → IsSome o → IsSome (c.pipes key.node)
         by None here nobody = absurd (let no : IsSome {T = Waiting A numbers} None = nobody in cc)
-        by (Some v) here is = on v (place-kind c v.call v.kept key.node key.queue (knows.right kept key there v here))
+        by (Some v) here is = on v (place-kind c v.call v.kept key.node key.queue (knows.right key there v here))
 
     fits-of : (key : Waiter) → stands w key ≡ true → IsSome (get nat_eq c.parked key.number) → key.queue < 2 ^ 64
     fits-of key there some = by (get nat_eq c.parked key.number) refl some
@@ -185,7 +185,7 @@ module _ {A : Type 0} (m : Known A) where
 
         by : (o : Option (Waiting A numbers)) → get nat_eq c.parked key.number ≡ o → IsSome o → key.queue < 2 ^ 64
         by None here nobody = absurd (let no : IsSome {T = Waiting A numbers} None = nobody in cc)
-        by (Some v) here is = on v (place-kind c v.call v.kept key.node key.queue (knows.right kept key there v here))
+        by (Some v) here is = on v (place-kind c v.call v.kept key.node key.queue (knows.right key there v here))
 
     below-of : (n : ℕ) → is_ready c n ≡ true → n < none
     below-of n ready = (let v = ready-parked c n ready in let low = (order_of k sound).below n v.0 v.1 in let next = next-is k in let most = sound.numbered in omega (arith, low, next, most))
@@ -195,5 +195,5 @@ module _ {A : Type 0} (m : Known A) where
 
 -- The same of what the parts come to.
 module _ {A : Type 0} (s : Contents A) (m : Known A) (is : contents m.descs m.nodes m.calls m.limits ≡ s) where
-  pub understood-in : (w : Waiters A) → w.lost ≡ false → Knows (core_of s) w → AreUnderstood (core_of s) w
-  understood-in = subst (λ (z : Contents A). (w : Waiters A) → w.lost ≡ false → Knows (core_of z) w → AreUnderstood (core_of z) w) is (understood m)
+  pub understood-in : (w : Waiters A) → Knows (core_of s) w → AreUnderstood (core_of s) w
+  understood-in = subst (λ (z : Contents A). (w : Waiters A) → Knows (core_of z) w → AreUnderstood (core_of z) w) is (understood m)

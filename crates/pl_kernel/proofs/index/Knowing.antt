@@ -147,127 +147,125 @@ module _ {A : Type 0} (c : Core A numbers) (known : IsKnown c) (x : Step A) (new
 
   -- What a step leaves is known, if each node that it touches was touched in the index before.
   module _ (known' : IsKnown c') (w u : Waiters A) (t : Touches c x w u) (knows : Knows c w) where
-    -- what was looked at and waits afterwards, waited before
-    waited : (number : ℕ) (z : Waiting A numbers) → get nat_eq c'.parked number ≡ Some z → number < w.looked → (v : Waiting A numbers) × (get nat_eq c.parked number ≡ Some v)
+    -- what was given before and waits afterwards, waited before
+    waited : (number : ℕ) (z : Waiting A numbers) → get nat_eq c'.parked number ≡ Some z → number < c.next_call → (v : Waiting A numbers) × (get nat_eq c.parked number ≡ Some v)
     waited number z there low = by (get nat_eq c.parked number) refl
       where
         by : (o : Option (Waiting A numbers)) → get nat_eq c.parked number ≡ o → (v : Waiting A numbers) × (get nat_eq c.parked number ≡ Some v)
-        by None none = absurd (none_comes c x new order number (let coming = knows.coming in omega (arith, low, coming)) none z there)
+        by None none = absurd (none_comes c x new order number low none z there)
         by (Some v) here = (v, here)
 
     low-before : (number : ℕ) → number < u.looked → number < w.looked
-    low-before number low = subst (λ n. number < n) t.no_less.known.0 low
+    low-before number low = subst (λ n. number < n) t.no_less.known low
 
-    module _ (kept : u.lost ≡ false) where
-      before : w.lost ≡ false
-      before = sym t.no_less.known.1 ∙ kept
+    given-before : (number : ℕ) → number < w.looked → number < c.next_call
+    given-before number low = (let coming = knows.coming in omega (arith, low, coming))
 
-      stood : (key : Waiter) → stands u key ≡ true → stands w key ≡ true
-      stood key there = sym (t.no_less.queues key) ∙ there
+    stood : (key : Waiter) → stands u key ≡ true → stands w key ≡ true
+    stood key there = sym (t.no_less.queues key) ∙ there
 
-      up_on : (key number : ℕ) → IsUpBut w None key number → IsUpBut u None key number
-      up_on key number (inl at) = absurd (cc)
-      up_on key number (inr (inl touched)) = inr (inl (t.no_less.more key touched))
-      up_on key number (inr (inr found)) = inr (inr (found.0, ap (λ l. number_at l key) t.no_less.least_ones ∙ found.1, found.2))
+    up_on : (key number : ℕ) → IsUpBut w None key number → IsUpBut u None key number
+    up_on key number (inl at) = absurd (cc)
+    up_on key number (inr (inl touched)) = inr (inl (t.no_less.more key touched))
+    up_on key number (inr (inr found)) = inr (inr (found.0, ap (λ l. number_at l key) t.no_less.least_ones ∙ found.1, found.2))
 
-      -- the node of a call that stands there was touched, if the step touches it
-      touched_at : (key : Waiter) (v : Waiting A numbers) → get nat_eq c.parked key.number ≡ Some v → stands w key ≡ true → (node : Node numbers) → key_of node ≡ key.node → touches c x node ≡ true → IsUpBut u None key.node key.number
-      touched_at key v here there node at on = subst (λ n. IsUpBut u None n key.number) at (inr (inl (t.touched node on key (sym at) (subst (λ o. IsSome o) (sym here) refl) there)))
+    -- the node of a call that stands there was touched, if the step touches it
+    touched_at : (key : Waiter) (v : Waiting A numbers) → get nat_eq c.parked key.number ≡ Some v → stands w key ≡ true → (node : Node numbers) → key_of node ≡ key.node → touches c x node ≡ true → IsUpBut u None key.node key.number
+    touched_at key v here there node at on = subst (λ n. IsUpBut u None n key.number) at (inr (inl (t.touched node on key (sym at) (subst (λ o. IsSome o) (sym here) refl) there)))
 
-      polled_on : (key : Waiter) → is_polls key.queue ≡ true → stands u key ≡ true → is_open c' key ≡ true → IsUpBut u None key.node key.number
-      polled_on key is_poll there opens =
-          let z = open-parked c' key opens in
-          let low = knows.early before key (stood key there) in
-          let v = waited key.number z.0 z.1 low in
-          by v.0 v.1 (open-poll c' key z.0 z.1 is_poll) (place-kind c v.0.call v.0.kept key.node key.queue (knows.right before key (stood key there) v.0 v.1))
-        where
-          by : (v : Waiting A numbers) → get nat_eq c.parked key.number ≡ Some v → is_open c' key ≡ finds c' key.node key.queue → IsOfKind c v.call v.kept key.node key.queue → IsUpBut u None key.node key.number
-          by v here told (inr n) = absurd (let no : false ≡ true = sym n.apart.0 ∙ is_poll in cc)
-          by v here told (inl p) = at (touches c x e.x.node) refl
-            where
-              e : KeepsEnd c v.kept key.node
-              e = p.3.end
-
-              at : (b : Bool) → touches c x e.x.node ≡ b → IsUpBut u None key.node key.number
-              at true on = touched_at key v here (stood key there) e.x.node e.at on
-              at false off =
-                  let same = finds-same c c' e.x.node (same_at key.number v here e.d e.member e.x e.here off) e.x.mode p.3.asked in
-                  let found : finds c key.node key.queue ≡ true = (λ i. finds c (sym e.at i) (sym p.3.of i)) ∙ sym same ∙ (λ i. finds c' (e.at i) (p.3.of i)) ∙ sym told ∙ opens in
-                  up_on key.node key.number (knows.polled before key is_poll (stood key there) (open-poll c key v here is_poll ∙ found))
-
-      -- the step touches what the description is on
-      abbrev hit : Option (Description numbers) → Bool
-      hit None = false
-      hit (Some y) = touches c x y.node
-
-      -- A call that is no poll, and can get on afterwards.
-      module _ (key : Waiter) (no_poll : is_polls key.queue ≡ false) (there : stands u key ≡ true) (v : Waiting A numbers) (here : get nat_eq c.parked key.number ≡ Some v) (low : key.number < w.looked) (can : can_progress c' key.number ≡ true) (off : IsNoPoll v.call) where
-        touched : (d : ℕ) → is_member nat_eq v.kept d ≡ true → (o : Option (Description numbers)) → c.descriptions d ≡ o → hit o ≡ true → IsUpSomewhere u None key.number
-        touched d m None e h = absurd (cc)
-        touched d m (Some y) e h =
-            let q = some-place c v.kept (member_has (λ d. IsSome (c.descriptions d)) v.kept (fit.kept key.number v here)) d y m e v.call (keeps key.number v here) off in
-            let other = waiter (key_of y.node) q.0 key.number in
-            let stands_w : stands w other ≡ true = knows.placed before other v here low q.1 in
-            record { key = other; of_it = refl; no_poll = q.2.0; there = t.no_less.queues other ∙ stands_w; up = touched_at other v here stands_w y.node refl h }
-
-        away : list_any (λ d. hit (c.descriptions d)) v.kept ≡ false → (node : Node numbers) → keeps_at c node v ≡ true → touches c x node ≡ false
-        away none node keeps = at (touches c x node) refl
+    polled_on : (key : Waiter) → is_polls key.queue ≡ true → stands u key ≡ true → is_open c' key ≡ true → IsUpBut u None key.node key.number
+    polled_on key is_poll there opens =
+        let z = open-parked c' key opens in
+        let low = knows.given key (stood key there) in
+        let v = waited key.number z.0 z.1 low in
+        by v.0 v.1 (open-poll c' key z.0 z.1 is_poll) (place-kind c v.0.call v.0.kept key.node key.queue (knows.right key (stood key there) v.0 v.1))
+      where
+        by : (v : Waiting A numbers) → get nat_eq c.parked key.number ≡ Some v → is_open c' key ≡ finds c' key.node key.queue → IsOfKind c v.call v.kept key.node key.queue → IsUpBut u None key.node key.number
+        by v here told (inr n) = absurd (let no : false ≡ true = sym n.apart.0 ∙ is_poll in cc)
+        by v here told (inl p) = at (touches c x e.x.node) refl
           where
-            f : (d : ℕ) × (is_member nat_eq v.kept d ≡ true) × (is_end any_mode node (c.descriptions d) ≡ true)
-            f = member_found (λ d. is_end any_mode node (c.descriptions d)) v.kept keeps
+            e : KeepsEnd c v.kept key.node
+            e = p.3.end
 
-            found : touches c x node ≡ true → (o : Option (Description numbers)) → is_end any_mode node o ≡ true → hit o ≡ true
-            found on None at = absurd (cc)
-            found on (Some y) at = ap (touches c x) (same_is y.node node (and_left (same_node y.node node) true at)) ∙ on
+            at : (b : Bool) → touches c x e.x.node ≡ b → IsUpBut u None key.node key.number
+            at true on = touched_at key v here (stood key there) e.x.node e.at on
+            at false off =
+                let same = finds-same c c' e.x.node (same_at key.number v here e.d e.member e.x e.here off) e.x.mode p.3.asked in
+                let found : finds c key.node key.queue ≡ true = (λ i. finds c (sym e.at i) (sym p.3.of i)) ∙ sym same ∙ (λ i. finds c' (e.at i) (p.3.of i)) ∙ sym told ∙ opens in
+                up_on key.node key.number (knows.polled key is_poll (stood key there) (open-poll c key v here is_poll ∙ found))
 
-            at : (b : Bool) → touches c x node ≡ b → b ≡ false
-            at false on = refl
-            at true on = absurd (let no : false ≡ true = sym none ∙ member_passes (λ d. hit (c.descriptions d)) v.kept f.0 f.1 (found on (c.descriptions f.0) f.2) in cc)
+    -- the step touches what the description is on
+    abbrev hit : Option (Description numbers) → Bool
+    hit None = false
+    hit (Some y) = touches c x y.node
 
-        stayed : ((node : Node numbers) → keeps_at c node v ≡ true → touches c x node ≡ false) → IsUpSomewhere u None key.number
-        stayed off_nodes =
-            let d = keeps-one v.call v.kept (keeps key.number v here) off in
-            let other = of_another c fit key.number v here (some-member v.kept d.0 d.1) x off_nodes in
-            let same = untouched_by_another c x new unused fit key.number v here off_nodes other in
-            let old = knows.told before key no_poll (stood key there) (open-call c key v here no_poll ∙ sym same.1 ∙ can) in
-            record { key = old.key; of_it = old.of_it; no_poll = old.no_poll; there = t.no_less.queues old.key ∙ old.there; up = up_on old.key.node key.number old.up }
+    -- A call that is no poll, and can get on afterwards.
+    module _ (key : Waiter) (no_poll : is_polls key.queue ≡ false) (there : stands u key ≡ true) (v : Waiting A numbers) (here : get nat_eq c.parked key.number ≡ Some v) (low : key.number < w.looked) (can : can_progress c' key.number ≡ true) (off : IsNoPoll v.call) where
+      touched : (d : ℕ) → is_member nat_eq v.kept d ≡ true → (o : Option (Description numbers)) → c.descriptions d ≡ o → hit o ≡ true → IsUpSomewhere u None key.number
+      touched d m None e h = absurd (cc)
+      touched d m (Some y) e h =
+          let q = some-place c v.kept (member_has (λ d. IsSome (c.descriptions d)) v.kept (fit.kept key.number v here)) d y m e v.call (keeps key.number v here) off in
+          let other = waiter (key_of y.node) q.0 key.number in
+          let stands_w : stands w other ≡ true = knows.placed other v here low q.1 in
+          record { key = other; of_it = refl; no_poll = q.2.0; there = t.no_less.queues other ∙ stands_w; up = touched_at other v here stands_w y.node refl h }
 
-        somewhere : IsUpSomewhere u None key.number
-        somewhere = by (list_any (λ d. hit (c.descriptions d)) v.kept) refl
-          where
-            by : (b : Bool) → list_any (λ d. hit (c.descriptions d)) v.kept ≡ b → IsUpSomewhere u None key.number
-            by true some = (let f = member_found (λ d. hit (c.descriptions d)) v.kept some in touched f.0 f.1 (c.descriptions f.0) refl f.2)
-            by false none = stayed (away none)
-
-      told_on : (key : Waiter) → is_polls key.queue ≡ false → stands u key ≡ true → is_open c' key ≡ true → IsUpSomewhere u None key.number
-      told_on key no_poll there opens =
-          let z = open-parked c' key opens in
-          let low = knows.early before key (stood key there) in
-          let v = waited key.number z.0 z.1 low in
-          by v.0 v.1 low (sym (open-call c' key z.0 z.1 no_poll) ∙ opens) (place-kind c v.0.call v.0.kept key.node key.queue (knows.right before key (stood key there) v.0 v.1))
+      away : list_any (λ d. hit (c.descriptions d)) v.kept ≡ false → (node : Node numbers) → keeps_at c node v ≡ true → touches c x node ≡ false
+      away none node keeps = at (touches c x node) refl
         where
-          by : (v : Waiting A numbers) → get nat_eq c.parked key.number ≡ Some v → key.number < w.looked → can_progress c' key.number ≡ true → IsOfKind c v.call v.kept key.node key.queue → IsUpSomewhere u None key.number
-          by v here low can (inl p) = absurd (let no : false ≡ true = sym no_poll ∙ ap is_polls (sym p.3.of) ∙ entry-polls p.3.end.x.node p.3.end.x.mode p.3.asked in cc)
-          by v here low can (inr n) = somewhere key no_poll there v here low can n.no_poll
+          f : (d : ℕ) × (is_member nat_eq v.kept d ≡ true) × (is_end any_mode node (c.descriptions d) ≡ true)
+          f = member_found (λ d. is_end any_mode node (c.descriptions d)) v.kept keeps
+
+          found : touches c x node ≡ true → (o : Option (Description numbers)) → is_end any_mode node o ≡ true → hit o ≡ true
+          found on None at = absurd (cc)
+          found on (Some y) at = ap (touches c x) (same_is y.node node (and_left (same_node y.node node) true at)) ∙ on
+
+          at : (b : Bool) → touches c x node ≡ b → b ≡ false
+          at false on = refl
+          at true on = absurd (let no : false ≡ true = sym none ∙ member_passes (λ d. hit (c.descriptions d)) v.kept f.0 f.1 (found on (c.descriptions f.0) f.2) in cc)
+
+      stayed : ((node : Node numbers) → keeps_at c node v ≡ true → touches c x node ≡ false) → IsUpSomewhere u None key.number
+      stayed off_nodes =
+          let d = keeps-one v.call v.kept (keeps key.number v here) off in
+          let other = of_another c fit key.number v here (some-member v.kept d.0 d.1) x off_nodes in
+          let same = untouched_by_another c x new unused fit key.number v here off_nodes other in
+          let old = knows.told key no_poll (stood key there) (open-call c key v here no_poll ∙ sym same.1 ∙ can) low in
+          record { key = old.key; of_it = old.of_it; no_poll = old.no_poll; there = t.no_less.queues old.key ∙ old.there; up = up_on old.key.node key.number old.up }
+
+      somewhere : IsUpSomewhere u None key.number
+      somewhere = by (list_any (λ d. hit (c.descriptions d)) v.kept) refl
+        where
+          by : (b : Bool) → list_any (λ d. hit (c.descriptions d)) v.kept ≡ b → IsUpSomewhere u None key.number
+          by true some = (let f = member_found (λ d. hit (c.descriptions d)) v.kept some in touched f.0 f.1 (c.descriptions f.0) refl f.2)
+          by false none = stayed (away none)
+
+    told_on : (key : Waiter) → is_polls key.queue ≡ false → stands u key ≡ true → is_open c' key ≡ true → key.number < u.looked → IsUpSomewhere u None key.number
+    told_on key no_poll there opens below =
+        let z = open-parked c' key opens in
+        let low = low-before key.number below in
+        let v = waited key.number z.0 z.1 (given-before key.number low) in
+        by v.0 v.1 low (sym (open-call c' key z.0 z.1 no_poll) ∙ opens) (place-kind c v.0.call v.0.kept key.node key.queue (knows.right key (stood key there) v.0 v.1))
+      where
+        by : (v : Waiting A numbers) → get nat_eq c.parked key.number ≡ Some v → key.number < w.looked → can_progress c' key.number ≡ true → IsOfKind c v.call v.kept key.node key.queue → IsUpSomewhere u None key.number
+        by v here low can (inl p) = absurd (let no : false ≡ true = sym no_poll ∙ ap is_polls (sym p.3.of) ∙ entry-polls p.3.end.x.node p.3.end.x.mode p.3.asked in cc)
+        by v here low can (inr n) = somewhere key no_poll there v here low can n.no_poll
 
     pub knows_on : Knows c' u
     knows_on = record {
-      coming = (let up = rises c x new in let coming = knows.coming in let looked = t.no_less.known.0 in omega (arith, up, coming, looked));
-      placed = λ kept key z there low in_it.
+      coming = (let up = rises c x new in let coming = knows.coming in let looked = t.no_less.known in omega (arith, up, coming, looked));
+      placed = λ key z there low in_it.
           let before = low-before key.number low in
-          let v = waited key.number z there before in
-          t.no_less.queues key ∙ knows.placed (sym t.no_less.known.1 ∙ kept) key v.0 v.1 before (back known' key.number v.0 z v.1 there key in_it);
-      whole = λ kept number z there low.
+          let v = waited key.number z there (given-before key.number before) in
+          t.no_less.queues key ∙ knows.placed key v.0 v.1 before (back known' key.number v.0 z v.1 there key in_it);
+      whole = λ number z there low.
           let before = low-before number low in
-          let v = waited number z there before in
-          placed_stays known' number v.0 z v.1 there (knows.whole (sym t.no_less.known.1 ∙ kept) number v.0 v.1 before);
-      polled = λ kept. polled_on kept;
-      told = λ kept. told_on kept;
-      right = λ kept key stands_u z there.
-          let stands_w : stands w key ≡ true = sym (t.no_less.queues key) ∙ stands_u in
-          let v = waited key.number z there (knows.early (sym t.no_less.known.1 ∙ kept) key stands_w) in
-          forth known' key.number v.0 z v.1 there key (knows.right (sym t.no_less.known.1 ∙ kept) key stands_w v.0 v.1);
-      early = λ kept key stands_u. subst (λ n. key.number < n) (sym t.no_less.known.0) (knows.early (sym t.no_less.known.1 ∙ kept) key (sym (t.no_less.queues key) ∙ stands_u));
+          let v = waited number z there (given-before number before) in
+          placed_stays known' number v.0 z v.1 there (knows.whole number v.0 v.1 before);
+      polled = polled_on;
+      told = told_on;
+      right = λ key stands_u z there.
+          let v = waited key.number z there (knows.given key (stood key stands_u)) in
+          forth known' key.number v.0 z v.1 there key (knows.right key (stood key stands_u) v.0 v.1);
+      given = λ key stands_u. (let low = knows.given key (stood key stands_u) in let up = rises c x new in omega (arith, low, up));
     }
 
 -- More nodes that are to be asked are known no worse.
@@ -279,12 +277,12 @@ module _ {A : Type 0} (c : Core A numbers) (w u : Waiters A) where
 
   pub knows-more : Knows c w → IsNoLess w u → Knows c u
   knows-more k less = record {
-    coming = subst (λ n. n ≤ c.next_call) (sym less.known.0) k.coming;
-    placed = λ kept key v here low in_it. less.queues key ∙ k.placed (sym less.known.1 ∙ kept) key v here (subst (λ n. key.number < n) less.known.0 low) in_it;
-    whole = λ kept number v here low. k.whole (sym less.known.1 ∙ kept) number v here (subst (λ n. number < n) less.known.0 low);
-    polled = λ kept key is_poll there opens. up-more less key.node key.number (k.polled (sym less.known.1 ∙ kept) key is_poll (sym (less.queues key) ∙ there) opens);
-    told = λ kept key no_poll there opens. (let s = k.told (sym less.known.1 ∙ kept) key no_poll (sym (less.queues key) ∙ there) opens in
+    coming = subst (λ n. n ≤ c.next_call) (sym less.known) k.coming;
+    placed = λ key v here low in_it. less.queues key ∙ k.placed key v here (subst (λ n. key.number < n) less.known low) in_it;
+    whole = λ number v here low. k.whole number v here (subst (λ n. number < n) less.known low);
+    polled = λ key is_poll there opens. up-more less key.node key.number (k.polled key is_poll (sym (less.queues key) ∙ there) opens);
+    told = λ key no_poll there opens low. (let s = k.told key no_poll (sym (less.queues key) ∙ there) opens (subst (λ n. key.number < n) less.known low) in
         record { key = s.key; of_it = s.of_it; no_poll = s.no_poll; there = less.queues s.key ∙ s.there; up = up-more less s.key.node key.number s.up });
-    right = λ kept key there v here. k.right (sym less.known.1 ∙ kept) key (sym (less.queues key) ∙ there) v here;
-    early = λ kept key there. subst (λ n. key.number < n) (sym less.known.0) (k.early (sym less.known.1 ∙ kept) key (sym (less.queues key) ∙ there));
+    right = λ key there v here. k.right key (sym (less.queues key) ∙ there) v here;
+    given = λ key there. k.given key (sym (less.queues key) ∙ there);
   }

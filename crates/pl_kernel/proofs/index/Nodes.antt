@@ -58,7 +58,7 @@ module _ {A : Type 0} (c : Core A numbers) (a b d : Waiters A) where
     kept = λ key some there. q.kept key some (p.kept key some there);
     touched = q.touched ∙ p.touched;
     least_ones = q.least_ones ∙ p.least_ones;
-    known = (q.known.0 ∙ p.known.0, q.known.1 ∙ p.known.1);
+    known = q.known ∙ p.known;
   }
 
 module _ {A : Type 0} (c : Core A numbers) (old now : Waiters A) (node from : ℕ) (key : Waiter) (least : Option ℕ) (inv : AreAsked c old now node from key least) where

@@ -25,15 +25,15 @@ module _ {A : Type 0} (c : Core A numbers) where
       (up : (key number : ℕ) → IsUpBut a old key number → IsUpBut b new key number) where
     pub goes-over : KnowsBut c a old → KnowsBut c b new
     goes-over k = record {
-      coming = subst (λ n. n ≤ c.next_call) (sym same.0) k.coming;
-      placed = λ kept key v here low in_it. more key (subst (λ o. IsSome o) (sym here) refl) (k.placed (sym same.1 ∙ kept) key v here (subst (λ n. key.number < n) same.0 low) in_it);
-      whole = λ kept number v here low. k.whole (sym same.1 ∙ kept) number v here (subst (λ n. number < n) same.0 low);
-      polled = λ kept key is_poll there opens. up key.node key.number (k.polled (sym same.1 ∙ kept) key is_poll (fewer key there) opens);
-      told = λ kept key no_poll there opens. (let s = k.told (sym same.1 ∙ kept) key no_poll (fewer key there) opens in
+      coming = subst (λ n. n ≤ c.next_call) (sym same) k.coming;
+      placed = λ key v here low in_it. more key (subst (λ o. IsSome o) (sym here) refl) (k.placed key v here (subst (λ n. key.number < n) same low) in_it);
+      whole = λ number v here low. k.whole number v here (subst (λ n. number < n) same low);
+      polled = λ key is_poll there opens. up key.node key.number (k.polled key is_poll (fewer key there) opens);
+      told = λ key no_poll there opens low. (let s = k.told key no_poll (fewer key there) opens (subst (λ n. key.number < n) same low) in
           let some : IsSome (get nat_eq c.parked s.key.number) = subst (λ n. IsSome (get nat_eq c.parked n)) (sym s.of_it) (subst (λ o. IsSome o) (sym (open-parked c key opens).1) refl) in
           record { key = s.key; of_it = s.of_it; no_poll = s.no_poll; there = more s.key some s.there; up = up s.key.node key.number s.up });
-      right = λ kept key there v here. k.right (sym same.1 ∙ kept) key (fewer key there) v here;
-      early = λ kept key there. subst (λ n. key.number < n) (sym same.0) (k.early (sym same.1 ∙ kept) key (fewer key there));
+      right = λ key there v here. k.right key (fewer key there) v here;
+      given = λ key there. k.given key (fewer key there);
     }
 
   -- What is known stays known where no node is touched any more, and none was.
@@ -101,18 +101,18 @@ module _ {A : Type 0} (c : Core A numbers) where
 
     pub filled : Knows c b
     filled = record {
-      coming = subst (λ n. n ≤ c.next_call) (sym known.0) k.coming;
-      placed = λ kept key v here low in_it. queues key ∙ k.placed (sym known.1 ∙ kept) key v here (subst (λ n. key.number < n) known.0 low) in_it;
-      whole = λ kept number v here low. k.whole (sym known.1 ∙ kept) number v here (subst (λ n. number < n) known.0 low);
-      polled = λ kept key is_poll there opens.
+      coming = subst (λ n. n ≤ c.next_call) (sym known) k.coming;
+      placed = λ key v here low in_it. queues key ∙ k.placed key v here (subst (λ n. key.number < n) known low) in_it;
+      whole = λ number v here low. k.whole number v here (subst (λ n. number < n) known low);
+      polled = λ key is_poll there opens.
           let before = sym (queues key) ∙ there in
-          up key before opens (nat_eq key.node node) refl (k.polled (sym known.1 ∙ kept) key is_poll before opens);
-      told = λ kept key no_poll there opens.
-          let s = k.told (sym known.1 ∙ kept) key no_poll (sym (queues key) ∙ there) opens in
+          up key before opens (nat_eq key.node node) refl (k.polled key is_poll before opens);
+      told = λ key no_poll there opens low.
+          let s = k.told key no_poll (sym (queues key) ∙ there) opens (subst (λ n. key.number < n) known low) in
           let now : IsUpBut b None s.key.node s.key.number = up s.key s.there (open-too key no_poll opens s.key s.no_poll s.of_it) (nat_eq s.key.node node) refl (subst (IsUpBut a (Some node) s.key.node) (sym s.of_it) s.up) in
           record { key = s.key; of_it = s.of_it; no_poll = s.no_poll; there = queues s.key ∙ s.there; up = subst (IsUpBut b None s.key.node) s.of_it now };
-      right = λ kept key there v here. k.right (sym known.1 ∙ kept) key (sym (queues key) ∙ there) v here;
-      early = λ kept key there. subst (λ n. key.number < n) (sym known.0) (k.early (sym known.1 ∙ kept) key (sym (queues key) ∙ there));
+      right = λ key there v here. k.right key (sym (queues key) ∙ there) v here;
+      given = λ key there. k.given key (sym (queues key) ∙ there);
     }
 
   -- what is understood stays so where calls that ended are taken out

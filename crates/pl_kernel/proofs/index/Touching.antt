@@ -63,7 +63,7 @@ module _ {A : Type 0} (w v u : Waiters A) where
   less_then first second = record {
     queues = λ key. second.queues key ∙ first.queues key;
     least_ones = second.least_ones ∙ first.least_ones;
-    known = (second.known.0 ∙ first.known.0, second.known.1 ∙ first.known.1);
+    known = second.known ∙ first.known;
     more = λ key h. second.more key (first.more key h);
   }
 
@@ -145,7 +145,7 @@ module _ {A : Type 0} (c : Core A numbers) (x : Step A) (w u : Waiters A) where
 -- where it touches nothing, or nobody waits, nothing is to be touched
 module _ {A : Type 0} (c : Core A numbers) (x : Step A) (w : Waiters A) where
   same : IsNoLess w w
-  same = record { queues = λ key. refl; least_ones = refl; known = (refl, refl); more = λ key h. h }
+  same = record { queues = λ key. refl; least_ones = refl; known = refl; more = λ key h. h }
 
   pub touches-nothing : ((node : KeyNode numbers) → touches c x node ≡ false) → Touches c x w w
   touches-nothing off = record { no_less = same; touched = λ node t key at some there. absurd (let no : false ≡ true = sym (off node) ∙ t in cc) }

@@ -49,6 +49,7 @@ impl<A: Allocator + Copy> Kernel<A> {
         ensures unmade { OnErr result (self.new ≡ self.old) }
         ensures wanted { OnErr result (WantsMemory {A = A} self.old (Step.Begin pid (Call.Write fd bytes.now))) }
     {
+        self.keep_up();
         // A proof learns here that nothing was left to settle, so that a refused step leaves the very state.
         let state = &self.state;
         let _ = &state.descs;
@@ -89,6 +90,7 @@ impl<A: Allocator + Copy> Kernel<A> {
         ensures unread { OnErr result (into.new ≡ into.old) }
         ensures wanted { OnErr result (Parks {A = A} self.old (Step.Begin pid (Call.Read fd (length into.old)))) }
     {
+        self.keep_up();
         // A proof learns here that nothing was left to settle, so that a refused step leaves the very state.
         let state = &self.state;
         let _ = &state.descs;
@@ -121,6 +123,7 @@ impl<A: Allocator + Copy> Kernel<A> {
         ensures unmarked { OnErr result (entries.new ≡ entries.old) }
         ensures wanted { OnErr result (Parks {A = A} self.old (Step.Begin pid (Call.Poll (asked entries.old) wait))) }
     {
+        self.keep_up();
         // A proof learns here that nothing was left to settle, so that a refused step leaves the very state.
         let state = &self.state;
         let _ = &state.descs;

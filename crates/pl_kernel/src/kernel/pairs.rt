@@ -95,6 +95,7 @@ impl<A: Allocator + Copy> Kernel<A> {
         ensures frugal { is_frugal step ≡ true → IsOk result }
         ensures shares { SharesByStep {A = A} self.old step self.new }
     {
+        self.keep_up();
         // A proof learns here that nothing was left to settle, so that a refused step leaves the very state.
         let state = &self.state;
         let _ = &state.descs;

@@ -170,6 +170,8 @@ impl<'a, A: Allocator + Copy> Bench<'a, A> {
     }
 
     pub(super) fn answer(&mut self, ask: Ask) -> Answer {
+        // All that wait have places.
+        self.parked.place_below(self.parked.next_number());
         match ask {
             Ask::Spent => Is(self.parked.spent()),
             Ask::NextNumber => Number(self.parked.next_number()),

@@ -12,7 +12,7 @@ pub returns-clause-knows : goal.returns-clause-knows
 returns-clause-knows g c =
     let p = c.least_at-least.ensures.prunes in
     let s = c.set_least.ensures in
-    filled (core_of c.args.state.now) c.least_at-least.new.waiters c.set_least.new.self (understood-fewer (core_of c.args.state.now) c.args.waiters.now c.least_at-least.new.waiters p.fewer p.kept p.known.0 c.requires.understood) c.args.node c.least_at-least.result
+    filled (core_of c.args.state.now) c.least_at-least.new.waiters c.set_least.new.self (understood-fewer (core_of c.args.state.now) c.args.waiters.now c.least_at-least.new.waiters p.fewer p.kept p.known c.requires.understood) c.args.node c.least_at-least.result
     (pruned (core_of c.args.state.now) c.args.waiters.now c.least_at-least.new.waiters (Some c.args.node) p c.requires.knows)
     (λ q l other m fits there ready. c.least_at-least.ensures.covers q l other m fits (p.fewer (waiter c.args.node q other) there) ready)
     s.queues s.touched s.known s.least
@@ -21,4 +21,4 @@ pub returns-clause-understood : goal.returns-clause-understood
 returns-clause-understood g c =
     let p = c.least_at-least.ensures.prunes in
     let s = c.set_least.ensures in
-    understood-fewer (core_of c.args.state.now) c.args.waiters.now c.set_least.new.self (λ key there. p.fewer key (sym (s.queues key) ∙ there)) (λ key some there. s.queues key ∙ p.kept key some there) (s.known.0 ∙ p.known.0) c.requires.understood
+    understood-fewer (core_of c.args.state.now) c.args.waiters.now c.set_least.new.self (λ key there. p.fewer key (sym (s.queues key) ∙ there)) (λ key some there. s.queues key ∙ p.kept key some there) (s.known ∙ p.known) c.requires.understood

@@ -19,7 +19,7 @@ loop-preserved g c =
     let e = c.sweep.ensures.known in
     record {
       knows = pruned-knows (core_of c.args.state.now) c.sweep.new.self c.drop_if_ended-ended.new.waiters p (swept g w);
-      known = (p.known.0 ∙ e.0 ∙ c.loop.invariant.known.0, p.known.1 ∙ e.1 ∙ c.loop.invariant.known.1);
+      known = p.known ∙ e ∙ c.loop.invariant.known;
     }
 
 pub returns-in_default-clause-knows : goal.returns-in_default-clause-knows

@@ -41,4 +41,4 @@ returns-then-is_some-clause-ended g c = (let w = (goal.at.returns-then-is_some-c
 
 -- where nothing was taken out, all is as it was
 pub returns-then-is_some-clause-prunes : goal.returns-then-is_some-clause-prunes
-returns-then-is_some-clause-prunes g c = record { fewer = λ key there. there; kept = λ key some there. there; touched = refl; least_ones = refl; known = (refl, refl) }
+returns-then-is_some-clause-prunes g c = record { fewer = λ key there. there; kept = λ key some there. there; touched = refl; least_ones = refl; known = refl }

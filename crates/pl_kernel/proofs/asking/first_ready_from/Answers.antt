@@ -19,7 +19,7 @@ use Rattle.pl_kernel.proofs.asking.first_ready_from.Goals as goal
 pub least_if_any-found-requires : goal.least_if_any-found-requires
 least_if_any-found-requires g c =
     let p = c.loop-node.invariant.prunes in
-    understood-fewer (core_of c.args.state.now) c.args.waiters.now c.loop-node.waiters p.fewer p.kept p.known.0 c.requires.understood
+    understood-fewer (core_of c.args.state.now) c.args.waiters.now c.loop-node.waiters p.fewer p.kept p.known c.requires.understood
 
 -- one node more is covered
 module _ (g : Over) (c : After-lesser-least g) where
@@ -46,12 +46,12 @@ loop-node-preserved g c =
       covers = λ key l. subst (CoversNode core c.args.waiters.now key c.args.from) is (covered g w key (cases_lt key c.loop-node.node) l);
     }
 
-pub returns-clause-least : goal.returns-clause-least
-returns-clause-least g c =
+pub returns-clause-finds : goal.returns-clause-finds
+returns-clause-finds g c =
     let core = core_of c.args.state.now in
     let r = c.requires in
     let inv = c.loop-node.invariant in
-    least-from core c.args.waiters.now r.understood r.knows r.known r.looked r.settled c.args.from c.loop-node.least
+    least-from core c.args.waiters.now r.understood r.knows r.settled c.args.from c.loop-node.least
     (λ key m here. inv.covers key (let l = c.nodes-node-end.ensures.most key m here in let end = c.loop-node-test.false in omega (arith, l, end)) m here) inv.some
 
 pub returns-clause-knows : goal.returns-clause-knows

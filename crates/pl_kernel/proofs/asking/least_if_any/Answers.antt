@@ -3,7 +3,7 @@ use Rattle.std.specs.Prelude.{is_some}
 use Rattle.pl_kernel.proofs.asking.least_if_any.Goals as goal
 
 pub returns-then-is_none-clause-prunes : goal.returns-then-is_none-clause-prunes
-returns-then-is_none-clause-prunes g c = record { fewer = λ key there. there; kept = λ key some there. there; touched = refl; least_ones = refl; known = (refl, refl) }
+returns-then-is_none-clause-prunes g c = record { fewer = λ key there. there; kept = λ key some there. there; touched = refl; least_ones = refl; known = refl }
 
 -- no number is none
 no-number : (o : Option ℕ) (m : ℕ) → o ≡ Some m → is_some o ≡ false → ⊥

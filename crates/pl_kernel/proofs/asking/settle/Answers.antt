@@ -13,7 +13,7 @@ none_of (Some x) P off h = absurd (off x refl)
 pub ask_node-found-requires-clause-understood : goal.ask_node-found-requires-clause-understood
 ask_node-found-requires-clause-understood g c =
     let t = c.in-Some.ensures in
-    understood-fewer (core_of c.args.state.now) c.loop-node.waiters c.take_touched.new.self (λ key there. sym (t.queues key) ∙ there) (λ key some there. t.queues key ∙ there) t.known.0 c.loop-node.invariant.understood
+    understood-fewer (core_of c.args.state.now) c.loop-node.waiters c.take_touched.new.self (λ key there. sym (t.queues key) ∙ there) (λ key some there. t.queues key ∙ there) t.known c.loop-node.invariant.understood
 
 pub ask_node-found-requires-clause-knows : goal.ask_node-found-requires-clause-knows
 ask_node-found-requires-clause-knows g c =
@@ -28,7 +28,7 @@ loop-node-preserved g c =
     record {
       understood = a.understood;
       knows = a.knows;
-      known = (a.known.0 ∙ t.known.0 ∙ inv.known.0, a.known.1 ∙ t.known.1 ∙ inv.known.1);
+      known = a.known ∙ t.known ∙ inv.known;
       ready = subst (λ o. IfSome o (λ n. is_ready (core_of c.args.state.now) n ≡ true)) (sym c.lesser-least.ensures) (both-some (λ n. is_ready (core_of c.args.state.now) n ≡ true) c.loop-node.least c.ask_node-found.result inv.ready a.ready);
     }
 

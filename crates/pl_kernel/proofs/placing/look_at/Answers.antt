@@ -2,6 +2,8 @@ use Rattle.std.proofs.Common.{◌≡◌, ◌<◌, true, Some, Bor, refl, sym, �
 use Rattle.std.specs.Prelude.{IsSome, option_map}
 use Rattle.std.specs.Set.{is_member}
 use Rattle.pl_model.specs.Map.{get}
+use Rattle.pl_model.specs.State.{Core}
+use Rattle.pl_model.specs.Numbered.{numbers}
 use Rattle.pl_parked.specs.declared.call.ParkedCall.{ParkedCall}
 use Rattle.pl_desc.specs.Rows.{at}
 use Rattle.pl_state.specs.Contents.{Contents, core_of, waiting_of}
@@ -13,9 +15,9 @@ use Rattle.pl_kernel.specs.Index.{Adds}
 use Rattle.pl_kernel.proofs.index.Leaving.{IsKnown}
 use Rattle.pl_kernel.proofs.index.Known.{known_in}
 use Rattle.pl_kernel.proofs.index.Touching.{call-found, parked-in}
-use Rattle.pl_kernel.proofs.index.Looking.{looked-at}
+use Rattle.pl_kernel.proofs.index.Looking.{tried-at, looked-at}
 use Rattle.pl_kernel.proofs.placing.look_at.Given.{Over}
-use Rattle.pl_kernel.proofs.placing.look_at.Goals.{In-Some}
+use Rattle.pl_kernel.proofs.placing.look_at.Goals.{In-Some, After-place}
 use Rattle.pl_kernel.proofs.placing.look_at.Goals as goal
 
 -- the call of the number
@@ -55,17 +57,29 @@ overflow_add-number g c =
     let fits = c.next_number-next.type_inv in
     omega (arith, low, next, fits)
 
+-- it was placed in some of its queues, or in all
+module _ (g : Over) (c : After-place g) where
+  abbrev core : Core g.row.A.Denot numbers
+  core = core_of c.args.state.now
+
+  adds : Adds core c.args.waiters.now c.place.new.waiters c.args.number (places (waiting_of c.in-Some.call.now).call (ends core (waiting_of c.in-Some.call.now).kept)) c.place.result
+  adds = subst (λ ks. Adds core c.args.waiters.now c.place.new.waiters c.args.number (places (waiting_of c.in-Some.call.now).call (ends core ks)) c.place.result) c.as_slice-kept.ensures c.place.ensures.adds
+
+pub returns-then-not-place-clause-knows : goal.returns-then-not-place-clause-knows
+returns-then-not-place-clause-knows g c =
+    let w = (goal.at.returns-then-not-place-clause-knows g c).In-Some in
+    let p = (goal.at.returns-then-not-place-clause-knows g c).After-place in
+    let v = waiting_of (call g w) in
+    tried-at (core g p) c.args.waiters.now c.place.new.waiters c.requires.knows c.args.number v (here g w) ((is_known g w).order.below c.args.number v (here g w)) c.requires.from c.place.result (adds g p)
+
 pub returns-clause-knows : goal.returns-clause-knows
 returns-clause-knows g c =
     let w = (goal.at.returns-clause-knows g c).In-Some in
-    let core = core_of c.args.state.now in
+    let p = (goal.at.returns-clause-knows g c).After-place in
     let number = c.args.number in
     let v = waiting_of (call g w) in
-    let low : number < core.next_call = (is_known g w).order.below number v (here g w) in
-    let kept = c.as_slice-kept.ensures in
     let l = c.look_to.ensures in
-    looked-at core c.args.waiters.now c.place.new.waiters c.look_to.new.self c.requires.knows number v (here g w) low c.requires.from
+    looked-at (core g p) c.args.waiters.now c.place.new.waiters c.requires.knows number v (here g w) ((is_known g w).order.below number v (here g w)) c.requires.from c.place.result (adds g p)
+    c.look_to.new.self c.if-not-place.false (subst (λ ks. is_placed v.call (ends (core g p) ks) ≡ true) c.as_slice-kept.ensures (c.place.ensures.whole c.if-not-place.false))
     (λ other z late there. (let f = call-found c.args.state.now other z there in c.requires.first other late (subst (λ o. IsSome o) (sym f.1) refl)))
-    (subst (λ ks. Adds core c.args.waiters.now c.place.new.waiters number (places v.call (ends core ks))) kept c.place.ensures.adds)
-    (λ unlost. subst (λ ks. is_placed v.call (ends core ks) ≡ true) kept (c.place.ensures.whole unlost))
-    l.queues l.touched l.least l.looked l.lost
+    l.queues l.touched l.least l.looked

@@ -16,22 +16,12 @@ module _ (g : Over) (c : After-look_to g) where
   none : (number : ℕ) → c.loop-number.waiters.looked ≤ number → get nat_eq c.args.state.now.calls.calls number ≡ None
   none number late = ap (λ (z : Contents g.row.A.Denot). get nat_eq z.calls.calls number) (sym c.state.view_is) ∙ c.in_default.ensures.none number (omega (arith, late, c.looked.ensures))
 
-pub returns-clause-knows : goal.returns-clause-knows
-returns-clause-knows g c =
-    let w = (goal.at.returns-clause-knows g c).After-look_to in
+pub returns : goal.returns
+returns g c =
+    let w = (goal.at.returns g c).After-look_to in
     let e = c.look_to.ensures in
     let looked = e.looked in
     let value = c.next_number.ensures.value in
     let same = next g w in
-    let coming = c.loop-number.invariant.coming in
-    looked-on (core_of c.args.state.now) c.loop-number.waiters c.look_to.new.self c.loop-number.invariant e.queues e.touched e.least e.lost (omega (arith, looked, value, same)) (omega (arith, looked, value, same, coming))
+    looked-on (core_of c.args.state.now) c.loop-number.waiters c.look_to.new.self c.loop-number.invariant e.queues e.touched e.least (omega (arith, looked, value, same))
     (λ number v here late. (let f = call-found c.args.state.now number v here in let no : None ≡ _ = sym (none g w number late) ∙ f.1 in absurd (cc)))
-
-pub returns-clause-none : goal.returns-clause-none
-returns-clause-none g c = λ number late.
-    let w = (goal.at.returns-clause-none g c).After-look_to in
-    let looked = c.look_to.ensures.looked in
-    let value = c.next_number.ensures.value in
-    let same = next g w in
-    let coming = c.loop-number.invariant.coming in
-    none g w number (omega (arith, late, looked, value, same, coming))

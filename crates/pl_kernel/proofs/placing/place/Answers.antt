@@ -28,6 +28,6 @@ returns-in_default g c =
     let d = c.in_default in
     let is = plain es c.args.call.now d.not-Splice d.not-Tee d.not-Poll in
     record {
-      adds = subst (Adds core c.args.waiters.now c.place_kept.new.waiters c.args.number) (ap (λ q. flat_map (place_in q) es) c.queue_of.ensures ∙ sym is.0) c.place_kept.ensures;
+      adds = subst (λ ps. Adds core c.args.waiters.now c.place_kept.new.waiters c.args.number ps c.place_kept.result) (ap (λ q. flat_map (place_in q) es) c.queue_of.ensures ∙ sym is.0) c.place_kept.ensures;
       whole = λ e. is.1;
     }

@@ -15,5 +15,5 @@ returns g c =
     let n = c.node-node.result in
     let told : option_map (λ (o : Opened). o.node) (at k.opened d) ≡ Some n = ap (λ (z : Contents g.row.A.Denot). option_map (λ (o : Opened). o.node) (at z.opened d)) (sym c.state.view_is) ∙ c.node-node.ensures in
     let moded : option_map (λ (o : Opened). o.mode) (at k.opened d) ≡ Some c.mode.result = ap (λ (z : Contents g.row.A.Denot). option_map (λ (o : Opened). o.mode) (at z.opened d)) (sym c.state.view_is) ∙ c.mode.ensures in
-    subst (Adds (core_of k) c.args.waiters.now c.place_node.new.waiters c.args.number) (sym (entry-of k d n told c.mode.result moded c.args.asked))
-    (subst (λ q. Adds (core_of k) c.args.waiters.now c.place_node.new.waiters c.args.number ((key_of (node_of n), q) ∷ [])) c.queue_of_entry-queue.ensures c.place_node.ensures)
+    subst (λ ps. Adds (core_of k) c.args.waiters.now c.place_node.new.waiters c.args.number ps c.place_node.result) (sym (entry-of k d n told c.mode.result moded c.args.asked))
+    (subst (λ q. Adds (core_of k) c.args.waiters.now c.place_node.new.waiters c.args.number ((key_of (node_of n), q) ∷ []) c.place_node.result) c.queue_of_entry-queue.ensures c.place_node.ensures)

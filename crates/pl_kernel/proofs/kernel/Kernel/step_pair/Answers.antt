@@ -2,6 +2,7 @@ use Rattle.std.proofs.Common.{◌≡◌, ◌≤◌, sym, ap, subst, vec_capacity
 use Rattle.std.specs.Prelude.{OnErr}
 use Rattle.pl_state.specs.Sound.{IsSound}
 use Rattle.pl_state.specs.Makes.{WantsMemory}
+use Rattle.pl_splices.specs.Shares.{SharesByStep}
 use Rattle.pl_splices.proofs.by_call.Sharing.{by_step-same}
 use Rattle.pl_kernel.specs.declared.sizes.ReplySizes.{ReplySizes}
 use Rattle.pl_kernel.specs.Sizes.{no_list, sizes_of}
@@ -42,10 +43,10 @@ pub returns-in_err-bytes-clause-wanted : goal.returns-in_err-bytes-clause-wanted
 returns-in_err-bytes-clause-wanted g c =
     let sizes = c.reply_sizes-sizes.result in
     let some : sizes ≡ no_list → ⊥ = λ none. (let bad = c.in_err-bytes.ensures.succeeds (ap (λ (z : ReplySizes). z.bytes) none) in cc) in
-    rw (← c.self.view_is) (on_err c.from_residual.result (room_wanted c.self.inside.state c.args.step sizes c.reply_sizes-sizes.ensures.value c.reply_sizes-sizes.ensures.frugal some))
+    rw (← c.keep_up.ensures) (rw (← c.self.view_is) (on_err c.from_residual.result (room_wanted c.self.inside.state c.args.step sizes c.reply_sizes-sizes.ensures.value c.reply_sizes-sizes.ensures.frugal some)))
 
 pub returns-in_err-bytes-clause-shares : goal.returns-in_err-bytes-clause-shares
-returns-in_err-bytes-clause-shares g c = by_step-same c.args.self.now c.args.step
+returns-in_err-bytes-clause-shares g c = subst (SharesByStep c.args.self.now c.args.step) (sym c.keep_up.ensures) (by_step-same c.args.self.now c.args.step)
 
 -- no room for masks
 
@@ -53,17 +54,17 @@ pub returns-in_err-masks-clause-wanted : goal.returns-in_err-masks-clause-wanted
 returns-in_err-masks-clause-wanted g c =
     let sizes = c.reply_sizes-sizes.result in
     let some : sizes ≡ no_list → ⊥ = λ none. (let bad = c.in_err-masks.ensures.succeeds (ap (λ (z : ReplySizes). z.masks) none) in cc) in
-    rw (← c.self.view_is) (on_err c.from_residual-in_err-masks.result (room_wanted c.self.inside.state c.args.step sizes c.reply_sizes-sizes.ensures.value c.reply_sizes-sizes.ensures.frugal some))
+    rw (← c.keep_up.ensures) (rw (← c.self.view_is) (on_err c.from_residual-in_err-masks.result (room_wanted c.self.inside.state c.args.step sizes c.reply_sizes-sizes.ensures.value c.reply_sizes-sizes.ensures.frugal some)))
 
 pub returns-in_err-masks-clause-shares : goal.returns-in_err-masks-clause-shares
-returns-in_err-masks-clause-shares g c = by_step-same c.args.self.now c.args.step
+returns-in_err-masks-clause-shares g c = subst (SharesByStep c.args.self.now c.args.step) (sym c.keep_up.ensures) (by_step-same c.args.self.now c.args.step)
 
 -- no memory for the step
 
 pub returns-in_err-reply-clause-wanted : goal.returns-in_err-reply-clause-wanted
 returns-in_err-reply-clause-wanted g c =
     let k = c.self.inside.state in
-    rw (← c.self.view_is) (on_err c.from_residual-in_err-reply.result (subst (λ r. OnErr r (WantsMemory k c.args.step)) c.in_err-reply.was (wanted c.act-made.result k c.args.step c.act-made.ensures.wanted c.act-made.ensures.frugal)))
+    rw (← c.keep_up.ensures) (rw (← c.self.view_is) (on_err c.from_residual-in_err-reply.result (subst (λ r. OnErr r (WantsMemory k c.args.step)) c.in_err-reply.was (wanted c.act-made.result k c.args.step c.act-made.ensures.wanted c.act-made.ensures.frugal))))
 
 -- it is made, and its reply has the sizes for which there is room
 
@@ -81,7 +82,7 @@ copy_reply-again-requires-clause-masks g c =
     subst (λ (z : ReplySizes). z.masks ≤ vec_capacity c.in_ok-masks.masks) (sym (same_sizes g v)) c.in_ok-masks.ensures.capacity
 
 pub returns-clause-made : goal.returns-clause-made
-returns-clause-made g c = rw (← c.self.view_is) (makes c.self.inside.state c.act-made.new.kernel c.args.step c.in_ok-reply.reply c.in_ok-reply.ensures.done)
+returns-clause-made g c = rw (← c.keep_up.ensures) (rw (← c.self.view_is) (makes c.self.inside.state c.act-made.new.kernel c.args.step c.in_ok-reply.reply c.in_ok-reply.ensures.done))
 
 pub returns-clause-refused : goal.returns-clause-refused
 returns-clause-refused g c =
@@ -89,4 +90,4 @@ returns-clause-refused g c =
     let new = c.act-made.new.kernel in
     let reply = c.in_ok-reply.reply in
     let sound = subst (IsSound g.row.A.Denot) c.state.view_is c.state.invariant.0 in
-    rw (← c.self.view_is) (leaves old new sound c.args.step reply (makes old new c.args.step reply c.in_ok-reply.ensures.done))
+    rw (← c.keep_up.ensures) (rw (← c.self.view_is) (leaves old new sound c.args.step reply (makes old new c.args.step reply c.in_ok-reply.ensures.done)))
