@@ -12,6 +12,7 @@ ghost use Rattle.pl_kernel.specs.Index.{Knows, Adds};
 
 use crate::asking::{drop_ended, drop_if_ended};
 use crate::queue::{queue_of, queue_of_entry, queue_of_source, queue_of_target};
+use crate::ready::FEW;
 use crate::touch::key_of_node;
 use pl_model::{Call, Node, PollMask};
 use pl_parked::Parked;
@@ -234,12 +235,22 @@ pub(crate) fn look_at_new<A: Allocator + Copy>(state: &KernelState<A>, waiters: 
     waiters.look_to(state.parked.next_number());
 }
 
-/// The calls that were parked since the last time are placed in their queues, and a few more may be parked.
-pub(crate) fn make_places<A: Allocator + Copy>(state: &mut KernelState<A>, waiters: &mut Waiters<A>)
+/// The calls that were parked since the last time are placed in their queues, unless few wait. A few more may be parked then. Returns the number
+/// below which calls have places, or are few.
+pub(crate) fn make_places<A: Allocator + Copy>(
+    state: &mut KernelState<A>,
+    waiters: &mut Waiters<A>,
+) -> u64
     requires { Knows (core_of {A = A} state.old) waiters.old }
     ensures knows { Knows (core_of {A = A} state.new) waiters.new }
     ensures same { state.new ≡ state.old }
 {
-    look_at_new(state, waiters);
-    state.parked.place_below(waiters.looked());
+    let placed = if state.parked.len() > FEW {
+        look_at_new(state, waiters);
+        waiters.looked()
+    } else {
+        state.parked.next_number().saturating_sub(FEW as u64)
+    };
+    state.parked.place_below(placed);
+    placed
 }

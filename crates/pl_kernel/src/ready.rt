@@ -13,7 +13,7 @@ use pl_waiters::Waiters;
 use std::alloc::Allocator;
 
 /// Where no more calls wait, asking each costs no more than the index.
-const FEW: usize = 4;
+pub(crate) const FEW: usize = 4;
 
 /// Twice the places that so few calls can have: where the index holds more, most are of calls that ended.
 const MOST_OF_FEW: usize = 2 * FEW * OPEN_MAX;
