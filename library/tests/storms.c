@@ -118,9 +118,9 @@ static void many_calls_of_one_process(void)
     PARKED(take(clay, 1, EMPTY_READ, 9), 1);
     exits_with_many_calls(clay, 2);
     uint64_t left = beside_spare(clay);
-    /* tables keep their length: as many calls once more leave nothing more */
+    /* tables keep their length, and queues at most a few calls that ended: as many once more leave hardly more */
     exits_with_many_calls(clay, 2 + CALLS_OF_ONE);
-    HOLDS(beside_spare(clay) == left);
+    HOLDS(beside_spare(clay) <= left + left / 8);
     nothing_was_done(clay);
     bindingclay_free(clay);
     HOLDS(blocks_left == 0 && bytes_left == 0);
