@@ -20,6 +20,9 @@ use pl_state::KernelState;
 use pl_waiters::{Waiter, Waiters};
 use std::alloc::Allocator;
 
+/// Where so many calls were parked since calls got places, the next do.
+const MOST_NEW: u64 = 6;
+
 // The least number, `from` or above, of the calls that wait. Mostly it is `from`, or there is none.
 fn next_new<A: Allocator>(parked: &Parked<A>, from: u64) -> Option<u64>
     ensures parked { IfSome result (λ number. (from ≤ number) × IsSome (get nat_eq parked.now.calls number)) }
@@ -235,8 +238,8 @@ pub(crate) fn look_at_new<A: Allocator + Copy>(state: &KernelState<A>, waiters: 
     waiters.look_to(state.parked.next_number());
 }
 
-/// The calls that were parked since the last time are placed in their queues, unless few wait. A few more may be parked then. Returns the number
-/// below which calls have places, or are few.
+/// The calls that were parked since the last time are placed in their queues, unless few wait, and a few more may be parked. Returns at which next
+/// number that is to be done again: before no more may be parked, and not before one more was.
 pub(crate) fn make_places<A: Allocator + Copy>(
     state: &mut KernelState<A>,
     waiters: &mut Waiters<A>,
@@ -245,12 +248,13 @@ pub(crate) fn make_places<A: Allocator + Copy>(
     ensures knows { Knows (core_of {A = A} state.new) waiters.new }
     ensures same { state.new ≡ state.old }
 {
+    let next = state.parked.next_number();
     let placed = if state.parked.len() > FEW {
         look_at_new(state, waiters);
         waiters.looked()
     } else {
-        state.parked.next_number().saturating_sub(FEW as u64)
+        next.saturating_sub(FEW as u64)
     };
     state.parked.place_below(placed);
-    placed
+    placed.saturating_add(MOST_NEW).max(next.saturating_add(1))
 }

@@ -49,7 +49,6 @@ impl<A: Allocator + Copy> Kernel<A> {
         ensures unmade { OnErr result (self.new ≡ self.old) }
         ensures wanted { OnErr result (WantsMemory {A = A} self.old (Step.Begin pid (Call.Write fd bytes.now))) }
     {
-        self.keep_up();
         // A proof learns here that nothing was left to settle, so that a refused step leaves the very state.
         let state = &self.state;
         let _ = &state.descs;
@@ -59,6 +58,7 @@ impl<A: Allocator + Copy> Kernel<A> {
         // The same once the step was made.
         let state = &self.state;
         let _ = &state.descs;
+        self.keep_up(made.is_err());
         made
     }
 
@@ -90,7 +90,6 @@ impl<A: Allocator + Copy> Kernel<A> {
         ensures unread { OnErr result (into.new ≡ into.old) }
         ensures wanted { OnErr result (Parks {A = A} self.old (Step.Begin pid (Call.Read fd (length into.old)))) }
     {
-        self.keep_up();
         // A proof learns here that nothing was left to settle, so that a refused step leaves the very state.
         let state = &self.state;
         let _ = &state.descs;
@@ -100,6 +99,7 @@ impl<A: Allocator + Copy> Kernel<A> {
         // The same once the step was made.
         let state = &self.state;
         let _ = &state.descs;
+        self.keep_up(made.is_err());
         made
     }
 
@@ -123,7 +123,6 @@ impl<A: Allocator + Copy> Kernel<A> {
         ensures unmarked { OnErr result (entries.new ≡ entries.old) }
         ensures wanted { OnErr result (Parks {A = A} self.old (Step.Begin pid (Call.Poll (asked entries.old) wait))) }
     {
-        self.keep_up();
         // A proof learns here that nothing was left to settle, so that a refused step leaves the very state.
         let state = &self.state;
         let _ = &state.descs;
@@ -132,6 +131,7 @@ impl<A: Allocator + Copy> Kernel<A> {
         // The same once the step was made. It touches nothing.
         let state = &self.state;
         let _ = &state.descs;
+        self.keep_up(made.is_err());
         made
     }
 

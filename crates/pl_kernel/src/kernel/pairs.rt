@@ -95,7 +95,6 @@ impl<A: Allocator + Copy> Kernel<A> {
         ensures frugal { is_frugal step ≡ true → IsOk result }
         ensures shares { SharesByStep {A = A} self.old step self.new }
     {
-        self.keep_up();
         // A proof learns here that nothing was left to settle, so that a refused step leaves the very state.
         let state = &self.state;
         let _ = &state.descs;
@@ -108,6 +107,7 @@ impl<A: Allocator + Copy> Kernel<A> {
         // The same once the step was made.
         let state = &self.state;
         let _ = &state.descs;
+        self.keep_up(made.is_err());
         let reply = made?;
         let again = copy_reply(&reply, bytes, masks);
         Ok((reply, again))

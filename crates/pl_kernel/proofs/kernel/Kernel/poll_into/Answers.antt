@@ -32,7 +32,7 @@ pub returns-clause-made : goal.returns-clause-made
 returns-clause-made g c =
     let x : Step g.row.A.Denot = Begin c.args.pid (Call.Poll (asked c.args.entries.now) c.args.wait) in
     let noted = c.begin_poll_into-made.new.entries in
-    rw (← c.keep_up.ensures) (rw (← c.self.view_is) (if_ok c.begin_poll_into-made.result (λ reply does. makes c.self.inside.state c.begin_poll_into-made.new.kernel x (told reply noted) does) c.begin_poll_into-made.ensures.done))
+    rw c.keep_up.ensures (rw (← c.self.view_is) (if_ok c.begin_poll_into-made.result (λ reply does. makes c.self.inside.state c.begin_poll_into-made.new.kernel x (told reply noted) does) c.begin_poll_into-made.ensures.done))
 
 pub returns-clause-refused : goal.returns-clause-refused
 returns-clause-refused g c =
@@ -41,9 +41,9 @@ returns-clause-refused g c =
     let old = c.self.inside.state in
     let new = c.begin_poll_into-made.new.kernel in
     let sound = subst (IsSound g.row.A.Denot) c.state.view_is c.state.invariant.0 in
-    rw (← c.keep_up.ensures) (rw (← c.self.view_is) (if_ok c.begin_poll_into-made.result (λ reply does. leaves old new sound x (told reply noted) (makes old new x (told reply noted) does)) c.begin_poll_into-made.ensures.done))
+    rw c.keep_up.ensures (rw (← c.self.view_is) (if_ok c.begin_poll_into-made.result (λ reply does. leaves old new sound x (told reply noted) (makes old new x (told reply noted) does)) c.begin_poll_into-made.ensures.done))
 
 pub returns-clause-wanted : goal.returns-clause-wanted
 returns-clause-wanted g c =
     let x : Step g.row.A.Denot = Begin c.args.pid (Call.Poll (asked c.args.entries.now) c.args.wait) in
-    rw (← c.keep_up.ensures) (rw (← c.self.view_is) (if_err c.begin_poll_into-made.result (λ may. parks c.self.inside.state x may) c.begin_poll_into-made.ensures.wanted))
+    rw (← c.self.view_is) (if_err c.begin_poll_into-made.result (λ may. parks c.self.inside.state x may) c.begin_poll_into-made.ensures.wanted)

@@ -33,7 +33,7 @@ returns-clause-made g c =
     let fits : SFits w32 c.args.fd = search rules in
     let x : Step g.row.A.Denot = Begin c.args.pid (Call.Read c.args.fd (length c.args.into.now)) in
     let read = c.begin_read_into-made.new.into in
-    rw (← c.keep_up.ensures) (rw (← c.self.view_is) (if_ok c.begin_read_into-made.result (λ reply does. makes c.self.inside.state c.begin_read_into-made.new.kernel x (told reply read) does) (rw (to_z-of_z w32 c.args.fd fits) at c.begin_read_into-made.ensures.done)))
+    rw c.keep_up.ensures (rw (← c.self.view_is) (if_ok c.begin_read_into-made.result (λ reply does. makes c.self.inside.state c.begin_read_into-made.new.kernel x (told reply read) does) (rw (to_z-of_z w32 c.args.fd fits) at c.begin_read_into-made.ensures.done)))
 
 pub returns-clause-refused : goal.returns-clause-refused
 returns-clause-refused g c =
@@ -43,10 +43,10 @@ returns-clause-refused g c =
     let old = c.self.inside.state in
     let new = c.begin_read_into-made.new.kernel in
     let sound = subst (IsSound g.row.A.Denot) c.state.view_is c.state.invariant.0 in
-    rw (← c.keep_up.ensures) (rw (← c.self.view_is) (if_ok c.begin_read_into-made.result (λ reply does. leaves old new sound x (told reply read) (makes old new x (told reply read) does)) (rw (to_z-of_z w32 c.args.fd fits) at c.begin_read_into-made.ensures.done)))
+    rw c.keep_up.ensures (rw (← c.self.view_is) (if_ok c.begin_read_into-made.result (λ reply does. leaves old new sound x (told reply read) (makes old new x (told reply read) does)) (rw (to_z-of_z w32 c.args.fd fits) at c.begin_read_into-made.ensures.done)))
 
 pub returns-clause-wanted : goal.returns-clause-wanted
 returns-clause-wanted g c =
     let fits : SFits w32 c.args.fd = search rules in
     let x : Step g.row.A.Denot = Begin c.args.pid (Call.Read c.args.fd (length c.args.into.now)) in
-    rw (← c.keep_up.ensures) (rw (← c.self.view_is) (if_err c.begin_read_into-made.result (λ may. parks c.self.inside.state x may) (rw (to_z-of_z w32 c.args.fd fits) at c.begin_read_into-made.ensures.wanted)))
+    rw (← c.self.view_is) (if_err c.begin_read_into-made.result (λ may. parks c.self.inside.state x may) (rw (to_z-of_z w32 c.args.fd fits) at c.begin_read_into-made.ensures.wanted))

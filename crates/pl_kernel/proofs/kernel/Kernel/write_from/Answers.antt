@@ -32,7 +32,7 @@ pub returns-clause-made : goal.returns-clause-made
 returns-clause-made g c =
     let fits : SFits w32 c.args.fd = search rules in
     let x = Begin c.args.pid (Call.Write c.args.fd c.args.bytes.now) in
-    rw (← c.keep_up.ensures) (rw (← c.self.view_is) (if_ok c.begin_write_from-made.result (λ reply does. makes c.self.inside.state c.begin_write_from-made.new.kernel x (reply_of reply) does) (rw (to_z-of_z w32 c.args.fd fits) at c.begin_write_from-made.ensures.done)))
+    rw c.keep_up.ensures (rw (← c.self.view_is) (if_ok c.begin_write_from-made.result (λ reply does. makes c.self.inside.state c.begin_write_from-made.new.kernel x (reply_of reply) does) (rw (to_z-of_z w32 c.args.fd fits) at c.begin_write_from-made.ensures.done)))
 
 pub returns-clause-refused : goal.returns-clause-refused
 returns-clause-refused g c =
@@ -41,10 +41,10 @@ returns-clause-refused g c =
     let old = c.self.inside.state in
     let new = c.begin_write_from-made.new.kernel in
     let sound = subst (IsSound g.row.A.Denot) c.state.view_is c.state.invariant.0 in
-    rw (← c.keep_up.ensures) (rw (← c.self.view_is) (if_ok c.begin_write_from-made.result (λ reply does. leaves old new sound x (reply_of reply) (makes old new x (reply_of reply) does)) (rw (to_z-of_z w32 c.args.fd fits) at c.begin_write_from-made.ensures.done)))
+    rw c.keep_up.ensures (rw (← c.self.view_is) (if_ok c.begin_write_from-made.result (λ reply does. leaves old new sound x (reply_of reply) (makes old new x (reply_of reply) does)) (rw (to_z-of_z w32 c.args.fd fits) at c.begin_write_from-made.ensures.done)))
 
 pub returns-clause-wanted : goal.returns-clause-wanted
 returns-clause-wanted g c =
     let fits : SFits w32 c.args.fd = search rules in
     let x = Begin c.args.pid (Call.Write c.args.fd c.args.bytes.now) in
-    rw (← c.keep_up.ensures) (rw (← c.self.view_is) (if_err c.begin_write_from-made.result (λ may. wants c.self.inside.state x may refl) (rw (to_z-of_z w32 c.args.fd fits) at c.begin_write_from-made.ensures.wanted)))
+    rw (← c.self.view_is) (if_err c.begin_write_from-made.result (λ may. wants c.self.inside.state x may refl) (rw (to_z-of_z w32 c.args.fd fits) at c.begin_write_from-made.ensures.wanted))
