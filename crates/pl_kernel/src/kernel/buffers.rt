@@ -58,7 +58,7 @@ impl<A: Allocator + Copy> Kernel<A> {
         // The same once the step was made.
         let state = &self.state;
         let _ = &state.descs;
-        self.keep_up(made.is_err());
+        self.keep_up(matches!(&made, Ok(WriteReply::Parked(_))), made.is_err());
         made
     }
 
@@ -99,7 +99,7 @@ impl<A: Allocator + Copy> Kernel<A> {
         // The same once the step was made.
         let state = &self.state;
         let _ = &state.descs;
-        self.keep_up(made.is_err());
+        self.keep_up(matches!(&made, Ok(ReadReply::Parked(_))), made.is_err());
         made
     }
 
@@ -131,7 +131,7 @@ impl<A: Allocator + Copy> Kernel<A> {
         // The same once the step was made. It touches nothing.
         let state = &self.state;
         let _ = &state.descs;
-        self.keep_up(made.is_err());
+        self.keep_up(matches!(&made, Ok(PollReply::Parked(_))), made.is_err());
         made
     }
 

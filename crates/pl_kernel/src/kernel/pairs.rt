@@ -107,7 +107,7 @@ impl<A: Allocator + Copy> Kernel<A> {
         // The same once the step was made.
         let state = &self.state;
         let _ = &state.descs;
-        self.keep_up(made.is_err());
+        self.keep_up(matches!(&made, Ok(Reply::Parked(_))), made.is_err());
         let reply = made?;
         let again = copy_reply(&reply, bytes, masks);
         Ok((reply, again))
