@@ -3,7 +3,7 @@
 use super::{Draws, Meter};
 use crate::std_shim::alloc::Global;
 use crate::std_shim::slab::Slab;
-use std::collections::HashMap;
+use std::collections::{BTreeMap, HashMap};
 
 #[test]
 fn a_slab_is_a_map_whose_keys_are_picked() {
@@ -44,6 +44,38 @@ fn the_key_that_was_given_up_last_is_picked_next() {
     assert_eq!((ours.remove(1), ours.remove(3)), (20, 40));
     assert_eq!((ours.insert_reserved(50), ours.insert_reserved(60)), (3, 1));
     assert_eq!((ours[3], ours[1]), (50, 60));
+}
+
+#[test]
+fn a_slab_that_is_cut_keeps_its_values_and_the_least_key_is_picked_next() {
+    let mut draws = Draws::of(3);
+    let (mut ours, mut theirs) = (Slab::new(Global), BTreeMap::new());
+    for round in 0..2_000u64 {
+        let mut entries = 0;
+        for _ in 0..draws.below(40) {
+            ours.reserve(1).unwrap();
+            let key = ours.insert_reserved(round);
+            entries = entries.max(key + 1);
+            theirs.insert(key, round);
+        }
+        let kept = draws.below(60) as usize;
+        for key in 0..100 {
+            if key >= kept || draws.below(4) == 0 {
+                assert_eq!(ours.try_remove(key), theirs.remove(&key));
+            }
+        }
+        ours.shrink_to_fit();
+        let len = theirs.last_key_value().map_or(0, |(key, _)| key + 1);
+        assert_eq!(ours.capacity(), len);
+        assert!(
+            ours.iter()
+                .eq(theirs.iter().map(|(key, value)| (*key, value)))
+        );
+        if entries > len {
+            let free = (0..len).find(|key| !theirs.contains_key(key));
+            assert_eq!(ours.vacant_key(), free.unwrap_or(len));
+        }
+    }
 }
 
 #[test]
