@@ -144,7 +144,7 @@ fn is_skipped(fd: i32) -> bool
     fd < 0
 }
 
-// The poll of a number waits where its entries ask something. One of which an entry kept nothing would have no place.
+// The poll of a number waits where its entries ask something. A poll of which an entry kept nothing would get no place.
 fn place_poll<A: Allocator + Copy>(
     state: &KernelState<A>,
     waiters: &mut Waiters<A>,

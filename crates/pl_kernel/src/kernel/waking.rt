@@ -38,8 +38,8 @@ impl<A: Allocator + Copy> Kernel<A> {
     /// progress together or none does: so it asks the pipes and files that steps touched since the last time, and of each queue there the
     /// first call. Where it answered `None` for 0, and no step was made since, it costs nothing. Else it costs from 0 the logarithm of how many
     /// calls wait for each queue at a pipe or file that was touched, and a look at each open and each splice from a file there; from another
-    /// number also a look at each pipe and file where a call can make progress. The queues take memory of their own. Where memory runs out, it
-    /// asks all that wait, and answers the same.
+    /// number also a look at each pipe and file where a call can make progress. Calls that have no place in a queue,
+    /// for want of memory, are asked one by one. There are at most eight of them, as then no more are parked.
     pub fn next_ready(&mut self, from: u64) -> Option<u64>
         ensures told { TellsNextReady {A = A} self.old from result }
         ensures same { self.new ≡ self.old }
