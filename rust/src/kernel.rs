@@ -9,7 +9,7 @@ use crate::answers::{Answer, ParkedCall};
 use crate::faults::NotDone;
 use crate::memory::{Allocator, Global};
 use crate::parts::kernel as inner;
-use crate::parts::kernel::{NoMemory, ReadReply};
+use crate::parts::kernel::{Answered, NoMemory};
 use crate::parts::recorder::Recorder;
 use crate::{Limits, Reply, Step};
 use core::fmt;
@@ -96,12 +96,12 @@ impl<A: Allocator + Copy> fmt::Debug for Kernel<A> {
 }
 
 #[inline]
-fn answer_of_read(reply: ReadReply) -> Result<Answer<usize>, NotDone> {
-    match reply {
-        ReadReply::Read(count) => Ok(Answer::Done(count)),
-        ReadReply::Parked(number) => Ok(Answer::Parked(ParkedCall::from_number(number))),
-        ReadReply::Fault(errno) => Err(NotDone::Fault(errno)),
-        ReadReply::NoProcess => Err(NotDone::NoProcess),
-        ReadReply::CallsSpent => Err(NotDone::CallsSpent),
+fn answer_of_call<T>(answered: Answered<T>) -> Result<Answer<T>, NotDone> {
+    match answered {
+        Answered::Done(given) => Ok(Answer::Done(given)),
+        Answered::Parked(number) => Ok(Answer::Parked(ParkedCall::from_number(number))),
+        Answered::Fault(errno) => Err(NotDone::Fault(errno)),
+        Answered::NoProcess => Err(NotDone::NoProcess),
+        Answered::CallsSpent => Err(NotDone::CallsSpent),
     }
 }

@@ -1,18 +1,13 @@
 -- What a parked read comes to that is tried again, by what the kernel answered.
-use Rattle.std.proofs.Common.{◌≡◌, ◌≤◌, ◌<◌, ℕ, List, drop, length, Some, refl, sym, ap, subst, ◌∙◌, nat_eq}
-use Rattle.std.specs.Prelude.{Ok, Result, IfOk, option_map, unwrap_or}
+use Rattle.std.proofs.Common.{◌≡◌, ℕ, Some, ap, ◌∙◌}
+use Rattle.std.specs.Prelude.{option_map, unwrap_or}
 use Rattle.bindingclay.specs.Heap.{InBudget}
 use Rattle.pl_model.specs.Fates.{taken_by}
-use Rattle.pl_model.specs.Map.{get}
 use Rattle.pl_model.specs.Numbered.{State}
-use Rattle.pl_model.specs.Numbers.{most_capacity}
-use Rattle.pl_model.specs.declared.calls.Step.TheVariants.{Resume}
 use Rattle.pl_state.specs.Contents.{Contents, core_of, waiting_of}
 use Rattle.pl_state.specs.Makes.{Stands}
-use Rattle.pl_state.specs.Parking.{ReadWaits}
 use Rattle.pl_state.proofs.waiting.Calls.{get-parked}
 use Rattle.pl_polls.specs.Counts.{masks_again, masks_of_try}
-use Rattle.pl_transfers.specs.Readable.{gives_again}
 use Rattle.pl_kernel.specs.Progress.{ready_entries}
 use Rattle.pl_kernel.specs.Taken.{TellsTaken}
 use Rattle.pl_kernel.specs.Buffers.{IsWaitingRead}

@@ -9,8 +9,8 @@ use Rattle.pl_state.specs.Makes.{WantsMemory}
 use Rattle.pl_state.specs.Parking.{ReadWaits}
 use Rattle.pl_transfers.specs.ReadInto.{told}
 use Rattle.pl_transfers.specs.Readable.{gives_again}
-use Rattle.pl_transfers.specs.declared.reading.ReadReply.{ReadReply}
-use Rattle.pl_transfers.specs.declared.reading.ReadReply.TheVariants as Reading
+use Rattle.pl_state.specs.declared.answered.Answered.{Answered}
+use Rattle.pl_state.specs.declared.answered.Answered.TheVariants as Reading
 use Rattle.pl_kernel.specs.declared.kernel.buffers.Resumed.{Resumed as KernelResumed}
 use Rattle.pl_kernel.specs.declared.kernel.buffers.Resumed.TheVariants.{Read, Short, Other}
 use Rattle.pl_kernel.specs.Buffers.{Resumes as ResumedByKernel}
@@ -21,22 +21,22 @@ use Rattle.pl_polls.specs.Entries.{entries_after}
 use Rattle.bindingclay.specs.Made.{Resumes, Wants, Gathers, IsFrugal, Notes, read_answer, bytes_after, resumed_answer, resumed_entries}
 use Rattle.bindingclay.proofs.Telling.{has_memory, has_room, again_of, resumed, too_short, found_none, read_says, read_leaves}
 
-read_at_most : (r : ReadReply) → (read_answer r).kind ≤ 5
-read_at_most (Reading.Read n) = omega arith
+read_at_most : (r : Answered ℕ) → (read_answer r).kind ≤ 5
+read_at_most (Reading.Done n) = omega arith
 read_at_most (Reading.Fault e) = omega arith
 read_at_most (Reading.Parked n) = omega arith
 read_at_most Reading.NoProcess = omega arith
 read_at_most Reading.CallsSpent = omega arith
 
-pub read_has_memory : (r : ReadReply) → (read_answer r).kind ≡ no_memory → ⊥
+pub read_has_memory : (r : Answered ℕ) → (read_answer r).kind ≡ no_memory → ⊥
 read_has_memory r e = (let few = read_at_most r in omega arith)
 
-pub read_has_room : (r : ReadReply) → (read_answer r).kind ≡ short → ⊥
+pub read_has_room : (r : Answered ℕ) → (read_answer r).kind ≡ short → ⊥
 read_has_room r e = (let few = read_at_most r in omega arith)
 
 -- no read answers masks
-read_marks_none : (before : List PollEntry) (r : ReadReply) (bytes : List ℕ) → before ≡ entries_after {A = InBudget} before (told r bytes)
-read_marks_none before (Reading.Read n) bytes = refl
+read_marks_none : (before : List PollEntry) (r : Answered ℕ) (bytes : List ℕ) → before ≡ entries_after {A = InBudget} before (told r bytes)
+read_marks_none before (Reading.Done n) bytes = refl
 read_marks_none before (Reading.Fault e) bytes = refl
 read_marks_none before (Reading.Parked n) bytes = refl
 read_marks_none before Reading.NoProcess bytes = refl

@@ -9,8 +9,8 @@ use Rattle.pl_model.specs.declared.replies.Reply.TheVariants.{Pid, Fd, Fds, Coun
 use Rattle.pl_state.specs.Contents.{Contents}
 use Rattle.pl_state.specs.Makes.{Makes as MadeByKernel}
 use Rattle.pl_transfers.specs.ReadInto.{told, read_count}
-use Rattle.pl_transfers.specs.declared.reading.ReadReply.{ReadReply}
-use Rattle.pl_transfers.specs.declared.reading.ReadReply.TheVariants as Read
+use Rattle.pl_state.specs.declared.answered.Answered.{Answered}
+use Rattle.pl_state.specs.declared.answered.Answered.TheVariants as Read
 use Rattle.pl_numbers.specs.declared.answer.Answer.{Answer}
 use Rattle.pl_numbers.specs.Answers.{said, plain, no_memory, short}
 use Rattle.bindingclay.specs.Made.{Makes, Replied, Resumed, Resumes, unmoved, read_answer, bytes_after}
@@ -91,16 +91,16 @@ module _ (old : Contents InBudget) (x : Step InBudget) (a : Answer) where
       }
 
 -- the answer of a read says its reply
-pub read_says : (r : ReadReply) (bytes : List ℕ) → read_count r ≤ length bytes → read_answer r ≡ said {A = InBudget} (told r bytes)
-read_says (Read.Read n) bytes within = ap (λ k. plain k 0) (sym (length-take-le n bytes within))
+pub read_says : (r : Answered ℕ) (bytes : List ℕ) → read_count r ≤ length bytes → read_answer r ≡ said {A = InBudget} (told r bytes)
+read_says (Read.Done n) bytes within = ap (λ k. plain k 0) (sym (length-take-le n bytes within))
 read_says (Read.Fault e) bytes within = refl
 read_says (Read.Parked n) bytes within = refl
 read_says Read.NoProcess bytes within = refl
 read_says Read.CallsSpent bytes within = refl
 
 -- what a read leaves in the caller's bytes
-pub read_leaves : (r : ReadReply) (old new : List ℕ) → read_count r ≤ length new → drop (read_count r) new ≡ drop (read_count r) old → new ≡ bytes_after old (told r new)
-read_leaves (Read.Read n) old new within rest =
+pub read_leaves : (r : Answered ℕ) (old new : List ℕ) → read_count r ≤ length new → drop (read_count r) new ≡ drop (read_count r) old → new ≡ bytes_after old (told r new)
+read_leaves (Read.Done n) old new within rest =
     sym (take-append-drop n new) ∙ ap (λ l. take n new ++ l) (rest ∙ ap (λ k. drop k old) (sym (length-take-le n new within)))
 read_leaves (Read.Fault e) old new within rest = rest
 read_leaves (Read.Parked n) old new within rest = rest

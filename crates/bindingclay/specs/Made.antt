@@ -20,8 +20,8 @@ use Rattle.pl_kernel.specs.Progress.{ready_entries, TellsNextReady}
 use Rattle.pl_kernel.specs.Taken.{owner_by, taken_by}
 use Rattle.pl_numbers.specs.declared.answer.Answer.{Answer}
 use Rattle.pl_polls.specs.declared.entries.PollEntry.{PollEntry}
-use Rattle.pl_transfers.specs.declared.reading.ReadReply.{ReadReply}
-use Rattle.pl_transfers.specs.declared.reading.ReadReply.TheVariants as read
+use Rattle.pl_state.specs.declared.answered.Answered.{Answered}
+use Rattle.pl_state.specs.declared.answered.Answered.TheVariants as read
 use Rattle.pl_transfers.specs.Readable.{gives_again}
 use Rattle.pl_numbers.specs.Answers.{said, plain, faulty, parked, no_memory, short}
 use Rattle.pl_polls.specs.Entries.{entries_after}
@@ -107,8 +107,8 @@ abbrev pub offset_of : Bool → ℕ → Option ℕ
 offset_of given offset = if given then Some offset else None
 
 -- the answer to a read into the caller's bytes
-abbrev pub read_answer : ReadReply → Answer
-read_answer (read.Read n) = plain n 0
+abbrev pub read_answer : Answered ℕ → Answer
+read_answer (read.Done n) = plain n 0
 read_answer (read.Fault e) = faulty e
 read_answer (read.Parked n) = plain n 2
 read_answer read.NoProcess = plain 0 3

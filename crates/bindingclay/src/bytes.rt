@@ -20,10 +20,7 @@ pub extern "C" fn bindingclay_read(handle: Handle, pid: u32, fd: i32, into: &mut
     ensures bytes { Replied handle.layer.kernel (Step.Begin pid (Call.Read fd (min most_bytes (length into.old)))) result (λ reply. into.new ≡ bytes_after into.old reply) }
     ensures unread { result.kind ≡ 6 → into.new ≡ into.old }
 {
-    let mut layer = handle.into_box();
-    let answer = layer.read(pid, fd, into);
-    let _kept = Box::into_raw(layer);
-    answer
+    handle.layer().read(pid, fd, into)
 }
 
 /// Writes the first of the caller's bytes, at most 16,777,216 (POSIX.1-2017, write): the value is how many. A call that is parked keeps a
@@ -34,10 +31,7 @@ pub extern "C" fn bindingclay_write(handle: Handle, pid: u32, fd: i32, bytes: &[
     ensures moved { Moves handle.layer.kernel (Step.Begin pid (Call.Write fd (take most_bytes bytes.now))) result }
     ensures wants { handle.layer.recorder ≡ None → Wants handle.layer.kernel (Step.Begin pid (Call.Write fd (take most_bytes bytes.now))) result }
 {
-    let mut layer = handle.into_box();
-    let answer = layer.write(pid, fd, bytes);
-    let _kept = Box::into_raw(layer);
-    answer
+    handle.layer().write(pid, fd, bytes)
 }
 
 /// Moves at most `len` bytes, at the offsets that are given or else at the files' own (splice(2)): the value is how many. `EINVAL` before
@@ -58,8 +52,7 @@ pub extern "C" fn bindingclay_splice_at(
     ensures says { MatchOption (splice_flags_of_bits flags) (result ≡ faulty EINVAL) (λ flags. Says handle.layer.kernel (Step.Begin pid (Call.Splice from (offset_of has_from_offset from_offset) to (offset_of has_to_offset to_offset) len flags)) result) }
     ensures wants { handle.layer.recorder ≡ None → MatchOption (splice_flags_of_bits flags) ⊤ (λ flags. Wants handle.layer.kernel (Step.Begin pid (Call.Splice from (offset_of has_from_offset from_offset) to (offset_of has_to_offset to_offset) len flags)) result) }
 {
-    let mut layer = handle.into_box();
-    let answer = layer.splice(
+    handle.layer().splice(
         pid,
         from,
         has_from_offset,
@@ -69,9 +62,7 @@ pub extern "C" fn bindingclay_splice_at(
         to_offset,
         len,
         flags,
-    );
-    let _kept = Box::into_raw(layer);
-    answer
+    )
 }
 
 /// Copies at most `len` bytes from a pipe to another, and leaves them in the first (tee(2)): the value is how many. `EINVAL` before all
@@ -88,8 +79,5 @@ pub extern "C" fn bindingclay_tee(
     ensures says { MatchOption (splice_flags_of_bits flags) (result ≡ faulty EINVAL) (λ flags. Says handle.layer.kernel (Step.Begin pid (Call.Tee from to len flags)) result) }
     ensures wants { handle.layer.recorder ≡ None → MatchOption (splice_flags_of_bits flags) ⊤ (λ flags. Wants handle.layer.kernel (Step.Begin pid (Call.Tee from to len flags)) result) }
 {
-    let mut layer = handle.into_box();
-    let answer = layer.tee(pid, from, to, len, flags);
-    let _kept = Box::into_raw(layer);
-    answer
+    handle.layer().tee(pid, from, to, len, flags)
 }

@@ -23,10 +23,7 @@ pub extern "C" fn bindingclay_pipe(
     ensures ends { Replied handle.layer.kernel (Step.Begin pid (Call.Pipe nonblock false)) result (λ reply. ends.new ≡ ends_after ends.old reply) }
     ensures untold { result.kind ≡ 6 → ends.new ≡ ends.old }
 {
-    let mut layer = handle.into_box();
-    let answer = layer.pipe(pid, nonblock, false, ends);
-    let _kept = Box::into_raw(layer);
-    answer
+    handle.layer().pipe(pid, nonblock, false, ends)
 }
 
 /// Makes a pipe as Linux's bits say, and tells its ends (pipe2(2), `O_NONBLOCK`, and `O_DIRECT` for a packet pipe). `EINVAL` before all
@@ -38,10 +35,7 @@ pub extern "C" fn bindingclay_pipe2(handle: Handle, pid: u32, flags: u32, ends: 
     ensures ends { MatchOption (pipe_flags_of_bits flags) (ends.new ≡ ends.old) (λ flags. Replied handle.layer.kernel (Step.Begin pid (Call.Pipe flags.nonblock flags.direct)) result (λ reply. ends.new ≡ ends_after ends.old reply)) }
     ensures untold { result.kind ≡ 6 → ends.new ≡ ends.old }
 {
-    let mut layer = handle.into_box();
-    let answer = layer.pipe2(pid, flags, ends);
-    let _kept = Box::into_raw(layer);
-    answer
+    handle.layer().pipe2(pid, flags, ends)
 }
 
 /// Names what a descriptor names by the least free one too: the value is this one (POSIX.1-2017, dup).
@@ -135,8 +129,5 @@ pub extern "C" fn bindingclay_lseek(
     ensures says { MatchOption (whence_of_number whence) (result ≡ faulty EINVAL) (λ whence. Says handle.layer.kernel (Step.Begin pid (Call.Lseek fd offset whence)) result) }
     ensures wants { handle.layer.recorder ≡ None → MatchOption (whence_of_number whence) ⊤ (λ whence. Wants handle.layer.kernel (Step.Begin pid (Call.Lseek fd offset whence)) result) }
 {
-    let mut layer = handle.into_box();
-    let answer = layer.lseek(pid, fd, offset, whence);
-    let _kept = Box::into_raw(layer);
-    answer
+    handle.layer().lseek(pid, fd, offset, whence)
 }

@@ -14,10 +14,7 @@ use pl_numbers::Answer;
 pub extern "C" fn bindingclay_held(handle: Handle, pid: u32, fd: i32) -> Answer
     ensures { Holds handle.layer.kernel pid fd result }
 {
-    let layer = handle.into_box();
-    let answer = layer.held(pid, fd);
-    let _kept = Box::into_raw(layer);
-    answer
+    handle.layer().held(pid, fd)
 }
 
 /// Tells of what a descriptor stands for: its kind, its size and its key (POSIX.1-2017, fstat). Just those descriptors and names have the same
@@ -34,10 +31,7 @@ pub extern "C" fn bindingclay_fd_facts(
     ensures shape { TellsShape {A = InBudget} handle.layer.kernel (OfFd pid fd) (facts_named {A = InBudget} handle.layer.kernel (OfFd pid fd)) }
     ensures which { TellsWhich {A = InBudget} handle.layer.kernel (OfFd pid fd) (facts_named {A = InBudget} handle.layer.kernel (OfFd pid fd)) }
 {
-    let layer = handle.into_box();
-    let answer = layer.fd_facts(pid, fd, node);
-    let _kept = Box::into_raw(layer);
-    answer
+    handle.layer().fd_facts(pid, fd, node)
 }
 
 /// Tells of what a name stands for, which isn't opened (POSIX.1-2017, stat).
@@ -48,10 +42,7 @@ pub extern "C" fn bindingclay_name_facts(handle: Handle, name: &[u8], node: &mut
     ensures shape { TellsShape {A = InBudget} handle.layer.kernel (OfName name.now) (facts_named {A = InBudget} handle.layer.kernel (OfName name.now)) }
     ensures which { TellsWhich {A = InBudget} handle.layer.kernel (OfName name.now) (facts_named {A = InBudget} handle.layer.kernel (OfName name.now)) }
 {
-    let layer = handle.into_box();
-    let answer = layer.name_facts(name, node);
-    let _kept = Box::into_raw(layer);
-    answer
+    handle.layer().name_facts(name, node)
 }
 
 /// Tells of the parked call of a number: what it is, whose it is, and the descriptors that it was begun with.
@@ -60,10 +51,7 @@ pub extern "C" fn bindingclay_call_facts(handle: Handle, number: u64, call: &mut
     ensures says { Waits handle.layer.kernel number result }
     ensures call { Tells handle.layer.kernel number call.old call.new }
 {
-    let layer = handle.into_box();
-    let answer = layer.call_facts(number, call);
-    let _kept = Box::into_raw(layer);
-    answer
+    handle.layer().call_facts(number, call)
 }
 
 /// Tells in how many segments the kernel keeps bytes. With no process and no name no segment is used.
@@ -74,7 +62,5 @@ pub extern "C" fn bindingclay_stats(handle: Handle, stats: &mut SegmentUse)
     ensures named { TellsUsed {A = InBudget} handle.layer.kernel stats.new.used }
     ensures none { TellsNone {A = InBudget} handle.layer.kernel stats.new.used }
 {
-    let layer = handle.into_box();
-    *stats = layer.segments();
-    let _kept = Box::into_raw(layer);
+    *stats = handle.layer().segments();
 }

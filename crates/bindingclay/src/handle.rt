@@ -25,7 +25,15 @@ impl Model for Handle {
 }
 
 impl Handle {
-    /// What lies behind the handle. Whoever takes it out gives it back by `Box::into_raw`, as C keeps the handle.
+    /// The layer, which C keeps by the handle.
+    #[inline(always)]
+    pub fn layer(self) -> &'static mut Layer
+        ensures { result.now ≡ self.layer }
+    {
+        Box::leak(self.into_box())
+    }
+
+    /// The layer, which C gives up with the handle.
     pub fn into_box(self) -> Box<Layer>
         ensures { result.value ≡ self.layer }
     {
@@ -48,10 +56,7 @@ impl Handle {
         ensures says { Says self.layer.kernel step.entry result }
         ensures wants { self.layer.recorder ≡ None → Wants self.layer.kernel step.entry result }
     {
-        let mut layer = self.into_box();
-        let answer = layer.step(step);
-        let _kept = Box::into_raw(layer);
-        answer
+        self.layer().step(step)
     }
 }
 

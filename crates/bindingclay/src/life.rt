@@ -78,9 +78,7 @@ pub extern "C" fn bindingclay_tell_memory(handle: Handle, memory: &mut Memory)
     ensures most { memory.new.most ≡ handle.layer.heap.now.counter.most }
     ensures spare { memory.new.spare ≤ 1048576 }
 {
-    let layer = handle.into_box();
-    *memory = layer.memory();
-    let _kept = Box::into_raw(layer);
+    *memory = handle.layer().memory();
 }
 
 /// Starts a process with no open descriptor: the value is its pid.
@@ -89,10 +87,7 @@ pub extern "C" fn bindingclay_start(handle: Handle) -> Answer
     ensures says { Says handle.layer.kernel Step.Start result }
     ensures wants { handle.layer.recorder ≡ None → Wants handle.layer.kernel Step.Start result }
 {
-    let mut layer = handle.into_box();
-    let answer = layer.start();
-    let _kept = Box::into_raw(layer);
-    answer
+    handle.layer().start()
 }
 
 /// Starts a process whose descriptors name what those of this one do: the value is its pid (POSIX.1-2017, fork).

@@ -19,10 +19,7 @@ use pl_numbers::Answer;
 pub extern "C" fn bindingclay_mkfifo(handle: Handle, pid: u32, name: &[u8]) -> Answer
     ensures { Says handle.layer.kernel (Step.Begin pid (Call.Mkfifo (take 256 name.now))) result }
 {
-    let mut layer = handle.into_box();
-    let answer = layer.mkfifo(pid, name);
-    let _kept = Box::into_raw(layer);
-    answer
+    handle.layer().mkfifo(pid, name)
 }
 
 /// Opens what a name stands for, with the mode and the flags that Linux's bits say (POSIX.1-2017, open): the value is the descriptor.
@@ -32,10 +29,7 @@ pub extern "C" fn bindingclay_open_name(handle: Handle, pid: u32, name: &[u8], f
     ensures { MatchOption (mode_of_bits flags) (result ≡ faulty EINVAL)
         (λ mode. Says handle.layer.kernel (Step.Begin pid (Call.OpenName (take 256 name.now) mode (open_flags_of_bits flags))) result) }
 {
-    let mut layer = handle.into_box();
-    let answer = layer.open_name(pid, name, flags);
-    let _kept = Box::into_raw(layer);
-    answer
+    handle.layer().open_name(pid, name, flags)
 }
 
 /// Takes a name away (POSIX.1-2017, unlink).
@@ -43,10 +37,7 @@ pub extern "C" fn bindingclay_open_name(handle: Handle, pid: u32, name: &[u8], f
 pub extern "C" fn bindingclay_unlink(handle: Handle, pid: u32, name: &[u8]) -> Answer
     ensures { Says handle.layer.kernel (Step.Begin pid (Call.Unlink (take 256 name.now))) result }
 {
-    let mut layer = handle.into_box();
-    let answer = layer.unlink(pid, name);
-    let _kept = Box::into_raw(layer);
-    answer
+    handle.layer().unlink(pid, name)
 }
 
 /// Copies the bytes of the file of a name to the caller's: the value is how many. Where there is too little room, the answer says how
@@ -56,8 +47,5 @@ pub extern "C" fn bindingclay_file_bytes(handle: Handle, name: &[u8], into: &mut
     ensures told { ((result.kind ≡ 6) → ⊥) → (s : State InBudget) → Stands handle.layer.kernel s → Gives (file_bytes s.core (take 256 name.now)) result into.old into.new }
     ensures untold { result.kind ≡ 6 → into.new ≡ into.old }
 {
-    let layer = handle.into_box();
-    let answer = layer.file_bytes(name, into);
-    let _kept = Box::into_raw(layer);
-    answer
+    handle.layer().file_bytes(name, into)
 }

@@ -24,8 +24,5 @@ pub extern "C" fn bindingclay_poll(
     ensures unmarked { result.kind ≡ 6 → entries.new ≡ entries.old }
     ensures wants { handle.layer.recorder ≡ None → result.kind ≡ 6 → Parks handle.layer.kernel (Step.Begin pid (Call.Poll (asked entries.old) wait)) }
 {
-    let mut layer = handle.into_box();
-    let answer = layer.poll(pid, entries, wait);
-    let _kept = Box::into_raw(layer);
-    answer
+    handle.layer().poll(pid, entries, wait)
 }

@@ -15,14 +15,11 @@ pub extern "C" fn bindingclay_record(handle: Handle, on: bool) -> Answer
     ensures tried { on ≡ true → handle.layer.is_fresh ≡ true → (result ≡ plain 0 0) ⊎ (result ≡ plain 0 no_memory) }
     ensures ended { on ≡ false → result ≡ plain 0 0 }
 {
-    let mut layer = handle.into_box();
-    let answer = if on {
-        layer.record()
+    if on {
+        handle.layer().record()
     } else {
-        layer.end_record()
-    };
-    let _kept = Box::into_raw(layer);
-    answer
+        handle.layer().end_record()
+    }
 }
 
 /// Hands out the first bytes of the record that weren't handed out, as many as the caller's are: the value is how many. It is 0 only if
@@ -31,8 +28,5 @@ pub extern "C" fn bindingclay_record(handle: Handle, on: bool) -> Answer
 pub extern "C" fn bindingclay_recorded(handle: Handle, into: &mut [u8]) -> Answer
     ensures { HandsOut handle.layer.recorder into.old result into.new }
 {
-    let mut layer = handle.into_box();
-    let answer = layer.recorded(into);
-    let _kept = Box::into_raw(layer);
-    answer
+    handle.layer().recorded(into)
 }

@@ -23,10 +23,7 @@ pub extern "C" fn bindingclay_resume(handle: Handle, number: u64, into: &mut [u8
     ensures bytes { ready_entries handle.layer.kernel number ≡ 0 → Gathers handle.layer.kernel number into.old result into.new }
     ensures frugal { handle.layer.recorder ≡ None → IsFrugal handle.layer.kernel number result }
 {
-    let mut layer = handle.into_box();
-    let answer = layer.resume(number, into);
-    let _kept = Box::into_raw(layer);
-    answer
+    handle.layer().resume(number, into)
 }
 
 /// Tries the parked call of a number again, where a poll notes in each entry what was found. Where the call is a read that
@@ -43,10 +40,7 @@ pub extern "C" fn bindingclay_resume_poll(
     ensures entries { Notes handle.layer.kernel number entries.old result entries.new }
     ensures frugal { handle.layer.recorder ≡ None → IsFrugal handle.layer.kernel number result }
 {
-    let mut layer = handle.into_box();
-    let answer = layer.resume_poll(number, entries);
-    let _kept = Box::into_raw(layer);
-    answer
+    handle.layer().resume_poll(number, entries)
 }
 
 /// Tells which process began the parked call of a number: the value is its pid.
@@ -54,10 +48,7 @@ pub extern "C" fn bindingclay_resume_poll(
 pub extern "C" fn bindingclay_owner(handle: Handle, number: u64) -> Answer
     ensures { Owns handle.layer.kernel number result }
 {
-    let layer = handle.into_box();
-    let answer = layer.owner(number);
-    let _kept = Box::into_raw(layer);
-    answer
+    handle.layer().owner(number)
 }
 
 /// Tells how many bytes the parked call of a number has taken, as a write has that waits with some of its bytes in the pipe: the value is
@@ -66,10 +57,7 @@ pub extern "C" fn bindingclay_owner(handle: Handle, number: u64) -> Answer
 pub extern "C" fn bindingclay_taken(handle: Handle, number: u64) -> Answer
     ensures { Takes handle.layer.kernel number result }
 {
-    let layer = handle.into_box();
-    let answer = layer.taken(number);
-    let _kept = Box::into_raw(layer);
-    answer
+    handle.layer().taken(number)
 }
 
 /// Tells whether the parked call of a number can get on: tried again now, it is answered, or takes more of its bytes. Where it can't, trying
@@ -79,10 +67,7 @@ pub extern "C" fn bindingclay_can_progress(handle: Handle, number: u64) -> bool
     ensures value { TellsProgress {A = InBudget} handle.layer.kernel number result }
     ensures vain { OrWaitsInVain {A = InBudget} handle.layer.kernel number result }
 {
-    let layer = handle.into_box();
-    let can = layer.can_progress(number);
-    let _kept = Box::into_raw(layer);
-    can
+    handle.layer().can_progress(number)
 }
 
 /// Tells the least number, `from` or above, of a parked call that can get on: the value is that number. If no call from there on can, the
@@ -91,10 +76,7 @@ pub extern "C" fn bindingclay_can_progress(handle: Handle, number: u64) -> bool
 pub extern "C" fn bindingclay_next_ready(handle: Handle, from: u64) -> Answer
     ensures { TellsNext handle.layer.kernel from result }
 {
-    let mut layer = handle.into_box();
-    let answer = layer.next_ready(from);
-    let _kept = Box::into_raw(layer);
-    answer
+    handle.layer().next_ready(from)
 }
 
 /// Ends the parked call of a number, as a signal does (POSIX.1-2017, Interrupted functions: `EINTR`).

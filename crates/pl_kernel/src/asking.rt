@@ -11,10 +11,9 @@ ghost use Rattle.pl_kernel.specs.Queues.{polls_of_pipes, is_polls, finds};
 ghost use Rattle.pl_kernel.specs.Asking.{AreUnderstood, Prunes, Covers, CoversNode, FindsBelow, IsDone, IsPast, lesser_of, number_if, answered_to};
 
 use crate::queue::{OTHERS, POLLS, asked_by, found_of_file, is_of_polls, last_answered, mode_of};
-use crate::steps::can_progress;
+use crate::steps::{call_can_progress, can_progress};
 use pl_polls::end_is_ready;
-use pl_state::KernelState;
-use pl_transfers::read_gets_on;
+use pl_state::{KernelState, waiting_call};
 use pl_waiters::{Waiter, Waiters};
 use std::alloc::Allocator;
 
@@ -256,10 +255,10 @@ fn is_ready<A: Allocator + Copy>(state: &KernelState<A>, number: u64) -> bool
 {
     // A proof learns here what holds of the kernel.
     let _ = &state.descs;
-    if let Some(can) = read_gets_on(state, number) {
-        return can;
+    match waiting_call(state, number) {
+        Some(call) => call_can_progress(state, number, call),
+        None => false,
     }
-    state.parked.get(number).is_some() && can_progress(state, number)
 }
 
 // The least number, `from` or above, of a parked call that can make progress. It asks all that wait, one after another.

@@ -18,9 +18,9 @@ mod told_nodes;
 mod touch;
 
 pub use kernel::{Kernel, Resumed};
-pub use pl_polls::{PollEntry, PollReply};
-pub use pl_state::NoMemory;
-pub use pl_transfers::{ReadReply, WriteReply};
+pub use pl_polls::PollEntry;
+pub use pl_state::{Answered, NoMemory};
+pub use pl_transfers::{Written, reply_of_write};
 pub use stats::Stats;
 pub use told_calls::{CallFacts, CallKind};
 pub use told_nodes::{NodeFacts, NodeKind};

@@ -10,8 +10,8 @@ use crate::asking::drop_if_ended;
 use crate::queue::waiting_read;
 use crate::touch::{touch_again, touch_read_again};
 use pl_model::Step;
-use pl_state::KernelState;
-use pl_transfers::{ReadAgain, ReadReply, give_again};
+use pl_state::{Answered, KernelState};
+use pl_transfers::{ReadAgain, give_again};
 use pl_waiters::Waiters;
 use std::alloc::Allocator;
 
@@ -23,7 +23,7 @@ fn resume_empty<A: Allocator + Copy>(
     number: u64,
     read: ReadAgain,
     into: &mut [u8],
-) -> ReadReply
+) -> Answered<usize>
     requires found { FindsAgain kernel.old number read }
     requires none { read.count ≡ 0 }
     requires knows { Knows (core_of {A = A} kernel.old) waiters.old }
@@ -49,7 +49,7 @@ pub(crate) fn resume_read_into<A: Allocator + Copy>(
     number: u64,
     read: ReadAgain,
     into: &mut [u8],
-) -> ReadReply
+) -> Answered<usize>
     requires found { FindsAgain kernel.old number read }
     requires room { read.count ≤ length into.old }
     requires knows { Knows (core_of {A = A} kernel.old) waiters.old }
@@ -69,5 +69,5 @@ pub(crate) fn resume_read_into<A: Allocator + Copy>(
     let _ = &kernel.descs;
     // It leaves its queue at once, where it would be found again as the pipe is asked.
     let _ended = drop_if_ended(kernel, waiters, &waiting_read(read.pipe, number));
-    ReadReply::Read(read.count)
+    Answered::Done(read.count)
 }

@@ -1,12 +1,11 @@
 //! One step of the kernel, by the calls.
-ghost use Rattle.std.specs.Prelude.{◌≡◌, ◌≢◌, ◌≤◌, ◌<◌, ◌^◌, ℕ, List, true, false, nat_eq, length, drop, IfOk, OnErr, IsOk, IfSome, IfNone};
+ghost use Rattle.std.specs.Prelude.{◌≡◌, ◌≢◌, ◌≤◌, ◌<◌, ◌^◌, ℕ, List, true, length, drop, IfOk, OnErr, IsOk, IfSome, IfNone};
 ghost use Rattle.pl_model.specs.Numbers.{most_bytes};
 ghost use Rattle.pl_model.specs.Memory.{is_frugal, is_frugal_call};
-ghost use Rattle.pl_model.specs.Map.{get};
 ghost use Rattle.pl_model.specs.Waking.{can_progress};
 ghost use Rattle.pl_state.specs.Contents.{IsProcess, core_of};
-ghost use Rattle.pl_state.specs.Sound.{IsPoll};
 ghost use Rattle.pl_state.specs.Makes.{MakesAtKeys, MayWantAtKeys, ParksAtKeys};
+ghost use Rattle.pl_state.specs.Waits.{WaitsAs};
 ghost use Rattle.pl_splices.specs.Shares.{SharesByStep};
 ghost use Rattle.pl_transfers.specs.ReadInto.{told, read_count};
 ghost use Rattle.pl_transfers.specs.Waits.{reply_of};
@@ -16,12 +15,13 @@ ghost use Rattle.pl_polls.specs.Into.{told as poll_told};
 use pl_descriptors::{close, dup, dup_fd, dup2, exit, fork, get_fl, set_fl, start};
 use pl_model::{Call, Reply, Step};
 use pl_naming::{mkfifo, open_name, unlink};
-use pl_polls::{PollEntry, PollReply, poll, poll_can_progress, poll_into, resume_poll};
-use pl_splices::{resume, splice, tee};
-use pl_state::{KernelState, NoMemory};
+use pl_polls::{PollEntry, poll, poll_can_progress, poll_into, resume_poll};
+use pl_splices::{move_can_progress, resume_move, splice, tee};
+use pl_state::{Answered, KernelState, NoMemory, WaitingCall, waiting_call};
 use pl_transfers::{
-    ReadReply, WriteReply, get_pipe_sz, interrupt, lseek, pipe, read, read_into, refused_write,
-    set_pipe_sz, write, write_from,
+    Written, get_pipe_sz, interrupt, lseek, pipe, read, read_can_progress, read_into,
+    refused_write, resume_open, resume_read, resume_write, set_pipe_sz, write, write_can_progress,
+    write_from,
 };
 use std::alloc::Allocator;
 
@@ -82,14 +82,14 @@ pub(crate) fn begin_write_from<A: Allocator + Copy>(
     pid: u32,
     fd: i32,
     bytes: &[u8],
-) -> Result<WriteReply, NoMemory>
+) -> Result<Answered<Written>, NoMemory>
     requires { length bytes.now ≤ most_bytes }
     ensures done { IfOk result (λ reply. MakesAtKeys {A = A} kernel.old (Step.Begin pid (Call.Write fd bytes.now)) (reply_of reply) kernel.new) }
     ensures undone { OnErr result (kernel.new ≡ kernel.old) }
     ensures wanted { OnErr result (MayWantAtKeys {A = A} kernel.old (Step.Begin pid (Call.Write fd bytes.now))) }
 {
     if !kernel.descs.has(pid) {
-        return Ok(WriteReply::NoProcess);
+        return Ok(Answered::NoProcess);
     }
     write_from(kernel, pid, fd, bytes)
 }
@@ -118,7 +118,7 @@ pub(crate) fn begin_read_into<A: Allocator + Copy>(
     pid: u32,
     fd: i32,
     into: &mut [u8],
-) -> Result<ReadReply, NoMemory>
+) -> Result<Answered<usize>, NoMemory>
     requires { length into.old < 2 ^ 32 }
     ensures done { IfOk result (λ reply. MakesAtKeys {A = A} kernel.old (Step.Begin pid (Call.Read fd (length into.old))) (told reply into.new) kernel.new) }
     ensures within { IfOk result (λ reply. read_count reply ≤ length into.new) }
@@ -128,7 +128,7 @@ pub(crate) fn begin_read_into<A: Allocator + Copy>(
     ensures wanted { OnErr result (ParksAtKeys {A = A} kernel.old (Step.Begin pid (Call.Read fd (length into.old)))) }
 {
     if !kernel.descs.has(pid) {
-        return Ok(ReadReply::NoProcess);
+        return Ok(Answered::NoProcess);
     }
     read_into(kernel, pid, fd, into)
 }
@@ -139,7 +139,7 @@ pub(crate) fn begin_poll_into<A: Allocator + Copy>(
     pid: u32,
     entries: &mut [PollEntry],
     wait: bool,
-) -> Result<PollReply, NoMemory>
+) -> Result<Answered<u32>, NoMemory>
     ensures done { IfOk result (λ reply. MakesAtKeys {A = A} kernel.old (Step.Begin pid (Call.Poll (asked entries.old) wait)) (poll_told reply entries.new) kernel.new) }
     ensures noted { IfOk result (λ reply. entries.new ≡ entries_after {A = A} entries.old (poll_told reply entries.new)) }
     ensures undone { OnErr result (kernel.new ≡ kernel.old) }
@@ -147,20 +147,9 @@ pub(crate) fn begin_poll_into<A: Allocator + Copy>(
     ensures wanted { OnErr result (ParksAtKeys {A = A} kernel.old (Step.Begin pid (Call.Poll (asked entries.old) wait))) }
 {
     if !kernel.descs.has(pid) {
-        return Ok(PollReply::NoProcess);
+        return Ok(Answered::NoProcess);
     }
     poll_into(kernel, pid, entries, wait)
-}
-
-// Whether the call of a number is a poll.
-fn is_poll<A: Allocator + Copy>(kernel: &KernelState<A>, number: u64) -> bool
-    ensures polls { result ≡ true → IfSome (get nat_eq kernel.now.calls.calls number) (λ w. IsPoll w.call) }
-    ensures others { result ≡ false → IfSome (get nat_eq kernel.now.calls.calls number) (λ w. ¬ IsPoll w.call) }
-{
-    match kernel.parked.get(number) {
-        Some(parked) => matches!(parked.call, Call::Poll { .. }),
-        None => false,
-    }
 }
 
 // Tries the parked call of a number again.
@@ -174,24 +163,55 @@ pub(crate) fn try_again<A: Allocator + Copy>(
     ensures undone { OnErr result (kernel.new ≡ kernel.old) }
     ensures wanted { OnErr result (MayWantAtKeys {A = A} kernel.old (Step.Resume number)) }
 {
-    if is_poll(kernel, number) {
-        return resume_poll(kernel, number);
+    // A proof learns here what holds of the kernel.
+    let _ = &kernel.descs;
+    let Some(call) = waiting_call(kernel, number) else {
+        return Ok(Reply::NoCall);
+    };
+    match call {
+        WaitingCall::Read { key, n } => resume_read(kernel, number, key, n),
+        WaitingCall::Write { key, length, taken } => {
+            resume_write(kernel, number, key, length, taken)
+        }
+        WaitingCall::Open { key, pid, met } => Ok(resume_open(kernel, number, pid, key, met)),
+        WaitingCall::Move(waiting) => resume_move(kernel, number, waiting),
+        WaitingCall::Poll => resume_poll(kernel, number),
     }
-    resume(kernel, number)
 }
 
-// Whether the parked call of a number can get on where it is tried again now.
+/// Whether the parked call of a number, which waits so, can make progress where it is tried again now.
+#[inline(always)]
+pub(crate) fn call_can_progress<A: Allocator + Copy>(
+    kernel: &KernelState<A>,
+    number: u64,
+    call: WaitingCall,
+) -> bool
+    requires { WaitsAs kernel.now number call }
+    ensures { result ≡ can_progress (core_of {A = A} kernel.now) number }
+{
+    // A proof learns here what holds of the kernel.
+    let _ = &kernel.descs;
+    match call {
+        WaitingCall::Read { key, n } => read_can_progress(kernel, number, key, n),
+        WaitingCall::Write { key, length, taken } => {
+            write_can_progress(kernel, number, key, length, taken)
+        }
+        WaitingCall::Open { met, .. } => met,
+        WaitingCall::Move(waiting) => move_can_progress(kernel, number, waiting),
+        WaitingCall::Poll => poll_can_progress(kernel, number),
+    }
+}
+
+/// Whether the parked call of a number can make progress where it is tried again now. Where there is no such call, the answer comes at once too.
 pub(crate) fn can_progress<A: Allocator + Copy>(kernel: &KernelState<A>, number: u64) -> bool
     ensures { result ≡ can_progress (core_of {A = A} kernel.now) number }
 {
-    // Most calls that wait are reads.
-    if let Some(can) = pl_transfers::read_gets_on(kernel, number) {
-        return can;
+    // A proof learns here what holds of the kernel.
+    let _ = &kernel.descs;
+    match waiting_call(kernel, number) {
+        Some(call) => call_can_progress(kernel, number, call),
+        None => true,
     }
-    if is_poll(kernel, number) {
-        return poll_can_progress(kernel, number);
-    }
-    pl_splices::can_progress(kernel, number)
 }
 
 #[inline(always)]

@@ -2,24 +2,10 @@
 ghost use Rattle.std.specs.Prelude.{◌≡◌, IfOk, OnErr};
 ghost use Rattle.pl_model.specs.History.{entry};
 ghost use Rattle.pl_state.specs.Makes.{Makes};
-ghost use Rattle.pl_transfers.specs.Waits.{reply_of};
 
-use pl_kernel::{Kernel, NoMemory, WriteReply};
+use pl_kernel::{Kernel, NoMemory, reply_of_write};
 use pl_model::{Call, Entry, Reply, Step};
 use std::alloc::Allocator;
-
-// The reply that a write's answer tells.
-fn reply_of<A: Allocator>(reply: WriteReply) -> Reply<A>
-    ensures { result ≡ reply_of reply }
-{
-    match reply {
-        WriteReply::Wrote { n, sigpipe } => Reply::Count { n, sigpipe },
-        WriteReply::Fault(errno) => Reply::Fault(errno),
-        WriteReply::Parked(number) => Reply::Parked(number),
-        WriteReply::NoProcess => Reply::NoProcess,
-        WriteReply::CallsSpent => Reply::CallsSpent,
-    }
-}
 
 // Makes a read: its step is copied by what it says. Out of line, so that a write goes past it.
 #[inline(never)]
@@ -90,9 +76,9 @@ pub(crate) fn make<A: Allocator + Copy>(
                 caller,
                 number,
                 step: Step::Begin(pid, Call::Write { fd, bytes }),
-                reply: reply_of(reply),
+                reply: reply_of_write(reply),
             };
-            Ok((entry, reply_of(reply)))
+            Ok((entry, reply_of_write(reply)))
         }
         Step::Begin(pid, Call::Read { fd, n }) => make_read(kernel, caller, number, pid, fd, n),
         step => make_other(kernel, alloc, caller, number, step),

@@ -15,23 +15,8 @@ use crate::masks::{Descriptions, next_mask};
 use bitflags::Flags;
 use pl_model::numbers::OPEN_MAX;
 use pl_model::{Call, Errno, Step};
-use pl_state::{KernelState, NoMemory};
+use pl_state::{Answered, KernelState, NoMemory};
 use std::alloc::Allocator;
-
-/// What a poll of the caller's entries answers.
-#[derive(Clone, Copy, Debug, PartialEq, Eq)]
-pub enum PollReply {
-    /// Something was found of so many entries, and what was found of each is noted in it.
-    Ready(u32),
-    /// The call failed.
-    Fault(Errno),
-    /// The call waits under this number.
-    Parked(u64),
-    /// There is no process of this pid.
-    NoProcess,
-    /// The call would have waited, and no number is left for it.
-    CallsSpent,
-}
 
 // Whether something is found of an entry.
 fn is_any_ready<A: Allocator + Copy>(
@@ -80,13 +65,13 @@ fn note_masks<A: Allocator + Copy>(
 }
 
 /// Tells what each of the caller's entries is ready for, as `poll` does of a call's, and notes it there. It takes memory only where the
-/// call is parked, which keeps a copy of what is asked; the entries stay as they are then, and at each other answer but `Ready`.
+/// call is parked, which keeps a copy of what is asked; the entries stay as they are then, and at each other answer but `Done`.
 pub fn poll_into<A: Allocator + Copy>(
     kernel: &mut KernelState<A>,
     pid: u32,
     entries: &mut [PollEntry],
     wait: bool,
-) -> Result<PollReply, NoMemory>
+) -> Result<Answered<u32>, NoMemory>
     requires { IsProcess kernel.old pid }
     ensures done { IfOk result (λ reply. MakesAtKeys {A = A} kernel.old (Step.Begin pid (Call.Poll (asked entries.old) wait)) (told reply entries.new) kernel.new) }
     ensures noted { IfOk result (λ reply. entries.new ≡ entries_after {A = A} entries.old (told reply entries.new)) }
@@ -97,7 +82,7 @@ pub fn poll_into<A: Allocator + Copy>(
     // A proof learns here what holds of the kernel.
     let _ = &kernel.descs;
     if entries.len() > OPEN_MAX {
-        return Ok(PollReply::Fault(Errno::EINVAL));
+        return Ok(Answered::Fault(Errno::EINVAL));
     }
     let named = Descriptions::Named {
         pid,
@@ -105,15 +90,15 @@ pub fn poll_into<A: Allocator + Copy>(
     };
     if !wait || is_any_ready(kernel, named, entries) {
         let ready = note_masks(kernel, named, entries);
-        return Ok(PollReply::Ready(ready));
+        return Ok(Answered::Done(ready));
     }
     if !kernel.can_wait() {
-        return Ok(PollReply::Fault(Errno::EAGAIN));
+        return Ok(Answered::Fault(Errno::EAGAIN));
     }
     if kernel.parked.spent() {
-        return Ok(PollReply::CallsSpent);
+        return Ok(Answered::CallsSpent);
     }
     let list = asked_of(kernel.alloc, entries)?;
     let number = park_poll(kernel, pid, list)?;
-    Ok(PollReply::Parked(number))
+    Ok(Answered::Parked(number))
 }

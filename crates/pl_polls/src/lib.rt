@@ -14,5 +14,5 @@ pub use begin::poll;
 pub use counts::{masks_to_begin, masks_to_resume};
 pub use ends::end_is_ready;
 pub use entries::{PollEntry, asked_of, mark_entries};
-pub use into::{PollReply, poll_into};
+pub use into::poll_into;
 pub use waiting::{poll_can_progress, resume_poll};

@@ -1,5 +1,5 @@
 //! The calls by which bytes go from what one descriptor names to what another does: splice and tee, how they are tried again, and whether
-//! they can get on.
+//! they can make progress.
 #![tactic(auto)]
 
 mod begin;
@@ -8,4 +8,4 @@ mod sides;
 mod waiting;
 
 pub use begin::{splice, tee};
-pub use waiting::{can_progress, resume};
+pub use waiting::{move_can_progress, resume_move};

@@ -1,7 +1,9 @@
 pub mod Contents
 pub mod KernelView
 pub mod LastHold
+pub mod Answered
 pub mod Opens
 pub mod Sound
 pub mod Parking
+pub mod Waits
 pub mod Makes

@@ -5,17 +5,21 @@
 #![tactic(auto)]
 
 mod access;
+mod answered;
 mod ending;
 mod fault;
 mod holding;
 mod last_hold;
 mod opening;
 mod state;
+mod waits;
 
 pub use access::{Access, OpenEnd, OpenNode};
+pub use answered::Answered;
 pub use ending::end_call;
 pub use fault::NoMemory;
 pub use holding::{hold_all, park};
 pub use last_hold::{leave_unnamed, release, release_all};
 pub use opening::open_at;
 pub use state::KernelState;
+pub use waits::{WaitingCall, WaitingMove, waiting_call};

@@ -1,7 +1,7 @@
 //! Steps that are made on buffers and entries of the test's.
 use crate::bench::moved;
 use bitflags::Flags;
-use pl_kernel::{Kernel, PollEntry, PollReply, ReadReply, Resumed, WriteReply};
+use pl_kernel::{Answered, Kernel, PollEntry, Resumed, reply_of_write};
 use pl_model::{Bytes8, Call, MaskList, PollList, PollMask, Reply, Step};
 use std::alloc::{Allocator, Global};
 use std::test::Fail;
@@ -26,9 +26,9 @@ fn are_unread(bytes: &[u8]) -> bool {
 }
 
 /// The reply that a read's answer and its buffer tell. It fails where bytes behind those that were read changed.
-fn told(alloc: Global, reply: ReadReply, buffer: &[u8]) -> Result<Reply, Fail> {
+fn told(alloc: Global, reply: Answered<usize>, buffer: &[u8]) -> Result<Reply, Fail> {
     let count = match reply {
-        ReadReply::Read(count) => count,
+        Answered::Done(count) => count,
         _ => 0,
     };
     let (Some(read), Some(rest)) = (buffer.get(..count), buffer.get(count..)) else {
@@ -38,26 +38,12 @@ fn told(alloc: Global, reply: ReadReply, buffer: &[u8]) -> Result<Reply, Fail> {
         return Err(Fail::from("a read changes bytes behind those that it answers"));
     }
     Ok(match reply {
-        ReadReply::Read(_) => {
+        Answered::Done(_) => {
             let copy = Vec::from_slice(alloc, read)?;
             Reply::Bytes(Bytes8::from_vec(copy).ok_or("more bytes than a call moves")?)
         }
-        ReadReply::Fault(errno) => Reply::Fault(errno),
-        ReadReply::Parked(call) => Reply::Parked(call),
-        ReadReply::NoProcess => Reply::NoProcess,
-        ReadReply::CallsSpent => Reply::CallsSpent,
+        _ => reply.undone(),
     })
-}
-
-/// The reply that a write's answer tells.
-fn written(reply: WriteReply) -> Reply {
-    match reply {
-        WriteReply::Wrote { n, sigpipe } => Reply::Count { n, sigpipe },
-        WriteReply::Fault(errno) => Reply::Fault(errno),
-        WriteReply::Parked(call) => Reply::Parked(call),
-        WriteReply::NoProcess => Reply::NoProcess,
-        WriteReply::CallsSpent => Reply::CallsSpent,
-    }
 }
 
 /// The entries that ask what a poll does.
@@ -84,12 +70,12 @@ fn are_unnoted(entries: &[PollEntry]) -> bool {
 }
 
 /// The reply that a poll's answer and its entries tell. It fails where an entry changed and none was to be noted.
-fn polled(alloc: Global, reply: PollReply, entries: &[PollEntry]) -> Result<Reply, Fail> {
-    if !matches!(reply, PollReply::Ready(_)) && !are_unnoted(entries) {
+fn polled(alloc: Global, reply: Answered<u32>, entries: &[PollEntry]) -> Result<Reply, Fail> {
+    if !matches!(reply, Answered::Done(_)) && !are_unnoted(entries) {
         return Err(Fail::from("a poll that isn't answered changes its entries"));
     }
     Ok(match reply {
-        PollReply::Ready(ready) => {
+        Answered::Done(ready) => {
             let mut masks = Vec::with_capacity(alloc, entries.len())?;
             for entry in entries {
                 if entry.revents > 0xff {
@@ -102,10 +88,7 @@ fn polled(alloc: Global, reply: PollReply, entries: &[PollEntry]) -> Result<Repl
                 masks: MaskList::from_vec(masks),
             }
         }
-        PollReply::Fault(errno) => Reply::Fault(errno),
-        PollReply::Parked(call) => Reply::Parked(call),
-        PollReply::NoProcess => Reply::NoProcess,
-        PollReply::CallsSpent => Reply::CallsSpent,
+        _ => reply.undone(),
     })
 }
 
@@ -122,7 +105,7 @@ pub(crate) fn reply_on_buffers<A: Allocator + Copy>(
                 kernel
                     .write_from(pid, fd, bytes.as_slice())
                     .ok()
-                    .map(written),
+                    .map(|answered| reply_of_write(answered)),
             )
         }
         Step::Begin(pid, Call::Read { fd, n }) if n as usize <= MOST => {

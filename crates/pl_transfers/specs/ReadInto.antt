@@ -16,23 +16,20 @@ use Rattle.pl_state.specs.Contents.{Contents}
 use Rattle.pl_state.specs.LastHold.{has_writer}
 use Rattle.pl_state.specs.Makes.{MakesAtKeys}
 use Rattle.pl_state.specs.Opens.{Opens, of_end}
-use Rattle.pl_transfers.specs.declared.reading.ReadReply.{ReadReply}
-use Rattle.pl_transfers.specs.declared.reading.ReadReply.TheVariants.{Read, Fault, Parked, NoProcess, CallsSpent}
+use Rattle.pl_state.specs.declared.answered.Answered.{Answered as AnsweredBy}
+use Rattle.pl_state.specs.declared.answered.Answered.TheVariants.{Done}
+use Rattle.pl_state.specs.Answered.{told as told_by}
 use Rattle.pl_transfers.specs.declared.reading.ReadTry.{ReadTry}
 use Rattle.pl_transfers.specs.declared.reading.ReadTry.TheVariants.{Answered, Takes, Reads}
 
 -- how many bytes came
-abbrev pub read_count : ReadReply → ℕ
-read_count (Read n) = n
+abbrev pub read_count : AnsweredBy ℕ → ℕ
+read_count (Done n) = n
 read_count other = 0
 
 -- the reply, from the caller's bytes as they are left
-abbrev pub told : {A : Type 0} → ReadReply → List ℕ → Reply A
-told (Read n) bytes = reply.Bytes (take n bytes)
-told (Fault errno) bytes = reply.Fault errno
-told (Parked number) bytes = reply.Parked number
-told NoProcess bytes = reply.NoProcess
-told CallsSpent bytes = reply.CallsSpent
+abbrev pub told : {A : Type 0} → AnsweredBy ℕ → List ℕ → Reply A
+told answered bytes = told_by (λ n. reply.Bytes (take n bytes)) answered
 
 module _ {A : Type 0} (k : Contents A) (pid : ℕ) (fd : ℤ) (n : ℕ) where
   -- a read of so many bytes takes these of a pipe

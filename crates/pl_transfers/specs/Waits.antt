@@ -15,18 +15,15 @@ use Rattle.pl_state.specs.LastHold.{has_reader}
 use Rattle.pl_state.specs.Makes.{MakesAtKeys}
 use Rattle.pl_state.specs.Opens.{Opens, of_end}
 use Rattle.pl_state.specs.Parking.{refusal_in}
-use Rattle.pl_transfers.specs.declared.transfers.WriteReply.{WriteReply}
-use Rattle.pl_transfers.specs.declared.transfers.WriteReply.TheVariants.{Wrote, Fault, Parked, NoProcess, CallsSpent}
+use Rattle.pl_state.specs.declared.answered.Answered.{Answered}
+use Rattle.pl_state.specs.Answered.{told}
+use Rattle.pl_transfers.specs.declared.transfers.Written.{Written}
 use Rattle.pl_transfers.specs.declared.transfers.WriteTry.{WriteTry}
 use Rattle.pl_transfers.specs.declared.transfers.WriteTry.TheVariants as try
 
 -- the reply that a write's answer tells
-abbrev pub reply_of : {A : Type 0} → WriteReply → Reply A
-reply_of (Wrote n sigpipe) = reply.Count n sigpipe
-reply_of (Fault errno) = reply.Fault errno
-reply_of (Parked number) = reply.Parked number
-reply_of NoProcess = reply.NoProcess
-reply_of CallsSpent = reply.CallsSpent
+abbrev pub reply_of : {A : Type 0} → Answered Written → Reply A
+reply_of answered = told (λ w. reply.Count w.n w.sigpipe) answered
 
 module _ {A : Type 0} (k : Contents A) (pid : ℕ) (fd : ℤ) (bytes : List ℕ) where
   -- nothing keeps a write of these bytes from waiting, and so many of them go in first

@@ -10,29 +10,14 @@ use crate::files::{read_file, read_file_into};
 use crate::transfers::{case_of_read, no_bytes, open_for};
 use crate::waiting::park_read;
 use pl_model::{Bytes8, Call, Errno, Node, ReadCase, Reply, Step};
-use pl_state::{Access, KernelState, NoMemory, OpenEnd, OpenNode};
+use pl_state::{Access, Answered, KernelState, NoMemory, OpenEnd, OpenNode};
 use std::alloc::Allocator;
-
-/// What a read into the caller's bytes answers.
-#[derive(Clone, Copy, Debug, PartialEq, Eq)]
-pub enum ReadReply {
-    /// So many bytes were read, into the first places; none of them is end of file, or a read of 0 bytes.
-    Read(usize),
-    /// The call failed.
-    Fault(Errno),
-    /// The call waits under this number.
-    Parked(u64),
-    /// There is no process of this pid.
-    NoProcess,
-    /// The call would have waited, and no number is left for it.
-    CallsSpent,
-}
 
 /// What a read comes to before it moves any byte.
 #[derive(Clone, Copy)]
 pub(crate) enum ReadTry {
     /// It is answered, without bytes.
-    Answered(ReadReply),
+    Answered(Answered<usize>),
     /// It takes so many bytes out of a pipe.
     Takes { end: OpenEnd, count: usize },
     /// It reads a file, at the offset of a description.
@@ -41,16 +26,13 @@ pub(crate) enum ReadTry {
 
 // The reply of a read that has no bytes.
 #[inline(always)]
-fn reply_of<A: Allocator>(alloc: A, reply: ReadReply) -> Reply<A>
-    requires { read_count reply ≡ 0 }
-    ensures { result ≡ told reply [] }
+fn reply_of<A: Allocator>(alloc: A, answered: Answered<usize>) -> Reply<A>
+    requires { read_count answered ≡ 0 }
+    ensures { result ≡ told answered [] }
 {
-    match reply {
-        ReadReply::Read(_) => no_bytes(alloc),
-        ReadReply::Fault(errno) => Reply::Fault(errno),
-        ReadReply::Parked(number) => Reply::Parked(number),
-        ReadReply::NoProcess => Reply::NoProcess,
-        ReadReply::CallsSpent => Reply::CallsSpent,
+    match answered {
+        Answered::Done(_) => no_bytes(alloc),
+        _ => answered.undone(),
     }
 }
 
@@ -70,10 +52,10 @@ fn try_read<A: Allocator + Copy>(
     // A proof learns here what holds of the kernel.
     let _ = &kernel.descs;
     let Some(open) = open_for(kernel, pid, fd, Access::Reading) else {
-        return Ok(ReadTry::Answered(ReadReply::Fault(Errno::EBADF)));
+        return Ok(ReadTry::Answered(Answered::Fault(Errno::EBADF)));
     };
     if n == 0 {
-        return Ok(ReadTry::Answered(ReadReply::Read(0)));
+        return Ok(ReadTry::Answered(Answered::Done(0)));
     }
     match open.node {
         Node::Pipe(pipe) => try_read_pipe(
@@ -109,16 +91,16 @@ fn try_read_pipe<A: Allocator + Copy>(
 {
     match case_of_read(kernel, end.pipe, n) {
         ReadCase::Gives(count) => Ok(ReadTry::Takes { end, count }),
-        ReadCase::EndOfFile => Ok(ReadTry::Answered(ReadReply::Read(0))),
+        ReadCase::EndOfFile => Ok(ReadTry::Answered(Answered::Done(0))),
         ReadCase::Waits => {
             if kernel.refuses_to_wait(end.nonblock) {
-                return Ok(ReadTry::Answered(ReadReply::Fault(Errno::EAGAIN)));
+                return Ok(ReadTry::Answered(Answered::Fault(Errno::EAGAIN)));
             }
             if kernel.parked.spent() {
-                return Ok(ReadTry::Answered(ReadReply::CallsSpent));
+                return Ok(ReadTry::Answered(Answered::CallsSpent));
             }
             let number = park_read(kernel, pid, fd, n, end.key)?;
-            Ok(ReadTry::Answered(ReadReply::Parked(number)))
+            Ok(ReadTry::Answered(Answered::Parked(number)))
         }
     }
 }
@@ -160,7 +142,7 @@ pub fn read_into<A: Allocator + Copy>(
     pid: u32,
     fd: i32,
     into: &mut [u8],
-) -> Result<ReadReply, NoMemory>
+) -> Result<Answered<usize>, NoMemory>
     requires process { IsProcess kernel.old pid }
     requires few { length into.old < 2 ^ 32 }
     ensures done { IfOk result (λ reply. MakesAtKeys {A = A} kernel.old (Step.Begin pid (Call.Read fd (length into.old))) (told reply into.new) kernel.new) }
@@ -177,10 +159,10 @@ pub fn read_into<A: Allocator + Copy>(
         ReadTry::Answered(reply) => Ok(reply),
         ReadTry::Takes { end, count } => {
             kernel.nodes.read_pipe_into(end.pipe, &mut into[..count]);
-            Ok(ReadReply::Read(count))
+            Ok(Answered::Done(count))
         }
         ReadTry::Reads { open, file } => {
-            Ok(ReadReply::Read(read_file_into(kernel, open.key, file, into)))
+            Ok(Answered::Done(read_file_into(kernel, open.key, file, into)))
         }
     }
 }

@@ -20,7 +20,7 @@ use bitflags::Flags;
 use pl_model::numbers::MAX_DESCRIPTIONS;
 use pl_model::{Bytes8, Call, Errno, Mode, Node, OpenFlags, ReadCase, Reply, Step, WriteCase};
 use pl_nodes::WriteFault;
-use pl_state::{Access, KernelState, NoMemory, OpenEnd, OpenNode, open_at};
+use pl_state::{Access, Answered, KernelState, NoMemory, OpenEnd, OpenNode, open_at};
 use std::alloc::Allocator;
 
 /// The read of no bytes, which is end of file.
@@ -153,43 +153,34 @@ pub(crate) fn case_of_write<A: Allocator + Copy>(
     pl_decisions::case_of_write(length, taken, room, has_reader, may_wait)
 }
 
-/// What a write of the caller's bytes answers.
+/// What a write did.
 #[derive(Clone, Copy, Debug, PartialEq, Eq)]
-pub enum WriteReply {
-    /// So many bytes went in. With `sigpipe` the last reader left before all did.
-    Wrote { n: u32, sigpipe: bool },
-    /// The call failed.
-    Fault(Errno),
-    /// The call waits under this number.
-    Parked(u64),
-    /// There is no process of this pid.
-    NoProcess,
-    /// The call would have waited, and no number is left for it.
-    CallsSpent,
+pub struct Written {
+    /// How many bytes went in.
+    pub n: u32,
+    /// Whether the last reader left before all did.
+    pub sigpipe: bool,
 }
 
 /// What a write comes to at its first try.
 #[derive(Clone, Copy)]
 pub(crate) enum WriteTry {
     /// It is answered.
-    Answered(WriteReply),
+    Answered(Answered<Written>),
     /// It is answered, as so many bytes went into a pipe: most are, so that this has a way of its own to the answer.
     Wrote(u32),
     /// It waits on the end of a pipe, into which so many bytes go first.
     Waits { end: OpenEnd, to: usize },
 }
 
-// The reply that a write's answer tells.
+/// The reply that a write's answer tells.
 #[inline(always)]
-fn reply_of<A: Allocator>(reply: WriteReply) -> Reply<A>
-    ensures { result ≡ reply_of reply }
+pub fn reply_of_write<A: Allocator>(answered: Answered<Written>) -> Reply<A>
+    ensures { result ≡ reply_of answered }
 {
-    match reply {
-        WriteReply::Wrote { n, sigpipe } => Reply::Count { n, sigpipe },
-        WriteReply::Fault(errno) => Reply::Fault(errno),
-        WriteReply::Parked(number) => Reply::Parked(number),
-        WriteReply::NoProcess => Reply::NoProcess,
-        WriteReply::CallsSpent => Reply::CallsSpent,
+    match answered {
+        Answered::Done(Written { n, sigpipe }) => Reply::Count { n, sigpipe },
+        _ => answered.undone(),
     }
 }
 
@@ -211,7 +202,7 @@ pub fn write<A: Allocator + Copy>(
     ensures wanted { OnErr result (MayWantAtKeys {A = A} kernel.old (Step.Begin pid (Call.Write fd bytes))) }
 {
     match try_write(kernel, pid, fd, bytes.as_slice())? {
-        WriteTry::Answered(reply) => Ok(reply_of(reply)),
+        WriteTry::Answered(reply) => Ok(reply_of_write(reply)),
         WriteTry::Wrote(n) => Ok(Reply::Count { n, sigpipe: false }),
         WriteTry::Waits { end, to } => {
             let number = wait_to_write(kernel, pid, fd, bytes, end, to)?;
@@ -228,7 +219,7 @@ pub fn write_from<A: Allocator + Copy>(
     pid: u32,
     fd: i32,
     bytes: &[u8],
-) -> Result<WriteReply, NoMemory>
+) -> Result<Answered<Written>, NoMemory>
     requires process { IsProcess kernel.old pid }
     requires few { length bytes.now ≤ most_bytes }
     ensures done { IfOk result (λ reply. MakesAtKeys {A = A} kernel.old (Step.Begin pid (Call.Write fd bytes.now)) (reply_of reply) kernel.new) }
@@ -237,10 +228,10 @@ pub fn write_from<A: Allocator + Copy>(
 {
     match try_write(kernel, pid, fd, bytes)? {
         WriteTry::Answered(reply) => Ok(reply),
-        WriteTry::Wrote(n) => Ok(WriteReply::Wrote { n, sigpipe: false }),
+        WriteTry::Wrote(n) => Ok(Answered::Done(Written { n, sigpipe: false })),
         WriteTry::Waits { end, to } => {
             let number = wait_with_copy(kernel, pid, fd, bytes, end, to)?;
-            Ok(WriteReply::Parked(number))
+            Ok(Answered::Parked(number))
         }
     }
 }
@@ -262,13 +253,13 @@ fn try_write<A: Allocator + Copy>(
     // A proof learns here what holds of the kernel.
     let _ = &kernel.descs;
     let Some(open) = open_for(kernel, pid, fd, Access::Writing) else {
-        return Ok(WriteTry::Answered(WriteReply::Fault(Errno::EBADF)));
+        return Ok(WriteTry::Answered(Answered::Fault(Errno::EBADF)));
     };
     if bytes.is_empty() {
-        return Ok(WriteTry::Answered(WriteReply::Wrote {
+        return Ok(WriteTry::Answered(Answered::Done(Written {
             n: 0,
             sigpipe: false,
-        }));
+        })));
     }
     match open.node {
         Node::Pipe(pipe) => try_write_pipe(
@@ -283,11 +274,11 @@ fn try_write<A: Allocator + Copy>(
             },
         ),
         Node::File(file) => match write_file(kernel, open.key, file, bytes) {
-            Ok(count) => Ok(WriteTry::Answered(WriteReply::Wrote {
+            Ok(count) => Ok(WriteTry::Answered(Answered::Done(Written {
                 n: count as u32,
                 sigpipe: false,
-            })),
-            Err(WriteFault::TooBig) => Ok(WriteTry::Answered(WriteReply::Fault(Errno::EFBIG))),
+            }))),
+            Err(WriteFault::TooBig) => Ok(WriteTry::Answered(Answered::Fault(Errno::EFBIG))),
             Err(WriteFault::NoMemory) => Err(NoMemory),
         },
     }
@@ -311,21 +302,21 @@ fn try_write_pipe<A: Allocator + Copy>(
     ensures wanted { OnErr result (MayWantAtKeys {A = A} kernel.old (Step.Begin pid (Call.Write fd bytes.now))) }
 {
     match case_of_write(kernel, end.pipe, bytes.len(), 0, !end.nonblock) {
-        WriteCase::Broken => Ok(WriteTry::Answered(WriteReply::Fault(Errno::EPIPE))),
-        WriteCase::CutShort => Ok(WriteTry::Answered(WriteReply::Wrote {
+        WriteCase::Broken => Ok(WriteTry::Answered(Answered::Fault(Errno::EPIPE))),
+        WriteCase::CutShort => Ok(WriteTry::Answered(Answered::Done(Written {
             n: 0,
             sigpipe: true,
-        })),
+        }))),
         WriteCase::Ends { from, to } => {
             kernel.nodes.write_pipe(end.pipe, &bytes[from..to])?;
             Ok(WriteTry::Wrote(to as u32))
         }
         WriteCase::Waits { to, .. } => {
             if kernel.refuses_to_wait(end.nonblock) {
-                return Ok(WriteTry::Answered(WriteReply::Fault(Errno::EAGAIN)));
+                return Ok(WriteTry::Answered(Answered::Fault(Errno::EAGAIN)));
             }
             if kernel.parked.spent() {
-                return Ok(WriteTry::Answered(WriteReply::CallsSpent));
+                return Ok(WriteTry::Answered(Answered::CallsSpent));
             }
             Ok(WriteTry::Waits { end, to })
         }

@@ -15,10 +15,9 @@ ghost use Rattle.pl_transfers.specs.Readable.{gives_again};
 
 use crate::parking::park_call;
 use crate::readable::ReadAgain;
-use crate::reading::ReadReply;
 use crate::transfers::{case_of_read, case_of_write, no_bytes};
 use pl_model::{Bytes8, Call, Errno, Node, ReadCase, Reply, Step, WriteCase};
-use pl_state::{KernelState, NoMemory, OpenEnd, end_call};
+use pl_state::{Answered, KernelState, NoMemory, OpenEnd, end_call};
 use std::alloc::Allocator;
 
 /// The bytes of a write, and none of another call.
@@ -142,7 +141,10 @@ pub(crate) fn pipe_of<A: Allocator + Copy>(kernel: &KernelState<A>, key: usize) 
     }
 }
 
-fn resume_read<A: Allocator + Copy>(
+/// Tries a parked read again. The reply is its bytes, none at the end of file, or its number where it waits on.
+///
+/// The only error is want of memory, which leaves all as it was, the call parked.
+pub fn resume_read<A: Allocator + Copy>(
     kernel: &mut KernelState<A>,
     number: u64,
     key: usize,
@@ -203,7 +205,7 @@ pub fn resume_read_into<A: Allocator + Copy>(
     key: usize,
     n: u32,
     into: &mut [u8],
-) -> ReadReply
+) -> Answered<usize>
     requires waits { ReadWaits kernel.old number key n }
     requires room { gives_again {A = A} kernel.old number ≤ length into.old }
     ensures done { MakesAtKeys {A = A} kernel.old (Step.Resume number) (told result into.new) kernel.new }
@@ -215,13 +217,13 @@ pub fn resume_read_into<A: Allocator + Copy>(
         ReadCase::Gives(count) => {
             kernel.nodes.read_pipe_into(pipe, &mut into[..count]);
             end_call(kernel, number);
-            ReadReply::Read(count)
+            Answered::Done(count)
         }
         ReadCase::EndOfFile => {
             end_call(kernel, number);
-            ReadReply::Read(0)
+            Answered::Done(0)
         }
-        ReadCase::Waits => ReadReply::Parked(number),
+        ReadCase::Waits => Answered::Parked(number),
     }
 }
 
@@ -243,7 +245,11 @@ pub fn give_again<A: Allocator + Copy>(
     end_call(kernel, number);
 }
 
-fn resume_write<A: Allocator + Copy>(
+/// Tries a parked write again. The reply is how many of its bytes went in, `EPIPE` where no reader is left and none did, or its number where it
+/// waits on.
+///
+/// The only error is want of memory, which leaves all as it was, the call parked.
+pub fn resume_write<A: Allocator + Copy>(
     kernel: &mut KernelState<A>,
     number: u64,
     key: usize,
@@ -290,16 +296,23 @@ fn resume_write<A: Allocator + Copy>(
     }
 }
 
-// An open that met its other end gets the least free descriptor of its process (POSIX.1-2017, open).
-fn resume_open<A: Allocator + Copy>(
+/// Tries a parked open again. Once it met its other end it gets the least free descriptor of its process (POSIX.1-2017, open), or `EMFILE`
+/// where none is free. Else the reply is its number. It takes no memory.
+pub fn resume_open<A: Allocator + Copy>(
     kernel: &mut KernelState<A>,
     number: u64,
     pid: u32,
     key: usize,
+    met: bool,
 ) -> Reply<A>
-    requires { OpenWaits kernel.old number pid key true }
+    requires { OpenWaits kernel.old number pid key met }
     ensures { MakesAtKeys kernel.old (Step.Resume number) result kernel.new }
 {
+    // A proof learns here what holds of the kernel.
+    let _ = &kernel.descs;
+    if !met {
+        return Reply::Parked(number);
+    }
     let Some(fd) = kernel.descs.lowest(pid, 0, kernel.limits.descriptors_max) else {
         end_call(kernel, number);
         return Reply::Fault(Errno::EMFILE);
@@ -308,45 +321,6 @@ fn resume_open<A: Allocator + Copy>(
     kernel.parked.take(number);
     kernel.descs.install(pid, fd, key);
     Reply::Fd(fd as i32)
-}
-
-/// Tries the parked call of a number again, a read, a write or an open. The reply is what it comes to, its number where it waits on, or
-/// `NoCall` where there is none.
-///
-/// The only error is want of memory, which leaves all as it was, the call parked.
-pub fn resume_one<A: Allocator + Copy>(
-    kernel: &mut KernelState<A>,
-    number: u64,
-) -> Result<Reply<A>, NoMemory>
-    requires { IfSome (get nat_eq kernel.old.calls.calls number) (λ w. KeepsOne w.call) }
-    ensures done { IfOk result (λ reply. MakesAtKeys kernel.old (Step.Resume number) reply kernel.new) }
-    ensures undone { OnErr result (kernel.new ≡ kernel.old) }
-    ensures wanted { OnErr result (MayWantAtKeys {A = A} kernel.old (Step.Resume number)) }
-{
-    let Some(call) = kernel.parked.get(number) else {
-        return Ok(Reply::NoCall);
-    };
-    let key = call.kept.as_slice()[0];
-    match &call.call {
-        Call::Read { n, .. } => {
-            let n = *n;
-            resume_read(kernel, number, key, n)
-        }
-        Call::Write { bytes, .. } => {
-            let length = bytes.as_slice().len();
-            let taken = call.taken;
-            resume_write(kernel, number, key, length, taken)
-        }
-        Call::OpenName { .. } => {
-            let pid = call.pid;
-            let has_met = call.met;
-            if !has_met {
-                return Ok(Reply::Parked(number));
-            }
-            Ok(resume_open(kernel, number, pid, key))
-        }
-        _ => unreachable!(),
-    }
 }
 
 /// Ends the parked call of a number (POSIX.1-2017, read and write, EINTR). It takes no memory.

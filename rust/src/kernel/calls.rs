@@ -1,11 +1,11 @@
 //! A new kernel, its steps, and calls that begin: what has to be kept is tested here, and answered with an error.
 
-use super::{Kernel, answer_of_read};
-use crate::answers::{Answer, ParkedCall};
+use super::{Kernel, answer_of_call};
+use crate::answers::Answer;
 use crate::faults::{FileMaxFault, NoMemory, NotDone};
 use crate::memory::{Allocator, Vec};
 use crate::parts::kernel as inner;
-use crate::parts::kernel::{PollReply, WriteReply};
+use crate::parts::kernel::Answered;
 use crate::parts::model::numbers::{MAX_BYTES, MAX_FILE_BYTES};
 use crate::{Call, Limits, Outcome, PollEntry, Reply, Step};
 use core::num::NonZero;
@@ -178,12 +178,9 @@ impl<A: Allocator + Copy> Kernel<A> {
             self.inner.write_from(pid, fd, bytes)?
         };
         match reply {
+            Answered::Parked(number) => Ok(self.parked(0, number)),
             // a write that didn't wait never tells a signal
-            WriteReply::Wrote { n, .. } => Ok(Answer::Done(n as usize)),
-            WriteReply::Parked(number) => Ok(self.parked(0, number)),
-            WriteReply::Fault(errno) => Err(NotDone::Fault(errno)),
-            WriteReply::NoProcess => Err(NotDone::NoProcess),
-            WriteReply::CallsSpent => Err(NotDone::CallsSpent),
+            answered => Ok(answer_of_call(answered)?.map(|written| written.n as usize)),
         }
     }
 
@@ -237,9 +234,9 @@ impl<A: Allocator + Copy> Kernel<A> {
             return Err(NotDone::TooLong);
         }
         if self.recorder.is_some() {
-            return answer_of_read(self.read_recorded(pid, fd, into)?);
+            return answer_of_call(self.read_recorded(pid, fd, into)?);
         }
-        answer_of_read(self.inner.read_into(pid, fd, into)?)
+        answer_of_call(self.inner.read_into(pid, fd, into)?)
     }
 
     /// Begins a poll of what the caller's entries ask. If it is answered, what was found of each is noted in it. It tells of how many
@@ -275,12 +272,6 @@ impl<A: Allocator + Copy> Kernel<A> {
         } else {
             self.inner.poll_into(pid, entries, wait)?
         };
-        match reply {
-            PollReply::Ready(count) => Ok(Answer::Done(count as usize)),
-            PollReply::Parked(number) => Ok(Answer::Parked(ParkedCall::from_number(number))),
-            PollReply::Fault(errno) => Err(NotDone::Fault(errno)),
-            PollReply::NoProcess => Err(NotDone::NoProcess),
-            PollReply::CallsSpent => Err(NotDone::CallsSpent),
-        }
+        Ok(answer_of_call(reply)?.map(|count| count as usize))
     }
 }

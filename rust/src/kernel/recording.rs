@@ -6,7 +6,7 @@
 use super::Kernel;
 use crate::faults::{NoMemory, NotDone};
 use crate::memory::{Allocator, Vec};
-use crate::parts::kernel::{PollReply, ReadReply, Resumed, WriteReply};
+use crate::parts::kernel::{Answered, Resumed, Written, reply_of_write};
 use crate::parts::model::numbers::MAX_BYTES;
 use crate::parts::polls::{asked_of, mark_entries};
 use crate::parts::recorder::{Most, Recorder};
@@ -184,24 +184,11 @@ impl<A: Allocator + Copy> Room<A> {
         }
     }
 
-    fn reply_of_read(self, reply: ReadReply, read: &[u8]) -> Reply<A> {
-        match reply {
-            ReadReply::Read(count) => self.reply_of_bytes(&read[..count]),
-            ReadReply::Fault(errno) => Reply::Fault(errno),
-            ReadReply::Parked(number) => Reply::Parked(number),
-            ReadReply::NoProcess => Reply::NoProcess,
-            ReadReply::CallsSpent => Reply::CallsSpent,
+    fn reply_of_read(self, answered: Answered<usize>, read: &[u8]) -> Reply<A> {
+        match answered {
+            Answered::Done(count) => self.reply_of_bytes(&read[..count]),
+            _ => answered.undone(),
         }
-    }
-}
-
-fn reply_of_write<A: Allocator>(reply: WriteReply) -> Reply<A> {
-    match reply {
-        WriteReply::Wrote { n, sigpipe } => Reply::Count { n, sigpipe },
-        WriteReply::Fault(errno) => Reply::Fault(errno),
-        WriteReply::Parked(number) => Reply::Parked(number),
-        WriteReply::NoProcess => Reply::NoProcess,
-        WriteReply::CallsSpent => Reply::CallsSpent,
     }
 }
 
@@ -211,13 +198,13 @@ fn most_polled(entries: usize) -> Most {
 }
 
 /// What a poll of the caller's entries told, by the reply of its step.
-fn poll_reply_of<A: Allocator>(reply: &Reply<A>) -> PollReply {
+fn poll_answered<A: Allocator>(reply: &Reply<A>) -> Answered<u32> {
     match reply {
-        Reply::Masks { ready, .. } => PollReply::Ready(*ready),
-        Reply::Fault(errno) => PollReply::Fault(*errno),
-        Reply::Parked(number) => PollReply::Parked(*number),
-        Reply::CallsSpent => PollReply::CallsSpent,
-        _ => PollReply::NoProcess,
+        Reply::Masks { ready, .. } => Answered::Done(*ready),
+        Reply::Fault(errno) => Answered::Fault(*errno),
+        Reply::Parked(number) => Answered::Parked(*number),
+        Reply::CallsSpent => Answered::CallsSpent,
+        _ => Answered::NoProcess,
     }
 }
 
@@ -326,7 +313,7 @@ impl<A: Allocator + Copy> Kernel<A> {
         pid: u32,
         fd: i32,
         bytes: &[u8],
-    ) -> Result<WriteReply, NoMemory> {
+    ) -> Result<Answered<Written>, NoMemory> {
         if let Some(recorder) = &mut self.recorder {
             recorder.begin_write(pid, fd, bytes).map_err(|_| NoMemory)?;
         }
@@ -343,7 +330,7 @@ impl<A: Allocator + Copy> Kernel<A> {
         pid: u32,
         fd: i32,
         into: &mut [u8],
-    ) -> Result<ReadReply, NoMemory> {
+    ) -> Result<Answered<usize>, NoMemory> {
         let room = Room::new(self.alloc, MAX_BYTES.min(into.len()), 0)?;
         let n = into.len() as u32;
         self.begin_line(
@@ -362,7 +349,7 @@ impl<A: Allocator + Copy> Kernel<A> {
         pid: u32,
         entries: &mut [PollEntry],
         wait: bool,
-    ) -> Result<PollReply, NoMemory> {
+    ) -> Result<Answered<u32>, NoMemory> {
         let asked = asked_of(self.alloc, entries).map_err(|_| NoMemory)?;
         let step = Step::Begin(
             pid,
@@ -375,7 +362,7 @@ impl<A: Allocator + Copy> Kernel<A> {
         let answered = self.inner.step(step);
         let reply = self.made(answered)?;
         mark_entries(&reply, entries);
-        let told = poll_reply_of(&reply);
+        let told = poll_answered(&reply);
         self.end_line(reply);
         Ok(told)
     }

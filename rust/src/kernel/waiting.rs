@@ -1,6 +1,6 @@
 //! Parked calls: what tries them again or ends them, whose they are, and whether they can make progress.
 
-use super::{Kernel, answer_of_read};
+use super::{Kernel, answer_of_call};
 use crate::answers::{Answer, ParkedCall};
 use crate::faults::{NoMemory, NotDone};
 use crate::memory::Allocator;
@@ -93,7 +93,7 @@ impl<A: Allocator + Copy> Kernel<A> {
         }
         let before = self.taken_so_far(call.number());
         match self.try_again(call.number(), into, 0) {
-            Ok(Resumed::Read(reply)) => answer_of_read(reply),
+            Ok(Resumed::Read(reply)) => answer_of_call(reply),
             Ok(Resumed::Short(bytes)) => Err(NotDone::Short {
                 call: call.given_back(),
                 wants: u64::from(bytes),
@@ -133,7 +133,7 @@ impl<A: Allocator + Copy> Kernel<A> {
         let before = self.taken_so_far(call.number());
         let masks = self.inner.ready_entries(call.number());
         match self.try_again(call.number(), &mut [], masks) {
-            Ok(Resumed::Read(reply)) => answer_of_read(reply),
+            Ok(Resumed::Read(reply)) => answer_of_call(reply),
             Ok(Resumed::Short(bytes)) => Err(NotDone::Short {
                 call: call.given_back(),
                 wants: u64::from(bytes),

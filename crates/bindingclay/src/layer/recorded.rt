@@ -9,7 +9,6 @@ ghost use Rattle.pl_numbers.specs.Answers.{ends_after};
 ghost use Rattle.pl_polls.specs.Entries.{asked, entries_after};
 ghost use Rattle.pl_recorder.specs.Unread.{unread, line_of};
 ghost use Rattle.pl_transfers.specs.ReadInto.{told, read_count};
-ghost use Rattle.pl_transfers.specs.Waits.{reply_of};
 ghost use Rattle.pl_kernel.specs.Buffers.{resumed_count};
 ghost use Rattle.bindingclay.specs.Heap.{InBudget};
 ghost use Rattle.bindingclay.specs.Made.{Gathers, Makes, Moves, Notes, Replied, Resumes, unmoved, bytes_after};
@@ -19,7 +18,7 @@ use super::moved::{taken_so_far, tell_moved};
 use super::transfers::{answer_of_read, answer_of_written};
 use super::waiting::{answer_of_resumed, mark_resumed};
 use super::{Heap, no_memory};
-use pl_kernel::{Kernel, NoMemory, PollEntry, ReadReply, Resumed, WriteReply};
+use pl_kernel::{Answered, Kernel, NoMemory, PollEntry, Resumed, reply_of_write};
 use pl_model::{Bytes8, Call, Reply, Step};
 use pl_numbers::{Answer, Ends, answer_of, tell_ends};
 use pl_polls::{asked_of, mark_entries};
@@ -53,33 +52,14 @@ fn most_polled(entries: usize) -> Most {
 }
 
 // The reply of a read into the caller's bytes, with room for those that it read.
-fn reply_of_read(reply: ReadReply, room: Vec<u8, Heap>, read: &[u8]) -> Reply<Heap>
-    requires within { read_count reply ≤ length read.now }
+fn reply_of_read(answered: Answered<usize>, room: Vec<u8, Heap>, read: &[u8]) -> Reply<Heap>
+    requires within { read_count answered ≤ length read.now }
     requires fits { Fits room read.now }
-    ensures { result ≡ told reply read.now }
+    ensures { result ≡ told answered read.now }
 {
-    match reply {
-        ReadReply::Read(count) => Reply::Bytes(bytes_in(room, &read[..count as usize])),
-        ReadReply::Fault(errno) => Reply::Fault(errno),
-        ReadReply::Parked(number) => Reply::Parked(number),
-        ReadReply::NoProcess => Reply::NoProcess,
-        ReadReply::CallsSpent => Reply::CallsSpent,
-    }
-}
-
-// The reply of a write of the caller's bytes.
-fn reply_of_write(reply: &WriteReply) -> Reply<Heap>
-    ensures { result ≡ reply_of reply.now }
-{
-    match reply {
-        WriteReply::Wrote { n, sigpipe } => Reply::Count {
-            n: *n,
-            sigpipe: *sigpipe,
-        },
-        WriteReply::Fault(errno) => Reply::Fault(*errno),
-        WriteReply::Parked(number) => Reply::Parked(*number),
-        WriteReply::NoProcess => Reply::NoProcess,
-        WriteReply::CallsSpent => Reply::CallsSpent,
+    match answered {
+        Answered::Done(count) => Reply::Bytes(bytes_in(room, &read[..count])),
+        _ => answered.undone(),
     }
 }
 
@@ -169,7 +149,7 @@ pub(super) fn read(
     }
     match kernel.read_into(pid, fd, into) {
         Ok(reply) => {
-            let answer = answer_of_read(&reply);
+            let answer = answer_of_read(reply);
             recorder.end(reply_of_read(reply, room, into));
             answer
         }
@@ -199,8 +179,8 @@ pub(super) fn write(
     }
     match kernel.write_from(pid, fd, bytes) {
         Ok(reply) => {
-            recorder.end(reply_of_write(&reply));
-            answer_of_written(kernel, &reply)
+            recorder.end(reply_of_write(reply));
+            answer_of_written(kernel, reply)
         }
         Err(NoMemory) => {
             recorder.cancel();

@@ -7,6 +7,8 @@ ghost use Rattle.pl_transfers.specs.Waits.{reply_of};
 ghost use Rattle.pl_kernel.specs.Buffers.{Parks};
 ghost use Rattle.pl_model.specs.Fates.{taken_by};
 ghost use Rattle.pl_model.specs.Numbered.{State};
+ghost use Rattle.pl_model.specs.declared.replies.Reply.{Reply};
+ghost use Rattle.pl_state.specs.Answered.{told, IsDone};
 ghost use Rattle.pl_state.specs.Makes.{Stands};
 ghost use Rattle.pl_numbers.specs.Answers.{said, faulty, parked};
 ghost use Rattle.pl_numbers.specs.Flags.{splice_flags_of_bits};
@@ -19,9 +21,9 @@ ghost use Rattle.bindingclay.specs.Recorded.{Records};
 
 use super::moved::tell_moved;
 use super::{Heap, Layer, no_memory, recorded};
-use pl_kernel::{Kernel, NoMemory, PollEntry, PollReply, ReadReply, WriteReply};
+use pl_kernel::{Answered, Kernel, NoMemory, PollEntry, Written};
 use pl_model::{Call, Errno, Step};
-use pl_numbers::{Answer, kind, splice_flags_of_bits};
+use pl_numbers::{Answer, answer_of, splice_flags_of_bits};
 
 /// The most bytes that one read or write moves: a longer one is cut to them.
 const MOST_BYTES: usize = 16_777_216;
@@ -53,72 +55,71 @@ fn within(bytes: &[u8]) -> &[u8]
     bytes
 }
 
-/// The answer of a read into the caller's bytes.
-pub(crate) fn answer_of_read(reply: &ReadReply) -> Answer
-    ensures { result ≡ read_answer reply.now }
+// The answer of a call that isn't done.
+fn answer_of_undone<T: Copy>(answered: Answered<T>) -> Answer
+    requires { ¬ IsDone answered }
+    ensures { (reply_of : T → Reply InBudget) → result ≡ said (told reply_of answered) }
 {
-    match reply {
-        ReadReply::Read(count) => Answer::done(*count as u64),
-        ReadReply::Fault(errno) => Answer::fault(*errno),
-        ReadReply::Parked(number) => Answer::of_kind(kind::PARKED, *number),
-        ReadReply::NoProcess => Answer::of_kind(kind::NO_PROCESS, 0),
-        ReadReply::CallsSpent => Answer::of_kind(kind::CALLS_SPENT, 0),
+    answer_of::<Heap>(&answered.undone())
+}
+
+/// The answer of a read into the caller's bytes.
+#[inline(always)]
+pub(crate) fn answer_of_read(answered: Answered<usize>) -> Answer
+    ensures { result ≡ read_answer answered }
+{
+    match answered {
+        Answered::Done(count) => Answer::done(count as u64),
+        _ => answer_of_undone(answered),
     }
 }
 
 // The answer of a write of the caller's bytes.
-fn answer_of_write(reply: &WriteReply) -> Answer
-    ensures { result ≡ said {A = InBudget} (reply_of reply.now) }
+fn answer_of_write(answered: Answered<Written>) -> Answer
+    ensures { result ≡ said {A = InBudget} (reply_of answered) }
 {
-    match reply {
-        WriteReply::Wrote { n, sigpipe } if *sigpipe => Answer {
-            sigpipe: true,
-            ..Answer::done(*n as u64)
+    match answered {
+        Answered::Done(Written { n, sigpipe }) => Answer {
+            sigpipe,
+            ..Answer::done(n as u64)
         },
-        WriteReply::Wrote { n, .. } => Answer::done(*n as u64),
-        WriteReply::Fault(errno) => Answer::fault(*errno),
-        WriteReply::Parked(number) => Answer::of_kind(kind::PARKED, *number),
-        WriteReply::NoProcess => Answer::of_kind(kind::NO_PROCESS, 0),
-        WriteReply::CallsSpent => Answer::of_kind(kind::CALLS_SPENT, 0),
+        _ => answer_of_undone(answered),
     }
 }
 
 // The answer of a write that may wait. Out of line, so that one of which all went in stays short.
 #[inline(never)]
-fn answer_of_other_write(kernel: &Kernel<Heap>, reply: WriteReply) -> Answer
+fn answer_of_other_write(kernel: &Kernel<Heap>, reply: Answered<Written>) -> Answer
     ensures rest { result ≡ record (said {A = InBudget} (reply_of reply)) { moved = result.moved } }
     ensures value { (s : State InBudget) → Stands kernel.now s → result.moved ≡ (nat_eq (said {A = InBudget} (reply_of reply)).kind parked && nat_lt 0 (taken_by s.core (said {A = InBudget} (reply_of reply)).value)) }
     ensures others { ((said {A = InBudget} (reply_of reply)).kind ≡ parked → ⊥) → result.moved ≡ false }
 {
     match reply {
-        WriteReply::Parked(_) => tell_moved(kernel, 0, answer_of_write(&reply)),
-        _ => answer_of_write(&reply),
+        Answered::Parked(_) => tell_moved(kernel, 0, answer_of_write(reply)),
+        _ => answer_of_write(reply),
     }
 }
 
 // The answer of a write, which tells too whether bytes of it went in where it waits. The kernel is as the write left it.
 #[inline(always)]
-pub(super) fn answer_of_written(kernel: &Kernel<Heap>, reply: &WriteReply) -> Answer
-    ensures rest { result ≡ record (said {A = InBudget} (reply_of reply.now)) { moved = result.moved } }
-    ensures value { (s : State InBudget) → Stands kernel.now s → result.moved ≡ (nat_eq (said {A = InBudget} (reply_of reply.now)).kind parked && nat_lt 0 (taken_by s.core (said {A = InBudget} (reply_of reply.now)).value)) }
-    ensures others { ((said {A = InBudget} (reply_of reply.now)).kind ≡ parked → ⊥) → result.moved ≡ false }
+pub(super) fn answer_of_written(kernel: &Kernel<Heap>, reply: Answered<Written>) -> Answer
+    ensures rest { result ≡ record (said {A = InBudget} (reply_of reply)) { moved = result.moved } }
+    ensures value { (s : State InBudget) → Stands kernel.now s → result.moved ≡ (nat_eq (said {A = InBudget} (reply_of reply)).kind parked && nat_lt 0 (taken_by s.core (said {A = InBudget} (reply_of reply)).value)) }
+    ensures others { ((said {A = InBudget} (reply_of reply)).kind ≡ parked → ⊥) → result.moved ≡ false }
 {
     match reply {
-        WriteReply::Wrote { n, sigpipe } if !*sigpipe => Answer::done(*n as u64),
-        _ => answer_of_other_write(kernel, *reply),
+        Answered::Done(Written { n, sigpipe }) if !sigpipe => Answer::done(n as u64),
+        _ => answer_of_other_write(kernel, reply),
     }
 }
 
 // The answer of a poll of the caller's entries.
-fn answer_of_poll(reply: &PollReply) -> Answer
-    ensures { (entries : List Entry) → result ≡ said {A = InBudget} (poll_told reply.now entries) }
+fn answer_of_poll(answered: Answered<u32>) -> Answer
+    ensures { (entries : List Entry) → result ≡ said {A = InBudget} (poll_told answered entries) }
 {
-    match reply {
-        PollReply::Ready(count) => Answer::done(*count as u64),
-        PollReply::Fault(errno) => Answer::fault(*errno),
-        PollReply::Parked(number) => Answer::of_kind(kind::PARKED, *number),
-        PollReply::NoProcess => Answer::of_kind(kind::NO_PROCESS, 0),
-        PollReply::CallsSpent => Answer::of_kind(kind::CALLS_SPENT, 0),
+    match answered {
+        Answered::Done(ready) => Answer::done(ready as u64),
+        _ => answer_of_undone(answered),
     }
 }
 
@@ -135,7 +136,7 @@ impl Layer {
         ensures opened { StaysAsOpened self.old self.new }
     {
         match self.kernel.read_into(pid, fd, into) {
-            Ok(reply) => answer_of_read(&reply),
+            Ok(reply) => answer_of_read(reply),
             Err(NoMemory) => no_memory(),
         }
     }
@@ -181,7 +182,7 @@ impl Layer {
         ensures opened { StaysAsOpened self.old self.new }
     {
         match self.kernel.write_from(pid, fd, bytes) {
-            Ok(reply) => answer_of_written(&self.kernel, &reply),
+            Ok(reply) => answer_of_written(&self.kernel, reply),
             Err(NoMemory) => no_memory(),
         }
     }
@@ -285,7 +286,7 @@ impl Layer {
             return recorded::poll(&mut self.kernel, recorder, self.heap, pid, entries, wait);
         }
         match self.kernel.poll_into(pid, entries, wait) {
-            Ok(reply) => answer_of_poll(&reply),
+            Ok(reply) => answer_of_poll(reply),
             Err(NoMemory) => no_memory(),
         }
     }

@@ -9,7 +9,7 @@ ghost use Rattle.bindingclay.specs.Recorded.{RecordsTry};
 use super::moved::{taken_so_far, tell_moved};
 use super::transfers::answer_of_read;
 use super::{Heap, Layer, no_memory, recorded};
-use pl_kernel::{NoMemory, ReadReply, Resumed};
+use pl_kernel::{NoMemory, Resumed};
 use pl_model::Step;
 use pl_numbers::{Answer, answer_of, kind};
 use pl_polls::{PollEntry, mark_entries};
@@ -19,7 +19,7 @@ pub(super) fn answer_of_resumed(resumed: &Result<Resumed<Heap>, NoMemory>) -> An
     ensures { result ≡ resumed_answer resumed.now }
 {
     match resumed {
-        Ok(Resumed::Read(reply)) => answer_of_read(reply),
+        Ok(Resumed::Read(reply)) => answer_of_read(*reply),
         Ok(Resumed::Short(wanted)) => Answer::of_kind(kind::SHORT, *wanted as u64),
         Ok(Resumed::Other(reply)) => answer_of(reply),
         Err(NoMemory) => no_memory(),
@@ -32,8 +32,7 @@ fn answer_of_read_again(resumed: &Resumed<Heap>) -> Answer
     ensures { result ≡ resumed_answer {E = ⊤} (Ok resumed.now) }
 {
     match resumed {
-        Resumed::Read(ReadReply::Read(count)) => Answer::done(*count as u64),
-        Resumed::Read(reply) => answer_of_read(reply),
+        Resumed::Read(reply) => answer_of_read(*reply),
         Resumed::Short(wanted) => Answer::of_kind(kind::SHORT, *wanted as u64),
         Resumed::Other(reply) => answer_of(reply),
     }

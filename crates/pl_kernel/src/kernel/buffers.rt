@@ -18,16 +18,16 @@ use crate::steps::{
 };
 use crate::touch::{touch_again, touch_named};
 use pl_model::{Call, Reply, Step};
-use pl_polls::{PollEntry, PollReply};
-use pl_state::NoMemory;
-use pl_transfers::{ReadReply, WriteReply, read_again};
+use pl_polls::PollEntry;
+use pl_state::{Answered, NoMemory};
+use pl_transfers::{Written, read_again};
 use std::alloc::{Allocator, Global};
 
 /// What the resumption of a call answers, where a read gives its bytes into the caller's.
 #[derive(Drop, Debug)]
 pub enum Resumed<A: Allocator = Global> {
     /// The parked call is a read, and this is its answer.
-    Read(ReadReply),
+    Read(Answered<usize>),
     /// It is a read that gives so many bytes now, and the caller's are fewer. Nothing changed.
     Short(u32),
     /// It is another call, and this is its reply; or there is no call of the number.
@@ -42,7 +42,12 @@ impl<A: Allocator + Copy> Kernel<A> {
     ///
     /// `NoMemory`, as of `step`.
     #[inline(always)]
-    pub fn write_from(&mut self, pid: u32, fd: i32, bytes: &[u8]) -> Result<WriteReply, NoMemory>
+    pub fn write_from(
+        &mut self,
+        pid: u32,
+        fd: i32,
+        bytes: &[u8],
+    ) -> Result<Answered<Written>, NoMemory>
         requires { length bytes.now ≤ most_bytes }
         ensures made { IfOk result (λ reply. Makes {A = A} self.old (Step.Begin pid (Call.Write fd bytes.now)) (reply_of reply) self.new) }
         ensures refused { IfOk result (λ reply. LeavesByReply {A = A} self.old (Step.Begin pid (Call.Write fd bytes.now)) (reply_of reply) self.new) }
@@ -58,7 +63,7 @@ impl<A: Allocator + Copy> Kernel<A> {
         // The same once the step was made.
         let state = &self.state;
         let _ = &state.descs;
-        self.keep_up(matches!(&made, Ok(WriteReply::Parked(_))), made.is_err());
+        self.keep_up(matches!(&made, Ok(Answered::Parked(_))), made.is_err());
         made
     }
 
@@ -80,7 +85,12 @@ impl<A: Allocator + Copy> Kernel<A> {
     ///
     /// `NoMemory` only where the call would be parked. It leaves the kernel and the caller's bytes as they were.
     #[inline(always)]
-    pub fn read_into(&mut self, pid: u32, fd: i32, into: &mut [u8]) -> Result<ReadReply, NoMemory>
+    pub fn read_into(
+        &mut self,
+        pid: u32,
+        fd: i32,
+        into: &mut [u8],
+    ) -> Result<Answered<usize>, NoMemory>
         requires { length into.old < 2 ^ 32 }
         ensures made { IfOk result (λ reply. Makes {A = A} self.old (Step.Begin pid (Call.Read fd (length into.old))) (told reply into.new) self.new) }
         ensures refused { IfOk result (λ reply. LeavesByReply {A = A} self.old (Step.Begin pid (Call.Read fd (length into.old))) (told reply into.new) self.new) }
@@ -99,12 +109,12 @@ impl<A: Allocator + Copy> Kernel<A> {
         // The same once the step was made.
         let state = &self.state;
         let _ = &state.descs;
-        self.keep_up(matches!(&made, Ok(ReadReply::Parked(_))), made.is_err());
+        self.keep_up(matches!(&made, Ok(Answered::Parked(_))), made.is_err());
         made
     }
 
     /// Makes the step at which the process of a pid begins a Poll of what the caller's entries ask. Where it is answered, what was found
-    /// of each is noted in it; at any other answer than `Ready` the entries stay as they are. What `step` promises of that step holds.
+    /// of each is noted in it; at any other answer than `Done` the entries stay as they are. What `step` promises of that step holds.
     ///
     /// # Errors
     ///
@@ -115,7 +125,7 @@ impl<A: Allocator + Copy> Kernel<A> {
         pid: u32,
         entries: &mut [PollEntry],
         wait: bool,
-    ) -> Result<PollReply, NoMemory>
+    ) -> Result<Answered<u32>, NoMemory>
         ensures made { IfOk result (λ reply. Makes {A = A} self.old (Step.Begin pid (Call.Poll (asked entries.old) wait)) (poll_told reply entries.new) self.new) }
         ensures refused { IfOk result (λ reply. LeavesByReply {A = A} self.old (Step.Begin pid (Call.Poll (asked entries.old) wait)) (poll_told reply entries.new) self.new) }
         ensures noted { IfOk result (λ reply. entries.new ≡ entries_after {A = A} entries.old (poll_told reply entries.new)) }
@@ -131,7 +141,7 @@ impl<A: Allocator + Copy> Kernel<A> {
         // The same once the step was made. It touches nothing.
         let state = &self.state;
         let _ = &state.descs;
-        self.keep_up(matches!(&made, Ok(PollReply::Parked(_))), made.is_err());
+        self.keep_up(matches!(&made, Ok(Answered::Parked(_))), made.is_err());
         made
     }
 

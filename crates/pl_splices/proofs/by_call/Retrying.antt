@@ -1,5 +1,5 @@
 -- What a splice or a tee that is tried again comes to at the kernel's keys.
-use Rattle.std.proofs.Common.{◌≡◌, ℕ, Bool, true, false, List, [], ◌∷◌, Option, Some, None, IfSome, IsSome, refl, sym, ◌∙◌, ap, subst, nat_eq, slice_index_or, arith}
+use Rattle.std.proofs.Common.{◌≡◌, ◌<◌, ℕ, Bool, true, false, [], ◌∷◌, Some, IfSome, IsSome, refl, sym, ◌∙◌, ap, subst, nat_eq, arith}
 use Rattle.std.specs.Prelude.{◌||◌, All}
 use Rattle.std.specs.Set.{is_member}
 use Rattle.std.proofs.lemmas.Bool.{eq-eqb}
@@ -24,16 +24,19 @@ use Rattle.pl_desc.specs.Rows.{at}
 use Rattle.pl_desc.specs.Descs.{Opened}
 use Rattle.pl_state.specs.Contents.{Contents, waiting_of, core_of}
 use Rattle.pl_state.specs.Opens.{OpenOn}
-use Rattle.pl_state.specs.Sound.{IsSound, IsPipe, IsPoll, IsWaiting, AreBoth, AreApart, Keeps, KeepsOne, MayGo, MayKeepFile, GoApart, OnNode, KeepsNodes}
+use Rattle.pl_state.specs.Sound.{IsSound, IsPipe, IsWaiting, AreBoth, AreApart, MayGo, MayKeepFile, MayWait, GoApart, OnNode, KeepsNodes}
 use Rattle.pl_state.specs.Makes.{MakesAtKeys, MayWantAtKeys}
+use Rattle.pl_state.specs.declared.waits.WaitingMove.{WaitingMove}
+use Rattle.pl_state.specs.Waits.{AsksMove, MoveIsKept}
 use Rattle.pl_state.proofs.Known.{Parts}
 use Rattle.pl_state.proofs.holders.OnNodes.{is-pipe}
 use Rattle.pl_state.proofs.waiting.Ending.{member_there}
 use Rattle.pl_state.proofs.by_call.Begun.{does_plain, wants_plain}
 use Rattle.pl_state.proofs.by_call.Resumed.{came, progress-is, waits_still}
 use Rattle.pl_splices.specs.declared.sides.Side.{Side}
-use Rattle.pl_splices.specs.Moves.{Ends, StillWaits, WouldMove, MoveWaits, Goes, IsMove, trial}
-use Rattle.pl_splices.specs.Waits.{IsNoMove}
+use Rattle.pl_splices.specs.declared.waiting.Sides.{Sides}
+use Rattle.pl_splices.specs.Moves.{Ends, StillWaits, WouldMove, MoveWaits, IsMove, trial}
+use Rattle.pl_splices.specs.Waits.{WaitsToMove}
 use Rattle.pl_splices.proofs.Resembling.{settles-from}
 use Rattle.pl_splices.proofs.by_call.Trying.{move-tries, of_one}
 
@@ -65,24 +68,58 @@ module _ {A : Type 0} (k : Contents A) (sound : IsSound A k) (n : ℕ) (from to 
   pub still-parked : (reply : Reply A) (new : Contents A) → Ends k from to len is_tee reply new → IsSome (get nat_eq new.calls.calls n)
   still-parked reply new e = subst (λ o. IsSome o) (sym (ap (λ z. get nat_eq z.calls n) e.leaves.calls ∙ w.here)) refl
 
--- A parked call that keeps two descriptions, as a list that is the one that it keeps has them.
-module _ {A : Type 0} (m : Parts A) (n : ℕ) (w : ParkedCall A) (here : get nat_eq m.calls.calls n ≡ Some w) (kept : List ℕ) (same : kept ≡ w.kept) (a b : ℕ) (two : AreBoth a b w.kept) where
-  pub first_there : IsSome (at m.descs.opened (slice_index_or kept 0 0))
-  first_there = subst (λ ks. IsSome (at m.descs.opened (slice_index_or ks 0 0))) (sym (same ∙ two))
-      (member_there m n w here a (ap (λ ks. is_member nat_eq ks a) two ∙ ap (λ z. z || is_member nat_eq (b ∷ []) a) (eq-eqb a a refl)))
+-- A parked call that keeps two descriptions.
+module _ {A : Type 0} (m : Parts A) (n : ℕ) (w : ParkedCall A) (here : get nat_eq m.calls.calls n ≡ Some w) (a b : ℕ) (two : AreBoth a b w.kept) where
+  pub first_there : IsSome (at m.descs.opened a)
+  first_there = member_there m n w here a (ap (λ ks. is_member nat_eq ks a) two ∙ ap (λ z. z || is_member nat_eq (b ∷ []) a) (eq-eqb a a refl))
 
-  pub second_there : IsSome (at m.descs.opened (slice_index_or kept 1 0))
-  second_there = subst (λ ks. IsSome (at m.descs.opened (slice_index_or ks 1 0))) (sym (same ∙ two))
-      (member_there m n w here b (ap (λ ks. is_member nat_eq ks b) two ∙ or_right _ _ (ap (λ z. z || false) (eq-eqb b b refl))))
+  pub second_there : IsSome (at m.descs.opened b)
+  second_there = member_there m n w here b (ap (λ ks. is_member nat_eq ks b) two ∙ or_right _ _ (ap (λ z. z || false) (eq-eqb b b refl)))
 
--- The sides of a parked call, whose keys are those that it keeps.
-module _ {A : Type 0} (k : Contents A) (sound : IsSound A k) (n : ℕ) (w : ParkedCall A) (here : get nat_eq k.calls.calls n ≡ Some w) (kept : List ℕ) (same : kept ≡ w.kept) (a b : ℕ) (two : AreBoth a b w.kept)
-    (from to : Side) (first : from.key ≡ slice_index_or kept 0 0) (second : to.key ≡ slice_index_or kept 1 0) (on_first : OpenOn k (slice_index_or kept 0 0) from.node) (on_second : OpenOn k (slice_index_or kept 1 0) to.node) where
+-- What a splice or a tee asks, of its two sides.
+module _ {A : Type 0} (x : Call A) (m : WaitingMove) where
+  pub asked_so : (from to : Side) → from.given ≡ m.from_offset → to.given ≡ m.to_offset → AsksMove x m → IsMove x from to m.len m.is_tee
+  asked_so from to f t asked = by x asked
+    where
+      by : (x : Call A) → AsksMove x m → IsMove x from to m.len m.is_tee
+      by (call.Splice a o b p n flags) asked = (asked.0 ∙ sym f, asked.1 ∙ sym t, asked.2, asked.3)
+      by (call.Tee a b n flags) asked = (f ∙ asked.0, t ∙ asked.1, asked.2, asked.3)
+      by other asked = absurd asked
+
+  pub apart_so : (a b : Node) → AsksMove x m → MayGo x a b → AreApart a b
+  apart_so a b asked = by x asked
+    where
+      by : (x : Call A) → AsksMove x m → MayGo x a b → AreApart a b
+      by (call.Splice c o d p n flags) asked go = go
+      by (call.Tee c d n flags) asked go = go
+      by other asked go = absurd asked
+
+  -- a tee keeps no file
+  pub no_file : AsksMove x m → m.is_tee ≡ true → ¬ MayKeepFile x
+  no_file asked = by x asked
+    where
+      by : (x : Call A) → AsksMove x m → m.is_tee ≡ true → ¬ MayKeepFile x
+      by (call.Splice a o b p n flags) asked tee = absurd (let no : false ≡ true = sym asked.3 ∙ tee in cc)
+      by (call.Tee a b n flags) asked tee = λ may. may
+      by other asked tee = absurd asked
+
+  pub may_so : (taken : ℕ) → AsksMove x m → MayWait x taken → (taken ≡ 0) × (0 < m.len)
+  may_so taken asked = by x asked
+    where
+      by : (x : Call A) → AsksMove x m → MayWait x taken → (taken ≡ 0) × (0 < m.len)
+      by (call.Splice a o b p n flags) asked may = (may.0, subst (λ n. 0 < n) asked.2 may.1)
+      by (call.Tee a b n flags) asked may = (may.0, subst (λ n. 0 < n) asked.2 may.1)
+      by other asked may = absurd asked
+
+-- The sides of a parked splice or tee, whose keys are those that it keeps.
+module _ {A : Type 0} (k : Contents A) (sound : IsSound A k) (n : ℕ) (m : WaitingMove) (is : MoveIsKept k n m)
+    (s : Sides) (first : s.from.key ≡ m.from) (second : s.to.key ≡ m.to) (first_given : s.from.given ≡ m.from_offset) (second_given : s.to.given ≡ m.to_offset)
+    (on_first : OpenOn k m.from s.from.node) (on_second : OpenOn k m.to s.to.node) where
+  open s use {from, to}
+  open is use {call as w, here, asked}
+
   keeps_sides : w.kept ≡ from.key ∷ to.key ∷ []
-  keeps_sides =
-      let from_is : from.key ≡ a = first ∙ ap (λ ks. slice_index_or ks 0 0) (same ∙ two) in
-      let to_is : to.key ≡ b = second ∙ ap (λ ks. slice_index_or ks 1 0) (same ∙ two) in
-      two ∙ (λ i. sym from_is i ∷ sym to_is i ∷ [])
+  keeps_sides = is.kept ∙ (λ i. sym first i ∷ sym second i ∷ [])
 
   source : OpenOn k from.key from.node
   source = subst (λ z. OpenOn k z from.node) (sym first) on_first
@@ -106,27 +143,17 @@ module _ {A : Type 0} (k : Contents A) (sound : IsSound A k) (n : ℕ) (w : Park
   piped : (key : ℕ) (node : Node) → ¬ MayKeepFile w.call → OnNode (at k.opened) w key → OpenOn k key node → IsPipe node
   piped key node no_file on is = subst IsPipe is.node (of_one (at k.opened key) is.opened (λ (o : Opened). IsPipe o.node) is.here (is-pipe w no_file (at k.opened key) on))
 
-  pub waits_so : (len : ℕ) (is_tee : Bool) → IsMove w.call from to len is_tee → w.taken ≡ 0 → MoveWaits k n from to len is_tee
-  waits_so len is_tee asked none = record { call = w; here = here; asked = asked; kept = keeps_sides; none_taken = none }
+  may : (w.taken ≡ 0) × (0 < m.len)
+  may = may_so w.call m w.taken asked (subst (λ o. IfSome o (IsWaiting A)) here (sound.waiting n)).may
 
-  pub goes_so : (is_tee : Bool) → (MayGo w.call from.node to.node → AreApart from.node to.node) → (is_tee ≡ true → ¬ MayKeepFile w.call) → Goes k from to is_tee
-  goes_so is_tee apart no_file = record {
-    source = source;
-    target = target;
-    apart = apart may_go;
-    pipes = λ t. (piped from.key from.node (no_file t) (on_kept 0 0 (omega arith)) source, piped to.key to.node (no_file t) (on_kept 1 0 (omega arith)) target);
+  pub waits_to_move : WaitsToMove k n m s
+  waits_to_move = record {
+    waits = record { call = w; here = here; asked = asked_so w.call m from to first_given second_given asked; kept = keeps_sides; none_taken = may.0 };
+    goes = record {
+      source = source;
+      target = target;
+      apart = apart_so w.call m from.node to.node asked may_go;
+      pipes = λ t. (piped from.key from.node (no_file w.call m asked t) (on_kept 0 0 (omega arith)) source, piped to.key to.node (no_file w.call m asked t) (on_kept 1 0 (omega arith)) target);
+    };
+    some = λ zero. let some = may.1 in omega (arith, some, zero);
   }
-
--- any other call that waits keeps one description
-keeps_one : {A : Type 0} (x : Call A) (kept : List ℕ) → Keeps x kept → IsNoMove x → ¬ IsPoll x → KeepsOne x
-keeps_one (call.Read fd n) kept k no_move no_poll = tt
-keeps_one (call.Write fd bytes) kept k no_move no_poll = tt
-keeps_one (call.OpenName name mode flags) kept k no_move no_poll = tt
-keeps_one (call.Splice a f b h n flags) kept k no_move no_poll = absurd no_move
-keeps_one (call.Tee a b n flags) kept k no_move no_poll = absurd no_move
-keeps_one (call.Poll entries wait) kept k no_move no_poll = absurd (no_poll tt)
-keeps_one other kept k no_move no_poll = absurd k
-
-pub others_keep_one : {A : Type 0} (o : Option (ParkedCall A)) → IfSome o (IsWaiting A) → IfSome o (λ w. IsNoMove w.call) → IfSome o (λ w. ¬ IsPoll w.call) → IfSome o (λ w. KeepsOne w.call)
-others_keep_one None waiting no_move no_poll = tt
-others_keep_one (Some w) waiting no_move no_poll = keeps_one w.call w.kept waiting.keeps no_move no_poll

@@ -123,21 +123,17 @@ no_way k (call.Splice a f b h n flags) kept neither = absurd neither
 no_way k (call.Tee a b n flags) kept neither = absurd neither
 no_way k other kept neither = refl
 
-pub by_other : {A : Type 0} (k : Contents A) (number : ℕ) → IfSome (get nat_eq k.calls.calls number) (λ w. IsNoMove w.call) → (new : Contents A) → SharesByStep k (Resume number) new
-by_other {A} k number others new = by (get nat_eq k.calls.calls number) others
-  where
-    by : (o : Option (ParkedCall A)) → IfSome o (λ w. IsNoMove w.call) → IfSome (option_and_then (λ (w : ParkedCall A). way_waiting k w.call w.kept) o) (λ (way : Way). Shares k way.from way.to way.place new.nodes.memory)
-    by None neither = tt
-    by (Some w) neither = subst (λ o. IfSome o (λ (way : Way). Shares k way.from way.to way.place new.nodes.memory)) (sym (no_way k w.call w.kept neither)) tt
+-- nor is there one where no call waits
+pub by_none : {A : Type 0} (k : Contents A) (number : ℕ) → get nat_eq k.calls.calls number ≡ None → (new : Contents A) → SharesByStep k (Resume number) new
+by_none k number none new =
+    subst (λ (o : Option (ParkedCall _)). IfSome (option_and_then (λ (w : ParkedCall _). way_waiting k w.call w.kept) o) (λ (way : Way). Shares k way.from way.to way.place new.nodes.memory)) (sym none) tt
+
+pub by_other : {A : Type 0} (k : Contents A) (number : ℕ) (w : ParkedCall A) → get nat_eq k.calls.calls number ≡ Some w → IsNoMove w.call → (new : Contents A) → SharesByStep k (Resume number) new
+by_other {A} k number w here neither new =
+    subst (λ (o : Option (ParkedCall A)). IfSome (option_and_then (λ (w : ParkedCall A). way_waiting k w.call w.kept) o) (λ (way : Way). Shares k way.from way.to way.place new.nodes.memory)) (sym here)
+    (subst (λ o. IfSome o (λ (way : Way). Shares k way.from way.to way.place new.nodes.memory)) (sym (no_way k w.call w.kept neither)) tt)
 
 -- nor has a poll
-poll_way : {A : Type 0} (k : Contents A) (x : Call A) (kept : List ℕ) → IsPoll x → way_waiting k x kept ≡ None
-poll_way k (call.Poll entries wait) kept poll = refl
-poll_way k other kept poll = absurd poll
-
-pub by_poll : {A : Type 0} (k : Contents A) (number : ℕ) → IfSome (get nat_eq k.calls.calls number) (λ w. IsPoll w.call) → (new : Contents A) → SharesByStep k (Resume number) new
-by_poll {A} k number polls new = by (get nat_eq k.calls.calls number) polls
-  where
-    by : (o : Option (ParkedCall A)) → IfSome o (λ w. IsPoll w.call) → IfSome (option_and_then (λ (w : ParkedCall A). way_waiting k w.call w.kept) o) (λ (way : Way). Shares k way.from way.to way.place new.nodes.memory)
-    by None poll = tt
-    by (Some w) poll = subst (λ o. IfSome o (λ (way : Way). Shares k way.from way.to way.place new.nodes.memory)) (sym (poll_way k w.call w.kept poll)) tt
+pub poll_moves_none : {A : Type 0} (x : Call A) → IsPoll x → IsNoMove x
+poll_moves_none (call.Poll entries wait) poll = tt
+poll_moves_none other poll = absurd poll

@@ -1,4 +1,4 @@
-use Rattle.std.proofs.Common.{◌≡◌, ℤ, None, MatchOption, ◌∙◌, subst, rules, w32, w64, SFits}
+use Rattle.std.proofs.Common.{◌≡◌, ℤ, None, MatchOption, subst, rules, w32, w64, SFits}
 use mir.Val.{to_z, of_z}
 use Rattle.std.proofs.lemmas.Int.{to_z-of_z}
 use Rattle.std.specs.Prelude.{⊤}
@@ -15,9 +15,9 @@ returns-clause-wants c =
     let offset : SFits w64 c.args.offset = search rules in
     let whence : SFits w32 c.args.whence = search rules in
     let P : Layer → ℤ → ℤ → ℤ → Type 0 =
-    λ z f o w. z.recorder ≡ None → MatchOption (whence_of_number w) ⊤ (λ whence. Wants z.kernel (Begin c.args.pid (Call.Lseek f o whence)) c.lseek-answer.result) in
-    let layer = c.deref_mut.result.now in
-    subst (λ z. P z c.args.fd c.args.offset c.args.whence) (c.deref_mut.ensures.value ∙ c.into_box-layer.ensures)
+    λ z f o w. z.recorder ≡ None → MatchOption (whence_of_number w) ⊤ (λ whence. Wants z.kernel (Begin c.args.pid (Call.Lseek f o whence)) c.lseek.result) in
+    let layer = c.layer.result.now in
+    subst (λ z. P z c.args.fd c.args.offset c.args.whence) c.layer.ensures
     (subst (λ w. P layer c.args.fd c.args.offset w) (to_z-of_z w32 c.args.whence whence)
     (subst (λ o. P layer c.args.fd o (to_z w32 (of_z w32 c.args.whence))) (to_z-of_z w64 c.args.offset offset)
-    (subst (λ f. P layer f (to_z w64 (of_z w64 c.args.offset)) (to_z w32 (of_z w32 c.args.whence))) (to_z-of_z w32 c.args.fd fd) c.lseek-answer.ensures.wants)))
+    (subst (λ f. P layer f (to_z w64 (of_z w64 c.args.offset)) (to_z w32 (of_z w32 c.args.whence))) (to_z-of_z w32 c.args.fd fd) c.lseek.ensures.wants)))

@@ -1,8 +1,8 @@
-use Rattle.std.proofs.Common.{◌∙◌, subst}
+use Rattle.std.proofs.Common.{subst}
 use Rattle.pl_kernel.specs.ToldSegments.{TellsNone}
 use Rattle.bindingclay.specs.Heap.{InBudget}
 use Rattle.bindingclay.specs.declared.layer.Layer.{Layer}
 use Rattle.bindingclay.proofs.facts.bindingclay_stats.Goals as goal
 
 pub returns-clause-none : goal.returns-clause-none
-returns-clause-none c = subst (λ (z : Layer). TellsNone {A = InBudget} z.kernel c.segments.result.used) (c.deref.ensures ∙ c.into_box-layer.ensures) c.segments.ensures.none
+returns-clause-none c = subst (λ (z : Layer). TellsNone {A = InBudget} z.kernel c.segments.result.used) c.layer.ensures c.segments.ensures.none

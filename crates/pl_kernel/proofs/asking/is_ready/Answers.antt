@@ -1,41 +1,27 @@
-use Rattle.std.proofs.Common.{◌≡◌, Bool, true, Bor, Option, None, Some, refl, sym, ◌∙◌, ap, nat_eq}
-use Rattle.std.specs.Prelude.{◌&&◌, is_some, IsSome}
+use Rattle.std.proofs.Common.{◌≡◌, ℕ, Bool, true, sym, ◌∙◌, ap, nat_eq}
+use Rattle.std.specs.Prelude.{◌&&◌, is_some}
 use Rattle.pl_model.specs.Map.{get}
 use Rattle.pl_model.specs.Waking.{can_progress}
-use Rattle.pl_parked.specs.declared.call.ParkedCall.{ParkedCall}
+use Rattle.pl_state.specs.declared.waits.WaitingCall.{WaitingCall}
+use Rattle.pl_state.specs.declared.waits.WaitingCall.TheVariants.{Read, Write, Open, Move, Poll}
 use Rattle.pl_state.specs.Contents.{Contents, core_of}
-use Rattle.pl_kernel.proofs.NextReady.{mapped}
-use Rattle.pl_kernel.proofs.index.Touching.{parked-some}
-use Rattle.pl_kernel.proofs.asking.is_ready.Given.{Over}
-use Rattle.pl_kernel.proofs.asking.is_ready.Goals.{After-is_some}
+use Rattle.pl_state.specs.Waits.{WaitsAs}
+use Rattle.pl_kernel.proofs.index.Touching.{parked-some, unready}
 use Rattle.pl_kernel.proofs.asking.is_ready.Goals as goal
 
--- whether a call is parked under the number
-parked : (g : Over) (c : After-is_some g) → is_some (get nat_eq (core_of c.args.state.now).parked c.args.number) ≡ c.is_some.result
-parked g c =
-    parked-some c.args.state.now c.args.number
-    ∙ ap (λ (z : Contents g.row.A.Denot). is_some (get nat_eq z.calls.calls c.args.number)) (sym c.state.view_is)
-    ∙ ap (λ o. is_some o) (sym c.get.ensures)
-    ∙ mapped (λ (b : Bor (ParkedCall g.row.A.Denot)). b.now) c.get.result
-    ∙ sym c.is_some.ensures
-
-pub returns-then-is_some : goal.returns-then-is_some
-returns-then-is_some g c =
-    let w = (goal.at.returns-then-is_some g c).After-is_some in
-    c.can_progress.ensures ∙ sym (ap (λ (b : Bool). b && can_progress (core_of c.args.state.now) c.args.number) (parked g w ∙ c.if-is_some.true))
-
-pub returns-else-is_some : goal.returns-else-is_some
-returns-else-is_some g c =
-    let w = (goal.at.returns-else-is_some g c).After-is_some in
-    c.if-is_some.false ∙ sym (ap (λ (b : Bool). b && can_progress (core_of c.args.state.now) c.args.number) (parked g w ∙ c.if-is_some.false))
-
--- a read is parked
-there : {X : Type 0} (o : Option X) → IsSome o → is_some o ≡ true
-there None h = absurd (cc)
-there (Some x) h = refl
+-- what waits so is parked
+there : {A : Type 0} (k : Contents A) (n : ℕ) (call : WaitingCall) → WaitsAs k n call → is_some (get nat_eq k.calls.calls n) ≡ true
+there k n (Read key m) w = ap (λ o. is_some o) w.here
+there k n (Write key length taken) w = ap (λ o. is_some o) w.here
+there k n (Open key pid met) w = ap (λ o. is_some o) w.here
+there k n (Move m) w = ap (λ o. is_some o) w.here
+there k n Poll w = ap (λ o. is_some o) w.here
 
 pub returns-in-Some : goal.returns-in-Some
 returns-in-Some g c =
     let k = c.args.state.now in
-    let e = c.in-Some.ensures.some in
-    e.0 ∙ sym (ap (λ (b : Bool). b && can_progress (core_of k) c.args.number) (parked-some k c.args.number ∙ there (get nat_eq k.calls.calls c.args.number) e.1))
+    let n = c.args.number in
+    c.call_can_progress.ensures ∙ sym (ap (λ (b : Bool). b && can_progress (core_of k) n) (parked-some k n ∙ there k n c.in-Some.call c.in-Some.ensures.some))
+
+pub returns-in-None : goal.returns-in-None
+returns-in-None g c = sym (unready c.args.state.now c.args.number c.in-None.ensures.none)

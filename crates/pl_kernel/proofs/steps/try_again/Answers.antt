@@ -1,5 +1,9 @@
-use Rattle.pl_splices.proofs.by_call.Sharing.{by_poll}
+use Rattle.std.proofs.Common.{subst}
+use Rattle.pl_state.specs.Sound.{IsSound}
+use Rattle.pl_state.proofs.by_call.Resumed.{resume-none}
 use Rattle.pl_kernel.proofs.steps.try_again.Goals as goal
 
-pub returns-then-is_poll-clause-shares : goal.returns-then-is_poll-clause-shares
-returns-then-is_poll-clause-shares g c = by_poll c.args.kernel.now c.args.number (c.is_poll.ensures.polls c.if-is_poll.true) c.resume_poll.new.kernel
+pub returns-in_default-clause-done : goal.returns-in_default-clause-done
+returns-in_default-clause-done g c =
+    let sound = subst (IsSound g.row.A.Denot) c.kernel.view_is c.kernel.invariant.0 in
+    resume-none c.args.kernel.now sound c.args.number c.in_default.ensures.none

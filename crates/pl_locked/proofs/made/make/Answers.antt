@@ -15,7 +15,7 @@ returns-in_ok-reply-in-Begin-default-Write-clause-made g c =
     in
     λ s stands.
     let made = subst (λ x. Makes {A = g.row.A.Denot} c.args.kernel.now x (reply_of c.in_ok-reply-in-Begin-default-Write.reply) c.write_from.new.self) same c.in_ok-reply-in-Begin-default-Write.ensures.made s stands in
-    (c.reply_of-in-Begin-default-Write.ensures ∙ made.0, made.1)
+    (c.reply_of_write-in-Begin-default-Write.ensures ∙ made.0, made.1)
 
 pub returns-in-Begin-default-Read-clause-made : goal.returns-in-Begin-default-Read-clause-made
 returns-in-Begin-default-Read-clause-made g c =

@@ -12,46 +12,53 @@ use Rattle.pl_splices.specs.Moves.{trial}
 use Rattle.pl_splices.proofs.by_call.Retrying.{move-progress}
 use Rattle.pl_splices.proofs.by_call.Sizing.{packets_end, ends_still, waits_still, would_move}
 use Rattle.pl_splices.proofs.waiting.move_can_progress.Given.{Over}
-use Rattle.pl_splices.proofs.waiting.move_can_progress.Goals.{After-kernel}
+use Rattle.pl_splices.proofs.waiting.move_can_progress.Goals.{After-sides_of}
 use Rattle.pl_splices.proofs.waiting.move_can_progress.Goals as goal
 
 -- whether it can get on is told by its try
-by_trial : (g : Over) (c : After-kernel g) (t : Trial g.row.A.Denot numbers) → trial c.args.kernel.now c.args.waiting.from c.args.waiting.to c.args.waiting.len c.args.waiting.is_tee ≡ t → gets_on 0 t ≡ can_progress (core_of c.args.kernel.now) c.args.number
+by_trial : (g : Over) (c : After-sides_of g) (t : Trial g.row.A.Denot numbers) → trial c.args.kernel.now c.sides_of.result.from c.sides_of.result.to c.args.waiting.len c.args.waiting.is_tee ≡ t → gets_on 0 t ≡ can_progress (core_of c.args.kernel.now) c.args.number
 by_trial g c t is =
     let m = c.args.waiting in
-    sym (move-progress c.args.kernel.now (subst (λ z. IsSound g.row.A.Denot z) c.kernel.view_is c.kernel.invariant.0) c.args.number m.from m.to m.len m.is_tee c.requires.waits t is)
+    let s = c.sides_of.result in
+    sym (move-progress c.args.kernel.now (subst (λ z. IsSound g.row.A.Denot z) c.kernel.view_is c.kernel.invariant.0) c.args.number s.from s.to m.len m.is_tee c.sides_of.ensures.waits t is)
 
 pub returns-then-either_is_packet : goal.returns-then-either_is_packet
 returns-then-either_is_packet g c =
     let m = c.args.waiting in
-    by_trial g (goal.at.returns-then-either_is_packet g c).After-kernel _ (packets_end c.args.kernel.now m.from m.to m.is_tee c.requires.goes m.len (sym c.either_is_packet.ensures ∙ c.if-either_is_packet.true)).came
+    let s = c.sides_of.result in
+    by_trial g (goal.at.returns-then-either_is_packet g c).After-sides_of _ (packets_end c.args.kernel.now s.from s.to m.is_tee c.sides_of.ensures.goes m.len (sym c.either_is_packet.ensures ∙ c.if-either_is_packet.true)).came
 
 pub returns-in-Broken : goal.returns-in-Broken
 returns-in-Broken g c =
     let m = c.args.waiting in
-    by_trial g (goal.at.returns-in-Broken g c).After-kernel _ (ends_still c.args.kernel.now m.from m.to m.is_tee c.requires.goes m.len c.source_of-source.result c.target_of-target.result c.source_of-source.ensures c.target_of-target.ensures
+    let s = c.sides_of.result in
+    by_trial g (goal.at.returns-in-Broken g c).After-sides_of _ (ends_still c.args.kernel.now s.from s.to m.is_tee c.sides_of.ensures.goes m.len c.source_of-source.result c.target_of-target.result c.source_of-source.ensures c.target_of-target.ensures
     MoveCase.Broken (sym c.in-Broken.is ∙ c.case_of_move.ensures.case) (sym c.either_is_packet.ensures ∙ c.if-either_is_packet.false) (Fault EPIPE) refl).came
 
 pub returns-in-EndOfInput : goal.returns-in-EndOfInput
 returns-in-EndOfInput g c =
     let m = c.args.waiting in
-    by_trial g (goal.at.returns-in-EndOfInput g c).After-kernel _ (ends_still c.args.kernel.now m.from m.to m.is_tee c.requires.goes m.len c.source_of-source.result c.target_of-target.result c.source_of-source.ensures c.target_of-target.ensures
+    let s = c.sides_of.result in
+    by_trial g (goal.at.returns-in-EndOfInput g c).After-sides_of _ (ends_still c.args.kernel.now s.from s.to m.is_tee c.sides_of.ensures.goes m.len c.source_of-source.result c.target_of-target.result c.source_of-source.ensures c.target_of-target.ensures
     MoveCase.EndOfInput (sym c.in-EndOfInput.is ∙ c.case_of_move.ensures.case) (sym c.either_is_packet.ensures ∙ c.if-either_is_packet.false) (count 0) refl).came
 
 pub returns-in-Waits : goal.returns-in-Waits
 returns-in-Waits g c =
     let m = c.args.waiting in
-    by_trial g (goal.at.returns-in-Waits g c).After-kernel _ (waits_still c.args.kernel.now m.from m.to m.is_tee c.requires.goes m.len c.source_of-source.result c.target_of-target.result c.source_of-source.ensures c.target_of-target.ensures
+    let s = c.sides_of.result in
+    by_trial g (goal.at.returns-in-Waits g c).After-sides_of _ (waits_still c.args.kernel.now s.from s.to m.is_tee c.sides_of.ensures.goes m.len c.source_of-source.result c.target_of-target.result c.source_of-source.ensures c.target_of-target.ensures
     MoveCase.Waits (sym c.in-Waits.is ∙ c.case_of_move.ensures.case) (sym c.either_is_packet.ensures ∙ c.if-either_is_packet.false) refl).came
 
 pub returns-in-TooBig : goal.returns-in-TooBig
 returns-in-TooBig g c =
     let m = c.args.waiting in
-    by_trial g (goal.at.returns-in-TooBig g c).After-kernel _ (ends_still c.args.kernel.now m.from m.to m.is_tee c.requires.goes m.len c.source_of-source.result c.target_of-target.result c.source_of-source.ensures c.target_of-target.ensures
+    let s = c.sides_of.result in
+    by_trial g (goal.at.returns-in-TooBig g c).After-sides_of _ (ends_still c.args.kernel.now s.from s.to m.is_tee c.sides_of.ensures.goes m.len c.source_of-source.result c.target_of-target.result c.source_of-source.ensures c.target_of-target.ensures
     MoveCase.TooBig (sym c.in-TooBig.is ∙ c.case_of_move.ensures.case) (sym c.either_is_packet.ensures ∙ c.if-either_is_packet.false) (Fault EFBIG) refl).came
 
 pub returns-in-Moves : goal.returns-in-Moves
 returns-in-Moves g c =
     let m = c.args.waiting in
-    by_trial g (goal.at.returns-in-Moves g c).After-kernel _ (would_move c.args.kernel.now m.from m.to m.is_tee c.requires.goes m.len c.source_of-source.result c.target_of-target.result c.source_of-source.ensures c.target_of-target.ensures
+    let s = c.sides_of.result in
+    by_trial g (goal.at.returns-in-Moves g c).After-sides_of _ (would_move c.args.kernel.now s.from s.to m.is_tee c.sides_of.ensures.goes m.len c.source_of-source.result c.target_of-target.result c.source_of-source.ensures c.target_of-target.ensures
     c.case_of_move.result c.case_of_move.ensures.case (sym c.either_is_packet.ensures ∙ c.if-either_is_packet.false) c.in-Moves._count c.in-Moves.is).came

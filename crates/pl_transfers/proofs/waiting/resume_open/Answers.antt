@@ -1,4 +1,4 @@
-use Rattle.std.proofs.Common.{◌≡◌, true, refl, sym, ap, subst, ◌∙◌}
+use Rattle.std.proofs.Common.{◌≡◌, sym, ap, subst, ◌∙◌}
 use Rattle.std.specs.Prelude.{pos}
 use Rattle.pl_model.specs.declared.calls.Step.TheVariants.{Resume}
 use Rattle.pl_model.specs.declared.replies.Reply.TheVariants.{Fd}
@@ -13,7 +13,7 @@ use Rattle.pl_state.specs.Parking.{OpenWaits}
 use Rattle.pl_state.specs.Sound.{IsSound, AreCounted}
 use Rattle.pl_state.proofs.Known.{Known, known}
 use Rattle.pl_state.proofs.by_call.Piping.{lowest_found, fits_place, to_z_place}
-use Rattle.pl_transfers.proofs.by_call.OpensAgain.{open-many, open-sound, open-held, open-made, held}
+use Rattle.pl_transfers.proofs.by_call.OpensAgain.{open-waits, open-many, open-sound, open-held, open-made, held}
 use Rattle.pl_transfers.proofs.waiting.resume_open.Given.{Over}
 use Rattle.pl_transfers.proofs.waiting.resume_open.Goals.{After-kernel}
 use Rattle.pl_transfers.proofs.waiting.resume_open.Goals as goal
@@ -23,15 +23,20 @@ module _ (g : Over) (c : After-kernel g) where
   abbrev m : Known g.row.A.Denot
   m = known c.kernel.inside c.kernel.invariant
 
-  waits : OpenWaits (view_of c.kernel.inside) c.args.number c.args.pid c.args.key true
-  waits = subst (λ z. OpenWaits z c.args.number c.args.pid c.args.key true) (sym c.kernel.view_is) c.requires
+  waits : OpenWaits (view_of c.kernel.inside) c.args.number c.args.pid c.args.key c.args.met
+  waits = subst (λ z. OpenWaits z c.args.number c.args.pid c.args.key c.args.met) (sym c.kernel.view_is) c.requires
+
+pub returns-then-not-met : goal.returns-then-not-met
+returns-then-not-met g c =
+    let v = (goal.at.returns-then-not-met g c).After-kernel in
+    rw (← c.kernel.view_is) (open-waits (m g v) c.args.number c.args.pid c.args.key c.args.met (waits g v) c.if-not-met.true)
 
 pub returns-in_default : goal.returns-in_default
 returns-in_default g c =
     let v = (goal.at.returns-in_default g c).After-kernel in
     let new = c.end_call.new.kernel in
     let ended = subst (λ z. core_of new ≡ settle (core_of z) (without_call (core_of z) c.args.number)) (sym c.kernel.view_is) c.end_call.ensures.settled in
-    rw (← c.kernel.view_is) (open-many (m g v) c.args.number c.args.pid c.args.key true (waits g v) refl (sym c.lowest.ensures ∙ c.in_default.is) new ended)
+    rw (← c.kernel.view_is) (open-many (m g v) c.args.number c.args.pid c.args.key c.args.met (waits g v) c.if-not-met.false (sym c.lowest.ensures ∙ c.in_default.is) new ended)
 
 pub install-requires-clause-place : goal.install-requires-clause-place
 install-requires-clause-place g c = (lowest_found c.kernel.inside.descs.tables c.kernel.inside.limits.descriptors_max c.args.pid 0 c.in-Some.fd (sym c.lowest.ensures ∙ c.in-Some.is)).1
@@ -42,7 +47,7 @@ install-requires-clause-free g c = (lowest_found c.kernel.inside.descs.tables c.
 pub install-requires-clause-held : goal.install-requires-clause-held
 install-requires-clause-held g c =
     let v = (goal.at.install-requires-clause-held g c).After-kernel in
-    held (m g v) c.args.number c.args.pid c.args.key true (waits g v)
+    held (m g v) c.args.number c.args.pid c.args.key c.args.met (waits g v)
 
 pub overflow_cast-result : goal.overflow_cast-result
 overflow_cast-result g c = fits_place c.in-Some.fd (lowest_found c.kernel.inside.descs.tables c.kernel.inside.limits.descriptors_max c.args.pid 0 c.in-Some.fd (sym c.lowest.ensures ∙ c.in-Some.is)).1
@@ -54,8 +59,8 @@ invariant_of-kernel g c =
     let n = c.args.number in
     let at_call = waits g v in
     subst (λ (z : Calls g.row.A.Denot). (IsSound g.row.A.Denot (contents c.install.new.self (nodes_of c.kernel.inside.nodes) z c.kernel.inside.limits)) × (AreCounted g.row.A.Denot c.install.new.self z.calls)) (sym c.take.ensures.rest) (
-      open-sound (m g v) n c.args.pid c.args.key true at_call refl c.in-Some.fd (sym c.lowest.ensures ∙ c.in-Some.is) c.install.new.self i.pids i.rows (ap (λ (z : Descs). z.opened) i.rest) i.loose i.tidy,
-      open-held (m g v) n c.args.pid c.args.key true at_call refl c.in-Some.fd (sym c.lowest.ensures ∙ c.in-Some.is) c.install.new.self i.pids i.rows (ap (λ (z : Descs). z.opened) i.rest) i.loose i.tidy,
+      open-sound (m g v) n c.args.pid c.args.key c.args.met at_call c.if-not-met.false c.in-Some.fd (sym c.lowest.ensures ∙ c.in-Some.is) c.install.new.self i.pids i.rows (ap (λ (z : Descs). z.opened) i.rest) i.loose i.tidy,
+      open-held (m g v) n c.args.pid c.args.key c.args.met at_call c.if-not-met.false c.in-Some.fd (sym c.lowest.ensures ∙ c.in-Some.is) c.install.new.self i.pids i.rows (ap (λ (z : Descs). z.opened) i.rest) i.loose i.tidy,
     )
 
 pub returns : goal.returns
@@ -67,4 +72,4 @@ returns g c =
     let least = sym c.lowest.ensures ∙ c.in-Some.is in
     rw (← c.kernel.view_is, to_z_place fd (lowest_found c.kernel.inside.descs.tables c.kernel.inside.limits.descriptors_max c.args.pid 0 fd least).1)
     (subst (λ (z : Calls g.row.A.Denot). MakesAtKeys (view_of c.kernel.inside) (Resume n) (Fd (pos fd)) (contents c.install.new.self (nodes_of c.kernel.inside.nodes) z c.kernel.inside.limits)) (sym c.take.ensures.rest)
-    (open-made (m g v) n c.args.pid c.args.key true (waits g v) refl fd least c.install.new.self i.pids i.rows (ap (λ (z : Descs). z.opened) i.rest) i.loose i.tidy))
+    (open-made (m g v) n c.args.pid c.args.key c.args.met (waits g v) c.if-not-met.false fd least c.install.new.self i.pids i.rows (ap (λ (z : Descs). z.opened) i.rest) i.loose i.tidy))

@@ -1,4 +1,4 @@
-use Rattle.std.proofs.Common.{refl, subst, sym, ap, length, Some, ◌∙◌, arith}
+use Rattle.std.proofs.Common.{refl, subst, sym, length, arith}
 use Rattle.std.specs.Prelude.{Ok, Result, ⊤}
 use Rattle.bindingclay.specs.Heap.{InBudget}
 use Rattle.pl_model.specs.declared.calls.Step.TheVariants.{Resume}
