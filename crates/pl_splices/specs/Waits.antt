@@ -1,7 +1,5 @@
 -- Splices and tees that wait.
 use Rattle.std.specs.Prelude.{◌≢◌, ℕ}
-use Rattle.pl_model.specs.declared.calls.Call.{Call}
-use Rattle.pl_model.specs.declared.calls.Call.TheVariants.{Splice, Tee}
 use Rattle.pl_state.specs.Contents.{Contents}
 use Rattle.pl_state.specs.declared.waits.WaitingMove.{WaitingMove}
 use Rattle.pl_splices.specs.declared.waiting.Sides.{Sides}
@@ -13,9 +11,3 @@ module _ {A : Type 0} where
     pub waits : MoveWaits k number s.from s.to m.len m.is_tee
     pub goes : Goes k s.from s.to m.is_tee
     pub some : m.len ≢ 0
-
-  -- the call is neither a splice nor a tee
-  abbrev pub IsNoMove : Call A → Type 0
-  IsNoMove (Splice from from_offset to to_offset len flags) = ⊥
-  IsNoMove (Tee from to len flags) = ⊥
-  IsNoMove other = Unit {0}

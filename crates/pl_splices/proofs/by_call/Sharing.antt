@@ -1,5 +1,5 @@
 -- What a splice or a tee that moves nothing, is parked, or ends with its call, leaves of memory.
-use Rattle.std.proofs.Common.{◌≡◌, ◌≤◌, ℕ, ℤ, Bool, true, false, List, [], ◌∷◌, Option, Some, None, IfSome, refl, sym, ◌∙◌, ap, subst, nat_eq, arith}
+use Rattle.std.proofs.Common.{◌≡◌, ◌≤◌, ℕ, ℤ, Bool, true, false, List, [], ◌∷◌, Option, Some, None, IfSome, sym, ◌∙◌, ap, subst, arith}
 use Rattle.std.specs.Prelude.{Result, Ok, Err, OnOk, OnErr, if◌then◌else◌, option_and_then}
 use Rattle.pl_model.specs.declared.calls.Call.{Call}
 use Rattle.pl_model.specs.declared.calls.Call.TheVariants as call
@@ -7,7 +7,6 @@ use Rattle.pl_model.specs.declared.calls.Step.{Step}
 use Rattle.pl_model.specs.declared.calls.Step.TheVariants.{Resume}
 use Rattle.pl_model.specs.declared.node.Node.{Node}
 use Rattle.pl_model.specs.declared.node.Node.TheVariants.{Pipe, File}
-use Rattle.pl_model.specs.Map.{get}
 use Rattle.pl_model.specs.Modes.{reads, writes}
 use Rattle.pl_parked.specs.declared.call.ParkedCall.{ParkedCall}
 use Rattle.pl_segments.specs.declared.slice.Slice.{Slice}
@@ -19,10 +18,8 @@ use Rattle.pl_nodes.specs.Nodes.{Memory, Shrinks}
 use Rattle.pl_state.specs.declared.access.OpenNode.{OpenNode}
 use Rattle.pl_state.specs.Contents.{Contents}
 use Rattle.pl_state.specs.Opens.{OpenOn, Opens}
-use Rattle.pl_state.specs.Sound.{IsPoll}
 use Rattle.pl_splices.specs.declared.sides.Side.{Side}
 use Rattle.pl_splices.specs.Moves.{IsMove, MoveWaits}
-use Rattle.pl_splices.specs.Waits.{IsNoMove}
 use Rattle.pl_splices.specs.Shares.{Shares, SharesBetween, SharesByStep, Way, place_in, way_between, way_named, way_kept, way_waiting, way_of}
 
 -- slots that were there aren't strange
@@ -116,24 +113,3 @@ module _ {A : Type 0} (k : Contents A) (number : ℕ) (from to : Side) (len : �
 -- bytes of a step go this way
 pub by_way : {A : Type 0} (old : Contents A) (x : Step A) (road : Way) (new : Contents A) → way_of old x ≡ Some road → Shares old road.from road.to road.place new.nodes.memory → SharesByStep old x new
 by_way old x road new is shares = subst (λ o. IfSome o (λ (way : Way). Shares old way.from way.to way.place new.nodes.memory)) (sym is) shares
-
--- another call has no such way
-no_way : {A : Type 0} (k : Contents A) (x : Call A) (kept : List ℕ) → IsNoMove x → way_waiting k x kept ≡ None
-no_way k (call.Splice a f b h n flags) kept neither = absurd neither
-no_way k (call.Tee a b n flags) kept neither = absurd neither
-no_way k other kept neither = refl
-
--- nor is there one where no call waits
-pub by_none : {A : Type 0} (k : Contents A) (number : ℕ) → get nat_eq k.calls.calls number ≡ None → (new : Contents A) → SharesByStep k (Resume number) new
-by_none k number none new =
-    subst (λ (o : Option (ParkedCall _)). IfSome (option_and_then (λ (w : ParkedCall _). way_waiting k w.call w.kept) o) (λ (way : Way). Shares k way.from way.to way.place new.nodes.memory)) (sym none) tt
-
-pub by_other : {A : Type 0} (k : Contents A) (number : ℕ) (w : ParkedCall A) → get nat_eq k.calls.calls number ≡ Some w → IsNoMove w.call → (new : Contents A) → SharesByStep k (Resume number) new
-by_other {A} k number w here neither new =
-    subst (λ (o : Option (ParkedCall A)). IfSome (option_and_then (λ (w : ParkedCall A). way_waiting k w.call w.kept) o) (λ (way : Way). Shares k way.from way.to way.place new.nodes.memory)) (sym here)
-    (subst (λ o. IfSome o (λ (way : Way). Shares k way.from way.to way.place new.nodes.memory)) (sym (no_way k w.call w.kept neither)) tt)
-
--- nor has a poll
-pub poll_moves_none : {A : Type 0} (x : Call A) → IsPoll x → IsNoMove x
-poll_moves_none (call.Poll entries wait) poll = tt
-poll_moves_none other poll = absurd poll
