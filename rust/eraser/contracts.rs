@@ -250,8 +250,10 @@ pub fn erase_bounds(source: &mut Tokens) -> Result<()> {
             continue;
         }
         let before = source.previous(at);
-        if source.text(before) != "+" || ![",", ">", ")"].contains(&source.text(source.next(at))) {
-            return source.fail(at, "`Drop` where it is not the last of several bounds");
+        if !["+", ":"].contains(&source.text(before))
+            || ![",", ">", ")"].contains(&source.text(source.next(at)))
+        {
+            return source.fail(at, "`Drop` where it is neither the last bound nor the only one");
         }
         source.count("bound `Drop`");
         source.drop(before, at);

@@ -48,6 +48,7 @@ pub const PLACES: &[Place] = &[
     Place::new(Part::Library, "pl_ring", "parts/ring"),
     Place::new(Part::Library, "pl_packets", "parts/packets"),
     Place::new(Part::Library, "pl_file", "parts/file"),
+    Place::new(Part::Library, "pl_numbered", "parts/numbered"),
     Place::new(Part::Library, "pl_parked", "parts/parked"),
     Place::new(Part::Library, "pl_least", "parts/least"),
     Place::new(Part::Library, "pl_waiters", "parts/waiters"),

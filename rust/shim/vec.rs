@@ -82,6 +82,12 @@ impl<T, A: Allocator> Vec<T, A> {
         self.items.capacity()
     }
 
+    /// What it takes memory from.
+    #[inline(always)]
+    pub const fn allocator(&self) -> &A {
+        &self.alloc
+    }
+
     /// The items, in order.
     #[inline(always)]
     pub fn as_slice(&self) -> &[T] {

@@ -4,7 +4,7 @@ ghost use Rattle.pl_model.specs.Flags.{status_flags};
 ghost use Rattle.pl_model.specs.Fifo.{can_open as machine_can_open};
 ghost use Rattle.pl_model.specs.Map.{change_at};
 ghost use Rattle.pl_model.specs.Numbers.{last_call, most_descriptions};
-ghost use Rattle.pl_parked.specs.Calls.{Rise};
+ghost use Rattle.pl_numbered.specs.Rising.{Rise};
 ghost use Rattle.pl_desc.specs.Rows.{at};
 ghost use Rattle.pl_desc.specs.Descs.{fresh, live_count};
 ghost use Rattle.pl_nodes.specs.Nodes.{SameFiles};

@@ -5,8 +5,9 @@ use Rattle.std.specs.List.{find}
 use Rattle.std.proofs.lemmas.Bool.Decides.{eqb_tells, nat_tests}
 use Rattle.pl_model.specs.Map.{Map, get}
 use Rattle.pl_parked.specs.declared.call.ParkedCall.{ParkedCall}
-use Rattle.pl_parked.specs.Calls.{Rise, is_of_from}
-use Rattle.pl_parked.proofs.Rising.{IfSome_by, get_first, get_later, get_high}
+use Rattle.pl_parked.specs.Calls.{is_of_from}
+use Rattle.pl_numbered.specs.Rising.{Rise}
+use Rattle.pl_numbered.proofs.Rising.{IfSome_by, get_first, get_later, get_high}
 
 module _ {X : Type 0} (test : ℕ × X → Bool) where
   pub found-here : (low next : ℕ) (es : Map ℕ X) (e : ℕ × X) → Rise low next es → find test es ≡ Some e → (get nat_eq es e.0 ≡ Some e.1) × (test e ≡ true) × (low ≤ e.0)

@@ -1,12 +1,7 @@
-pub mod EntryLemmas
 pub mod Finding
-pub mod FromNumber
-pub mod InGroups
 pub mod Keeping
 pub mod Listed
 pub mod Meeting
 pub mod Owned
-pub mod Replacing
-pub mod Rising
-pub mod Searched
+pub mod Rows
 pub mod Waiting

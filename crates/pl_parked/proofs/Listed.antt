@@ -1,6 +1,6 @@
 -- The opens that wait and weren't met, as they are listed, before and after a change of the calls.
-use Rattle.std.proofs.Common.{◌≡◌, ℕ, Bool, true, false, not, Option, Some, None, IsTrue, refl, sym, ◌∙◌, ap, inl, inr, nat_eq}
-use Rattle.std.specs.Prelude.{◌&&◌, ◌||◌, IsSomeAnd, option_and_then}
+use Rattle.std.proofs.Common.{◌≡◌, ℕ, Bool, true, false, not, Option, Some, None, refl, sym, ◌∙◌, ap, inl, inr, nat_eq}
+use Rattle.std.specs.Prelude.{◌&&◌, ◌||◌, option_and_then}
 use Rattle.std.specs.BTreeSet.{BTreeSet}
 use Rattle.std.proofs.lemmas.Bool.{and_right}
 use Rattle.std.proofs.lemmas.Bool.Decides.{eqb_tells}
@@ -11,8 +11,8 @@ use Rattle.pl_parked.specs.declared.call.ParkedCall.{ParkedCall}
 use Rattle.pl_parked.specs.declared.opens.WaitingOpen.{WaitingOpen}
 use Rattle.pl_parked.specs.Meeting.{meets}
 use Rattle.pl_parked.specs.Waiting.{is_in, is_named, key_of, waiting_open, has_met, Lists}
-use Rattle.pl_parked.proofs.Replacing.{Replaces, and-true, lists-same, lists-more, lists-fewer}
-use Rattle.pl_parked.proofs.Waiting.{neither, other-number, listed-met}
+use Rattle.pl_numbered.proofs.Replacing.{Replaces, and-true, lists-same, lists-more, lists-fewer}
+use Rattle.pl_parked.proofs.Waiting.{other-number, listed-met}
 
 module _ {A : Type 0} where
   -- how what stands at a number is listed
@@ -45,18 +45,6 @@ module _ {A : Type 0} where
         → has_met set pipe mode n ≡ ((reads mode && is_named (option_and_then (waiting_open n) o) (key_of pipe false n)) || (writes mode && is_named (option_and_then (waiting_open n) o) (key_of pipe true n)))
     at-call o is = (λ i. (reads mode && lists (key_of pipe false n) i) || (writes mode && lists (key_of pipe true n) i))
         ∙ ap (λ o. (reads mode && is_named (option_and_then (waiting_open n) o) (key_of pipe false n)) || (writes mode && is_named (option_and_then (waiting_open n) o) (key_of pipe true n))) is
-
-    pub met-first : IsTrue (has_met set pipe mode n) → IsSomeAnd (get nat_eq calls n) (λ x. (meets pipe mode x ≡ true) × (x.met ≡ false))
-    met-first h = by (get nat_eq calls n) refl
-      where
-        both : (a b : Bool) → (a && not b) ≡ true → (a ≡ true) × (b ≡ false)
-        both true true e = absurd (cc)
-        both true false e = (refl, refl)
-        both false b e = absurd (cc)
-
-        by : (o : Option (ParkedCall A)) → get nat_eq calls n ≡ o → IsSomeAnd o (λ x. (meets pipe mode x ≡ true) × (x.met ≡ false))
-        by None is = let no : true ≡ false = sym h ∙ at-call None is ∙ neither (reads mode) (writes mode) in absurd (cc)
-        by (Some x) is = both (meets pipe mode x) x.met (sym (at-call (Some x) is ∙ listed-met mode pipe n x) ∙ h)
 
     pub met-none : has_met set pipe mode n ≡ false → (x : ParkedCall A) → get nat_eq calls n ≡ Some x → meets pipe mode x ≡ true → x.met ≡ true
     met-none h x is m = by x.met (sym (ap (λ b. b && not x.met) m) ∙ sym (listed-met mode pipe n x) ∙ sym (at-call (Some x) is) ∙ h)

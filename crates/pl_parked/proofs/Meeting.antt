@@ -7,9 +7,10 @@ use Rattle.std.proofs.lemmas.List.Sums.{sum_by-cons}
 use Rattle.pl_model.specs.declared.calls.Mode.{Mode}
 use Rattle.pl_model.specs.Map.{Map, get, put}
 use Rattle.pl_parked.specs.declared.call.ParkedCall.{ParkedCall}
-use Rattle.pl_parked.specs.Calls.{Calls, Rise}
+use Rattle.pl_parked.specs.Calls.{Calls}
+use Rattle.pl_numbered.specs.Rising.{Rise}
 use Rattle.pl_parked.specs.Meeting.{meets, marked, all_marked}
-use Rattle.pl_parked.proofs.Rising.{get_first, get_later, get-low, put_first, put_later}
+use Rattle.pl_numbered.proofs.Rising.{get_first, get_later, get-low, put_first, put_later}
 
 module _ {A : Type 0} where
   -- how many calls weren't met

@@ -52,10 +52,6 @@ pub OnErr_by : {X E : Type 0} (P : Type 0) (o : Result X E) → true ≡ is_err 
 OnErr_by P (Ok x) e h = absurd (cc)
 OnErr_by P (Err x) e h = h
 
-pub IfSome_then : {X : Type 0} {P Q : X → Type 0} (o : Option X) → IfSome o P → ((x : X) → P x → Q x) → IfSome o Q
-IfSome_then None h then = tt
-IfSome_then (Some x) h then = then x h
-
 pub IfNone_then : {X : Type 0} {P Q : Type 0} (o : Option X) → IfNone o P → (P → Q) → IfNone o Q
 IfNone_then None h then = then h
 IfNone_then (Some x) h then = tt
@@ -203,3 +199,12 @@ module _ {A : Type 0} where
   listed-met mode pipe n x =
       by_fields mode pipe n x.met (opens_to_read x.call) x.fifo
       ∙ ap (λ b. (option_eq nat_eq x.fifo (Some pipe) && b) && not x.met) (sym (open_without mode x.call))
+
+-- what follows from what holds of either
+pub OnOk_then : {T E P Q : Type 0} (r : Result T E) → OnOk r P → (P → Q) → OnOk r Q
+OnOk_then (Ok x) p then = then p
+OnOk_then (Err e) p then = tt
+
+pub OnErr_then : {T E P Q : Type 0} (r : Result T E) → OnErr r P → (P → Q) → OnErr r Q
+OnErr_then (Ok x) p then = tt
+OnErr_then (Err e) p then = then p

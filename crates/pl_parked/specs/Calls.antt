@@ -1,5 +1,5 @@
 -- The calls that wait.
-use Rattle.std.specs.Prelude.{◌≤◌, ℕ, ◌+◌, Bool, [], ◌∷◌, Option, ◌&&◌, nat_eq, nat_le, slice_get, option_map}
+use Rattle.std.specs.Prelude.{ℕ, Bool, ◌&&◌, nat_eq, nat_le}
 use Rattle.pl_model.specs.Map.{Map}
 use Rattle.pl_parked.specs.declared.call.ParkedCall.{ParkedCall}
 
@@ -7,15 +7,6 @@ use Rattle.pl_parked.specs.declared.call.ParkedCall.{ParkedCall}
 pub record Calls (A : Type 0) : Type 0 where
   pub calls : Map ℕ (ParkedCall A)
   pub next : ℕ
-
--- the numbers rise, from the first bound on and below the second
-abbrev pub Rise : {X : Type 0} → ℕ → ℕ → Map ℕ X → Type 0
-Rise low next [] = low ≤ next
-Rise low next (e ∷ es) = (low ≤ e.0) × Rise (e.0 + 1) next es
-
--- the number of the entry at a place
-abbrev pub number_at : {X : Type 0} → Map ℕ X → ℕ → Option ℕ
-number_at es place = option_map (λ e. e.0) (slice_get es place)
 
 -- the call is one of the process
 abbrev pub is_of : {A : Type 0} → ℕ → ℕ × ParkedCall A → Bool

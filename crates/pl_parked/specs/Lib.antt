@@ -1,9 +1,6 @@
 pub mod Calls
 pub mod CallsView
-pub mod Entries
-pub mod Held
-pub mod InGroups
 pub mod Meeting
 pub mod Owned
-pub mod Standing
+pub mod Owners
 pub mod Waiting

@@ -4,13 +4,10 @@
 #![tactic(auto)]
 
 mod call;
-mod entries;
 mod fault;
-mod groups;
 mod opens;
+mod owners;
 mod parked;
-mod place;
-mod places;
 
 pub use call::ParkedCall;
 pub use fault::ParkFault;

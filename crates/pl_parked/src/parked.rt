@@ -4,21 +4,19 @@ ghost use Rattle.std.specs.Option.{option_copied};
 ghost use Rattle.std.specs.List.{find};
 ghost use Rattle.pl_model.specs.Numbers.{last_call};
 ghost use Rattle.pl_model.specs.Map.{get, put, without};
-ghost use Rattle.pl_parked.specs.Calls.{Rise, is_of_from};
+ghost use Rattle.pl_parked.specs.Calls.{is_of_from};
+ghost use Rattle.pl_numbered.specs.Rising.{Rise};
 ghost use Rattle.pl_parked.specs.Meeting.{meets, all_marked};
 
 use crate::call::ParkedCall;
-use crate::entries::{Entry, count_below, place_of};
 use crate::fault::ParkFault;
 use crate::opens::Opens;
-use crate::places::Places;
+use crate::owners::Owners;
 use pl_model::numbers::LAST_CALL;
 use pl_model::{KeyList, Mode};
+use pl_numbered::Numbered;
 use std::alloc::{Allocator, Global};
 use std::marker::Model;
-
-/// Room for so many calls is kept when they end.
-const KEPT: usize = 64;
 
 /// So many calls may be parked that have no place in an index.
 const UNPLACED: u64 = 8;
@@ -27,11 +25,9 @@ const UNPLACED: u64 = 8;
 /// of number.
 #[derive(Drop)]
 pub struct Parked<A: Allocator = Global> {
-    entries: Vec<Entry<A>, A>,
-    /// How many entries are empty.
-    empty: usize,
+    calls: Numbered<ParkedCall<A>, A>,
     /// All calls, by their processes.
-    owners: Places<A>,
+    owners: Owners<A>,
     /// The calls that are opens of FIFOs which wait and weren't met.
     opens: Opens<A>,
     next: u64,
@@ -45,11 +41,12 @@ impl<A: Allocator> Model for Parked<A> {
     ghost Value = { Calls A };
 
     ghost use Rattle.pl_parked.specs.CallsView.{view_of, IsSound};
-    ghost use Rattle.pl_parked.specs.Held.{holds};
+    ghost use Rattle.pl_numbered.specs.Numbered.{values};
+    ghost use Rattle.pl_parked.specs.Owners.{owns};
 
     ghost view = { view_of };
 
-    ghost invariant = { λ p. IsSound p.entries.items p.empty (holds p.owners) p.opens.set p.next };
+    ghost invariant = { λ p. IsSound (values p.calls) (owns p.owners) p.opens.set p.next };
 }
 
 impl<A: Allocator + Copy> Parked<A> {
@@ -58,9 +55,8 @@ impl<A: Allocator + Copy> Parked<A> {
         ensures { result ≡ record { calls = []; next = first } }
     {
         Parked {
-            entries: Vec::new(alloc),
-            empty: 0,
-            owners: Places::new(alloc),
+            calls: Numbered::new(alloc),
+            owners: Owners::new(alloc),
             opens: Opens::new(alloc),
             next: first,
             bound: first.saturating_add(UNPLACED),
@@ -87,14 +83,14 @@ impl<A: Allocator + Copy> Parked<A> {
             return Err(ParkFault::NoMemory);
         }
         let number = self.next;
-        if self.entries.try_reserve(1).is_err() || !self.owners.add(call.pid as usize, number) {
+        if self.calls.reserve().is_err() || self.owners.add(call.pid as usize, number).is_err() {
             return Err(ParkFault::NoMemory);
         }
         if self.opens.list(&call, number).is_err() {
             self.owners.remove(call.pid as usize, number);
             return Err(ParkFault::NoMemory);
         }
-        self.entries.push_reserved((number, Some(call)));
+        self.calls.push_reserved(number, call);
         self.next = number + 1;
         Ok(number)
     }
@@ -119,7 +115,7 @@ impl<A: Allocator> Parked<A> {
     pub fn len(&self) -> usize
         ensures { result ≡ length self.now.calls }
     {
-        self.entries.len() - self.empty
+        self.calls.len()
     }
 
     /// The number that the next call gets, if one is left. It is above those of all calls that wait.
@@ -137,8 +133,7 @@ impl<A: Allocator> Parked<A> {
         ensures calls { self.old.calls ≡ self.new.calls ++ (number, result) ∷ [] }
         ensures next { self.new.next ≡ number }
     {
-        let (_, entry) = self.entries.pop().unwrap();
-        let call = entry.unwrap();
+        let call = self.calls.take(number).unwrap();
         self.opens.unlist(&call, number);
         self.owners.remove(call.pid as usize, number);
         self.next = number;
@@ -149,8 +144,7 @@ impl<A: Allocator> Parked<A> {
     pub fn get(&self, number: u64) -> Option<&ParkedCall<A>>
         ensures { option_copied result ≡ get nat_eq self.now.calls number }
     {
-        let place = place_of(&self.entries, number)?;
-        self.entries[place].1.as_ref()
+        self.calls.get(number)
     }
 
     /// Takes the call of a number out. The number isn't given again. It takes no memory.
@@ -158,17 +152,15 @@ impl<A: Allocator> Parked<A> {
         ensures call { result ≡ get nat_eq self.old.calls number }
         ensures rest { self.new ≡ record self.old { calls = without nat_eq self.old.calls number } }
     {
-        let place = place_of(&self.entries, number)?;
-        let call = self.entries[place].1.take()?;
+        let call = self.calls.take(number)?;
         self.opens.unlist(&call, number);
         self.owners.remove(call.pid as usize, number);
-        self.empty += 1;
-        self.close_gaps();
         Some(call)
     }
 
-    /// The least number, `from` or above, of the calls of a process, if it has one there. It costs at most the logarithm of how
-    /// many calls wait.
+    /// The least number, `from` or above, of the calls of a process, if it has one there. To ask from each number that it returned, and one more,
+    /// until there is none costs at most as much as the calls of the process are many: it goes over those that ended too, but they are no more than
+    /// the others.
     pub fn next_of_process(&self, pid: u32, from: u64) -> Option<u64>
         ensures value { result ≡ option_map (λ entry. entry.0) (find (is_of_from pid from) self.now.calls) }
         ensures parked { IfSome result (λ number. (from ≤ number) × IsSomeAnd (get nat_eq self.now.calls number) (λ call. call.pid ≡ pid)) }
@@ -184,14 +176,7 @@ impl<A: Allocator> Parked<A> {
         ensures least { IfSome result (λ number. (other : ℕ) → from ≤ other → IsSome (get nat_eq self.now.calls other) → number ≤ other) }
         ensures none { IfNone result ((number : ℕ) → from ≤ number → get nat_eq self.now.calls number ≡ None) }
     {
-        let start = count_below(&self.entries, from);
-        for place in start..self.entries.len() {
-            let entry = &self.entries[place];
-            if entry.1.is_some() {
-                return Some(entry.0);
-            }
-        }
-        None
+        self.calls.next_from(from)
     }
 
     /// Says how many bytes the write of a number took so far. It takes no memory.
@@ -199,8 +184,8 @@ impl<A: Allocator> Parked<A> {
         requires { IsSome (get nat_eq self.old.calls number) }
         ensures { IfSome (get nat_eq self.old.calls number) (λ call. self.new ≡ record self.old { calls = put nat_eq self.old.calls number (record call { taken = taken }) }) }
     {
-        let place = place_of(&self.entries, number).unwrap();
-        let Some(call) = &mut self.entries[place].1 else {
+        let place = self.calls.place_of(number).unwrap();
+        let Some(call) = &mut self.calls.entries[place].1 else {
             unreachable!()
         };
         call.taken = taken;
@@ -211,8 +196,8 @@ impl<A: Allocator> Parked<A> {
         requires { IsSome (get nat_eq self.old.calls number) }
         ensures { IfSome (get nat_eq self.old.calls number) (λ call. self.new ≡ record self.old { calls = put nat_eq self.old.calls number (record call { kept = kept }) }) }
     {
-        let place = place_of(&self.entries, number).unwrap();
-        let Some(call) = &mut self.entries[place].1 else {
+        let place = self.calls.place_of(number).unwrap();
+        let Some(call) = &mut self.calls.entries[place].1 else {
             unreachable!()
         };
         call.kept = kept;
@@ -242,32 +227,11 @@ impl<A: Allocator> Parked<A> {
         requires { IsSome (get nat_eq self.old.calls number) }
         ensures { IfSome (get nat_eq self.old.calls number) (λ call. self.new ≡ record self.old { calls = put nat_eq self.old.calls number (record call { met = true }) }) }
     {
-        let place = place_of(&self.entries, number).unwrap();
-        let Some(open) = &mut self.entries[place].1 else {
+        let place = self.calls.place_of(number).unwrap();
+        let Some(open) = &mut self.calls.entries[place].1 else {
             unreachable!()
         };
         self.opens.unlist(open, number);
         open.met = true;
-    }
-
-    // Moves the calls together once more than half of the entries are empty, so that fewer calls move than ended since the
-    // last time.
-    fn close_gaps(&mut self)
-        ensures { self.new ≡ self.old }
-    {
-        if self.empty > self.entries.len() / 2 {
-            self.entries.retain(|entry| entry.1.is_some());
-            self.empty = 0;
-            self.give_back();
-        }
-    }
-
-    // Gives memory back that the calls don't need, where they need less than a quarter of it. It is kept where it can't be moved.
-    fn give_back(&mut self)
-        ensures { self.new ≡ self.old }
-    {
-        if self.entries.capacity() > KEPT && self.entries.len() < self.entries.capacity() / 4 {
-            self.entries.shrink_to_fit();
-        }
     }
 }

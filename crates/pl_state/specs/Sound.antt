@@ -10,7 +10,7 @@ use Rattle.pl_model.specs.Numbers.{last_call, open_max, pipe_buf}
 use Rattle.pl_model.specs.Map.{Map, get, EachOnce}
 use Rattle.pl_model.specs.Laws.{IsSettled}
 use Rattle.pl_parked.specs.declared.call.ParkedCall.{ParkedCall}
-use Rattle.pl_parked.specs.Calls.{Rise}
+use Rattle.pl_numbered.specs.Rising.{Rise}
 use Rattle.pl_desc.specs.Rows.{at, is_pid, count_at}
 use Rattle.pl_desc.specs.Descs.{Opened, Descs, IsTidy}
 use Rattle.pl_state.specs.Contents.{Contents, Nodes, IsThere, core_of}

@@ -30,7 +30,7 @@ use Rattle.pl_model.proofs.settling.Meeting.{wait_fifo-settled}
 use Rattle.pl_parked.specs.declared.call.ParkedCall.{ParkedCall}
 use Rattle.pl_parked.specs.Calls.{Calls}
 use Rattle.pl_parked.specs.Meeting.{marked, all_marked}
-use Rattle.pl_parked.proofs.Rising.{Rise-push}
+use Rattle.pl_numbered.proofs.Rising.{Rise-push}
 use Rattle.pl_desc.specs.Rows.{at, is_pid, row_at, count_at}
 use Rattle.pl_desc.specs.Descs.{Opened, Descs, fresh}
 use Rattle.pl_nodes.proofs.Keyed.{change_at-is}

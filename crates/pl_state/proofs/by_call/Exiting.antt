@@ -15,8 +15,8 @@ use Rattle.pl_model.specs.Step.{begin, ended, stepped, without_call}
 use Rattle.pl_model.specs.Numbered.{numbers}
 use Rattle.pl_model.proofs.settling.AtOnce.{IsExiting, is_others, exiting_ends}
 use Rattle.pl_parked.specs.declared.call.ParkedCall.{ParkedCall}
-use Rattle.pl_parked.specs.Calls.{Rise}
-use Rattle.pl_parked.proofs.Rising.{Rise-bounds, get_first, get_later, get-low}
+use Rattle.pl_numbered.specs.Rising.{Rise}
+use Rattle.pl_numbered.proofs.Rising.{Rise-bounds, get_first, get_later, get-low}
 use Rattle.pl_desc.specs.Rows.{at, Tables, is_pid, rows_of, row_at, first_open, count_at, with_row, without_first}
 use Rattle.pl_desc.specs.Descs.{Descs, IsTidy}
 use Rattle.pl_desc.specs.Ends.{one_if}

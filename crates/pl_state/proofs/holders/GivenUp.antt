@@ -13,7 +13,8 @@ use Rattle.pl_model.specs.Numbers.{last_call}
 use Rattle.pl_model.specs.Numbered.{numbers}
 use Rattle.pl_model.proofs.settling.FromSettled.{Alike, same-settled}
 use Rattle.pl_model.proofs.Counting.{above}
-use Rattle.pl_parked.specs.Calls.{Calls, Rise}
+use Rattle.pl_numbered.specs.Rising.{Rise}
+use Rattle.pl_parked.specs.Calls.{Calls}
 use Rattle.pl_desc.specs.Rows.{at, is_pid, row_at, naming, count_at}
 use Rattle.pl_desc.specs.Descs.{Opened, Descs, IsTidy, holders, last_hold}
 use Rattle.pl_state.specs.Contents.{Contents, Nodes, IsThere, contents, node_of, description_of, core_of}

@@ -18,7 +18,7 @@ use Rattle.pl_model.proofs.settling.Parking.{live-is}
 use Rattle.pl_model.proofs.settling.Parking.{keeps as machine_keeps}
 use Rattle.pl_model.proofs.Counting.{positive, above, is_zero, some_sum, some_counted}
 use Rattle.pl_parked.specs.declared.call.ParkedCall.{ParkedCall}
-use Rattle.pl_parked.specs.Calls.{Rise}
+use Rattle.pl_numbered.specs.Rising.{Rise}
 use Rattle.pl_desc.specs.Rows.{change_count, one_more, one_less, at, Tables, table_of, is_pid, rows_in, rows_of, row_at, names, named_in, naming}
 use Rattle.pl_desc.proofs.RowLemmas.{within, table_at, pid_in, has_table, rows-length, row-names}
 use Rattle.pl_state.specs.Contents.{parked_of}

@@ -6,7 +6,7 @@ use Rattle.std.specs.Prelude.{if◌then◌else◌, ◌||◌, option_map}
 use Rattle.pl_model.specs.Map.{kept_if, set_at, change_at}
 use Rattle.pl_model.specs.State.{Pipe, empty_pipe}
 use Rattle.pl_model.specs.Nodes.{has_name}
-use Rattle.pl_parked.proofs.Rising.{IfSome_by}
+use Rattle.pl_numbered.proofs.Rising.{IfSome_by}
 use Rattle.pl_desc.specs.Rows.{at}
 use Rattle.pl_model.specs.declared.calls.Mode.{Mode}
 use Rattle.pl_model.specs.declared.node.Node.{Node}

@@ -5,8 +5,8 @@ use Rattle.std.proofs.lemmas.Bool.{eq-eqb, ne_eqb}
 use Rattle.std.proofs.lemmas.Bool.Decides.{eqb_tells}
 use Rattle.pl_model.specs.Map.{Map, get, put, without}
 use Rattle.pl_parked.specs.declared.call.ParkedCall.{ParkedCall}
-use Rattle.pl_parked.specs.Calls.{Rise}
-use Rattle.pl_parked.proofs.Rising.{Rise-lower, Rise-bounds}
+use Rattle.pl_numbered.specs.Rising.{Rise}
+use Rattle.pl_numbered.proofs.Rising.{Rise-lower, Rise-bounds}
 use Rattle.pl_state.specs.Contents.{waiting_of, parked_of}
 
 -- a map with the value under each number changed

@@ -10,7 +10,7 @@ use Rattle.pl_model.specs.State.{Waiting}
 use Rattle.pl_model.specs.Numbered.{numbers}
 use Rattle.pl_model.specs.InOrder.{AreInOrder, HasTaken}
 use Rattle.pl_parked.specs.declared.call.ParkedCall.{ParkedCall}
-use Rattle.pl_parked.specs.Calls.{Rise}
+use Rattle.pl_numbered.specs.Rising.{Rise}
 use Rattle.pl_state.specs.Contents.{Contents, core_of, waiting_of, parked_of}
 use Rattle.pl_state.specs.Sound.{IsSound, IsWaiting, MayWait}
 use Rattle.pl_state.proofs.waiting.Calls.{get-parked}

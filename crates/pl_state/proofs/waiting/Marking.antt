@@ -19,7 +19,7 @@ use Rattle.pl_model.specs.Fifo.{meet}
 use Rattle.pl_model.specs.Fifo.{meets as machine_meets, is_open_without as machine_without}
 use Rattle.pl_model.specs.Numbered.{numbers}
 use Rattle.pl_parked.specs.declared.call.ParkedCall.{ParkedCall}
-use Rattle.pl_parked.specs.Calls.{Rise}
+use Rattle.pl_numbered.specs.Rising.{Rise}
 use Rattle.pl_parked.specs.Meeting.{meets, marked, all_marked, is_open_without as kernel_without}
 use Rattle.pl_desc.specs.Rows.{at}
 use Rattle.pl_desc.specs.Descs.{Opened}

@@ -10,7 +10,8 @@ use Rattle.pl_model.specs.Fifo.{meet}
 use Rattle.pl_model.specs.Numbered.{numbers}
 use Rattle.pl_model.proofs.settling.Meeting.{meet-settled}
 use Rattle.pl_parked.specs.declared.call.ParkedCall.{ParkedCall}
-use Rattle.pl_parked.specs.Calls.{Calls, Rise}
+use Rattle.pl_numbered.specs.Rising.{Rise}
+use Rattle.pl_parked.specs.Calls.{Calls}
 use Rattle.pl_parked.specs.Meeting.{meets, marked, all_marked}
 use Rattle.pl_desc.specs.Rows.{at, is_pid}
 use Rattle.pl_desc.specs.Descs.{Opened}

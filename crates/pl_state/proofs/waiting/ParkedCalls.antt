@@ -18,7 +18,7 @@ use Rattle.pl_model.specs.Packets.{gain}
 use Rattle.pl_model.proofs.settling.Parking.{parked_live, park-settled}
 use Rattle.pl_parked.specs.Calls.{Calls}
 use Rattle.pl_parked.specs.declared.call.ParkedCall.{ParkedCall}
-use Rattle.pl_parked.proofs.Rising.{Rise-push}
+use Rattle.pl_numbered.proofs.Rising.{Rise-push}
 use Rattle.pl_desc.specs.Rows.{at, is_pid, count_at}
 use Rattle.pl_desc.specs.Descs.{Opened, Descs, IsTidy}
 use Rattle.pl_state.specs.Contents.{Contents, with_pipes, contents, waiting_of, core_of}

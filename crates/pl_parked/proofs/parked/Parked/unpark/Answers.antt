@@ -1,38 +1,32 @@
-use Rattle.std.proofs.Common.{◌++◌, IsSome, ap, sym, ◌∙◌, subst, nat_eq}
-use Rattle.std.specs.Option.{option_to_list}
+use Rattle.std.proofs.Common.{◌≡◌, ◌+◌, ◌++◌, [], ◌∷◌, Some, ap, sym, ◌∙◌, subst, nat_eq}
 use Rattle.pl_model.specs.Map.{get}
-use Rattle.pl_parked.specs.Held.{holds}
 use Rattle.pl_parked.specs.Calls.{Calls}
-use Rattle.pl_parked.proofs.Keeping.{Ended, last-full, last-call, keeps-popped}
+use Rattle.pl_numbered.specs.Rising.{Rise}
+use Rattle.pl_numbered.specs.Numbered.{values}
+use Rattle.pl_parked.specs.Owners.{owns}
+use Rattle.pl_parked.proofs.Keeping.{keeps-unparked}
+use Rattle.pl_numbered.proofs.Rising.{without-last}
 use Rattle.pl_parked.proofs.parked.Parked.unpark.Given.{Over}
-use Rattle.pl_parked.proofs.parked.Parked.unpark.Goals.{After-unwrap-entry}
+use Rattle.pl_parked.proofs.parked.Parked.unpark.Goals.{After-unwrap-call}
 use Rattle.pl_parked.proofs.parked.Parked.unpark.Goals as goal
 
--- the last entry
-module _ (g : Over) (c : After-unwrap-entry g) where
-  abbrev ended : Ended g.row.A.Denot
-  ended = record {
-    entries = c.self.inside.entries.items;
-    empty = c.self.inside.empty;
-    next = c.self.inside.next;
-    owners = (holds c.self.inside.owners);
-    opens = c.self.inside.opens.set;
-    number = c.args.number;
-    before = c.pop.new.self.items;
-    entry = c.unwrap-entry.result;
-    sound = c.self.invariant;
-    is = c.pop.ensures.items ∙ ap (λ o. c.pop.new.self.items ++ option_to_list o) c.unwrap-entry.ensures;
-    last = c.requires.last ∙ ap (λ (v : Calls _). v.next) (sym c.self.view_is);
-    here = subst (λ (v : Calls _). IsSome (get nat_eq v.calls c.args.number)) (sym c.self.view_is) c.requires.here;
-  }
+module _ (g : Over) (c : After-unwrap-call g) where
+  has : get nat_eq (values c.self.inside.calls) c.args.number ≡ Some c.unwrap-call.result
+  has = sym c.take.ensures.value ∙ c.unwrap-call.ensures
 
-pub unwrap-call-requires : goal.unwrap-call-requires
-unwrap-call-requires g c = last-full (ended g c)
+  last : c.args.number + 1 ≡ c.self.inside.next
+  last = c.requires.last ∙ ap (λ (v : Calls _). v.next) (sym c.self.view_is)
 
 pub invariant_of-self : goal.invariant_of-self
 invariant_of-self g c =
-    keeps-popped (ended g (goal.at.invariant_of-self g c).After-unwrap-entry) c.unwrap-call.result c.unwrap-call.ensures (holds c.remove.new.self) c.unlist.new.self.set (λ key. c.remove.ensures key.group key.number) c.unlist.ensures
+    let w = (goal.at.invariant_of-self g c).After-unwrap-call in
+    rw c.take.ensures.rest
+    (keeps-unparked (values c.self.inside.calls) (owns c.self.inside.owners) c.self.inside.opens.set c.self.inside.next c.self.invariant c.args.number c.unwrap-call.result (has g w)
+    (owns c.remove.new.self) c.unlist.new.self.set c.remove.ensures c.unlist.ensures (last g w))
 
 pub returns-clause-calls : goal.returns-clause-calls
 returns-clause-calls g c =
-    ap (λ (v : Calls _). v.calls) (sym c.self.view_is) ∙ last-call (ended g (goal.at.returns-clause-calls g c).After-unwrap-entry) c.unwrap-call.result c.unwrap-call.ensures
+    let w = (goal.at.returns-clause-calls g c).After-unwrap-call in
+    ap (λ (v : Calls _). v.calls) (sym c.self.view_is)
+    ∙ (without-last c.args.number 0 (values c.self.inside.calls) c.unwrap-call.result (subst (λ m. Rise 0 m (values c.self.inside.calls)) (sym (last g w)) c.self.invariant.rise) (has g w)).0
+    ∙ ap (λ calls. calls ++ (c.args.number, c.unwrap-call.result) ∷ []) (sym c.take.ensures.rest)

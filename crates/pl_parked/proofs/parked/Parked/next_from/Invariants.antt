@@ -1,7 +1,0 @@
-use Rattle.std.proofs.Common.{◌≡◌, ◌≤◌, ◌<◌, ℕ, None, Option, slice_index_or}
-use Rattle.pl_parked.specs.declared.call.ParkedCall.{ParkedCall}
-use Rattle.pl_parked.proofs.parked.Parked.next_from.Given as goal
-
--- the entries that were passed are empty
-abbrev pub invariant-loop-place : goal.invariant-loop-place
-invariant-loop-place g l = (k : ℕ) (d : ℕ × Option (ParkedCall g.row.A.Denot)) → l.start ≤ k → k < l.place → (slice_index_or l.self-inside.entries.items k d).1 ≡ None
