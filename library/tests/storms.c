@@ -70,7 +70,7 @@ static bindingclay_answer waits(bindingclay clay, int kind)
 }
 
 /* Process 2 begins 200 calls, whose numbers begin with first, and exits. Call 1 is one of process 1, and waits on. The exit asks for nothing but
- * a smaller block for the calls that are left, each time that they were halved, and succeeds where that is refused. */
+ * smaller blocks for the calls that are left and for their numbers, each time that they were halved, and succeeds where these are refused. */
 static void exits_with_many_calls(bindingclay clay, uint64_t first)
 {
     DONE(bindingclay_fork(clay, 1), 2);
@@ -82,7 +82,7 @@ static void exits_with_many_calls(bindingclay clay, uint64_t first)
     HOLDS(beside_spare(clay) - before >= (uint64_t)LARGE * CALLS_OF_ONE / KINDS_OF_WAITING);
     refuse(0, LONG_MAX);
     DONE(bindingclay_exit(clay, 2), 0);
-    HOLDS(1 << refused <= CALLS_OF_ONE);
+    HOLDS(1 << refused / 2 <= CALLS_OF_ONE);
     refuse_none();
     for (uint64_t i = 0; i < CALLS_OF_ONE; i++)
         is_no_call(clay, 2, first + i);

@@ -253,7 +253,10 @@ pub fn erase_bounds(source: &mut Tokens) -> Result<()> {
         if !["+", ":"].contains(&source.text(before))
             || ![",", ">", ")"].contains(&source.text(source.next(at)))
         {
-            return source.fail(at, "`Drop` where it is neither the last bound nor the only one");
+            return source.fail(
+                at,
+                "`Drop` where it is neither the last bound nor the only one",
+            );
         }
         source.count("bound `Drop`");
         source.drop(before, at);

@@ -236,14 +236,15 @@ impl<T, A: Allocator> Vec<T, A> {
         self.items.clear();
     }
 
-    /// Gives back the memory that no item stands in, where the host lets it: else it is kept.
+    /// Gives back the memory that no item stands in, where there is memory for the items beside it: else it is kept.
     pub fn shrink_to_fit(&mut self) {
         let (from, len) = (self.items.capacity(), self.items.len());
         let mut fewer = ::alloc::vec::Vec::new();
-        if len < from && fewer.try_reserve_exact(len).is_ok() {
+        let reserve = || fewer.try_reserve_exact(len).is_ok();
+        if len < from && self.alloc.grows(0, bytes_of::<T>(len), reserve).is_ok() {
             fewer.append(&mut self.items);
             self.items = fewer;
-            self.alloc.shrinks(bytes_of::<T>(from), bytes_of::<T>(len));
+            self.alloc.shrinks(bytes_of::<T>(from), 0);
         }
     }
 
