@@ -236,15 +236,13 @@ impl<T, A: Allocator> Vec<T, A> {
         self.items.clear();
     }
 
-    /// Gives back the memory that no item stands in, where there is memory for the items beside it: else it is kept.
+    /// Gives back the memory that no item stands in.
     pub fn shrink_to_fit(&mut self) {
-        let (from, len) = (self.items.capacity(), self.items.len());
-        let mut fewer = ::alloc::vec::Vec::new();
-        let reserve = || fewer.try_reserve_exact(len).is_ok();
-        if len < from && self.alloc.grows(0, bytes_of::<T>(len), reserve).is_ok() {
-            fewer.append(&mut self.items);
-            self.items = fewer;
-            self.alloc.shrinks(bytes_of::<T>(from), 0);
+        let from = bytes_of::<T>(self.items.capacity());
+        self.items.shrink_to_fit();
+        let to = bytes_of::<T>(self.items.capacity());
+        if to < from {
+            self.alloc.shrinks(from, to);
         }
     }
 

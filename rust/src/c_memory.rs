@@ -84,7 +84,12 @@ mod alone {
 
         #[inline]
         unsafe fn realloc(&self, pointer: *mut u8, layout: Layout, size: usize) -> *mut u8 {
-            pointer_of(unsafe { rattle_realloc(pointer, layout.size(), size, layout.align()) })
+            let tried = unsafe { rattle_realloc(pointer, layout.size(), size, layout.align()) };
+            // a block that can't become smaller stays as it is
+            if !tried.found && size <= layout.size() {
+                return pointer;
+            }
+            pointer_of(tried)
         }
     }
 

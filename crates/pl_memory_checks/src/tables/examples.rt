@@ -280,7 +280,6 @@ const ENDS: &[Steps] = &[
                     Bytes(Many(b'a', 65_536)),
                 ],
             ),
-            (5, &[Count(70_000), NoCall, Bytes(Many(b'a', 4_464))]),
             (7, &[Bytes(Many(b'a', 4_464))]),
             (8, &[]),
         ],
