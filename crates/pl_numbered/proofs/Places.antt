@@ -1,5 +1,5 @@
 -- Lists that are read at a place after a change.
-use Rattle.std.proofs.Common.{◌≡◌, ℕ, zero, suc, ◌<◌, [], ◌∷◌, ◌++◌, List, Option, Some, None, refl, ap, length, slice_set, slice_get, arith}
+use Rattle.std.proofs.Common.{◌≡◌, ℕ, zero, suc, ◌<◌, [], ◌∷◌, List, Some, refl, ap, length, slice_set, slice_get, arith}
 
 module _ {X : Type 0} where
   pub get-set-here : (xs : List X) (k : ℕ) (x : X) → k < length xs → slice_get (slice_set xs k x) k ≡ Some x
@@ -13,10 +13,3 @@ module _ {X : Type 0} where
   get-set-other (y ∷ ys) zero (suc j) x apart = refl
   get-set-other (y ∷ ys) (suc k) zero x apart = refl
   get-set-other (y ∷ ys) (suc k) (suc j) x apart = get-set-other ys k j x (λ e. apart (ap suc e))
-
-  -- an item at the end, which shows what none does
-  pub get-push : {Y : Type 0} (shown : Option X → Y) (x : X) → shown (Some x) ≡ shown None → (xs : List X) (k : ℕ) → shown (slice_get (xs ++ x ∷ []) k) ≡ shown (slice_get xs k)
-  get-push shown x alike [] zero = alike
-  get-push shown x alike [] (suc k) = refl
-  get-push shown x alike (y ∷ ys) zero = refl
-  get-push shown x alike (y ∷ ys) (suc k) = get-push shown x alike ys k

@@ -10,8 +10,8 @@ use std::alloc::{AllocError, Allocator, Global};
 const KEPT: usize = 16;
 
 /// Values, each under a number above those of all before it. The entry of a value that is taken out stays, empty, until
-/// none with a value follows, or more than half of the entries are empty. So a number is found from either end or by a binary search, and a
-/// value costs no more when it goes than when it came.
+/// none with a value follows, or more than half of the entries are empty. So a number is found from either end or by a binary search, and fewer
+/// values move than are taken out.
 #[derive(Drop)]
 pub struct Numbered<T, A: Allocator = Global> {
     /// In rising order of number; public so that a value is changed where it is.
