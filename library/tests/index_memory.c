@@ -50,7 +50,7 @@ static uint64_t memory_of_polls(size_t entries)
 /* A poll stands in a queue at each pipe at which it waits. Beside that it has what it asks and what it keeps of each entry. */
 static void polls_are_indexed_by_entries(void)
 {
-    enum { KEY = 160, CALL = 350, ENTRY = 32, PLACE = 60, MOST_KEYS = 2 * PIPES };
+    enum { KEY = 176, CALL = 350, ENTRY = 32, PLACE = 60, MOST_KEYS = 2 * PIPES };
     static const size_t entries[] = { 1, 10, PIPES };
     for (int i = 0; i < 3; i++) {
         size_t places = CALLS * entries[i];

@@ -2,6 +2,7 @@
 ghost use Rattle.std.specs.Prelude.{◌≡◌, ◌≤◌, ◌<◌, ◌^◌, ℕ, true, false, not, nat_eq, is_some, IsSome, IfSome, IfNone, Some};
 ghost use Rattle.pl_model.specs.Map.{get};
 ghost use Rattle.pl_state.specs.Contents.{core_of};
+ghost use Rattle.pl_state.specs.Waits.{WaitsAs};
 ghost use Rattle.pl_kernel.specs.Progress.{is_ready, IsLeastFrom};
 ghost use Rattle.pl_waiters.specs.Queue.{IsBefore};
 ghost use Rattle.pl_waiters.specs.Seen.{stands, is_touched, SameTouched, SameKnown};
@@ -13,7 +14,7 @@ ghost use Rattle.pl_kernel.specs.Asking.{AreUnderstood, Prunes, Covers, CoversNo
 use crate::queue::{OTHERS, POLLS, asked_by, found_of_file, is_of_polls, last_answered, mode_of};
 use crate::steps::{call_can_progress, can_progress};
 use pl_polls::end_is_ready;
-use pl_state::{KernelState, waiting_call};
+use pl_state::{KernelState, WaitingCall, waiting_call};
 use pl_waiters::{Waiter, Waiters};
 use std::alloc::Allocator;
 
@@ -81,16 +82,19 @@ fn finds<A: Allocator + Copy>(state: &KernelState<A>, key: usize, queue: u64) ->
     end_is_ready(state, key, mode_of(kind), asked_by(kind))
 }
 
-// Whether a call that waits can make progress for the sake of its queue.
-fn is_open<A: Allocator + Copy>(state: &KernelState<A>, call: &Waiter) -> bool
-    requires parked { IsSome (get nat_eq (core_of {A = A} state.now).parked call.now.number) }
+// Whether a call that waits so can make progress for the sake of its queue.
+#[inline(always)]
+fn is_open<A: Allocator + Copy>(state: &KernelState<A>, call: &Waiter, waiting: WaitingCall) -> bool
+    requires waits { WaitsAs state.now call.now.number waiting }
     requires there { is_polls call.now.queue ≡ true → polls_of_pipes ≤ call.now.queue → IsSome ((core_of {A = A} state.now).pipes call.now.node) }
     ensures { result ≡ is_open (core_of {A = A} state.now) call.now }
 {
+    // A proof learns here what holds of the kernel.
+    let _ = &state.descs;
     if is_of_polls(call.queue) {
         finds(state, call.node, call.queue)
     } else {
-        can_progress(state, call.number)
+        call_can_progress(state, call.number, waiting)
     }
 }
 
@@ -108,10 +112,11 @@ fn ask<A: Allocator + Copy>(
 {
     // A proof learns here what holds of the kernel.
     let _ = &state.descs;
-    if drop_if_ended(state, waiters, call) {
+    let Some(waiting) = waiting_call(state, call.number) else {
+        waiters.remove(call);
         return Found::Gone;
-    }
-    if is_open(state, call) {
+    };
+    if is_open(state, call, waiting) {
         Found::Ready
     } else {
         Found::Stuck

@@ -6,7 +6,6 @@ ghost use Rattle.pl_transfers.specs.ReadInto.{told, read_count};
 ghost use Rattle.pl_transfers.specs.Again.{FindsAgain};
 ghost use Rattle.pl_kernel.specs.Index.{Knows};
 
-use crate::asking::drop_if_ended;
 use crate::queue::waiting_read;
 use crate::touch::{touch_again, touch_read_again};
 use pl_model::Step;
@@ -68,6 +67,6 @@ pub(crate) fn resume_read_into<A: Allocator + Copy>(
     // The same once the step was made.
     let _ = &kernel.descs;
     // It leaves its queue at once, where it would be found again as the pipe is asked.
-    let _ended = drop_if_ended(kernel, waiters, &waiting_read(read.pipe, number));
+    waiters.remove(&waiting_read(read.pipe, number));
     Answered::Done(read.count)
 }

@@ -1,5 +1,5 @@
 -- Calls in queues.
-use Rattle.std.specs.Prelude.{◌≡◌, ◌<◌, ◌⊎◌, ℕ, Bool, false, ◌&&◌, nat_eq, if◌then◌else◌, List, Option, slice_index_or}
+use Rattle.std.specs.Prelude.{◌≡◌, ◌<◌, ◌⊎◌, ℕ, Bool, false, ◌&&◌, nat_eq, nat_le, max, if◌then◌else◌, List, Option, slice_index_or}
 use Rattle.std.specs.declared.option.Option.TheVariants.{None, Some}
 use Rattle.std.specs.declared.cmp.Ordering.{Ordering}
 use Rattle.std.specs.Ordering.{nat_cmp, ordering_then, is_gt}
@@ -45,14 +45,24 @@ earlier_of (Some a) (Some b) = Some (if is_gt (waiter_order a b) then b else a)
 
 -- the place of a node
 abbrev pub place_at : List Place → ℕ → Place
-place_at places node = slice_index_or places node (record { one = None; has_more = false })
+place_at places node = slice_index_or places node (record { one = None; last = None })
 
 -- a call is the one of a place
 abbrev pub is_one : Option Waiter → Waiter → Bool
 is_one None key = false
 is_one (Some w) key = is_waiter w key
 
--- The one call of a place is of its node. Where a place has no more, none stands in the set.
+-- by the last queue of a place: further calls may stand in this queue, or after it
+abbrev pub may_stand : Option ℕ → ℕ → Bool
+may_stand None queue = false
+may_stand (Some last) queue = nat_le queue last
+
+-- the later one of a queue and of the last queue of a place
+abbrev pub later : Option ℕ → ℕ → ℕ
+later None queue = queue
+later (Some last) queue = max last queue
+
+-- The one call of a place is of its node. In queues after the last one of a place, no call of its node stands in the set.
 pub record ArePlaced (places : List Place) (more : BTreeSet Waiter) : Type 0 where
   pub home : (node : ℕ) (w : Waiter) → (place_at places node).one ≡ Some w → w.node ≡ node
-  pub none : (key : Waiter) → (place_at places key.node).has_more ≡ false → contains waiter_order more key ≡ false
+  pub none : (key : Waiter) → may_stand (place_at places key.node).last key.queue ≡ false → contains waiter_order more key ≡ false

@@ -1,5 +1,6 @@
 //! Calls in the queues in which they wait.
-ghost use Rattle.pl_waiters.specs.Queue.{ArePlaced};
+ghost use Rattle.std.specs.Prelude.{◌≡◌};
+ghost use Rattle.pl_waiters.specs.Queue.{may_stand, later, ArePlaced};
 
 use crate::waiter::{Waiter, earlier, is_same, not_before, of_node};
 use std::alloc::{AllocError, Allocator};
@@ -9,15 +10,35 @@ use std::collections::BTreeSet;
 #[derive(Clone, Copy)]
 pub(crate) struct Place {
     pub(crate) one: Option<Waiter>,
-    /// Whether further ones may stand in the set.
-    pub(crate) has_more: bool,
+    /// The last queue in which further ones may stand in the set, if any may: in later queues none do.
+    pub(crate) last: Option<u64>,
 }
 
 /// No call stands there.
 const EMPTY: Place = Place {
     one: None,
-    has_more: false,
+    last: None,
 };
+
+// Whether further calls of a node may stand in a queue or after it, by the last queue of its place.
+fn may_stand(last: Option<u64>, queue: u64) -> bool
+    ensures { result ≡ may_stand last queue }
+{
+    match last {
+        Some(last) => queue <= last,
+        None => false,
+    }
+}
+
+// The later one of a queue and of the last queue of a place, if that has one.
+fn later(last: Option<u64>, queue: u64) -> u64
+    ensures { result ≡ later last queue }
+{
+    match last {
+        Some(last) => last.max(queue),
+        None => queue,
+    }
+}
 
 /// Calls in the queues in which they wait. A call may be in several.
 #[derive(Drop)]
@@ -79,7 +100,7 @@ impl<A: Allocator + Copy> Queues<A> {
         }
         self.more.insert(call)?;
         self.places[call.node] = Place {
-            has_more: true,
+            last: Some(later(place.last, call.queue)),
             ..place
         };
         Ok(())
@@ -151,14 +172,13 @@ impl<A: Allocator> Queues<A> {
         ensures more { (key : Waiter) → contains waiter_order self.new.more key ≡ (not (is_waiter call.now key) && contains waiter_order self.old.more key) }
     {
         let place = self.place(call.node);
-        if !place.has_more {
+        if !may_stand(place.last, call.queue) {
             return;
         }
         self.more.remove(call);
         // While another call has the plain place, nobody looks whether it is the only one: that would be a search for each that goes.
-        if place.one.is_none() {
-            let has_more = self.has_further(call.node);
-            self.places[call.node] = Place { has_more, ..place };
+        if place.one.is_none() && !self.has_further(call.node) {
+            self.places[call.node] = EMPTY;
         }
     }
 
@@ -183,7 +203,7 @@ impl<A: Allocator> Queues<A> {
     {
         let place = self.place(least.node);
         let one = not_before(place.one, least);
-        if !place.has_more {
+        if !may_stand(place.last, least.queue) {
             return one;
         }
         earlier(one, of_node(self.further_from(least), least.node))

@@ -5,9 +5,7 @@ use Rattle.pl_parked.specs.declared.call.ParkedCall.{ParkedCall}
 use Rattle.pl_state.specs.Contents.{Contents, core_of}
 use Rattle.pl_kernel.proofs.NextReady.{mapped}
 use Rattle.pl_kernel.proofs.index.Touching.{parked-some}
-use Rattle.pl_waiters.specs.Queue.{is_waiter}
-use Rattle.pl_waiters.specs.Seen.{stands}
-use Rattle.pl_kernel.proofs.index.Asked.{was_other, another, left-in}
+use Rattle.pl_kernel.proofs.index.Asked.{taken-out}
 use Rattle.pl_kernel.proofs.asking.drop_if_ended.Given.{Over}
 use Rattle.pl_kernel.proofs.asking.drop_if_ended.Goals.{After-is_some}
 use Rattle.pl_kernel.proofs.asking.drop_if_ended.Goals as goal
@@ -25,13 +23,7 @@ pub returns-clause-prunes : goal.returns-clause-prunes
 returns-clause-prunes g c =
     let w = (goal.at.returns-clause-prunes g c).After-is_some in
     let gone : is_some (get nat_eq (core_of c.args.state.now).parked c.args.call.now.number) ≡ false = parked g w ∙ c.if-is_some.false in
-    record {
-      fewer = λ key there. was_other (is_waiter c.args.call.now key) (stands c.args.waiters.now key) (sym (c.remove.ensures.queues key) ∙ there);
-      kept = λ key some there. c.remove.ensures.queues key ∙ left-in (is_waiter c.args.call.now key) (stands c.args.waiters.now key) (another (core_of c.args.state.now) c.args.call.now key gone some) there;
-      touched = c.remove.ensures.touched;
-      least_ones = c.remove.ensures.least;
-      known = c.remove.ensures.known;
-    }
+    taken-out (core_of c.args.state.now) c.args.call.now c.args.waiters.now c.remove.new.self gone c.remove.ensures.queues c.remove.ensures.touched c.remove.ensures.least c.remove.ensures.known
 
 pub returns-clause-ended : goal.returns-clause-ended
 returns-clause-ended g c = (let w = (goal.at.returns-clause-ended g c).After-is_some in sym (ap not (parked g w ∙ c.if-is_some.false)))

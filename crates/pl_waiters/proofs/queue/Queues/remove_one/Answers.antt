@@ -1,6 +1,6 @@
 use Rattle.std.proofs.Common.{◌≡◌, true, false, None, sym, ◌∙◌, ap}
 use Rattle.pl_waiters.specs.declared.queue.Place.{Place}
-use Rattle.pl_waiters.specs.Queue.{place_at, is_one}
+use Rattle.pl_waiters.specs.Queue.{place_at, is_one, may_stand}
 use Rattle.pl_waiters.proofs.Places.{placed, within}
 use Rattle.pl_waiters.proofs.queue.Queues.remove_one.Goals as goal
 
@@ -11,9 +11,9 @@ invariant_of-self g c =
     let place = c.place-place in
     let one : is_one place.result.one c.args.call.now ≡ true = sym c.is_same.ensures ∙ c.if-is_same.true in
     record {
-      kept = placed q.places.items q.more q.more node (record { one = None; has_more = place.result.has_more }) q.kept
+      kept = placed q.places.items q.more q.more node (record { one = None; last = place.result.last }) q.kept
           (within q.places.items node place.result place.ensures (λ empty. (let no : false ≡ true = sym (ap (λ (p : Place). is_one p.one c.args.call.now) empty) ∙ one in cc)))
           (λ w is. absurd (cc))
-          (λ off key at. q.kept.none key (ap (λ n. (place_at q.places.items n).has_more) at ∙ ap (λ (p : Place). p.has_more) (sym place.ensures) ∙ off))
+          (λ key at off. q.kept.none key (ap (λ n. may_stand (place_at q.places.items n).last key.queue) at ∙ ap (λ (p : Place). may_stand p.last key.queue) (sym place.ensures) ∙ off))
           (λ key apart off. off);
     }
