@@ -51,7 +51,29 @@ static void a_splice_of_many_slots(long count)
     HOLDS(bytes_left == 0);
 }
 
-/* The same without memory for all of it: the splice leaves what it found. */
+/* A splice of all that a pipe holds to an empty one takes the places of a new pipe alone, however many slots go. Each pipe keeps its capacity. */
+static void a_splice_of_all(void)
+{
+    enum { NEW_PLACES = 128, HALF = MOST_CAPACITY / 2 };
+    bindingclay clay = kernel_with_process();
+    bindingclay_ends from = NEW_PIPE(clay, 1, false), to = NEW_PIPE(clay, 1, false);
+    DONE(bindingclay_set_pipe_sz(clay, 1, from.write_end, MOST_CAPACITY), MOST_CAPACITY);
+    DONE(bindingclay_set_pipe_sz(clay, 1, to.write_end, HALF), HALF);
+    DONE(put_many(clay, 1, from.write_end, HALF), HALF);
+    long before = bytes_left;
+    most_bytes = before;
+    DONE(bindingclay_splice(clay, 1, from.read_end, NULL, to.write_end, NULL, MOST_CAPACITY, 0), HALF);
+    HOLDS(most_bytes - before <= NEW_PLACES);
+    DONE(bindingclay_get_pipe_sz(clay, 1, from.write_end), MOST_CAPACITY);
+    DONE(bindingclay_get_pipe_sz(clay, 1, to.write_end), HALF);
+    DONE(bindingclay_held(clay, 1, from.read_end), 0);
+    DONE(put_many(clay, 1, from.write_end, MOST_CAPACITY), MOST_CAPACITY);
+    DONE(take(clay, 1, to.read_end, MOST_CAPACITY), HALF);
+    bindingclay_free(clay);
+    HOLDS(bytes_left == 0);
+}
+
+/* A splice of a file without memory for all of it leaves what it found. */
 static void a_splice_without_memory(long count)
 {
     bindingclay clay = kernel_with_process();
@@ -339,6 +361,7 @@ int main(int words, char **word)
 {
     long count = count_of(words, word);
     a_splice_of_many_slots(count);
+    a_splice_of_all();
     a_splice_without_memory(count);
     a_tee_of_a_full_pipe();
     an_emptied_file(count);

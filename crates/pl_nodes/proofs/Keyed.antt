@@ -1,7 +1,7 @@
 -- Lists by key, and maps that change at one key.
 use Rattle.std.proofs.Common.{◌≡◌, ◌≢◌, ℕ, zero, suc, ◌<◌, Bool, true, false, List, [], ◌∷◌, Option, Some, None, refl, sym, ◌∙◌, ap, subst, inl, inr, nat_eq, length, map, slice_set, arith}
 use Rattle.std.proofs.Math.Path.{fun_ext}
-use Rattle.std.specs.Prelude.{if◌then◌else◌, option_map, Result, Ok, Err, IfOk, OnErr, IfSome}
+use Rattle.std.specs.Prelude.{if◌then◌else◌, option_map, Result, Ok, Err, IfOk, OnOk, OnErr, IfSome}
 use Rattle.std.proofs.lemmas.Bool.{eq-eqb, ne_eqb, eqb-true}
 use Rattle.std.proofs.lemmas.Bool.Decides.{eqb_tells}
 use Rattle.pl_model.specs.Map.{set_at, change_at}
@@ -11,6 +11,11 @@ use Rattle.pl_segments.specs.Segments.{at}
 pub on_err : {T E : Type 0} (r : Result T E) (P : Type 0) → P → OnErr r P
 on_err (Ok x) P h = tt
 on_err (Err e) P h = h
+
+-- what follows from what holds where it succeeded
+pub on_ok : {T E P Q : Type 0} (r : Result T E) → (P → Q) → OnOk r P → OnOk r Q
+on_ok (Ok x) f h = f h
+on_ok (Err e) f h = tt
 
 -- a key with a value is within the list
 pub within : {V : Type 0} (xs : List (Option V)) (k : ℕ) (x : V) → at xs k ≡ Some x → k < length xs
@@ -50,10 +55,14 @@ is_change_at m n k f here there = fun_ext (λ q. at_q q)
       | inr e ↦ there q (λ h. e.1 (sym h)) ∙ ap (λ b. if b then option_map f (m q) else m q) (sym e.0)
     ]
 
+-- what is under the key then
+pub change-here : {V : Type 0} (k : ℕ) (f : V → V) (m : ℕ → Option V) (x : V) → m k ≡ Some x → change_at k f m k ≡ Some (f x)
+change-here k f m x e = ap (λ b. if b then option_map f (m k) else m k) (eq-eqb k k refl) ∙ ap (option_map f) e
+
 -- a change at a key with a value
 pub change_at-is : {V : Type 0} (k : ℕ) (f : V → V) (m : ℕ → Option V) (x : V) → m k ≡ Some x → change_at k f m ≡ set_at nat_eq m k (Some (f x))
 change_at-is k f m x e = is_set_at m (change_at k f m) k (Some (f x))
-    (ap (λ b. if b then option_map f (m k) else m k) (eq-eqb k k refl) ∙ ap (option_map f) e)
+    (change-here k f m x e)
     (λ q n. ap (λ b. if b then option_map f (m q) else m q) (ne_eqb k q (λ h. n (sym h))))
 
 -- lists of one length with the same under each key

@@ -9,6 +9,7 @@ pub mod Files
 pub mod Lending
 pub mod Putting
 pub mod Coming
+pub mod Exchanged
 pub mod Names
 pub mod Named
 pub mod Unnamed

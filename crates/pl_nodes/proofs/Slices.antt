@@ -16,7 +16,7 @@ use Rattle.pl_segments.proofs.Storing.{live-is}
 use Rattle.pl_segments.proofs.Shared.{held-named}
 use Rattle.pl_segments.proofs.Fronting.{drop-whole, drop-part, front-whole, front-part, front-none}
 use Rattle.pl_ring.specs.Parts.{is_same, is_among, within, within_any, fresh, strange}
-use Rattle.pl_ring.proofs.Counting.{or_weaker, among-within, fewer-fail}
+use Rattle.pl_ring.proofs.Counting.{or_weaker, among-within, fewer-fail, fresh-own}
 use Rattle.pl_nodes.specs.Nodes.{Memory, Shrinks, NamesBelow, segments_named}
 use Rattle.pl_nodes.proofs.Lists.{none-live, same-named}
 
@@ -57,6 +57,17 @@ pub strange-front : (ts xs : List Slice) (n : ℕ) (zs : List Slice) → strange
 strange-front ts xs n =
     fewer-fail (is_among (ts ++ front_of n xs)) (λ z. is_among ts z || within_any xs z)
     (λ z. among-behind ts (front_of n xs) xs z (λ e. within-front n xs z (among-within (front_of n xs) z e)))
+
+-- slots that were all handed over are none but the others
+or_right : (a b : Bool) → b ≡ true → (a || b) ≡ true
+or_right true b e = refl
+or_right false b e = e
+
+pub strange-handed : (ts xs : List Slice) → strange ts xs xs ≤ 3
+strange-handed ts xs =
+    let few = fewer-fail (is_among xs) (λ z. is_among ts z || within_any xs z) (λ z e. or_right (is_among ts z) (within_any xs z) (among-within xs z e)) xs in
+    let none = fresh-own xs in
+    omega (arith, few, none)
 
 -- parts of slots name no segment oftener than the slots
 pub naming-front : (n : ℕ) (xs : List Slice) (key : ℕ) → naming (front_of n xs) key ≤ naming xs key

@@ -260,6 +260,23 @@ impl<A: Allocator + Copy> Queue<A> {
         ring.drop_front(store, count);
     }
 
+    /// Exchanges all slots of a byte queue with a ring, where those of each fit the other. The capacities stay. It takes no memory.
+    pub(crate) fn exchange(&mut self, other: &mut Ring<A>)
+        requires bytes { packets_of self.old ≡ None }
+        requires fits { total other.old.slots ≤ capacity_of self.old }
+        requires other_fits { total (slots_of self.old) ≤ other.old.capacity }
+        ensures bytes { packets_of self.new ≡ None }
+        ensures slots { slots_of self.new ≡ other.old.slots }
+        ensures other_slots { other.new.slots ≡ slots_of self.old }
+        ensures capacity { capacity_of self.new ≡ capacity_of self.old }
+        ensures other_capacity { other.new.capacity ≡ other.old.capacity }
+    {
+        let Queue::Bytes(ring) = self else {
+            unreachable!()
+        };
+        ring.exchange(other);
+    }
+
     /// Makes a byte queue what that of a new pipe is. It takes no memory.
     pub(crate) fn reset(&mut self, store: &mut Store<A>)
         requires bytes { packets_of self.old ≡ None }

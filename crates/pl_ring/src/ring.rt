@@ -18,6 +18,7 @@ use pl_model::numbers::FIRST_CAPACITY;
 use pl_segments::{NoMemory, Slice, SliceList, Store};
 use std::alloc::{Allocator, Global};
 use std::marker::Model;
+use std::mem;
 
 /// The bytes for each place: two places for a segment.
 const PLACE_SIZE: usize = 2_048;
@@ -223,6 +224,18 @@ impl<A: Allocator + Copy> Ring<A> {
     {
         drop_front(store, &mut self.slots, count);
         self.held -= count;
+    }
+
+    /// Exchanges all slots with another ring, where those of each fit the other. The capacities stay. It takes no memory.
+    pub fn exchange(&mut self, other: &mut Ring<A>)
+        requires fits { total other.old.slots ≤ self.old.capacity }
+        requires other_fits { total self.old.slots ≤ other.old.capacity }
+        ensures here { self.new ≡ record self.old { slots = other.old.slots } }
+        ensures there { other.new ≡ record other.old { slots = self.old.slots } }
+    {
+        mem::swap(&mut self.slots, &mut other.slots);
+        mem::swap(&mut self.few, &mut other.few);
+        mem::swap(&mut self.held, &mut other.held);
     }
 
     /// Lets all bytes go, and has the capacity of a new pipe. It takes no memory.

@@ -18,7 +18,7 @@ named-one (xs ∷ all) zero key = omega arith
 named-one (xs ∷ all) (suc p) key = let r = named-one all p key in omega (arith, r)
 
 -- one list changes
-named-set : (all : List (List Slice)) (p : ℕ) (ys : List Slice) (key : ℕ) → p < length all → named (set all p ys) key + naming (slots_at all p) key ≡ named all key + naming ys key
+pub named-set : (all : List (List Slice)) (p : ℕ) (ys : List Slice) (key : ℕ) → p < length all → named (set all p ys) key + naming (slots_at all p) key ≡ named all key + naming ys key
 named-set [] p ys key l = absurd (omega (arith, l))
 named-set (xs ∷ all) zero ys key l = omega arith
 named-set (xs ∷ all) (suc p) ys key l = let r = named-set all p ys key (omega (arith, l)) in omega (arith, r)

@@ -1,5 +1,5 @@
 //! Bytes that go from one pipe or file to another, or are copied, by sharing the segments in which they stand.
-ghost use Rattle.std.specs.Prelude.{◌≡◌, ◌≢◌, ◌↔◌, ℕ, ◌+◌, ◌≤◌, ◌++◌, length, take, drop, slice_set, IfOk, OnErr, OnOk, IsSome, IfSome, None, Err};
+ghost use Rattle.std.specs.Prelude.{◌≡◌, ◌≢◌, ◌↔◌, ℕ, ◌+◌, ◌≤◌, [], ◌++◌, length, take, drop, slice_set, IfOk, OnErr, OnOk, IsSome, IfSome, None, Err};
 ghost use Rattle.pl_model.specs.Packets.{lose, gain};
 ghost use Rattle.pl_model.specs.Transfer.{room};
 ghost use Rattle.pl_model.specs.Map.{change_at};
@@ -13,6 +13,8 @@ ghost use Rattle.pl_nodes.specs.Nodes.{SameFiles, SamePipes, bytes_of, part_of};
 use super::Nodes;
 use crate::content::Content;
 use pl_file::WriteFault;
+use pl_model::numbers::MAX_CAPACITY;
+use pl_ring::Ring;
 use pl_segments::NoMemory;
 use std::alloc::Allocator;
 
@@ -68,8 +70,41 @@ impl<A: Allocator + Copy> Nodes<A> {
         ensures parts { OnOk result (strange (slots_at self.old.slots to) (slots_at self.old.slots from) (slots_at self.new.slots to) ≤ 3) }
         ensures err { OnErr result (self.new ≡ self.old) }
     {
+        if self.held(from) == count && self.slots(to) == 0 {
+            return self.hand_over(from, to);
+        }
         self.copy_pipe_pipe(from, to, count)?;
         self.drop_front(from, count);
+        Ok(())
+    }
+
+    // Moves all that a pipe holds to one that holds nothing: the other gets the ring in which the bytes stand, and the first one that is new. An
+    // error leaves all as it was.
+    fn hand_over(&mut self, from: usize, to: usize) -> Result<(), NoMemory>
+        requires from { IsSome (at self.old.pipes from) }
+        requires to { IsSome (at self.old.pipes to) }
+        requires other { from ≢ to }
+        requires from_bytes { IfSome (at self.old.pipes from) (λ x. x.packets ≡ None) }
+        requires to_bytes { IfSome (at self.old.pipes to) (λ x. x.packets ≡ None) }
+        requires empty { slots_at self.old.slots to ≡ [] }
+        requires room { IfSome (at self.old.pipes to) (λ x. length (bytes_of (at self.old.pipes from)) ≤ x.capacity) }
+        ensures ok { OnOk result (at self.new.pipes ≡ change_at to (gain (bytes_of (at self.old.pipes from))) (change_at from (lose (length (bytes_of (at self.old.pipes from)))) (at self.old.pipes))) }
+        ensures files { SameFiles self.old self.new }
+        ensures segments { self.new.segments ≡ self.old.segments }
+        ensures slots { OnOk result (slots_at self.new.slots to ≡ slots_at self.old.slots from) }
+        ensures err { OnErr result (self.new ≡ self.old) }
+    {
+        let mut ring = Ring::new(self.alloc, MAX_CAPACITY as usize)?;
+        let Some(source) = self.contents[from].as_pipe_mut() else {
+            unreachable!()
+        };
+        // A proof learns here that no capacity is greater.
+        let _held = source.queue.len();
+        source.queue.exchange(&mut ring);
+        let Some(target) = self.contents[to].as_pipe_mut() else {
+            unreachable!()
+        };
+        target.queue.exchange(&mut ring);
         Ok(())
     }
 
