@@ -8,3 +8,4 @@ pub mod Pushing
 pub mod Fronting
 pub mod Together
 pub mod Appending
+pub mod Overwriting

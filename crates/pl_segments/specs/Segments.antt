@@ -1,5 +1,6 @@
 -- Segments by key, as contracts see a store of them.
 use Rattle.std.specs.Prelude.{◌≤◌, ℕ, ◌+◌, ◌-◌, nat_eq, List, [], ◌++◌, length, Option, None, Some, IfSome, is_some, if◌then◌else◌, slice_index_or, count_by}
+use Rattle.std.specs.List.{splice}
 
 -- how many bytes fit a segment
 abbrev pub segment_size : ℕ
@@ -79,3 +80,8 @@ less_held (Some s) = if nat_eq s.holders 1 then None else Some (record s { holde
 abbrev pub longer : List ℕ → Option Segment → Option Segment
 longer more None = None
 longer more (Some s) = Some (record s { filled = s.filled ++ more })
+
+-- the segment with bytes from a place on, over those that are there
+abbrev pub overwritten : ℕ → List ℕ → Option Segment → Option Segment
+overwritten place bytes None = None
+overwritten place bytes (Some s) = Some (record s { filled = splice s.filled place (place + length bytes) bytes })

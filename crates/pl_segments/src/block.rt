@@ -1,5 +1,6 @@
 //! Blocks of memory for the bytes of one segment.
 ghost use Rattle.std.specs.Prelude.{◌≡◌, ◌+◌, ◌≤◌, ◌++◌, [], List, ℕ, length, IfOk};
+ghost use Rattle.std.specs.List.{splice};
 ghost use Rattle.pl_segments.specs.Segments.{segment_size};
 
 use crate::fault::NoMemory;
@@ -67,6 +68,14 @@ impl<A: Allocator> Block<A> {
         let end = self.len + more.len();
         self.places[self.len..end].copy_from_slice(more);
         self.len = end;
+    }
+
+    /// Has these bytes over those that are there, from a place on. It takes no memory.
+    pub(crate) fn overwrite(&mut self, place: usize, bytes: &[u8])
+        requires { place + length bytes.now ≤ length self.old }
+        ensures { self.new ≡ splice self.old place (place + length bytes.now) bytes.now }
+    {
+        put(&mut self.places[place..place + bytes.len()], bytes);
     }
 
     /// The bytes.

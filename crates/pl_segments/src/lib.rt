@@ -1,4 +1,4 @@
-//! Append-only segments of 4,096 bytes with the counts of their holders, and slices of them.
+//! Segments of 4,096 bytes with the counts of their holders, and slices of them.
 #![tactic(auto)]
 
 mod block;

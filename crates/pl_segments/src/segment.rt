@@ -1,12 +1,13 @@
 //! Segments with the counts of their holders.
 ghost use Rattle.std.specs.Prelude.{◌≡◌, ◌+◌, ◌-◌, ◌<◌, ◌≤◌, ◌^◌, ◌++◌, length};
+ghost use Rattle.std.specs.List.{splice};
 ghost use Rattle.pl_segments.specs.Segments.{segment_size};
 
 use crate::block::Block;
 use std::alloc::Allocator;
 use std::marker::Model;
 
-/// Bytes that are only added to, and how many slots and slices hold them.
+/// Bytes, and how many slots and slices hold them.
 #[derive(Drop)]
 pub(crate) struct Segment<A: Allocator> {
     block: Block<A>,
@@ -57,6 +58,14 @@ impl<A: Allocator> Segment<A> {
         ensures { self.new ≡ record self.old { filled = self.old.filled ++ more.now } }
     {
         self.block.append(more);
+    }
+
+    /// Has these bytes over those that are there, from a place on. It takes no memory.
+    pub(crate) fn overwrite(&mut self, place: usize, bytes: &[u8])
+        requires { place + length bytes.now ≤ length self.old.filled }
+        ensures { self.new ≡ record self.old { filled = splice self.old.filled place (place + length bytes.now) bytes.now } }
+    {
+        self.block.overwrite(place, bytes);
     }
 
     /// Has these bytes in place of those that it had, and takes no memory.

@@ -1,6 +1,7 @@
 //! The store of segments.
 ghost use Rattle.std.specs.Prelude.{◌≡◌, ◌++◌, nat_eq, if◌then◌else◌, ◌+◌, ◌-◌, ◌<◌, ◌≤◌, ◌^◌, [], ◌∷◌, length, take, min, max, IsOk, IfOk, OnErr, OnOk, Some, None};
-ghost use Rattle.pl_segments.specs.Segments.{segment_size, most_spare, segment_at, set_at, filled, holders, AreGood, live_count, more_held, less_held, longer};
+ghost use Rattle.std.specs.List.{splice};
+ghost use Rattle.pl_segments.specs.Segments.{segment_size, most_spare, segment_at, set_at, filled, holders, AreGood, live_count, more_held, less_held, longer, overwritten};
 ghost use Rattle.pl_segments.specs.Slices.{Lies, reads, longer_by, appended, room_after, is_part};
 ghost use Rattle.pl_segments.specs.Turns.{Holds, Turns};
 
@@ -13,8 +14,8 @@ use slab::Slab;
 use std::alloc::{Allocator, Global};
 use std::marker::Model;
 
-/// Segments of at most 4,096 bytes, which are only added to, each with the number of its holders. A segment is there as long
-/// as it is held.
+/// Segments of at most 4,096 bytes, each with the number of its holders. A segment is there as long as it is held. Its bytes stay while
+/// several hold it: bytes are only added behind them.
 #[derive(Drop)]
 pub struct Store<A: Allocator = Global> {
     alloc: A,
@@ -261,6 +262,22 @@ impl<A: Allocator + Copy> Store<A> {
             from: slice.from,
             len: slice.len + bytes.len() as u32,
         })
+    }
+
+    /// Writes bytes over those of a slice, from a place among them on, where nothing else holds its segment: so nobody reads them but who
+    /// holds the slice. It takes no memory.
+    pub fn overwrite(&mut self, slice: Slice, place: usize, bytes: &[u8])
+        requires lies { Lies (segment_at self.old) slice }
+        requires alone { holders (segment_at self.old) slice.segment ≡ 1 }
+        requires within { place + length bytes.now ≤ slice.len }
+        ensures overwritten { segment_at self.new ≡ set_at (segment_at self.old) slice.segment (overwritten (slice.from + place) bytes.now (segment_at self.old slice.segment)) }
+        ensures in_use { live_count self.new.held ≡ live_count self.old.held }
+        ensures room { self.new.room ≡ self.old.room }
+        ensures turns { Turns (segment_at self.old) (slice ∷ []) (segment_at self.new) (slice ∷ []) }
+        ensures reads { reads (segment_at self.new) slice ≡ splice (reads (segment_at self.old) slice) place (place + length bytes.now) bytes.now }
+    {
+        let segment = &mut self.segments[slice.segment];
+        segment.overwrite(slice.from as usize + place, bytes);
     }
 
     /// Copies the bytes of a slice into a list of its length.
