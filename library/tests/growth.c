@@ -4,6 +4,7 @@
 #include "growth.h"
 
 #include <fcntl.h>
+#include <limits.h>
 
 enum { SEGMENT = 4096, MOST_SPARE = 256, MOST_CAPACITY = 1048576 };
 
@@ -305,13 +306,13 @@ static void writes_that_copy_together(long count)
     HOLDS(bytes_left == 0);
 }
 
-/* A write in which a request for memory is refused: it changes nothing, or if that would have served to copy slots together it is made
- * without that. It returns whether a request was refused. */
+/* A write over a slot that another file shares, in which a request for memory is refused: it changes nothing, or if that would have served to
+ * copy slots together it is made without that. It returns whether a request was refused. */
 static bool a_write_without_memory(long granted, long *passed_over)
 {
     enum { SLOTS = 200 };
     bindingclay clay = kernel_with_process();
-    scattered_file(clay, SLOTS, 0);
+    scattered_file(clay, SLOTS, 1);
     DONE(bindingclay_lseek(clay, 1, 2, 0, SEEK_SET), 0);
     long blocks = blocks_left;
     refuse(granted, 1);
@@ -327,6 +328,7 @@ static bool a_write_without_memory(long granted, long *passed_over)
         HOLDS(has_slots(clay, "f", SLOTS, SLOTS));
         *passed_over += was_refused;
     }
+    HOLDS(has_slots(clay, "g", 1, 0));
     bindingclay_free(clay);
     HOLDS(bytes_left == 0);
     return was_refused;
@@ -339,6 +341,48 @@ static void writes_without_memory(void)
         granted++;
     HOLDS(passed_over >= 2);
     HOLDS(granted - passed_over >= 2);
+}
+
+/* A write within a segment that nothing else shares goes over the bytes there, and asks for no memory. It asks for some if it goes on into the
+ * next segment, or if a pipe shares the bytes, which keeps what it got. */
+static void writes_over_bytes(void)
+{
+    enum { SEGMENTS = 8 };
+    static uint8_t bytes[SEGMENTS * SEGMENT], into[SEGMENTS * SEGMENT];
+    bindingclay clay = kernel_with_process();
+    NEW_PIPE(clay, 1, false);
+    DONE(open_text(clay, 1, "f", O_RDWR | O_CREAT), 2);
+    DONE(bindingclay_write(clay, 1, 2, bytes, sizeof bytes), sizeof bytes);
+    long blocks = blocks_left;
+    refuse(0, LONG_MAX);
+    for (int i = 0; i < SEGMENTS; i++) {
+        /* a whole segment, and parts of one at its front, in its middle and at its end */
+        static const int FROM[] = { 0, 0, 1000, SEGMENT - 64 }, SIZE[] = { SEGMENT, 1, 3000, 64 };
+        int from = i * SEGMENT + FROM[i % 4], size = SIZE[i % 4];
+        memset(bytes + from, 'a' + i, (size_t)size);
+        DONE(bindingclay_lseek(clay, 1, 2, from, SEEK_SET), from);
+        DONE(bindingclay_write(clay, 1, 2, bytes + from, (size_t)size), size);
+    }
+    DONE(bindingclay_lseek(clay, 1, 2, SEGMENT - 1, SEEK_SET), SEGMENT - 1);
+    HOLDS(refused == 0);
+    OTHER(put(clay, 1, 2, "no"), BINDINGCLAY_NO_MEMORY);
+    refuse_none();
+    HOLDS(blocks_left == blocks);
+    const uint64_t front = 0;
+    DONE(bindingclay_splice(clay, 1, 2, &front, 1, NULL, 64, 0), 64);
+    refuse(0, LONG_MAX);
+    OTHER(put(clay, 1, 2, "y"), BINDINGCLAY_NO_MEMORY);
+    HOLDS(refused == 1);
+    refuse_none();
+    DONE(bindingclay_lseek(clay, 1, 2, 0, SEEK_SET), 0);
+    DONE(put(clay, 1, 2, "yes"), 3);
+    DONE(bindingclay_read(clay, 1, 0, into, 64), 64);
+    HOLDS(memcmp(into, bytes, 64) == 0);
+    memcpy(bytes, "yes", 3);
+    DONE(bindingclay_file_bytes(clay, bytes_of("f"), 1, into, sizeof into), sizeof into);
+    HOLDS(memcmp(into, bytes, sizeof into) == 0);
+    bindingclay_free(clay);
+    HOLDS(bytes_left == 0);
 }
 
 /* Bytes that are spliced into a file one by one, one behind the other, are one slot where they go on one where the other ends. */
@@ -368,6 +412,7 @@ int main(int words, char **word)
     a_change_among_many_slots(count);
     writes_that_copy_together(count);
     writes_without_memory();
+    writes_over_bytes();
     bytes_one_by_one(count);
     return end();
 }

@@ -5,8 +5,10 @@ use Rattle.std.proofs.lemmas.Bool.{cases_lt, eq-eqb, ne_eqb}
 use Rattle.std.proofs.lemmas.List.{take-append-drop, take_more, drop_all, drop_more}
 use Rattle.std.proofs.lemmas.Option.{slice_get_within, get_or_from_slice_get}
 use Rattle.pl_segments.specs.declared.slice.Slice.{Slice}
-use Rattle.pl_segments.specs.Segments.{segment_size}
+use Rattle.pl_segments.specs.Segments.{segment_size, Map}
+use Rattle.pl_segments.specs.Slices.{Lies, AllLie}
 use Rattle.pl_segments.specs.Slots.{total, AllSolid, solid_of, cut_front, cut_end, drop_bytes, front_of}
+use Rattle.pl_segments.proofs.Turning.{lie-right}
 use Rattle.pl_segments.proofs.SlotLemmas.{total-append, solid-left, solid-right}
 use Rattle.pl_segments.proofs.Fronting.{front-append, front-whole, front-part, drop-whole, drop-part}
 use Rattle.pl_file.specs.Rows.{AllWithin}
@@ -50,7 +52,7 @@ module _ (xs : List Slice) (i : ℕ) (x : Slice) (got : slice_get xs i ≡ Some 
   pub here-within : i < length xs
   here-within = slice_get_within xs i x got
 
-  here-split : xs ≡ take i xs ++ x ∷ drop (i + 1) xs
+  pub here-split : xs ≡ take i xs ++ x ∷ drop (i + 1) xs
   here-split =
       sym (take-append-drop i xs)
       ∙ ap (λ zs. take i xs ++ zs) (drop_more xs i x here-within ∙ ap (λ y. y ∷ drop (i + 1) xs) (get_or_from_slice_get xs i x x got))
@@ -63,6 +65,9 @@ module _ (xs : List Slice) (i : ℕ) (x : Slice) (got : slice_get xs i ≡ Some 
 
   pub here-solid : AllSolid xs → 1 ≤ x.len
   here-solid s = (solid-right (take i xs) (x ∷ drop (i + 1) xs) (subst AllSolid here-split s)).0
+
+  pub here-lies : (m : Map) → AllLie m xs → Lies m x
+  here-lies m lie = (lie-right m (take i xs) (x ∷ drop (i + 1) xs) (subst (AllLie m) here-split lie)).0
 
   pub here-fits : AllWithin xs → x.from + x.len ≤ segment_size
   here-fits w = (within-right (take i xs) (x ∷ drop (i + 1) xs) (subst AllWithin here-split w)).0

@@ -7,4 +7,5 @@ pub mod Cutting
 pub mod Patching
 pub mod Editing
 pub mod Opening
+pub mod Over
 pub mod Compacting

@@ -1,5 +1,5 @@
 //! Slots of a file replaced: what is put in is made whole first, and then takes the place of what goes.
-ghost use Rattle.std.specs.Prelude.{◌≡◌, ℕ, ◌+◌, ◌-◌, ◌<◌, ◌≤◌, ◌^◌, ◌++◌, [], ◌∷◌, length, take, drop, replicate, IfOk, OnOk, OnErr};
+ghost use Rattle.std.specs.Prelude.{◌≡◌, ℕ, ◌+◌, ◌-◌, ◌<◌, ◌≤◌, ◌^◌, ◌++◌, [], ◌∷◌, length, take, drop, replicate, IfOk, IfSome, OnOk, OnErr};
 ghost use Rattle.pl_model.specs.Numbers.{most_file_bytes};
 ghost use Rattle.pl_segments.specs.Segments.{most_spare, segment_at, holders, live_count};
 ghost use Rattle.pl_segments.specs.Slices.{AllLie, all_read};
@@ -7,6 +7,7 @@ ghost use Rattle.pl_segments.specs.Turns.{Holds, Turns};
 ghost use Rattle.pl_segments.specs.Slots.{total, AllSolid, solid_of, drop_bytes, front_of, tail_room};
 ghost use Rattle.pl_file.specs.Rows.{AllWithin, index, IsSpot, staying, AreReady};
 ghost use Rattle.pl_file.specs.Joined.{between};
+ghost use Rattle.pl_file.specs.Alone.{LieAlone};
 ghost use Rattle.pl_file.specs.File.{written};
 
 use crate::chunks::Chunks;
@@ -121,8 +122,8 @@ fn close<A: Allocator + Copy>(
     chunks.replace(first, end, patch, pieces);
 }
 
-/// Writes bytes at a place: at the end into the last slot's segment, where all fit there, and else into new segments, after which the
-/// slots around the place are copied together if they are scattered. An error leaves all as it was.
+/// Writes bytes at a place: at the end into the last slot's segment, where all fit there, and else over others or into new segments, after
+/// which the slots around the place are copied together if they are scattered. An error leaves all as it was.
 pub(crate) fn write<A: Allocator + Copy>(
     alloc: A,
     store: &mut Store<A>,
@@ -150,9 +151,68 @@ pub(crate) fn write<A: Allocator + Copy>(
         grow_tail(store, chunks, bytes);
         return Ok(());
     }
-    overwrite(alloc, store, chunks, place, bytes)?;
+    write_over(alloc, store, chunks, place, bytes)?;
     compact(alloc, store, chunks, place);
     Ok(())
+}
+
+/// Writes bytes at a place: over those that are there, where they lie in one slot that alone holds its segment, and else in new segments.
+/// Over others they take no memory, and no slot changes. An error leaves all as it was.
+fn write_over<A: Allocator + Copy>(
+    alloc: A,
+    store: &mut Store<A>,
+    chunks: &mut Chunks<A>,
+    place: usize,
+    bytes: &[u8],
+) -> Result<(), NoMemory>
+    requires solid { AllSolid chunks.old.slots }
+    requires within { AllWithin chunks.old.slots }
+    requires most { total chunks.old.slots ≤ most_file_bytes }
+    requires fits { place + length bytes.now ≤ most_file_bytes }
+    requires some { 1 ≤ length bytes.now }
+    requires held { Holds (segment_at store.old) chunks.old.slots }
+    requires few { (key : ℕ) → holders (segment_at store.old) key < 2 ^ 101 }
+    ensures turns { OnOk result (Turns (segment_at store.old) chunks.old.slots (segment_at store.new) chunks.new.slots) }
+    ensures read { OnOk result (all_read (segment_at store.new) chunks.new.slots ≡ written place bytes.now (all_read (segment_at store.old) chunks.old.slots)) }
+    ensures solid { OnOk result (AllSolid chunks.new.slots) }
+    ensures most { OnOk result (total chunks.new.slots ≤ most_file_bytes) }
+    ensures within { OnOk result (AllWithin chunks.new.slots) }
+    ensures err { OnErr result (chunks.new.slots ≡ chunks.old.slots) }
+    ensures spare { store.old.room ≤ most_spare → store.new.room ≤ most_spare }
+    ensures store_err { OnErr result (store.new ≡ store.old) }
+{
+    let Some((slot, at)) = find_alone(store, chunks, place, bytes.len()) else {
+        return overwrite(alloc, store, chunks, place, bytes);
+    };
+    store.overwrite(slot, at, bytes);
+    Ok(())
+}
+
+/// The slot in which `count` bytes from a place on lie, if it alone holds its segment, and where in it they begin.
+fn find_alone<A: Allocator + Copy>(
+    store: &Store<A>,
+    chunks: &Chunks<A>,
+    place: usize,
+    count: usize,
+) -> Option<(Slice, usize)>
+    requires fits { place + count ≤ most_file_bytes }
+    requires some { 1 ≤ count }
+    requires lie { AllLie (segment_at store.now) chunks.now.slots }
+    ensures { IfSome result (λ found. LieAlone (segment_at store.now) chunks.now.slots place count found.0 found.1) }
+{
+    if chunks.end() < place + count {
+        return None;
+    }
+    let spot = chunks.find(place);
+    let slot = chunks.get(spot);
+    let at = place - chunks.start(spot);
+    if (slot.len as usize) < at + count {
+        return None;
+    }
+    if store.holders(slot) != 1 {
+        return None;
+    }
+    Some((slot, at))
 }
 
 /// Writes bytes at a place, in new segments. An error leaves all as it was.

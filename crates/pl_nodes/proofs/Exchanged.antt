@@ -13,22 +13,22 @@ use Rattle.pl_model.specs.Nodes.{key_of}
 use Rattle.pl_model.specs.Numbers.{most_file_bytes}
 use Rattle.pl_segments.specs.declared.slice.Slice.{Slice}
 use Rattle.pl_segments.specs.Segments.{Map, at, segment_at}
-use Rattle.pl_segments.specs.Slices.{all_read, AllLie, naming}
+use Rattle.pl_segments.specs.Slices.{AllLie, naming}
 use Rattle.pl_segments.specs.Sharing.{named, slots_at, AreShared}
 use Rattle.pl_segments.proofs.Shared.{named-set}
 use Rattle.pl_nodes.specs.declared.content.PipeNode.{PipeNode}
 use Rattle.pl_nodes.specs.declared.content.Content.{Content}
-use Rattle.pl_nodes.specs.declared.content.Content.TheVariants.{Pipe, File}
+use Rattle.pl_nodes.specs.declared.content.Content.TheVariants.{Pipe}
 use Rattle.pl_nodes.specs.declared.nodes.Nodes.TheInside.{Inside}
 use Rattle.pl_nodes.specs.declared.queue.Queue.{Queue}
 use Rattle.pl_nodes.specs.Nodes.{Nodes, SameFiles}
-use Rattle.pl_nodes.specs.NodesView.{one_if, names_of, pipe_of, pipe_in, file_in, slots_in, lists, pipe_named, file_named, is_packet, named_packet, named_as, AreNamed, view_of, IsSound}
-use Rattle.pl_nodes.specs.Queue.{slots_of, packets_of, capacity_of}
+use Rattle.pl_nodes.specs.NodesView.{one_if, pipe_of, pipe_in, file_in, slots_in, lists, pipe_named, file_named, named_packet, named_as, AreNamed, view_of, IsSound}
+use Rattle.pl_nodes.specs.Queue.{slots_of, packets_of}
 use Rattle.pl_nodes.specs.Contents.{as_pipe}
 use Rattle.pl_nodes.proofs.AtKey.{pipe-there, slots-flat}
 use Rattle.pl_nodes.proofs.Keyed.{within, same-list, is_change_at, at-other, change-here}
 use Rattle.pl_nodes.proofs.Lists.{lists-at, lists-length, same-named}
-use Rattle.pl_nodes.proofs.OneChanged.{Sight, pipes_seen, files_seen, seen, seen-at}
+use Rattle.pl_nodes.proofs.OneChanged.{pipes_seen, files_seen, seen, seen-at}
 
 -- a test of two numbers
 abbrev Tells : ℕ → ℕ → Type 0

@@ -1,11 +1,10 @@
-use Rattle.std.proofs.Common.{◌+◌, ◌++◌, ◌∙◌, ap, sym, subst, take, drop, arith}
+use Rattle.std.proofs.Common.{◌+◌, ◌++◌, ◌∙◌, ap, sym, take, drop, arith}
 use Rattle.std.proofs.lemmas.Bool.{ltb-true}
 use Rattle.std.proofs.lemmas.List.{append_assoc}
-use Rattle.std.proofs.lemmas.Option.{slice_get_within, get_or_from_slice_get}
 use Rattle.pl_segments.specs.Segments.{segment_at}
-use Rattle.pl_segments.specs.Slices.{Lies, reads, all_read}
-use Rattle.pl_segments.proofs.Pushing.{lie-at}
+use Rattle.pl_segments.specs.Slices.{reads, all_read}
 use Rattle.pl_file.specs.Rows.{index}
+use Rattle.pl_file.proofs.Cutting.{here-lies}
 use Rattle.pl_file.proofs.Editing.{total-take}
 use Rattle.pl_file.proofs.Patching.{from-got}
 use Rattle.pl_file.proofs.compact.bytes_of.Goals.{After-is_before}
@@ -18,12 +17,7 @@ overflow_sub-start g c =
     omega (arith, t, c.start.ensures, c.start-2.ensures)
 
 pub bytes-requires : goal.bytes-requires
-bytes-requires g c =
-    let m = segment_at c.args.store.now in
-    let xs = c.args.chunks.now.slots in
-    let i = index c.args.chunks.now c.loop-end.spot in
-    let x = c.get.result in
-    subst (Lies m) (get_or_from_slice_get xs i x x c.get.ensures) (lie-at m xs i x (slice_get_within xs i x c.get.ensures) c.requires.lie)
+bytes-requires g c = here-lies c.args.chunks.now.slots (index c.args.chunks.now c.loop-end.spot) c.get.result c.get.ensures (segment_at c.args.store.now) c.requires.lie
 
 pub loop-end-preserved : goal.loop-end-preserved
 loop-end-preserved g c =

@@ -16,18 +16,18 @@ returns-then-bytes-tail_room-clause-read g c =
 pub compact-requires-clause-some : goal.compact-requires-clause-some
 compact-requires-clause-some g c =
     let m = segment_at c.args.store.now in
-    let n = segment_at c.overwrite.new.store in
+    let n = segment_at c.write_over.new.store in
     let xs = c.args.chunks.now.slots in
-    let ys = c.overwrite.new.chunks.slots in
-    let e = ap length c.in_ok-overwrite.ensures.read in
+    let ys = c.write_over.new.chunks.slots in
+    let e = ap length c.in_ok-write_over.ensures.read in
     let w = written-some c.args.place c.args.bytes.now (all_read m xs) c.requires.some in
-    turned-some m n xs ys c.in_ok-overwrite.ensures.turns (omega (arith, e, w))
+    turned-some m n xs ys c.in_ok-write_over.ensures.turns (omega (arith, e, w))
 
 pub compact-requires-clause-few : goal.compact-requires-clause-few
 compact-requires-clause-few g c =
-    let e = c.in_ok-overwrite.ensures in
+    let e = c.in_ok-write_over.ensures in
     λ key.
-    let f = turned-few (segment_at c.args.store.now) (segment_at c.overwrite.new.store) c.args.chunks.now.slots c.overwrite.new.chunks.slots e.turns e.solid key in
+    let f = turned-few (segment_at c.args.store.now) (segment_at c.write_over.new.store) c.args.chunks.now.slots c.write_over.new.chunks.slots e.turns e.solid key in
     let l = c.requires.few key in
     let t = e.most in
     omega (arith, f, l, t)

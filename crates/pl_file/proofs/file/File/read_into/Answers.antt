@@ -3,15 +3,14 @@ use Rattle.std.specs.Prelude.{slice_get, Some}
 use Rattle.std.proofs.lemmas.List.{append-nil, append_assoc, drop_more, drop_all, length-append, length-drop, length-take-le, take_all}
 use Rattle.std.proofs.lemmas.Option.{get_or_from_slice_get}
 use Rattle.pl_segments.specs.Segments.{segment_at}
-use Rattle.pl_segments.specs.Slices.{AllLie, all_read, Lies, reads}
+use Rattle.pl_segments.specs.Slices.{AllLie, all_read, reads}
 use Rattle.pl_segments.specs.Slots.{solid_of, drop_bytes}
 use Rattle.pl_segments.proofs.SlotLemmas.{total-read}
 use Rattle.pl_segments.proofs.Turning.{lie-left, read-append}
 use Rattle.pl_segments.proofs.Fronting.{take-both}
-use Rattle.pl_segments.proofs.Pushing.{lie-at}
 use Rattle.std.proofs.lemmas.Bool.{ltb-true, ltb-false}
 use Rattle.pl_file.specs.Rows.{index}
-use Rattle.pl_file.proofs.Cutting.{here-within}
+use Rattle.pl_file.proofs.Cutting.{here-within, here-lies}
 use Rattle.pl_file.proofs.Editing.{lie-drop, drop-read}
 use Rattle.pl_file.proofs.file.File.read_into.Given.{Over}
 use Rattle.pl_file.proofs.file.File.read_into.Goals.{After-rest_cut-cut, After-get, At-loop-filled}
@@ -65,11 +64,8 @@ loop-filled-smaller g c =
 
 pub fill-filled-requires-clause-lies : goal.fill-filled-requires-clause-lies
 fill-filled-requires-clause-lies g c =
-    let m = segment_at c.args.store.now in
-    let xs = c.args.self.now in
-    let x = c.get.result in
     let here = got g (goal.at.fill-filled-requires-clause-lies g c).After-get in
-    subst (Lies m) (get_or_from_slice_get xs (index c.self.inside.chunks c.loop-filled.spot) x x here) (lie-at m xs (index c.self.inside.chunks c.loop-filled.spot) x (here-within xs (index c.self.inside.chunks c.loop-filled.spot) x here) c.requires.lie)
+    here-lies c.args.self.now (index c.self.inside.chunks c.loop-filled.spot) c.get.result here (segment_at c.args.store.now) c.requires.lie
 
 pub loop-filled-preserved : goal.loop-filled-preserved
 loop-filled-preserved g c =

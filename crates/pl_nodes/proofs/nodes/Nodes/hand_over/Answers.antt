@@ -2,17 +2,14 @@ use Rattle.std.proofs.Common.{◌≡◌, ◌≤◌, ℕ, [], None, Some, ◌++�
 use Rattle.std.specs.Prelude.{option_map}
 use Rattle.std.proofs.lemmas.List.{at_drop_all}
 use Rattle.pl_model.specs.Packets.{lose, gain, without_front, piece_lengths}
-use Rattle.pl_model.specs.State.{Pipe as PipeState}
-use Rattle.pl_segments.specs.declared.slice.Slice.{Slice}
 use Rattle.pl_segments.specs.Segments.{at, segment_at}
 use Rattle.pl_segments.specs.Slices.{all_read}
 use Rattle.pl_segments.specs.Slots.{total}
-use Rattle.pl_nodes.specs.declared.content.PipeNode.{PipeNode}
 use Rattle.pl_nodes.specs.declared.content.Content.TheVariants.{Pipe}
 use Rattle.pl_ring.specs.Ring.{Ring}
 use Rattle.pl_nodes.specs.Nodes.{bytes_of}
 use Rattle.pl_nodes.specs.NodesView.{pipe_of}
-use Rattle.pl_nodes.specs.Queue.{slots_of, packets_of, capacity_of}
+use Rattle.pl_nodes.specs.Queue.{slots_of}
 use Rattle.pl_nodes.proofs.AtKey.{pipe-there, slots-flat}
 use Rattle.pl_nodes.proofs.Pipes.{pipe-flat, pipe-told, pipe-total}
 use Rattle.pl_nodes.proofs.Exchanged.{second-there, both-sound, both-files, both-pipes, both-slots}
