@@ -1,5 +1,5 @@
 -- What `hex` encodes is the text of the bytes.
-use Rattle.std.proofs.Common.{◌≡◌, ℕ, ◌<◌, Bool, true, false, List, [], ◌∷◌, length, slice_index, refl, arith}
+use Rattle.std.proofs.Common.{◌≡◌, ℕ, ◌<◌, Bool, true, false, List, [], ◌∷◌, ◌++◌, length, slice_index, refl, arith}
 use Rattle.std.specs.Prelude.{codes, nat_lt}
 use Rattle.std.specs.List.{list_all}
 use Rattle.std.proofs.lemmas.Bool.{ltb-true}
@@ -17,6 +17,12 @@ pub hex_text_is : (bytes : List ℕ) → hex_text bytes ≡ encode_lower bytes
 unfolding hex_text encode_with
 hex_text_is [] = refl
 hex_text_is (b ∷ bytes) = rw (hex_text_is bytes) refl
+
+-- the digits of bytes with others behind them
+pub hex_text_both : (xs ys : List ℕ) → hex_text (xs ++ ys) ≡ hex_text xs ++ hex_text ys
+unfolding hex_text
+hex_text_both [] ys = refl
+hex_text_both (x ∷ xs) ys = rw (hex_text_both xs ys) refl
 
 pub no_bytes : (version : Version) (bytes : List ℕ) → length bytes ≡ 0 → bytes_text version bytes ≡ codes "-"
 unfolding bytes_text

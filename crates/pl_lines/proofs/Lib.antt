@@ -5,6 +5,7 @@ pub mod CallLemmas
 pub mod Masks
 pub mod Repeating
 pub mod Pieces
+pub mod Places
 pub mod Shapes
 pub mod Explaining
 pub mod Fitting

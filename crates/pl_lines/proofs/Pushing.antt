@@ -80,6 +80,14 @@ module _ {all before now rest : List ℕ} (so_far : IsSoFar all before now rest)
     whole = rw is tt;
   }
 
+  -- the last piece was tried
+  pub ended : {X E : Type 0} {result : Result X E} {after : List ℕ} → Pushes result now after rest → Pushes result before after all
+  ended {result = result} pushed = record {
+    put = so_far.put ++ pushed.put;
+    added = pushed.added ∙ ap (λ t. t ++ pushed.put) so_far.added ∙ append_assoc before so_far.put pushed.put;
+    whole = on_ok_weaker result (λ whole. ap (λ t. so_far.put ++ t) whole ∙ sym so_far.left) pushed.whole;
+  }
+
 -- nothing is still to come
 pub all_put : {Y E : Type 0} {all before now : List ℕ} (y : Y) → IsSoFar all before now [] → Pushes {E = E} (Ok y) before now all
 all_put y so_far = record { put = so_far.put; added = so_far.added; whole = sym (so_far.left ∙ append-nil so_far.put) }

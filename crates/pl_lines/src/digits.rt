@@ -5,7 +5,7 @@ ghost use Rattle.pl_lines.specs.Pushed.{Pushes};
 
 use std::alloc::{AllocError, Allocator};
 
-/// The most bytes whose digits are made in place, without memory of their own.
+/// The most bytes whose digits are made at once.
 const FEW: usize = 64;
 
 /// Adds a byte as two digits, in lower case.
@@ -20,31 +20,37 @@ pub(crate) fn push_byte<A: Allocator + Copy>(
     text.push(char::from(digits[usize::from(byte % 16)]))
 }
 
-/// The digit of a value, in lower case. Without a table, as several are made at once of this.
+/// The digit of a value, in lower case. Without a table, as many are made at once of this.
 #[inline(always)]
 fn digit(value: u8) -> u8
     requires { value < 16 }
     ensures { result ≡ slice_index lower_digits value }
 {
-    if value < 10 {
-        b'0' + value
-    } else {
-        b'a' - 10 + value
-    }
+    b'0' + value + if value < 10 { 0 } else { b'a' - 10 - b'0' }
 }
 
-/// Writes the digits of bytes to a list that is twice as long.
+/// Writes the digits of at most 64 bytes to a list that is twice as long.
+#[inline(always)]
 fn write_digits(bytes: &[u8], digits: &mut [u8])
-    requires { length digits.old ≡ 2 * length bytes.now }
+    requires few { length bytes.now ≤ 64 }
+    requires twice { length digits.old ≡ 2 * length bytes.now }
     ensures { digits.new ≡ hex_text bytes.now }
 {
+    // Those of all bytes in a row, as so many are made at once.
+    let mut high = [0; FEW];
+    let mut low = [0; FEW];
     for i in 0..bytes.len() {
-        digits[2 * i] = digit(bytes[i] / 16);
-        digits[2 * i + 1] = digit(bytes[i] % 16);
+        high[i] = digit(bytes[i] / 16);
+        low[i] = digit(bytes[i] % 16);
+    }
+    for i in 0..bytes.len() {
+        digits[2 * i] = high[i];
+        digits[2 * i + 1] = low[i];
     }
 }
 
-/// Adds a few bytes as digits, all at once.
+/// Adds at most 64 bytes as digits, all at once.
+#[inline(always)]
 fn push_few<A: Allocator + Copy>(text: &mut String<A>, bytes: &[u8]) -> Result<(), AllocError>
     requires { length bytes.now ≤ 64 }
     ensures { Pushes result (string_bytes text.old) (string_bytes text.new) (hex_text bytes.now) }
@@ -56,28 +62,19 @@ fn push_few<A: Allocator + Copy>(text: &mut String<A>, bytes: &[u8]) -> Result<(
     text.push_str(unsafe { str::from_utf8_unchecked(digits) })
 }
 
-/// Adds many bytes as digits, all at once.
-fn push_encoded<A: Allocator + Copy>(
-    alloc: A,
-    text: &mut String<A>,
-    bytes: &[u8],
-) -> Result<(), AllocError>
-    ensures { Pushes result (string_bytes text.old) (string_bytes text.new) (hex_text bytes.now) }
-{
-    let digits = hex::encode(alloc, bytes)?;
-    text.push_str(digits.as_str())
-}
-
-/// Adds the bytes as hexadecimal digits, in lower case. A few bytes take no memory but that of the text.
+/// Adds the bytes as hexadecimal digits, in lower case. It takes no memory but that of the text.
 pub(crate) fn push_digits<A: Allocator + Copy>(
-    alloc: A,
     text: &mut String<A>,
     bytes: &[u8],
 ) -> Result<(), AllocError>
     ensures { Pushes result (string_bytes text.old) (string_bytes text.new) (hex_text bytes.now) }
 {
-    if bytes.len() > FEW {
-        return push_encoded(alloc, text, bytes);
+    text.reserve(2 * bytes.len())?;
+    let mut rest = bytes;
+    while rest.len() >= FEW {
+        let (few, behind) = rest.split_at(FEW);
+        push_few(text, few)?;
+        rest = behind;
     }
-    push_few(text, bytes)
+    push_few(text, rest)
 }

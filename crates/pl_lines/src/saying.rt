@@ -49,7 +49,6 @@ fn push_open<A: Allocator + Copy>(
 }
 
 fn push_write_call<A: Allocator + Copy>(
-    alloc: A,
     text: &mut String<A>,
     fd: i32,
     bytes: &[u8],
@@ -57,7 +56,7 @@ fn push_write_call<A: Allocator + Copy>(
     ensures { Pushes result (string_bytes text.old) (string_bytes text.new) (behind_blank (call_words {A = A} (call.Write fd bytes.now))) }
 {
     push_fd(text, " write ", fd)?;
-    push_bytes(alloc, Version::Two, text, " ", bytes)
+    push_bytes(Version::Two, text, " ", bytes)
 }
 
 fn push_splice<A: Allocator + Copy>(
@@ -125,11 +124,7 @@ fn push_set_fl<A: Allocator + Copy>(
 }
 
 /// Adds a call behind a blank.
-fn push_call<A: Allocator + Copy>(
-    alloc: A,
-    text: &mut String<A>,
-    call: &Call<A>,
-) -> Result<(), AllocError>
+fn push_call<A: Allocator + Copy>(text: &mut String<A>, call: &Call<A>) -> Result<(), AllocError>
     ensures { Pushes result (string_bytes text.old) (string_bytes text.new) (behind_blank (call_words call.now)) }
 {
     match call {
@@ -137,7 +132,7 @@ fn push_call<A: Allocator + Copy>(
         Call::Mkfifo { name } => push_name(text, " mkfifo ", name.as_slice()),
         Call::OpenName { name, mode, flags } => push_open(text, name.as_slice(), *mode, *flags),
         Call::Read { fd, n } => push_fd_and_size(text, " read ", *fd, *n),
-        Call::Write { fd, bytes } => push_write_call(alloc, text, *fd, bytes.as_slice()),
+        Call::Write { fd, bytes } => push_write_call(text, *fd, bytes.as_slice()),
         Call::Splice {
             from,
             from_offset,
@@ -170,7 +165,6 @@ fn push_call<A: Allocator + Copy>(
 
 /// Adds a call behind the process that begins it.
 fn push_begin<A: Allocator + Copy>(
-    alloc: A,
     text: &mut String<A>,
     pid: u32,
     call: &Call<A>,
@@ -178,12 +172,11 @@ fn push_begin<A: Allocator + Copy>(
     ensures { Pushes result (string_bytes text.old) (string_bytes text.new) (said_step (step.Begin pid call.now)) }
 {
     push_number(text, "", pid)?;
-    push_call(alloc, text, call)
+    push_call(text, call)
 }
 
 /// Adds the text of a step.
 fn push_step_text<A: Allocator + Copy>(
-    alloc: A,
     text: &mut String<A>,
     step: &Step<A>,
 ) -> Result<(), AllocError>
@@ -191,7 +184,7 @@ fn push_step_text<A: Allocator + Copy>(
 {
     match step {
         Step::Start => text.push_str("start"),
-        Step::Begin(pid, call) => push_begin(alloc, text, *pid, call),
+        Step::Begin(pid, call) => push_begin(text, *pid, call),
         Step::Resume(call) => push_number(text, "resume ", *call),
         Step::Interrupt(call) => push_number(text, "interrupt ", *call),
     }
@@ -199,19 +192,17 @@ fn push_step_text<A: Allocator + Copy>(
 
 /// Adds the line of a step, or a front of it where there is no memory for it.
 fn push_front_of_step<A: Allocator + Copy>(
-    alloc: A,
     text: &mut String<A>,
     step: &Step<A>,
 ) -> Result<(), AllocError>
     ensures { Pushes result (string_bytes text.old) (string_bytes text.new) (said_step step.now ++ 10 ∷ []) }
 {
-    push_step_text(alloc, text, step)?;
+    push_step_text(text, step)?;
     text.push_str("\n")
 }
 
 /// Adds the line of a write, or a front of it where there is no memory for it.
 fn push_front_of_write<A: Allocator + Copy>(
-    alloc: A,
     text: &mut String<A>,
     pid: u32,
     fd: i32,
@@ -220,14 +211,13 @@ fn push_front_of_write<A: Allocator + Copy>(
     ensures { Pushes result (string_bytes text.old) (string_bytes text.new) (said_step {A = A} (step.Begin pid (call.Write fd bytes.now)) ++ 10 ∷ []) }
 {
     push_number(text, "", pid)?;
-    push_write_call(alloc, text, fd, bytes)?;
+    push_write_call(text, fd, bytes)?;
     text.push_str("\n")
 }
 
 /// Adds the line of a step: its text and a line feed. In a script of version 2 it asks for that very step, if it is sayable. Where there is
 /// no memory for it, which is the only error, the text is as it was.
 pub fn push_step<A: Allocator + Copy>(
-    alloc: A,
     text: &mut String<A>,
     step: &Step<A>,
 ) -> Result<(), AllocError>
@@ -237,7 +227,7 @@ pub fn push_step<A: Allocator + Copy>(
 {
     numbers_fit(step);
     let len = text.as_str().len();
-    let pushed = push_front_of_step(alloc, text, step);
+    let pushed = push_front_of_step(text, step);
     // It is text still, and was whole at the length of before: a character ends there.
     let _ = text.as_str();
     keep_if_pushed(text, len, pushed)
@@ -246,7 +236,6 @@ pub fn push_step<A: Allocator + Copy>(
 /// Adds the line of a write of these bytes by the process of this pid, as `push_step` does. In a script it asks for that write, if the bytes
 /// are at most 16,777,216. Where there is no memory for it, which is the only error, the text is as it was.
 pub fn push_write<A: Allocator + Copy>(
-    alloc: A,
     text: &mut String<A>,
     pid: u32,
     fd: i32,
@@ -258,7 +247,7 @@ pub fn push_write<A: Allocator + Copy>(
 {
     bytes_fit(bytes);
     let len = text.as_str().len();
-    let pushed = push_front_of_write(alloc, text, pid, fd, bytes);
+    let pushed = push_front_of_write(text, pid, fd, bytes);
     // As in `push_step`.
     let _ = text.as_str();
     keep_if_pushed(text, len, pushed)
@@ -267,7 +256,6 @@ pub fn push_write<A: Allocator + Copy>(
 /// Adds the line of a read of at most `count` bytes by the process of this pid, as `push_step` does. In a script it asks for that read. Where
 /// there is no memory for it, which is the only error, the text is as it was.
 pub fn push_read<A: Allocator + Copy>(
-    alloc: A,
     text: &mut String<A>,
     pid: u32,
     fd: i32,
@@ -279,5 +267,5 @@ pub fn push_read<A: Allocator + Copy>(
 {
     // Such a step owns no memory.
     let step: Step<A> = Step::Begin(pid, Call::Read { fd, n: count });
-    push_step(alloc, text, &step)
+    push_step(text, &step)
 }

@@ -40,7 +40,6 @@ pub fn push_number<A: Allocator + Copy, I: Integer>(
 
 /// Adds the bytes behind their name, as digits, or by runs in version 2; `-` for none.
 pub(crate) fn push_bytes<A: Allocator + Copy>(
-    alloc: A,
     version: Version,
     text: &mut String<A>,
     name: &str,
@@ -53,8 +52,8 @@ pub(crate) fn push_bytes<A: Allocator + Copy>(
         return text.push_str("-");
     }
     match version {
-        Version::One => push_digits(alloc, text, bytes),
-        Version::Two => push_runs(alloc, text, bytes),
+        Version::One => push_digits(text, bytes),
+        Version::Two => push_runs(text, bytes),
     }
 }
 
@@ -222,7 +221,6 @@ fn push_masks<A: Allocator + Copy>(
 }
 
 fn push_reply<A: Allocator + Copy>(
-    alloc: A,
     version: Version,
     text: &mut String<A>,
     reply: &Reply<A>,
@@ -235,7 +233,7 @@ fn push_reply<A: Allocator + Copy>(
         Reply::Fds(reader, writer) => push_fds(text, *reader, *writer),
         Reply::Count { n, sigpipe: false } => push_number(text, "count ", *n),
         Reply::Count { n, sigpipe: true } => push_broken_count(text, *n),
-        Reply::Bytes(bytes) => push_bytes(alloc, version, text, "data ", bytes.as_slice()),
+        Reply::Bytes(bytes) => push_bytes(version, text, "data ", bytes.as_slice()),
         Reply::Offset(offset) => push_number(text, "offset ", *offset),
         Reply::Flags { mode, flags } => push_flags(text, *mode, *flags),
         Reply::Size(size) => push_number(text, "size ", *size),
@@ -252,7 +250,6 @@ fn push_reply<A: Allocator + Copy>(
 /// Adds the text of an outcome.
 #[tactic(auto, unfolding(pl_model::specs::Shown::outcome_text))]
 fn push_outcome<A: Allocator + Copy>(
-    alloc: A,
     version: Version,
     text: &mut String<A>,
     outcome: &Outcome<A>,
@@ -260,7 +257,7 @@ fn push_outcome<A: Allocator + Copy>(
     ensures { Pushes result (string_bytes text.old) (string_bytes text.new) (outcome_text version outcome.now) }
 {
     match outcome {
-        Outcome::Replied(reply) => push_reply(alloc, version, text, reply),
+        Outcome::Replied(reply) => push_reply(version, text, reply),
         Outcome::NoMemory => text.push_str("nomem"),
     }
 }
@@ -268,7 +265,6 @@ fn push_outcome<A: Allocator + Copy>(
 /// Adds the bytes of a file, or that there is no such file.
 #[tactic(auto, unfolding(pl_model::specs::Shown::file_text))]
 fn push_file<A: Allocator + Copy>(
-    alloc: A,
     version: Version,
     text: &mut String<A>,
     bytes: Option<&[u8]>,
@@ -276,7 +272,7 @@ fn push_file<A: Allocator + Copy>(
     ensures { Pushes result (string_bytes text.old) (string_bytes text.new) (file_text version (option_copied bytes.entry)) }
 {
     match bytes {
-        Some(bytes) => push_bytes(alloc, version, text, "file ", bytes),
+        Some(bytes) => push_bytes(version, text, "file ", bytes),
         None => text.push_str("no file"),
     }
 }
@@ -284,39 +280,36 @@ fn push_file<A: Allocator + Copy>(
 /// Adds the text of a reply in a script of version 2, and a line feed behind it, or a front of them where there is no memory for them,
 /// which is the only error.
 pub fn push_reply_2<A: Allocator + Copy>(
-    alloc: A,
     text: &mut String<A>,
     reply: &Reply<A>,
 ) -> Result<(), AllocError>
     ensures { Pushes result (string_bytes text.old) (string_bytes text.new) (reply_text Two reply.now ++ 10 ∷ []) }
 {
-    push_reply(alloc, Version::Two, text, reply)?;
+    push_reply(Version::Two, text, reply)?;
     text.push_str("\n")
 }
 
 /// Adds the line of an outcome, or a front of it where there is no memory for it.
 fn push_front_of_line<A: Allocator + Copy>(
-    alloc: A,
     version: Version,
     text: &mut String<A>,
     outcome: &Outcome<A>,
 ) -> Result<(), AllocError>
     ensures { Pushes result (string_bytes text.old) (string_bytes text.new) (outcome_text version outcome.now ++ 10 ∷ []) }
 {
-    push_outcome(alloc, version, text, outcome)?;
+    push_outcome(version, text, outcome)?;
     text.push_str("\n")
 }
 
 /// Adds the line of a file's bytes, or a front of it where there is no memory for it.
 fn push_front_of_file_line<A: Allocator + Copy>(
-    alloc: A,
     version: Version,
     text: &mut String<A>,
     bytes: Option<&[u8]>,
 ) -> Result<(), AllocError>
     ensures { Pushes result (string_bytes text.old) (string_bytes text.new) (file_text version (option_copied bytes.entry) ++ 10 ∷ []) }
 {
-    push_file(alloc, version, text, bytes)?;
+    push_file(version, text, bytes)?;
     text.push_str("\n")
 }
 
@@ -340,7 +333,6 @@ pub fn keep_if_pushed<A: Allocator>(
 /// Adds the line of an outcome: its text and a line feed. Where there is no memory for it, which is the only error, the text is
 /// as it was.
 pub fn push_line<A: Allocator + Copy>(
-    alloc: A,
     version: Version,
     text: &mut String<A>,
     outcome: &Outcome<A>,
@@ -349,7 +341,7 @@ pub fn push_line<A: Allocator + Copy>(
     ensures undone { OnErr result (string_bytes text.new ≡ string_bytes text.old) }
 {
     let len = text.as_str().len();
-    let pushed = push_front_of_line(alloc, version, text, outcome);
+    let pushed = push_front_of_line(version, text, outcome);
     // It is text still, and was whole at the length of before: a character ends there.
     let _ = text.as_str();
     keep_if_pushed(text, len, pushed)
@@ -358,7 +350,6 @@ pub fn push_line<A: Allocator + Copy>(
 /// Adds the line of a file's bytes, or that there is no such file: its text and a line feed. Where there is no memory for it,
 /// which is the only error, the text is as it was.
 pub fn push_file_line<A: Allocator + Copy>(
-    alloc: A,
     version: Version,
     text: &mut String<A>,
     bytes: Option<&[u8]>,
@@ -367,7 +358,7 @@ pub fn push_file_line<A: Allocator + Copy>(
     ensures undone { OnErr result (string_bytes text.new ≡ string_bytes text.old) }
 {
     let len = text.as_str().len();
-    let pushed = push_front_of_file_line(alloc, version, text, bytes);
+    let pushed = push_front_of_file_line(version, text, bytes);
     // As in `push_line`.
     let _ = text.as_str();
     keep_if_pushed(text, len, pushed)
@@ -382,7 +373,7 @@ fn show_by<A: Allocator + Copy>(
     ensures { IfOk result (λ text. string_bytes text ≡ outcome_text version outcome.now) }
 {
     let mut text = String::new(alloc);
-    push_outcome(alloc, version, &mut text, outcome)?;
+    push_outcome(version, &mut text, outcome)?;
     Ok(text)
 }
 
@@ -410,7 +401,7 @@ fn show_file_by<A: Allocator + Copy>(
     ensures { IfOk result (λ text. string_bytes text ≡ file_text version (option_copied bytes.entry)) }
 {
     let mut text = String::new(alloc);
-    push_file(alloc, version, &mut text, bytes)?;
+    push_file(version, &mut text, bytes)?;
     Ok(text)
 }
 

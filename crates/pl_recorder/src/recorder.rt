@@ -34,14 +34,6 @@ impl Most {
             Most::Masks(count) => 64 + 20 * count as usize,
         }
     }
-
-    // The most bytes of the digits of the bytes of such a reply.
-    fn digits(self) -> usize {
-        match self {
-            Most::Bytes(count) => 2 * count as usize,
-            _ => 0,
-        }
-    }
 }
 
 // Whether a call ends a descriptor or a process.
@@ -77,7 +69,6 @@ fn left_by<A: Allocator>(step: &Step<A>) -> usize
 /// The record of a run that goes on.
 #[derive(Drop)]
 pub struct Recorder<A: Allocator = Global> {
-    pub(crate) alloc: A,
     /// The text that is handed out now.
     pub(crate) reading: String<A>,
     /// How many bytes of it were handed out.
@@ -88,8 +79,6 @@ pub struct Recorder<A: Allocator = Global> {
     pub(crate) line: Option<usize>,
     /// The reply of the last step, if no memory was found for its comment.
     pub(crate) last: Option<Reply<A>>,
-    /// Memory for the digits of the reply of a step that isn't made yet, which is given back before they are made.
-    pub(crate) digits: String<A>,
     ghost kept: { IsKept read (string_bytes reading) line (string_bytes text) last },
 }
 
@@ -117,13 +106,11 @@ impl<A: Allocator + Copy> Recorder<A> {
         let mut text = String::with_capacity(alloc, KEPT)?;
         push_header(&mut text, limits)?;
         Ok(Recorder {
-            alloc,
             reading,
             read: 0,
             text,
             line: None,
             last: None,
-            digits: String::new(alloc),
         })
     }
 
@@ -143,10 +130,10 @@ impl<A: Allocator + Copy> Recorder<A> {
         let start = self.settle()?;
         // It is text before and behind the line: so a character ends where the line begins.
         let _ = self.text.as_str();
-        push_step(self.alloc, &mut self.text, step)?;
+        push_step(&mut self.text, step)?;
         let _ = self.text.as_str();
         self.line = Some(start);
-        self.take_room(left_by(step) + most.room(), most.digits())
+        self.take_room(left_by(step) + most.room())
     }
 
     /// Does what `begin` does, of a write of these bytes, without a step that owns them.
@@ -164,14 +151,14 @@ impl<A: Allocator + Copy> Recorder<A> {
         let start = self.settle()?;
         // It is text before and behind the line: so a character ends where the line begins.
         let _ = self.text.as_str();
-        push_write(self.alloc, &mut self.text, pid, fd, bytes)?;
+        push_write(&mut self.text, pid, fd, bytes)?;
         let _ = self.text.as_str();
         self.line = Some(start);
-        self.take_room(KEPT + Most::Plain.room(), 0)
+        self.take_room(KEPT + Most::Plain.room())
     }
 
-    // Takes room behind the line of the step that is to be made, and memory for so many digits; if there is none, the line is taken away.
-    fn take_room(&mut self, room: usize, digits: usize) -> Result<(), AllocError>
+    // Takes room behind the line of the step that is to be made; if there is none, the line is taken away.
+    fn take_room(&mut self, room: usize) -> Result<(), AllocError>
         ensures unread { unread self.new ≡ unread self.old }
         ensures line { OnOk result (line_of self.new ≡ line_of self.old) }
         ensures none { OnErr result (line_of self.new ≡ None) }
@@ -182,18 +169,11 @@ impl<A: Allocator + Copy> Recorder<A> {
             self.cancel();
             return Err(AllocError);
         }
-        match String::with_capacity(self.alloc, digits) {
-            Ok(digits) => self.digits = digits,
-            Err(error) => {
-                self.cancel();
-                return Err(error);
-            }
-        }
         Ok(())
     }
 
     /// Adds the step whose line was written to the record, with its reply. Without such a line nothing changes. If the reply has no more than was said
-    /// as the line was written, its comment finds its room. It takes no more memory than it gives back before.
+    /// as the line was written, its comment finds its room, and takes no memory.
     pub fn end(&mut self, reply: Reply<A>)
         ensures made { MatchOption (line_of self.old) ⊤ (λ line. unread self.new ≡ unread self.old ++ (line ++ ended (comment_text reply))) }
         ensures none { line_of self.new ≡ None }
@@ -216,7 +196,6 @@ impl<A: Allocator + Copy> Recorder<A> {
         if let Some(start) = self.line.take() {
             self.text.truncate(start);
         }
-        self.digits = String::new(self.alloc);
     }
 
     // Takes away a line whose step wasn't made, and writes the comment that the last step still lacks; the length of the text then.
@@ -230,7 +209,7 @@ impl<A: Allocator + Copy> Recorder<A> {
     {
         self.cancel();
         if let Some(reply) = &self.last {
-            push_reply_comment(self.alloc, &mut self.text, reply)?;
+            push_reply_comment(&mut self.text, reply)?;
             self.last = None;
         }
         Ok(self.text.len())

@@ -51,14 +51,13 @@ fn push_front_of_header<A: Allocator + Copy>(
 
 /// Adds the comment behind a step, or a front of it where there is no memory for it.
 fn push_front_of_comment<A: Allocator + Copy>(
-    alloc: A,
     text: &mut String<A>,
     reply: &Reply<A>,
 ) -> Result<(), AllocError>
     ensures { Pushes result (string_bytes text.old) (string_bytes text.new) (ended (comment_text reply.now)) }
 {
     text.push_str("# => ")?;
-    push_reply_2(alloc, text, reply)
+    push_reply_2(text, reply)
 }
 
 /// Adds the lines in front of a record: the version of scripts, and the limits within which its steps are made, as options of `piperun`.
@@ -80,7 +79,6 @@ pub fn push_header<A: Allocator + Copy>(
 /// Adds the comment behind a step, which tells its reply: `# => ` and the text of the reply in version 2, and a line feed. Where there is no
 /// memory for it, which is the only error, the text is as it was.
 pub fn push_reply_comment<A: Allocator + Copy>(
-    alloc: A,
     text: &mut String<A>,
     reply: &Reply<A>,
 ) -> Result<(), AllocError>
@@ -88,7 +86,7 @@ pub fn push_reply_comment<A: Allocator + Copy>(
     ensures undone { OnErr result (string_bytes text.new ≡ string_bytes text.old) }
 {
     let len = text.as_str().len();
-    let pushed = push_front_of_comment(alloc, text, reply);
+    let pushed = push_front_of_comment(text, reply);
     // As in `push_header`.
     let _ = text.as_str();
     keep_if_pushed(text, len, pushed)
@@ -96,21 +94,19 @@ pub fn push_reply_comment<A: Allocator + Copy>(
 
 /// Adds the line of a step, or nothing, and then the comment of its reply, or a front of it.
 fn push_front_of_entry<A: Allocator + Copy>(
-    alloc: A,
     text: &mut String<A>,
     step: &Step<A>,
     reply: &Reply<A>,
 ) -> Result<(), AllocError>
     ensures { Pushes result (string_bytes text.old) (string_bytes text.new) (entry_text (step.now, reply.now)) }
 {
-    push_step(alloc, text, step)?;
-    push_front_of_comment(alloc, text, reply)
+    push_step(text, step)?;
+    push_front_of_comment(text, reply)
 }
 
 /// Adds the lines of a step that was made, with the reply that it got: the line that says it, and the comment. Where there is no memory for
 /// both, which is the only error, the text is as it was.
 pub fn push_entry<A: Allocator + Copy>(
-    alloc: A,
     text: &mut String<A>,
     step: &Step<A>,
     reply: &Reply<A>,
@@ -119,7 +115,7 @@ pub fn push_entry<A: Allocator + Copy>(
     ensures undone { OnErr result (string_bytes text.new ≡ string_bytes text.old) }
 {
     let len = text.as_str().len();
-    let pushed = push_front_of_entry(alloc, text, step, reply);
+    let pushed = push_front_of_entry(text, step, reply);
     // As in `push_header`.
     let _ = text.as_str();
     keep_if_pushed(text, len, pushed)
@@ -127,21 +123,19 @@ pub fn push_entry<A: Allocator + Copy>(
 
 /// Adds the lines of entries, or a front of them where there is no memory for them.
 fn push_entries<A: Allocator + Copy>(
-    alloc: A,
     text: &mut String<A>,
     entries: &[Entry<A>],
 ) -> Result<(), AllocError>
     ensures { Pushes result (string_bytes text.old) (string_bytes text.new) (flat_map entry_text (made_in entries.now)) }
 {
     for entry in entries {
-        push_front_of_entry(alloc, text, &entry.step, &entry.reply)?;
+        push_front_of_entry(text, &entry.step, &entry.reply)?;
     }
     Ok(())
 }
 
 /// Adds the record of entries, or a front of it where there is no memory for it.
 fn push_front_of_record<A: Allocator + Copy>(
-    alloc: A,
     text: &mut String<A>,
     limits: Limits,
     entries: &[Entry<A>],
@@ -149,13 +143,12 @@ fn push_front_of_record<A: Allocator + Copy>(
     ensures { Pushes result (string_bytes text.old) (string_bytes text.new) (recorded limits (made_in entries.now)) }
 {
     push_front_of_header(text, limits)?;
-    push_entries(alloc, text, entries)
+    push_entries(text, entries)
 }
 
 /// Adds the record of a journal: the lines in front, and those of each entry. Where there is no memory for it, which is the only error, the text
 /// is as it was.
 pub fn push_record<A: Allocator + Copy>(
-    alloc: A,
     text: &mut String<A>,
     limits: Limits,
     entries: &[Entry<A>],
@@ -164,7 +157,7 @@ pub fn push_record<A: Allocator + Copy>(
     ensures undone { OnErr result (string_bytes text.new ≡ string_bytes text.old) }
 {
     let len = text.as_str().len();
-    let pushed = push_front_of_record(alloc, text, limits, entries);
+    let pushed = push_front_of_record(text, limits, entries);
     // As in `push_header`.
     let _ = text.as_str();
     keep_if_pushed(text, len, pushed)

@@ -41,14 +41,14 @@ fn answer_if_asked<A: Allocator + Copy>(
 {
     if let Some(refusal) = refusal_of_line(kernel, version, line) {
         last.clear();
-        push_line(alloc, version, last, &Outcome::Replied(refusal))?;
+        push_line(version, last, &Outcome::Replied(refusal))?;
         return Ok(true);
     }
     let Some(asked) = parse_line_of(alloc, version, line)? else {
         return Ok(false);
     };
     last.clear();
-    answer_line(alloc, version, kernel, last, asked)?;
+    answer_line(version, kernel, last, asked)?;
     Ok(true)
 }
 

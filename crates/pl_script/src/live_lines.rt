@@ -95,13 +95,13 @@ fn answer<A: Allocator + Copy>(
         (IsNotRun A version (Stands kernel.old) (Stands kernel.new) line.now (string_bytes out.old) (string_bytes out.new)) }
 {
     if let Some(refusal) = refusal_of_line(kernel, version, line) {
-        push_line(alloc, version, out, &Outcome::Replied(refusal))?;
+        push_line(version, out, &Outcome::Replied(refusal))?;
         return Ok(());
     }
     let Some(asked) = parse_line_of(alloc, version, line)? else {
         return Ok(());
     };
-    let _found_none = answer_line(alloc, version, kernel, out, asked)?;
+    let _found_none = answer_line(version, kernel, out, asked)?;
     Ok(())
 }
 

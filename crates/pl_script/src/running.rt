@@ -28,7 +28,6 @@ pub(crate) const WAITING: usize = 65_536;
 
 /// Makes a step and adds the line of its reply; tells whether it found no memory.
 fn answer_step<A: Allocator + Copy>(
-    alloc: A,
     version: Version,
     kernel: &mut Kernel<A>,
     out: &mut String<A>,
@@ -40,11 +39,11 @@ fn answer_step<A: Allocator + Copy>(
 {
     match kernel.step(step) {
         Ok(reply) => {
-            push_line(alloc, version, out, &Outcome::Replied(reply))?;
+            push_line(version, out, &Outcome::Replied(reply))?;
             Ok(false)
         }
         Err(NoMemory) => {
-            push_line(alloc, version, out, &Outcome::NoMemory)?;
+            push_line(version, out, &Outcome::NoMemory)?;
             Ok(true)
         }
     }
@@ -52,7 +51,6 @@ fn answer_step<A: Allocator + Copy>(
 
 /// Adds the line of what the file of a name holds; tells whether there was no memory to read it.
 fn answer_file<A: Allocator + Copy>(
-    alloc: A,
     version: Version,
     kernel: &Kernel<A>,
     out: &mut String<A>,
@@ -64,15 +62,15 @@ fn answer_file<A: Allocator + Copy>(
 {
     match kernel.file_bytes(name) {
         Ok(Some(bytes)) => {
-            push_file_line(alloc, version, out, Some(bytes.as_slice()))?;
+            push_file_line(version, out, Some(bytes.as_slice()))?;
             Ok(false)
         }
         Ok(None) => {
-            push_file_line(alloc, version, out, None)?;
+            push_file_line(version, out, None)?;
             Ok(false)
         }
         Err(NoMemory) => {
-            push_line::<A>(alloc, version, out, &Outcome::NoMemory)?;
+            push_line::<A>(version, out, &Outcome::NoMemory)?;
             Ok(true)
         }
     }
@@ -87,7 +85,6 @@ fn asks_a_step<A: Allocator>(asked: &Line<A>) -> bool
 /// Does what a line asks and adds its line to the output; tells whether it found no memory. Where there is no memory for the
 /// line, the step may have been made, and the output is as it was.
 pub(crate) fn answer_line<A: Allocator + Copy>(
-    alloc: A,
     version: Version,
     kernel: &mut Kernel<A>,
     out: &mut String<A>,
@@ -98,8 +95,8 @@ pub(crate) fn answer_line<A: Allocator + Copy>(
     ensures unanswered { OnErr result (string_bytes out.new ≡ string_bytes out.old) }
 {
     match asked {
-        Line::Do(step) => answer_step(alloc, version, kernel, out, step),
-        Line::File(name) => answer_file(alloc, version, kernel, out, &name),
+        Line::Do(step) => answer_step(version, kernel, out, step),
+        Line::File(name) => answer_file(version, kernel, out, &name),
     }
 }
 
@@ -137,7 +134,7 @@ fn run_line<A: Allocator + Copy>(
         (Stops A version line.now totals.old totals.new (string_bytes out.old) (string_bytes out.new)) }
 {
     if let Some(refusal) = refusal_of_line(kernel, version, line) {
-        push_line(alloc, version, out, &Outcome::Replied(refusal))?;
+        push_line(version, out, &Outcome::Replied(refusal))?;
         totals.lines += 1;
         totals.steps += 1;
         return Ok(());
@@ -147,7 +144,7 @@ fn run_line<A: Allocator + Copy>(
         return Ok(());
     };
     let is_step = asks_a_step(&asked);
-    let found_none = answer_line(alloc, version, kernel, out, asked)?;
+    let found_none = answer_line(version, kernel, out, asked)?;
     totals.lines += 1;
     totals.steps += u32::from(is_step);
     totals.nomem += u32::from(found_none);

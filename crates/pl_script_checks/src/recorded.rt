@@ -42,7 +42,7 @@ start
 
 /// Adds a step and its reply.
 fn add(alloc: Global, text: &mut String<Global>, ask: Ask, want: Want) -> Result<(), Fail> {
-    push_entry(alloc, text, &ask.step(alloc)?, &want.reply(alloc)?)?;
+    push_entry(text, &ask.step(alloc)?, &want.reply(alloc)?)?;
     Ok(())
 }
 
@@ -72,7 +72,7 @@ fn adds_all_or_nothing<A: Allocator + Copy>(
     let reply = Count(5).reply(alloc)?;
     let mut text = String::from_str(alloc, BEFORE)?;
     heap.refuse(n);
-    let added = push_entry(alloc, &mut text, &step, &reply);
+    let added = push_entry(&mut text, &step, &reply);
     let wanted = if added.is_ok() { BEHIND } else { BEFORE };
     Ok(added.is_err() == heap.refused() && text.as_str() == wanted)
 }

@@ -123,7 +123,7 @@ fn adds<A: Allocator + Copy>(
     let outcome = want.outcome(alloc)?;
     let mut lines = String::from_str(alloc, BEFORE)?;
     heap.refuse(n);
-    let added = push_line(alloc, version, &mut lines, &outcome);
+    let added = push_line(version, &mut lines, &outcome);
     Ok(is_added(added, lines.as_str(), text))
 }
 
@@ -137,7 +137,7 @@ fn adds_file<A: Allocator + Copy>(
 ) -> Result<Told, Fail> {
     let mut lines = String::from_str(alloc, BEFORE)?;
     heap.refuse(n);
-    let added = push_file_line(alloc, version, &mut lines, bytes);
+    let added = push_file_line(version, &mut lines, bytes);
     Ok(is_added(added, lines.as_str(), text))
 }
 
@@ -151,7 +151,7 @@ fn says<A: Allocator + Copy>(
     let step = ask.step(alloc)?;
     let mut lines = String::from_str(alloc, BEFORE)?;
     heap.refuse(n);
-    let added = push_step(alloc, &mut lines, &step);
+    let added = push_step(&mut lines, &step);
     Ok(is_added(added, lines.as_str(), text))
 }
 

@@ -165,8 +165,8 @@ fn steps_are_sayable(rt: HostRuntime) -> Result<(), Fail> {
 #[test]
 fn bytes_and_sizes_are_said(rt: HostRuntime) -> Result<(), Fail> {
     let mut text = String::new(rt.alloc());
-    push_write(rt.alloc(), &mut text, 1, -1, b"aaaa!".as_slice())?;
-    push_read(rt.alloc(), &mut text, u32::MAX, 0, 7)?;
+    push_write(&mut text, 1, -1, b"aaaa!".as_slice())?;
+    push_read(&mut text, u32::MAX, 0, 7)?;
     let wanted = "1 write -1 4*61+21\n4294967295 read 0 7\n";
     is(&rt, wanted, 0, text.as_str() == wanted, true);
     Ok(())
