@@ -128,8 +128,7 @@ pub fn check_unchecked(source: &mut Tokens) -> Result<()> {
             );
         }
         source.count("`unsafe`");
-        source.set(at, "from_utf8");
-        source.added.insert(after, ".unwrap()".to_string());
+        source.set(at, "text_of");
         source.drop(closing, closing);
         source.clear(keyword);
         source.drop(opening, opening);

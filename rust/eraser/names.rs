@@ -354,6 +354,8 @@ impl<'t, 's> Names<'t, 's> {
         } else if word == "str" && head && source.is_word(source.next(after), "from_utf8") {
             // by the module of that name: the method of the type came with Rust 1.87
             self.source.set(at, "core::str");
+        } else if word == "str" && head && source.is_word(source.next(after), "text_of") {
+            self.source.set(at, format!("{SHIM}::string"));
         } else if let Some(method) = plan::method_of(&word)
             .filter(|_| source.text(before) == "." && source.text(after) == "(")
         {

@@ -1,5 +1,7 @@
 //! The decimal digits of a number, in no memory but the caller's.
 
+use super::string::text_of;
+
 /// The most bytes of a number's text: a sign, and the 19 digits of an `i64`, or the 20 digits of a `u64`.
 const MOST: usize = 20;
 
@@ -65,6 +67,6 @@ impl Buffer {
             start -= 1;
             self.bytes[start] = b'-';
         }
-        core::str::from_utf8(&self.bytes[start..]).expect("digits")
+        text_of(&self.bytes[start..])
     }
 }

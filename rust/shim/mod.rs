@@ -1,6 +1,6 @@
 //! The names that the sources use of the toolchain's libraries, where those of Rust's `std` differ: growth that can fail, and an
-//! allocator that is given. All memory comes from Rust's global allocator; an [`alloc::Allocator`] says whether it may be asked. The one
-//! line of unsafe code here is for C, which holds a box as a pointer.
+//! allocator that is given. All memory comes from Rust's global allocator; an [`alloc::Allocator`] says whether it may be asked. There
+//! are two lines of unsafe code here: one is for C, which holds a box as a pointer, and one takes bytes for text that were seen to be ASCII.
 
 pub mod alloc;
 pub mod bitflags;

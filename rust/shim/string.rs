@@ -11,6 +11,18 @@ pub use crate::made_text as format;
 /// The bytes that a text has room for at least once it grows.
 const FEWEST: usize = 8;
 
+/// Bytes that are text. They are looked through, sixteen at once where they are ASCII.
+#[inline(always)]
+#[allow(unsafe_code)]
+pub fn text_of(bytes: &[u8]) -> &str {
+    if bytes.is_ascii() {
+        // ASCII is text.
+        unsafe { core::str::from_utf8_unchecked(bytes) }
+    } else {
+        core::str::from_utf8(bytes).expect("text")
+    }
+}
+
 /// Text, and who is asked before it grows and told where it goes.
 #[derive(Debug)]
 pub struct String<A: Allocator = Global> {

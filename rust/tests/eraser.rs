@@ -84,7 +84,7 @@ const ERASED: &[(&str, &str, &str)] = &[
     ("assertions", "fn f() { assert_eq!(&rt; 1, 2); }", "fn f() { assert_eq!( 1, 2); }"),
     ("bytes that a proof knows for text",
         "fn f(t: &mut T, b: &[u8]) { t.push_str(unsafe { str::from_utf8_unchecked(&b[g(1)..]) }) }",
-        "fn f(t: &mut T, b: &[u8]) { t.push_str(core::str::from_utf8(&b[g(1)..]).unwrap()) }"),
+        "fn f(t: &mut T, b: &[u8]) { t.push_str(crate::std_shim::string::text_of(&b[g(1)..])) }"),
     ("a number without its sign", "fn f(n: i32) -> usize { n.cast_unsigned() as usize }",
         "use crate::std_shim::numbers::Unsigned;\nfn f(n: i32) -> usize { n.unsigned() as usize }"),
     ("a function out of line", "#[inline(never)]\nfn f() -> u8 { g() }", "#[cold]\n#[inline(never)]\nfn f() -> u8 { g() }"),
