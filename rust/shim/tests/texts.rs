@@ -5,7 +5,25 @@ use crate::std_shim::alloc::Global;
 use crate::std_shim::hex::{FromHexError, decode, decode_to_slice, encode};
 use crate::std_shim::itoa::Buffer;
 use crate::std_shim::memchr::{memchr, memchr2};
-use crate::std_shim::string::{RepeatIn, String};
+use crate::std_shim::string::{RepeatIn, String, text_of};
+
+#[test]
+fn bytes_are_taken_for_text_if_they_are() {
+    for text in [
+        "",
+        "a",
+        "0123456789abcdef0123456789abcdef",
+        "many words of a text, and an ö",
+    ] {
+        assert_eq!(text_of(text.as_bytes()), text);
+    }
+}
+
+#[test]
+#[should_panic(expected = "text")]
+fn other_bytes_are_not_taken_for_text() {
+    text_of(b"0123456789abcdef0123456789abcde\xff");
+}
 
 #[test]
 fn a_text_is_that_of_std() {
