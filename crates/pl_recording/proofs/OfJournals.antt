@@ -1,8 +1,7 @@
 -- The record of a journal replays.
 use Rattle.std.proofs.Common.{◌≡◌, List, [], ◌∷◌, true, refl, ap, sym, ◌∙◌}
-use Rattle.std.specs.Prelude.{map, All}
+use Rattle.std.specs.Prelude.{map}
 use Rattle.std.proofs.lemmas.List.Elements.{All-map}
-use Rattle.pl_model.specs.declared.calls.Limits.{Limits}
 use Rattle.pl_model.specs.declared.history.Entry.{Entry}
 use Rattle.pl_model.specs.History.{steps_of}
 use Rattle.pl_model.specs.Numbered.{opening}
@@ -11,7 +10,7 @@ use Rattle.pl_model.specs.Said.{is_sayable, StepFits}
 use Rattle.pl_model.specs.declared.calls.Step.{Step}
 use Rattle.pl_model.specs.declared.replies.Reply.{Reply}
 use Rattle.pl_recording.specs.Record.{made_in}
-use Rattle.pl_recording.specs.Replay.{JournalsReplay, IsRun}
+use Rattle.pl_recording.specs.Replay.{JournalsReplay}
 use Rattle.pl_recording.proofs.Rerun.{records_replay}
 
 module _ {A : Type 0} where
