@@ -122,8 +122,13 @@ impl<A: Allocator + Copy> Journal<A> {
     ///
     /// # Errors
     ///
-    /// `AllocError` if there is no memory for it. The text is as it was.
-    pub fn push_script(&self, limits: Limits, text: &mut String<A>) -> Result<(), AllocError>
+    /// `AllocError` if there is no memory for it. The text is as it was. Only the text takes memory, and so `alloc` gives none.
+    pub fn push_script(
+        &self,
+        alloc: A,
+        limits: Limits,
+        text: &mut String<A>,
+    ) -> Result<(), AllocError>
         ensures done { OnOk result (string_bytes text.new ≡ string_bytes text.old ++ recorded limits (made_in self.now)) }
         ensures undone { OnErr result (string_bytes text.new ≡ string_bytes text.old) }
     {
