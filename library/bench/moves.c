@@ -1,12 +1,11 @@
-/* What a tee, a splice, and a file that is written and read cost, each of 1 MiB, beside memcpy and the host's own. */
+/* What a tee and a splice of 1 MiB cost, beside memcpy and the host's own. */
 #define _GNU_SOURCE
 #include "bench.h"
 
 #include <fcntl.h>
-#include <sys/mman.h>
 #include <unistd.h>
 
-enum { PIECE = 4 * KIB, QUARTER_PAGE = 1024 };
+enum { QUARTER_PAGE = 1024 };
 
 static uint8_t data[MIB + QUARTER_PAGE], into[MIB + QUARTER_PAGE];
 
@@ -107,48 +106,6 @@ static void moves(bindingclay clay)
     compare(&(struct row){ "moves", "splice", MIB, "ns", 500, 1 }, splices, host ? 3 : 2);
 }
 
-/* A file that is opened anew, written in pieces, and read in pieces. */
-static double our_files(const void *subject, int times)
-{
-    static const uint8_t NAME[] = "file";
-    const bindingclay clay = *(const bindingclay *)subject;
-    double begun = now();
-    for (int i = 0; i < times; i++) {
-        int32_t fd = (int32_t)done(bindingclay_open_name(clay, 1, NAME, sizeof NAME - 1, O_RDWR | O_CREAT | O_TRUNC));
-        for (size_t at = 0; at < MIB; at += PIECE)
-            done(bindingclay_write(clay, 1, fd, data + at, PIECE));
-        done(bindingclay_lseek(clay, 1, fd, 0, SEEK_SET));
-        for (size_t at = 0; at < MIB; at += PIECE)
-            done(bindingclay_read(clay, 1, fd, into + at, PIECE));
-        done(bindingclay_close(clay, 1, fd));
-    }
-    return (now() - begun) / times;
-}
-
-static double host_files(const void *subject, int times)
-{
-    const char *name = subject;
-    double begun = now();
-    for (int i = 0; i < times; i++) {
-        int fd = (int)as_host(open(name, O_RDWR | O_TRUNC));
-        for (size_t at = 0; at < MIB; at += PIECE)
-            as_host(write(fd, data + at, PIECE));
-        as_host(lseek(fd, 0, SEEK_SET));
-        for (size_t at = 0; at < MIB; at += PIECE)
-            as_host(read(fd, into + at, PIECE));
-        as_host(close(fd));
-    }
-    return (now() - begun) / times;
-}
-
-static void files(bindingclay clay)
-{
-    char name[32];
-    const struct side sides[] = { { "bindingclay", our_files, &clay }, { "host's file in memory", host_files, name } };
-    snprintf(name, sizeof name, "/proc/self/fd/%d", (int)as_host(memfd_create("bench", 0)));
-    compare(&(struct row){ "files", "write and read a file by 4,096 bytes", MIB, "ns", 200, 1 }, sides, 2);
-}
-
 int main(int count, char **words)
 {
     bindingclay clay = new_kernel();
@@ -157,7 +114,6 @@ int main(int count, char **words)
     for (size_t i = 0; i < sizeof data; i++)
         data[i] = (uint8_t)(i * 7);
     moves(clay);
-    files(clay);
     bindingclay_free(clay);
     return 0;
 }

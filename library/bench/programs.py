@@ -31,6 +31,7 @@ class Program(NamedTuple):
 PROGRAMS = [
     Program("calls", ("calls.c", "queue.c")),
     Program("moves", ("moves.c",)),
+    Program("files", ("files.c",)),
     Program("waiting", ("waiting.c",)),
     Program("queues", ("queues.c",)),
     Program("threads", ("threads.c", "queue.c"), "bindingclay_shared"),

@@ -27,8 +27,10 @@
  * bindingclay_open_within sets how many bytes a kernel may hold. If a call would want more, there is no memory for it. bindingclay_memory
  * tells how many bytes the kernel holds. It may tell more after a call that found no memory, as a table may have grown. The next call that
  * wants that table uses it. Close, exit, interrupt and a read that is resumed always find what they need, so a guest at its limit can free
- * what it has. Up to 1,048,576 bytes of that stay with the kernel (spare). The tables of segments, processes and descriptions stay too,
- * each as long as it ever was. They take up to 170 bytes for each. Those of waiting calls, pipes and files become shorter as these go.
+ * what it has. Up to spare_max bytes of that stay with the kernel (spare). A step that finds no memory gives all of these back: made again, it
+ * has them. A call that finds none for the copy of its name, or for its line of a record, gives nothing back. The tables of segments, processes
+ * and descriptions stay too, each as long as it ever was. They take up to 170 bytes for each. Those of waiting calls, pipes and files become
+ * shorter as these go.
  *
  * Pointers. A pointer may be null only if it points to 0 bytes or to 0 entries, or is an offset of bindingclay_splice. What a call writes
  * to overlaps nothing else that the call is given, and nothing that it is given overlaps the kernel's own memory. The library keeps no
@@ -182,12 +184,15 @@ typedef struct {
     /* The most descriptors of a process, numbered from 0 (getrlimit, RLIMIT_NOFILE). None from this number on is free: a call that would
      * give one fails with EMFILE. At most BINDINGCLAY_MOST_DESCRIPTORS. A poll takes up to 256 entries all the same. */
     uint64_t descriptors_max;
+    /* The most bytes of memory that the kernel keeps for further bytes when no pipe or file holds them any more, in segments of 4,096. They
+     * count as held. UINT64_MAX: 16,777,216, but at most a sixteenth of memory. */
+    uint64_t spare_max;
 } bindingclay_limits;
 
 /* The limits if nobody sets any: bindingclay_limits limits = BINDINGCLAY_LIMITS; */
 #define BINDINGCLAY_LIMITS \
     { sizeof(bindingclay_limits), 1, UINT64_MAX, UINT64_MAX, UINT64_MAX, BINDINGCLAY_MOST_CAPACITY, BINDINGCLAY_MOST_FILE_BYTES, \
-        BINDINGCLAY_MOST_DESCRIPTORS }
+        BINDINGCLAY_MOST_DESCRIPTORS, UINT64_MAX }
 
 /* How much memory a kernel takes, in bytes as they were asked of malloc and realloc. The block that holds the kernel itself and the block
  * that holds this count, about a kilobyte together, are no part of it. */
@@ -198,7 +203,7 @@ typedef struct {
     uint64_t peak;
     /* The most bytes that it may hold: memory of its limits. */
     uint64_t most;
-    /* The bytes of held that are in segments kept for further bytes of pipes and files: at most 1,048,576. */
+    /* The bytes of held that are in segments kept for further bytes of pipes and files: at most spare_max of its limits. */
     uint64_t spare;
 } bindingclay_memory_use;
 
@@ -568,7 +573,7 @@ typedef struct {
 typedef struct {
     /* Those in which bytes are. If there is no process and no name, there are none. */
     uint64_t used;
-    /* Those that are kept for further bytes: at most 256. */
+    /* Those that are kept for further bytes: at most as many as fit spare_max of the limits. */
     uint64_t spare;
 } bindingclay_segment_use;
 
@@ -602,8 +607,8 @@ void bindingclay_stats(bindingclay clay, bindingclay_segment_use *segments);
  * and one that answers BINDINGCLAY_NO_MEMORY or BINDINGCLAY_SHORT. The record is held in the kernel's memory, within its limit, until it
  * is handed out. So while steps are recorded, a call that makes one may answer BINDINGCLAY_NO_MEMORY, also one that asks for no memory
  * otherwise. It has changed nothing then. Hand out the record, and make the call again. Once all of it is handed out, the next 64 calls of
- * bindingclay_close, bindingclay_exit and bindingclay_interrupt ask for no memory. A read asks for as much memory as there is room for its
- * bytes, and for four times the bytes that it may give. */
+ * bindingclay_close, bindingclay_exit and bindingclay_interrupt ask for no memory. A read asks for memory for a copy of the bytes that it
+ * gives and for its two lines, and for no more if there is room for more bytes. */
 
 /* Begins to record the steps of a kernel, or ends that if on is false, which drops what wasn't handed out. Fails with EINVAL to begin if a
  * process was started or a recording begun before, as a record has all steps of its kernel. To end it never fails, and asks for no

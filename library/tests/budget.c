@@ -281,8 +281,9 @@ static bool is_same(bindingclay_answer a, bindingclay_answer b)
         && memcmp(&by_first, &by_second, sizeof by_first) == 0;
 }
 
-/* A call that found no memory left the caller's bytes alone. Made again it finds none either, and leaves no more in the end. But each time calls that
- * lack places get them, if there is memory for these now, of which there are at most eight. Then a call that would wait does. */
+/* A call that found no memory left the caller's bytes alone. Made again it has what the kernel kept for further bytes. If it finds none either, it leaves
+ * no more in the end. But each time calls that lack places get them, if there is memory for these now, of which there are at most eight. Then a call that
+ * would wait does. */
 static bindingclay_answer made_again(struct kernel within, const struct call *call)
 {
     enum { WITHOUT_PLACES = 8 };
@@ -293,7 +294,7 @@ static bindingclay_answer made_again(struct kernel within, const struct call *ca
         held = held_by[within.owner];
         answer = made_by(within, call, &by_first);
     }
-    HOLDS(answer.kind == BINDINGCLAY_PARKED || (answer.kind == BINDINGCLAY_NO_MEMORY && held_by[within.owner] <= held));
+    HOLDS(answer.kind != BINDINGCLAY_NO_MEMORY || held_by[within.owner] <= held);
     return answer;
 }
 

@@ -85,6 +85,18 @@ static inline bindingclay new_kernel(uint64_t first_call, uint32_t file_max)
     return clay;
 }
 
+/* A kernel with process 1, within limits. */
+static inline bindingclay kernel_within(const bindingclay_limits *limits)
+{
+    bindingclay clay = { NULL };
+    if (!bindingclay_open_within(limits, &clay.kernel)) {
+        printf("bindingclay_open_within: false\n");
+        exit(1);
+    }
+    DONE(bindingclay_start(clay), 1);
+    return clay;
+}
+
 /* A kernel with process 1. */
 static inline bindingclay kernel_with_process(void)
 {

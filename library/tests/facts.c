@@ -262,7 +262,7 @@ static bindingclay_segment_use segments(bindingclay clay)
     bindingclay_segment_use use;
     memset(&use, UNTOUCHED, sizeof use);
     bindingclay_stats(clay, &use);
-    HOLDS(use.spare <= 256);
+    HOLDS(use.spare <= 4096);
     return use;
 }
 

@@ -8,6 +8,14 @@
 
 enum { SEGMENT = 4096, MOST_SPARE = 256, MOST_CAPACITY = 1048576 };
 
+/* A kernel that keeps so many segments for further bytes, with process 1. */
+static bindingclay kernel_that_keeps(uint64_t segments)
+{
+    bindingclay_limits limits = BINDINGCLAY_LIMITS;
+    limits.spare_max = segments * SEGMENT;
+    return kernel_within(&limits);
+}
+
 /* Bytes of many slots: each of so many splices moves one byte to the end of file f, descriptor 2, from one of two pipes in turn, so that no
  * two slots go on one where the other ends and become one. The second pipe is closed then. */
 static void fill_by_bytes(bindingclay clay, long count)
@@ -30,7 +38,7 @@ static void fill_by_bytes(bindingclay clay, long count)
  * is copied once at most, and the slices of the file are listed meanwhile. */
 static void a_splice_of_many_slots(long count)
 {
-    bindingclay clay = kernel_with_process();
+    bindingclay clay = kernel_that_keeps(MOST_SPARE);
     fill_by_bytes(clay, count);
     bindingclay_ends ends = NEW_PIPE(clay, 1, false);
     DONE(bindingclay_set_pipe_sz(clay, 1, ends.write_end, MOST_CAPACITY), MOST_CAPACITY);
@@ -77,7 +85,7 @@ static void a_splice_of_all(void)
 /* A splice of a file without memory for all of it leaves what it found. */
 static void a_splice_without_memory(long count)
 {
-    bindingclay clay = kernel_with_process();
+    bindingclay clay = kernel_that_keeps(0);
     fill_by_bytes(clay, count);
     bindingclay_ends ends = NEW_PIPE(clay, 1, false);
     /* the places of the pipe's slots, which stay with it if the call that made them is refused */
@@ -138,12 +146,12 @@ static void a_tee_of_a_full_pipe(void)
 /* A file that is emptied gives back all but what is spare. */
 static void an_emptied_file(long count)
 {
-    bindingclay clay = kernel_with_process();
+    bindingclay clay = kernel_that_keeps(MOST_SPARE);
     fill_by_bytes(clay, 1);
     long before = bytes_left;
     OTHER(bindingclay_exit(clay, 1), BINDINGCLAY_DONE);
     bindingclay_free(clay);
-    clay = kernel_with_process();
+    clay = kernel_that_keeps(MOST_SPARE);
     fill_by_bytes(clay, count);
     HOLDS(bytes_left - before >= 24 * count);
     DONE(open_text(clay, 1, "f", O_RDWR | O_TRUNC), 3);
@@ -290,7 +298,7 @@ static void writes_that_copy_together(long count)
     enum { APART = 64, SHARED = 100 };
     long slots = count / 16;
     long shared = slots < SHARED ? slots : SHARED;
-    bindingclay clay = kernel_with_process();
+    bindingclay clay = kernel_that_keeps(MOST_SPARE);
     long before = bytes_left;
     scattered_file(clay, slots, shared);
     HOLDS(bytes_left - before >= slots * SEGMENT);
@@ -343,8 +351,8 @@ static void writes_without_memory(void)
     HOLDS(granted - passed_over >= 2);
 }
 
-/* A write within a segment that nothing else shares goes over the bytes there, and asks for no memory. It asks for some if it goes on into the
- * next segment, or if a pipe shares the bytes, which keeps what it got. */
+/* A write within segments that nothing else shares goes over the bytes there, and asks for no memory. It asks for some if it goes on behind the
+ * end, or if a pipe shares some of the bytes, which keeps what it got. */
 static void writes_over_bytes(void)
 {
     enum { SEGMENTS = 8 };
@@ -355,24 +363,28 @@ static void writes_over_bytes(void)
     DONE(bindingclay_write(clay, 1, 2, bytes, sizeof bytes), sizeof bytes);
     long blocks = blocks_left;
     refuse(0, LONG_MAX);
-    for (int i = 0; i < SEGMENTS; i++) {
-        /* a whole segment, and parts of one at its front, in its middle and at its end */
-        static const int FROM[] = { 0, 0, 1000, SEGMENT - 64 }, SIZE[] = { SEGMENT, 1, 3000, 64 };
-        int from = i * SEGMENT + FROM[i % 4], size = SIZE[i % 4];
-        memset(bytes + from, 'a' + i, (size_t)size);
-        DONE(bindingclay_lseek(clay, 1, 2, from, SEEK_SET), from);
-        DONE(bindingclay_write(clay, 1, 2, bytes + from, (size_t)size), size);
+    /* parts of one segment, all of one, and bytes of two, of three and of all */
+    static const int FROM[] = { 0, 1000, SEGMENT - 64, SEGMENT, SEGMENT - 1, 3 * SEGMENT - 1000, 2 * SEGMENT + 7, 0 },
+                     SIZE[] = { 1, 3000, 64, SEGMENT, 2, SEGMENT, 2 * SEGMENT + 1, SEGMENTS * SEGMENT };
+    for (int i = 0; i < (int)(sizeof FROM / sizeof *FROM); i++) {
+        memset(bytes + FROM[i], 'a' + i, (size_t)SIZE[i]);
+        DONE(bindingclay_lseek(clay, 1, 2, FROM[i], SEEK_SET), FROM[i]);
+        DONE(bindingclay_write(clay, 1, 2, bytes + FROM[i], (size_t)SIZE[i]), SIZE[i]);
+        DONE(bindingclay_lseek(clay, 1, 2, 0, SEEK_SET), 0);
+        DONE(bindingclay_read(clay, 1, 2, into, sizeof into), sizeof into);
+        HOLDS(memcmp(into, bytes, sizeof into) == 0);
     }
-    DONE(bindingclay_lseek(clay, 1, 2, SEGMENT - 1, SEEK_SET), SEGMENT - 1);
+    DONE(bindingclay_lseek(clay, 1, 2, sizeof bytes - 1, SEEK_SET), sizeof bytes - 1);
     HOLDS(refused == 0);
     OTHER(put(clay, 1, 2, "no"), BINDINGCLAY_NO_MEMORY);
     refuse_none();
-    HOLDS(blocks_left == blocks);
+    HOLDS(blocks_left <= blocks);
     const uint64_t front = 0;
     DONE(bindingclay_splice(clay, 1, 2, &front, 1, NULL, 64, 0), 64);
     refuse(0, LONG_MAX);
-    OTHER(put(clay, 1, 2, "y"), BINDINGCLAY_NO_MEMORY);
-    HOLDS(refused == 1);
+    DONE(bindingclay_lseek(clay, 1, 2, SEGMENT - 1, SEEK_SET), SEGMENT - 1);
+    OTHER(put(clay, 1, 2, "no"), BINDINGCLAY_NO_MEMORY);
+    HOLDS(refused >= 1);
     refuse_none();
     DONE(bindingclay_lseek(clay, 1, 2, 0, SEEK_SET), 0);
     DONE(put(clay, 1, 2, "yes"), 3);

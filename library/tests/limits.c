@@ -4,16 +4,7 @@
 #include <fcntl.h>
 #include <poll.h>
 
-static bindingclay kernel_within(const bindingclay_limits *limits)
-{
-    bindingclay clay = { NULL };
-    if (!bindingclay_open_within(limits, &clay.kernel)) {
-        printf("bindingclay_open_within: false\n");
-        exit(1);
-    }
-    DONE(bindingclay_start(clay), 1);
-    return clay;
-}
+enum { SEGMENT = 4096 };
 
 static bool is_refused(const bindingclay_limits *limits)
 {
@@ -22,14 +13,30 @@ static bool is_refused(const bindingclay_limits *limits)
     return !open && kernel == &kernel;
 }
 
+/* How many bytes a kernel within these limits keeps once 1,048,576 bytes were in a pipe and were taken out. */
+static uint64_t spare_within(const bindingclay_limits *limits)
+{
+    bindingclay clay = kernel_within(limits);
+    bindingclay_ends ends = NEW_PIPE(clay, 1, true);
+    DONE(bindingclay_set_pipe_sz(clay, 1, ends.read_end, BINDINGCLAY_MOST_CAPACITY), BINDINGCLAY_MOST_CAPACITY);
+    DONE(put_many(clay, 1, ends.write_end, BINDINGCLAY_MOST_CAPACITY), BINDINGCLAY_MOST_CAPACITY);
+    DONE(take(clay, 1, ends.read_end, BINDINGCLAY_MOST_CAPACITY), BINDINGCLAY_MOST_CAPACITY);
+    bindingclay_segment_use use;
+    bindingclay_stats(clay, &use);
+    bindingclay_memory_use memory = bindingclay_memory(clay);
+    HOLDS(use.used == 0 && memory.spare == use.spare * SEGMENT && memory.spare <= memory.held);
+    bindingclay_free(clay);
+    return memory.spare;
+}
+
 /* ---- The struct ---- */
 
 /* An earlier version's struct: what it doesn't have is as if nobody had set it. */
 static void structs_that_are_smaller(void)
 {
-    HOLDS(sizeof(bindingclay_limits) == 56);
+    HOLDS(sizeof(bindingclay_limits) == 64);
     bindingclay_limits limits = { .size = 16, .first_call = 7, .memory = 0, .names = 0, .waiting_calls = 0, .capacity = 0, .file_max = 0,
-        .descriptors_max = 0 };
+        .descriptors_max = 0, .spare_max = 0 };
     bindingclay clay = kernel_within(&limits);
     DONE(mkfifo_text(clay, 1, "a"), 0);
     bindingclay_ends ends = NEW_PIPE(clay, 1, false);
@@ -52,7 +59,7 @@ static void structs_that_are_smaller(void)
     OTHER(bindingclay_start(without), BINDINGCLAY_NO_MEMORY);
     bindingclay_free(without);
 
-    /* all but the last field, as 0.7.0 had them: a process has 256 descriptors */
+    /* the fields that 0.7.0 had: a process has 256 descriptors */
     limits = (bindingclay_limits)BINDINGCLAY_LIMITS;
     limits.size = 48;
     limits.names = 0;
@@ -63,6 +70,11 @@ static void structs_that_are_smaller(void)
         NEW_PIPE(clay, 1, false);
     FAULT(bindingclay_dup(clay, 1, 0), EMFILE);
     bindingclay_free(clay);
+
+    /* all but the last field, as 0.8.0 had them: memory is kept as if nobody had said how much */
+    limits.size = 56;
+    limits.spare_max = 0;
+    HOLDS(spare_within(&limits) >= BINDINGCLAY_MOST_CAPACITY);
 }
 
 static void structs_of_no_version(void)
@@ -74,7 +86,7 @@ static void structs_of_no_version(void)
     longer.limits.size = sizeof longer;
     HOLDS(is_refused(&longer.limits));
     bindingclay_limits limits = BINDINGCLAY_LIMITS;
-    for (uint64_t size = 0; size < 72; size++)
+    for (uint64_t size = 0; size < 80; size++)
         if (size % 8 != 0 || size == 0 || size > sizeof limits) {
             longer.limits.size = size;
             HOLDS(is_refused(&longer.limits));
@@ -442,6 +454,7 @@ static bool all_find_memory(bindingclay clay)
 static void memory(void)
 {
     bindingclay_limits limits = BINDINGCLAY_LIMITS;
+    limits.spare_max = BINDINGCLAY_MOST_CAPACITY;
     bindingclay clay = { NULL };
     HOLDS(bindingclay_open_within(&limits, &clay.kernel));
     bindingclay_memory_use use = bindingclay_memory(clay);
@@ -462,6 +475,46 @@ static void memory(void)
     HOLDS(bindingclay_open_within(&limits, &clay.kernel));
     HOLDS(!all_find_memory(clay));
     HOLDS(bindingclay_memory(clay).peak < use.peak);
+    bindingclay_free(clay);
+}
+
+/* Whole segments are kept, up to the limit. */
+static void memory_that_is_kept(void)
+{
+    bindingclay_limits limits = BINDINGCLAY_LIMITS;
+    HOLDS(spare_within(&limits) >= BINDINGCLAY_MOST_CAPACITY);
+    limits.spare_max = UINT64_MAX - 1;
+    HOLDS(spare_within(&limits) >= BINDINGCLAY_MOST_CAPACITY);
+    for (uint64_t most = 0; most <= BINDINGCLAY_MOST_CAPACITY; most += 100 * SEGMENT - 1) {
+        limits.spare_max = most;
+        HOLDS(spare_within(&limits) == most / SEGMENT * SEGMENT);
+    }
+    /* if nobody says how much, it is a sixteenth of the kernel's memory */
+    limits.spare_max = UINT64_MAX;
+    limits.memory = 16 * 50 * SEGMENT - 1;
+    HOLDS(spare_within(&limits) == 49 * SEGMENT);
+    limits.memory = 16 * 50 * SEGMENT;
+    HOLDS(spare_within(&limits) == 50 * SEGMENT);
+}
+
+/* A call that finds no memory gives back what was kept, and finds it as it is made again. */
+static void memory_that_is_given_back(void)
+{
+    enum { MEMORY = 4000000, LONG = 3500000 };
+    bindingclay_limits limits = BINDINGCLAY_LIMITS;
+    limits.memory = MEMORY;
+    limits.spare_max = MEMORY;
+    bindingclay clay = kernel_within(&limits);
+    bindingclay_ends ends = NEW_PIPE(clay, 1, false);
+    DONE(bindingclay_set_pipe_sz(clay, 1, ends.read_end, BINDINGCLAY_MOST_CAPACITY), BINDINGCLAY_MOST_CAPACITY);
+    DONE(put_many(clay, 1, ends.write_end, BINDINGCLAY_MOST_CAPACITY), BINDINGCLAY_MOST_CAPACITY);
+    DONE(take(clay, 1, ends.read_end, BINDINGCLAY_MOST_CAPACITY), BINDINGCLAY_MOST_CAPACITY);
+    DONE(put_many(clay, 1, ends.write_end, SEGMENT), SEGMENT);
+    HOLDS(bindingclay_memory(clay).spare >= BINDINGCLAY_MOST_CAPACITY - SEGMENT);
+    DONE(bindingclay_set_pipe_sz(clay, 1, ends.read_end, SEGMENT), SEGMENT);
+    OTHER(put_many(clay, 1, ends.write_end, LONG), BINDINGCLAY_NO_MEMORY);
+    HOLDS(bindingclay_memory(clay).spare == 0);
+    PARKED(put_many(clay, 1, ends.write_end, LONG), 1);
     bindingclay_free(clay);
 }
 
@@ -506,6 +559,8 @@ int main(void)
     files();
     numbers();
     memory();
+    memory_that_is_kept();
+    memory_that_is_given_back();
     a_guest_at_its_limit();
     return end();
 }

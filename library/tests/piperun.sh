@@ -382,7 +382,7 @@ piperun_keeps_within_limits() {
     printf 'start\n1 pipe\n1 open a w creat\n1 open b w creat\n1 write 2 616263\n1 read 0 1\n1 read 0 1\n1 setsz 1 65537\n' > "$work/limits.script"
     printf '1 dup 0\n1 dup 0\n1 dup2 0 4\n1 dupfd 0 4\n' >> "$work/limits.script"
     printf 'pid 1\nfds 0 1\nfd 2\nENOSPC\ncount 2\nparked 7\nEAGAIN\nEPERM\nfd 3\nEMFILE\nEBADF\nEINVAL\n' > "$work/limits.out"
-    set -- --first-call 7 --file-max 2 --names-max=1 --waiting-max 1 --capacity-max 65536 --descriptors-max 4
+    set -- --first-call 7 --file-max 2 --names-max=1 --waiting-max 1 --capacity-max 65536 --descriptors-max 4 --spare-max 0
     piperun_answers 0 "$work/limits.out" '' "$@" "$work/limits.script" || return 1
     piperun_answers 0 "$work/limits.out" '' --live "$@" "$work/limits.script" || return 1
     paste -d '\n' "$work/limits.script" "$work/limits.out" | sed 'n;s/^/# => /' > "$work/limits.record"
@@ -396,7 +396,7 @@ piperun_keeps_within_limits() {
 
 # Whether piperun refuses limits that are out of their range.
 piperun_refuses_limits() {
-    for limit in --file-max=16777217 --capacity-max=1048577 --descriptors-max=257 --names-max=18446744073709551616 --waiting-max=-1 \
+    for limit in --file-max=16777217 --capacity-max=1048577 --descriptors-max=257 --names-max=18446744073709551616 --spare-max=18446744073709551616 --waiting-max=-1 \
         --waiting-max=two; do
         piperun_answers 2 /dev/null 'piperun: bad command line' "$limit" "$examples/session.script" || return 1
     done

@@ -11,11 +11,14 @@
 #include <limits.h>
 #include <poll.h>
 
-enum { MANY = 100000, ABOVE = 1024 * 1024, LEFT = 280000, KEPT = 2 * 65536 };
+enum { MANY = 100000, ABOVE = 1024 * 1024, LEFT = 280000, KEPT = 2 * 65536, MUCH_LESS = 65536 };
 
 /* Bytes of which no four neighbours are equal, so that a record has two letters for each. */
 static uint8_t mixed[MANY];
 static uint8_t into[MANY];
+
+/* As many as one read gives at most. */
+static uint8_t wide[16777216];
 
 static const char *folder;
 
@@ -164,6 +167,38 @@ static void little_is_left(void)
     free(record.text);
 }
 
+/* A guest with far more room for bytes than it has memory reads what is there: of a pipe, of a file, and as a call that waited. */
+static void much_room(void)
+{
+    struct record record = { NULL, 0, 0 };
+    bindingclay_limits limits = BINDINGCLAY_LIMITS;
+    struct session session = { .record = &record };
+    bindingclay_ends ends;
+    limits.memory = MUCH_LESS;
+    HOLDS(bindingclay_open_within(&limits, &session.clay.kernel));
+    bindingclay clay = session.clay;
+    DONE(bindingclay_record(clay, true), 0);
+    HOLDS(is_made(&session, bindingclay_start(clay)));
+    HOLDS(is_made(&session, bindingclay_pipe(clay, 1, false, &ends)));
+    HOLDS(is_made(&session, put(clay, 1, ends.write_end, "hello")));
+    bindingclay_answer got = bindingclay_read(clay, 1, ends.read_end, wide, sizeof wide);
+    HOLDS(is_made(&session, got) && got.value == 5 && memcmp(wide, "hello", 6) == 0);
+    bindingclay_answer waits = bindingclay_read(clay, 1, ends.read_end, wide, sizeof wide);
+    HOLDS(is_made(&session, waits) && waits.kind == BINDINGCLAY_PARKED);
+    HOLDS(is_made(&session, put(clay, 1, ends.write_end, "again")));
+    got = bindingclay_resume(clay, waits.value, wide, sizeof wide);
+    HOLDS(is_made(&session, got) && got.value == 5 && memcmp(wide, "again", 6) == 0);
+    HOLDS(is_made(&session, open_text(clay, 1, "f", O_RDWR | O_CREAT)));
+    HOLDS(is_made(&session, put(clay, 1, 2, "file")));
+    HOLDS(is_made(&session, bindingclay_lseek(clay, 1, 2, 1, SEEK_SET)));
+    got = bindingclay_read(clay, 1, 2, wide, sizeof wide);
+    HOLDS(is_made(&session, got) && got.value == 3 && memcmp(wide, "ilein", 5) == 0);
+    HOLDS(session.refused == 0);
+    save(&record, folder, "much_room", session.steps);
+    bindingclay_free(clay);
+    free(record.text);
+}
+
 /* With all that is recorded handed out, 64 calls that end something ask for no memory, and nor does the next hand-out. What was read doesn't matter
  * then. */
 static void without_memory(void)
@@ -219,6 +254,7 @@ int main(int argc, char **argv)
     for (size_t i = 0; i < sizeof mixed; i++)
         mixed[i] = (uint8_t)(i * 7 + i / 251);
     little_is_left();
+    much_room();
     without_memory();
     each_budget((uint64_t)step);
     HOLDS(atomic_load(&blocks_left) == 0);

@@ -12,7 +12,7 @@
 #include <limits.h>
 #include <poll.h>
 
-enum { MOST_PROCESSES = 1024, MOST_SPARE = 1048576, SEGMENT = 4096 };
+enum { MOST_PROCESSES = 1024, MOST_SPARE = 16777216, SEGMENT = 4096 };
 
 /* What a kernel holds beside the segments that it keeps for further bytes. */
 static uint64_t beside_spare(bindingclay clay)

@@ -92,6 +92,10 @@ impl Clay {
             waiting_max: limits.waiting_calls,
             capacity_max: limits.capacity,
             descriptors_max: limits.descriptors_max,
+            spare_max: match limits.spare_max {
+                u64::MAX => Limits::usual_spare(limits.memory),
+                spare_max => spare_max,
+            },
         };
         let counter = counter(limits.memory);
         let kernel = Kernel::new(counter, inner).map_err(|_| io::ErrorKind::InvalidInput)?;

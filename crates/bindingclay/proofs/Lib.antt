@@ -5,5 +5,4 @@ pub mod Resuming
 pub mod Telling
 pub mod OnRecord
 pub mod Named
-pub mod Cut
 pub mod ReadAgain

@@ -1,15 +1,26 @@
 -- The words of `bindingclay_limits`, and what they ask for. The first one tells how many there are; later ones may be left out.
-use Rattle.std.specs.Prelude.{◌≡◌, ◌<◌, ◌⊎◌, ◌/◌, ◌%◌, ◌*◌, ◌+◌, ◌^◌, ℕ, List, length, get_or}
-use Rattle.pl_model.specs.Numbers.{most_capacity, most_file_bytes, no_limit, open_max}
+use Rattle.std.specs.Prelude.{◌≡◌, ◌<◌, ◌⊎◌, ◌/◌, ◌%◌, ◌*◌, ◌+◌, ◌^◌, ℕ, List, length, nat_eq, get_or, if◌then◌else◌}
+use Rattle.pl_model.specs.Numbers.{most_capacity, most_file_bytes, no_limit, open_max, usual_spare}
 use Rattle.bindingclay.specs.declared.limits.Asked.{Asked}
 
 -- the sixth word: its lower half is the greatest capacity of a pipe, and its upper half the most bytes of a file
 abbrev pub sizes : List ℕ → ℕ
 sizes words = get_or words 5 (most_file_bytes * 2 ^ 32 + most_capacity)
 
--- the last word: the most descriptors of a process
+-- the seventh word: the most descriptors of a process
 abbrev pub descriptors : List ℕ → ℕ
 descriptors words = get_or words 6 open_max
+
+-- the third word: the most bytes that the kernel may hold
+abbrev pub memory : List ℕ → ℕ
+memory words = get_or words 2 no_limit
+
+-- the most bytes of memory that are kept for further bytes, by the last word
+abbrev pub spare_of : (memory word : ℕ) → ℕ
+spare_of memory word = if nat_eq word no_limit then usual_spare memory else word
+
+abbrev pub spare : List ℕ → ℕ
+spare words = spare_of (memory words) (get_or words 7 no_limit)
 
 abbrev pub asked_by : List ℕ → Asked
 asked_by words = record {
@@ -20,10 +31,11 @@ asked_by words = record {
     waiting_max = get_or words 4 no_limit;
     capacity_max = sizes words % 2 ^ 32;
     descriptors_max = descriptors words;
+    spare_max = spare words;
   };
-  memory = get_or words 2 no_limit;
+  memory = memory words;
 }
 
 -- there are none of them, or more than are known, or a pipe or a file might have more bytes than any may, or a process more descriptors
 abbrev pub AreNone : List ℕ → Type 0
-AreNone words = (length words ≡ 0) ⊎ (7 < length words) ⊎ (most_capacity < sizes words % 2 ^ 32) ⊎ (most_file_bytes < sizes words / 2 ^ 32) ⊎ (open_max < descriptors words)
+AreNone words = (length words ≡ 0) ⊎ (8 < length words) ⊎ (most_capacity < sizes words % 2 ^ 32) ⊎ (most_file_bytes < sizes words / 2 ^ 32) ⊎ (open_max < descriptors words)

@@ -37,11 +37,11 @@ abbrev pub RecordsTry : Contents InBudget → Option (Recorder InBudget) → ℕ
 RecordsTry old None number a new = new ≡ None
 RecordsTry old (Some recorder) number a new = MatchOption new ⊥ (λ after. IsTryRecorded old (unread recorder) number a (unread after))
 
--- the room is empty, and large enough for the bytes, which are no more than one read gives
-pub record Fits (room : Vec ℕ InBudget) (bytes : List ℕ) : Type 0 where
+-- the room is empty, and large enough for so many bytes, which are no more than one read gives
+pub record Fits (room : Vec ℕ InBudget) (count : ℕ) : Type 0 where
   pub empty : room.items ≡ []
-  pub enough : length bytes ≤ vec_capacity room
-  pub few : length bytes ≤ most_bytes
+  pub enough : count ≤ vec_capacity room
+  pub few : count ≤ most_bytes
 
 -- what is recorded of a parked call that was tried again, by what the kernel answered
 abbrev pub after_try : {E : Type 0} → Result (KernelResumed InBudget) E → List ℕ → (before line : List ℕ) → List ℕ

@@ -1,5 +1,5 @@
 //! What is told of pipes, files and parked calls, and of the segments of a kernel, without a step.
-ghost use Rattle.std.specs.Prelude.{◌≡◌, ◌≤◌};
+ghost use Rattle.std.specs.Prelude.{◌≡◌, ◌≤◌, ◌/◌};
 ghost use Rattle.pl_kernel.specs.ToldSegments.{TellsUsed, TellsNone};
 ghost use Rattle.pl_kernel.specs.ToldNodes.{OfFd, OfName, facts_named, TellsShape, TellsWhich};
 ghost use Rattle.bindingclay.specs.Heap.{InBudget};
@@ -57,7 +57,7 @@ pub extern "C" fn bindingclay_call_facts(handle: Handle, number: u64, call: &mut
 /// Tells in how many segments the kernel keeps bytes. With no process and no name no segment is used.
 #[unsafe(no_mangle)]
 pub extern "C" fn bindingclay_stats(handle: Handle, stats: &mut SegmentUse)
-    ensures spare { stats.new.spare ≤ 256 }
+    ensures spare { stats.new.spare ≤ handle.layer.kernel.limits.spare_max / 4096 }
     ensures used { stats.new.used ≡ handle.layer.kernel.nodes.memory.segments }
     ensures named { TellsUsed {A = InBudget} handle.layer.kernel stats.new.used }
     ensures none { TellsNone {A = InBudget} handle.layer.kernel stats.new.used }

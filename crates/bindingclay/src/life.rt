@@ -76,7 +76,7 @@ pub extern "C" fn bindingclay_end(handle: Handle, budget: &mut *mut u8)
 #[unsafe(no_mangle)]
 pub extern "C" fn bindingclay_tell_memory(handle: Handle, memory: &mut Memory)
     ensures most { memory.new.most ≡ handle.layer.heap.now.counter.most }
-    ensures spare { memory.new.spare ≤ 1048576 }
+    ensures spare { memory.new.spare ≤ handle.layer.kernel.limits.spare_max }
 {
     *memory = handle.layer().memory();
 }

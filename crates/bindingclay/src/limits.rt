@@ -7,7 +7,7 @@ use pl_model::Limits;
 use pl_model::numbers::{MAX_CAPACITY, MAX_FILE_BYTES, NO_LIMIT, OPEN_MAX};
 
 /// The words of `bindingclay_limits`, whose sixth one holds two fields.
-const WORDS: usize = 7;
+const WORDS: usize = 8;
 
 /// One and the greatest number of 32 bits: how many times the upper half of a word counts.
 const HALF: u64 = 4_294_967_296;
@@ -40,6 +40,11 @@ pub fn asked_by(words: &[u64]) -> Option<Asked>
     let capacity_max = (sizes % HALF) as u32;
     let file_max = (sizes / HALF) as u32;
     let descriptors_max = word(words, 6, OPEN_MAX as u64);
+    let memory = word(words, 2, NO_LIMIT);
+    let spare_max = match word(words, 7, NO_LIMIT) {
+        NO_LIMIT => Limits::usual_spare(memory),
+        spare_max => spare_max,
+    };
     if capacity_max > MAX_CAPACITY
         || file_max > MAX_FILE_BYTES
         || descriptors_max > OPEN_MAX as u64
@@ -54,7 +59,8 @@ pub fn asked_by(words: &[u64]) -> Option<Asked>
             waiting_max: word(words, 4, NO_LIMIT),
             capacity_max,
             descriptors_max: descriptors_max as u32,
+            spare_max,
         },
-        memory: word(words, 2, NO_LIMIT),
+        memory,
     })
 }

@@ -3,6 +3,7 @@ use Rattle.std.proofs.Common.{◌≡◌, ℕ, zero, suc, ◌+◌, ◌-◌, ◌<�
 use Rattle.std.specs.Prelude.{replicate, max, Option, None, Some}
 use Rattle.std.proofs.lemmas.Bool.Decides.{leb_tells}
 use Rattle.std.proofs.lemmas.List.{append-nil, append_assoc, take-append-drop, take-take, take_all, length-append, length-take, length-drop, length-replicate}
+use Rattle.pl_model.specs.Numbers.{most_file_bytes}
 use Rattle.pl_segments.specs.declared.slice.Slice.{Slice}
 use Rattle.pl_segments.specs.Segments.{segment_size, Segment, Map, at, bytes_in, holders, IsGood, AreGood}
 use Rattle.pl_segments.specs.Slices.{Lies, reads, all_read, AllLie, naming}
@@ -16,6 +17,7 @@ use Rattle.pl_segments.proofs.Pushing.{pushes-turns, lies-still}
 use Rattle.pl_segments.proofs.Together.{holds-left, holds-right}
 use Rattle.pl_file.specs.Rows.{AllWithin}
 use Rattle.pl_file.specs.File.{written}
+use Rattle.pl_file.specs.Written.{Becomes, IsFile}
 use Rattle.pl_file.proofs.Placed.{total-parts}
 use Rattle.pl_file.proofs.Patching.{solid-some, all-still}
 
@@ -283,3 +285,14 @@ module _ (m0 m n : Map) (xs ps ys : List Slice) (f e place : ℕ) (part : Slice)
       let long = written-length place bytes old some in
       let o = total-read m0 xs held.lie in
       omega (arith, l, k, t, w, long, o)
+
+  pub change-becomes : Becomes m0 xs n ys (written place bytes old)
+  change-becomes = record { turns = change-turns; read = change-read }
+
+  pub change-file : total xs ≤ most_file_bytes → place + length bytes ≤ most_file_bytes → AllSolid ys → AllWithin ys → IsFile n ys
+  change-file l k solid within = record {
+    held = holds-turned m0 n xs ys held change-turns;
+    solid = solid;
+    within = within;
+    most = change-most most_file_bytes l k u.lie;
+  }

@@ -1,3 +1,4 @@
+pub mod Refused
 pub mod Placed
 pub mod Chunking
 pub mod Splitting
@@ -5,7 +6,10 @@ pub mod Swapping
 pub mod Joining
 pub mod Cutting
 pub mod Patching
+pub mod Patched
+pub mod Replacing
 pub mod Editing
 pub mod Opening
-pub mod Over
+pub mod InPlace
+pub mod Appended
 pub mod Compacting

@@ -220,14 +220,24 @@ module _ (rs : List Row) (r t : Row) (got : slice_get rs (length rs - 1) ≡ Som
       ∙ sym (append_assoc front zs (y ∷ []))
       ∙ ap (λ ys. ys ++ y ∷ []) (sym (last-set_front zs x e))
 
-  pub last-set_chunks : AreChunks 0 rs → t.base ≡ r.base → length t.slots ≡ length r.slots → AreChunks 0 (slice_set rs (length rs - 1) t)
-  last-set_chunks ok base n =
+  -- more slots behind its own
+  pub last-set_more : (ys : List Slice) → t.slots ≡ r.slots ++ ys → flat (slice_set rs (length rs - 1) t) ≡ flat rs ++ ys
+  last-set_more ys e =
+      let front = flat (take (length rs - 1) rs) in
+      let none : drop (length rs) rs ≡ [] = drop_all (length rs) rs (omega arith) in
+      ap flat last-set
+      ∙ flat-append (take (length rs - 1) rs) ((t ∷ []) ++ drop (length rs) rs)
+      ∙ ap (λ ss. front ++ (t.slots ++ flat ss)) none
+      ∙ ap (λ zs. front ++ zs) (append-nil t.slots ∙ e)
+      ∙ sym (append_assoc front r.slots ys)
+      ∙ ap (λ zs. zs ++ ys) (sym (last-row rs r got))
+
+  pub last-set_chunks : AreChunks 0 rs → t.base ≡ r.base → 1 ≤ length t.slots → length t.slots ≤ most_in_chunk → AreChunks 0 (slice_set rs (length rs - 1) t)
+  last-set_chunks ok base some most =
       let c = chunk-at 0 rs (length rs - 1) r ok got in
       let b = c.base in
-      let some = c.some in
-      let most = c.most in
       let k : 0 + total (flat (take (length rs - 1) rs)) ≡ total (flat (take (length rs - 1) rs)) = omega arith in
       subst (AreChunks 0) (sym last-set)
       (chunks-mixed rs (t ∷ []) (length rs - 1) (length rs) ok
-      (record { base = base ∙ b ∙ k; some = omega (arith, some, n); most = omega (arith, most, n) }, tt)
+      (record { base = base ∙ b ∙ k; some = some; most = most }, tt)
       (λ l. absurd (omega (arith, l))))

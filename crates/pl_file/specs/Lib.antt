@@ -2,6 +2,10 @@ pub mod Rows
 pub mod RowView
 pub mod ChunksView
 pub mod Joined
+pub mod Added
 pub mod Alone
 pub mod File
 pub mod FileView
+pub mod Written
+pub mod Patches
+pub mod Spans

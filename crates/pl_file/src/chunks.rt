@@ -1,13 +1,20 @@
 //! The slots of a file, in chunks.
-ghost use Rattle.std.specs.Prelude.{◌≡◌, ℕ, ◌+◌, ◌-◌, ◌*◌, ◌<◌, ◌≤◌, ◌^◌, nat_lt, ◌++◌, [], ◌∷◌, length, take, drop, slice_get, slice_index_or, Some, IfOk, IfSome};
+ghost use Rattle.std.specs.Prelude.{◌≡◌, ℕ, ◌+◌, ◌-◌, ◌*◌, ◌<◌, ◌≤◌, ◌^◌, nat_lt, ◌++◌, [], ◌∷◌, length, take, drop, slice_get, slice_index_or, Some, IfOk, IfSome, IfNone, OnErr};
 ghost use Rattle.pl_segments.specs.declared.slice.Slice.{Slice as Part};
+ghost use Rattle.std.specs.Option.{option_to_list};
+ghost use Rattle.pl_segments.specs.Segments.{segment_size, segment_at};
+ghost use Rattle.pl_segments.specs.Slices.{reads};
+ghost use Rattle.pl_segments.specs.Turns.{Turns};
 ghost use Rattle.pl_segments.specs.Slots.{total};
 ghost use Rattle.pl_file.specs.Rows.{Row as Slots, most_in_chunk, left_from, slots_in, index, IsSpot, staying, AreReady};
+ghost use Rattle.pl_file.specs.Spans.{FitsIn, HasMemory};
 
-use crate::pieces::{Pieces, add_front, add_rest, last_up_to, new_pieces, pieces_for, put_rows};
+use crate::pieces::{
+    MOST_IN_CHUNK, Pieces, add_front, add_rest, last_up_to, new_pieces, pieces_for, put_rows,
+};
 use crate::row::Row;
 use crate::spot::Spot;
-use pl_segments::{NoMemory, Slice};
+use pl_segments::{NoMemory, Slice, Store};
 use std::alloc::Allocator;
 use std::marker::Model;
 
@@ -218,14 +225,8 @@ impl<A: Allocator + Copy> Chunks<A> {
     /// Puts the slots of a row in the place of those from `first` to before `end`: it starts where they do, and ends where they do but
     /// where none is behind them. There is memory for it. It takes none.
     pub(crate) fn replace(&mut self, first: Spot, end: Spot, patch: Row<A>, pieces: Pieces<A>)
-        requires first { IsSpot self.old first }
-        requires end { IsSpot self.old end }
-        requires order { index self.old first ≤ index self.old end }
-        requires some { 1 ≤ length patch.slots }
-        requires room { length patch.slots + staying self.old first end ≤ patch.capacity }
-        requires ready { AreReady self.old.room (length self.old.lens) patch.capacity pieces.rows.items pieces.last }
-        requires starts { patch.base ≡ total (take (index self.old first) self.old.slots) }
-        requires ends { index self.old end < length self.old.slots → patch.base + total patch.slots ≡ total (take (index self.old end) self.old.slots) }
+        requires fits { FitsIn self.old first end patch }
+        requires memory { HasMemory self.old first end (length patch.slots) patch.capacity pieces.rows.items pieces.last }
         ensures { self.new.slots ≡ take (index self.old first) self.old.slots ++ (patch.slots ++ drop (index self.old end) self.old.slots) }
     {
         let mut middle = patch;
@@ -256,6 +257,35 @@ impl<A: Allocator + Copy> Chunks<A> {
         let _slots = row.len();
         row.pop();
         row.push(slice);
+    }
+
+    /// Adds bytes in a segment of their own behind the last slot, where the last chunk has a place for one slot more and isn't scattered. Returns
+    /// the slot, and `None` where nothing was added. An error leaves all as it was.
+    pub(crate) fn append(
+        &mut self,
+        store: &mut Store<A>,
+        bytes: &[u8],
+    ) -> Result<Option<Slice>, NoMemory>
+        requires some { 1 ≤ length self.old.slots }
+        requires bytes { 1 ≤ length bytes.now }
+        requires most { length bytes.now ≤ segment_size }
+        requires fits { total self.old.slots + length bytes.now < 2 ^ 64 }
+        ensures slots { IfOk result (λ added. self.new.slots ≡ self.old.slots ++ option_to_list added) }
+        ensures turns { IfOk result (λ added. IfSome added (λ x. Turns (segment_at store.old) [] (segment_at store.new) (x ∷ []))) }
+        ensures reads { IfOk result (λ added. IfSome added (λ x. (x.len ≡ length bytes.now) × (reads (segment_at store.new) x ≡ bytes.now))) }
+        ensures none { IfOk result (λ added. IfNone added (store.new ≡ store.old)) }
+        ensures unchanged { OnErr result ((self.new.slots ≡ self.old.slots) × (store.new ≡ store.old)) }
+    {
+        let last = self.rows.len() - 1;
+        let row = &mut self.rows[last];
+        if row.len() == MOST_IN_CHUNK || row.is_scattered() {
+            return Ok(None);
+        }
+        row.reserve(1)?;
+        store.reserve(1)?;
+        let slice = store.make_reserved(bytes);
+        row.push(slice);
+        Ok(Some(slice))
     }
 
     /// Forgets all slots, and gives back the memory of their lists. It takes no memory.

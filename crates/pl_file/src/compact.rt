@@ -1,11 +1,10 @@
 //! Slots of a file copied together.
 ghost use Rattle.std.specs.Prelude.{◌≡◌, ℕ, ◌<◌, ◌≤◌, ◌^◌, length, take, drop, IfOk};
-ghost use Rattle.pl_model.specs.Numbers.{most_file_bytes};
-ghost use Rattle.pl_segments.specs.Segments.{most_spare, segment_at, holders};
+ghost use Rattle.pl_segments.specs.Segments.{segment_at, holders};
 ghost use Rattle.pl_segments.specs.Slices.{AllLie, all_read};
-ghost use Rattle.pl_segments.specs.Turns.{Holds, Turns};
-ghost use Rattle.pl_segments.specs.Slots.{total, AllSolid};
-ghost use Rattle.pl_file.specs.Rows.{AllWithin, index, IsSpot};
+ghost use Rattle.pl_file.specs.Rows.{index};
+ghost use Rattle.pl_file.specs.Spans.{IsSpan};
+ghost use Rattle.pl_file.specs.Written.{Becomes, IsFile};
 
 use crate::chunks::Chunks;
 use crate::edit::overwrite;
@@ -21,18 +20,11 @@ pub(crate) fn compact<A: Allocator + Copy>(
     chunks: &mut Chunks<A>,
     place: usize,
 )
-    requires solid { AllSolid chunks.old.slots }
-    requires within { AllWithin chunks.old.slots }
+    requires file { IsFile (segment_at store.old) chunks.old.slots }
     requires some { 1 ≤ length chunks.old.slots }
-    requires most { total chunks.old.slots ≤ most_file_bytes }
-    requires held { Holds (segment_at store.old) chunks.old.slots }
     requires few { (key : ℕ) → holders (segment_at store.old) key < 2 ^ 101 }
-    ensures turns { Turns (segment_at store.old) chunks.old.slots (segment_at store.new) chunks.new.slots }
-    ensures read { all_read (segment_at store.new) chunks.new.slots ≡ all_read (segment_at store.old) chunks.old.slots }
-    ensures solid { AllSolid chunks.new.slots }
-    ensures most { total chunks.new.slots ≤ most_file_bytes }
-    ensures within { AllWithin chunks.new.slots }
-    ensures spare { store.old.room ≤ most_spare → store.new.room ≤ most_spare }
+    ensures becomes { Becomes (segment_at store.old) chunks.old.slots (segment_at store.new) chunks.new.slots (all_read (segment_at store.old) chunks.old.slots) }
+    ensures file { IsFile (segment_at store.new) chunks.new.slots }
 {
     let Some((first, end)) = chunks.scattered(place) else {
         return;
@@ -54,10 +46,7 @@ fn bytes_of<A: Allocator + Copy>(
     first: Spot,
     end: Spot,
 ) -> Result<Vec<u8, A>, NoMemory>
-    requires first { IsSpot chunks.now first }
-    requires end { IsSpot chunks.now end }
-    requires order { index chunks.now first ≤ index chunks.now end }
-    requires most { index chunks.now end ≤ length chunks.now.slots }
+    requires span { IsSpan chunks.now first end }
     requires lie { AllLie (segment_at store.now) chunks.now.slots }
     ensures { IfOk result (λ bytes. bytes.items ≡ all_read (segment_at store.now) (drop (index chunks.now first) (take (index chunks.now end) chunks.now.slots))) }
 {

@@ -1,7 +1,8 @@
 //! Where the first bytes of slots end, and where the rest begins.
-ghost use Rattle.std.specs.Prelude.{◌≡◌, ◌<◌, ◌≤◌, ◌++◌, [], ◌∷◌, length, take, drop};
-ghost use Rattle.pl_segments.specs.Slots.{total, AllSolid, solid_of, drop_bytes, front_of};
+ghost use Rattle.std.specs.Prelude.{◌≡◌, ◌≤◌, ◌++◌, [], ◌∷◌, length, take};
+ghost use Rattle.pl_segments.specs.Slots.{total, AllSolid, solid_of, front_of};
 ghost use Rattle.pl_file.specs.Rows.{AllWithin, index, IsSpot};
+ghost use Rattle.pl_file.specs.Spans.{IsRest};
 
 use crate::chunks::Chunks;
 use crate::spot::Spot;
@@ -57,9 +58,7 @@ pub(crate) fn rest_cut<A: Allocator + Copy>(chunks: &Chunks<A>, count: usize) ->
     requires within { AllWithin chunks.now.slots }
     ensures spot { IsSpot chunks.now result.place }
     ensures place { index chunks.now result.place ≤ length chunks.now.slots }
-    ensures starts { index chunks.now result.place < length chunks.now.slots → count < total (take (index chunks.now result.place) chunks.now.slots) }
-    ensures some { 1 ≤ length (drop (index chunks.now result.place) chunks.now.slots) → 1 ≤ result.part.len }
-    ensures rest { drop_bytes count chunks.now.slots ≡ solid_of (result.part ∷ []) ++ drop (index chunks.now result.place) chunks.now.slots }
+    ensures rest { IsRest chunks.now count result }
 {
     if chunks.is_empty() {
         return Cut {

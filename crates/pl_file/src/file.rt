@@ -1,12 +1,12 @@
 //! Regular files.
 ghost use Rattle.std.specs.Prelude.{◌≡◌, ℕ, ◌+◌, ◌-◌, ◌<◌, ◌≤◌, ◌^◌, ◌↔◌, ◌++◌, [], ◌∷◌, length, take, drop, IfOk, OnOk, OnErr, Err};
 ghost use Rattle.pl_model.specs.Numbers.{most_file_bytes};
-ghost use Rattle.pl_segments.specs.Segments.{most_spare, segment_at, holders, live_count};
+ghost use Rattle.pl_segments.specs.Segments.{segment_at, holders, live_count};
 ghost use Rattle.pl_segments.specs.Slices.{AllLie, all_read};
 ghost use Rattle.pl_segments.specs.Turns.{Holds, Turns};
 ghost use Rattle.pl_segments.specs.Slots.{total, AllSolid, solid_of, drop_bytes, front_of};
-ghost use Rattle.pl_file.specs.Joined.{between};
 ghost use Rattle.pl_file.specs.File.{written, fitting};
+ghost use Rattle.pl_file.specs.Written.{Becomes, PutBetween};
 
 use crate::chunks::Chunks;
 use crate::cut::rest_cut;
@@ -124,11 +124,8 @@ impl<A: Allocator + Copy> File<A> {
         requires few { (key : ℕ) → holders (segment_at store.old) key < 2 ^ 100 }
         ensures count { IfOk result (λ count. count ≡ fitting (length bytes.now) place most) }
         ensures big { (result ≡ Err WriteFault.TooBig) ↔ ((1 ≤ length bytes.now) × (most ≤ place)) }
-        ensures turns { OnOk result (Turns (segment_at store.old) self.old (segment_at store.new) self.new) }
-        ensures read { OnOk result (all_read (segment_at store.new) self.new ≡ written place (take (most - place) bytes.now) (all_read (segment_at store.old) self.old)) }
-        ensures err { OnErr result (self.new ≡ self.old) }
-        ensures spare { store.old.room ≤ most_spare → store.new.room ≤ most_spare }
-        ensures store_err { OnErr result (store.new ≡ store.old) }
+        ensures becomes { OnOk result (Becomes (segment_at store.old) self.old (segment_at store.new) self.new (written place (take (most - place) bytes.now) (all_read (segment_at store.old) self.old))) }
+        ensures unchanged { OnErr result ((self.new ≡ self.old) × (store.new ≡ store.old)) }
     {
         let count = fitting(bytes.len(), place, most)?;
         if count == 0 {
@@ -163,13 +160,9 @@ impl<A: Allocator + Copy> File<A> {
         requires few { (key : ℕ) → holders (segment_at store.old) key < 2 ^ 100 }
         ensures count { IfOk result (λ count. count ≡ fitting (total slices.now) place most) }
         ensures big { (result ≡ Err WriteFault.TooBig) ↔ ((1 ≤ total slices.now) × (most ≤ place)) }
-        ensures turns { OnOk result (Turns (segment_at store.old) self.old (segment_at store.new) self.new) }
-        ensures read { OnOk result (all_read (segment_at store.new) self.new ≡ written place (take (most - place) (all_read (segment_at store.old) slices.now)) (all_read (segment_at store.old) self.old)) }
-        ensures slots { IfOk result (λ count. 1 ≤ count → place ≤ total self.old → self.new ≡ between (front_of place self.old) (solid_of (front_of count slices.now)) (drop_bytes (place + count) self.old)) }
-        ensures in_use { OnOk result (place ≤ total self.old → live_count store.new.held ≤ live_count store.old.held) }
-        ensures err { OnErr result (self.new ≡ self.old) }
-        ensures spare { store.old.room ≤ most_spare → store.new.room ≤ most_spare }
-        ensures store_err { OnErr result (store.new ≡ store.old) }
+        ensures becomes { OnOk result (Becomes (segment_at store.old) self.old (segment_at store.new) self.new (written place (take (most - place) (all_read (segment_at store.old) slices.now)) (all_read (segment_at store.old) self.old))) }
+        ensures between { IfOk result (λ count. place ≤ total self.old → PutBetween store.old self.old place count slices.now store.new self.new) }
+        ensures unchanged { OnErr result ((self.new ≡ self.old) × (store.new ≡ store.old)) }
     {
         let slices = slices.as_slice();
         let count = fitting(len_of(slices), place, most)?;
@@ -188,7 +181,6 @@ impl<A: Allocator + Copy> File<A> {
         ensures value { self.new ≡ [] }
         ensures turns { Turns (segment_at store.old) self.old (segment_at store.new) [] }
         ensures in_use { live_count store.new.held ≤ live_count store.old.held }
-        ensures spare { store.old.room ≤ most_spare → store.new.room ≤ most_spare }
     {
         let first = self.chunks.first();
         release_range(store, &self.chunks, first, self.chunks.behind());

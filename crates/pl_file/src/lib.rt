@@ -7,6 +7,7 @@ mod cut;
 mod edit;
 mod fault;
 mod file;
+mod over;
 mod patch;
 mod pieces;
 mod row;

@@ -1,11 +1,13 @@
 //! The slots that are put into a file, made and held before it changes.
 ghost use Rattle.std.specs.Prelude.{◌≡◌, ℕ, ◌+◌, ◌*◌, ◌/◌, ◌<◌, ◌≤◌, ◌^◌, ◌++◌, [], ◌∷◌, length, take, drop, replicate};
-ghost use Rattle.pl_segments.specs.Segments.{segment_size, most_spare, segment_at, holders, live_count};
-ghost use Rattle.pl_segments.specs.Slices.{Lies, AllLie, reads, all_read};
+ghost use Rattle.pl_segments.specs.Segments.{segment_size, segment_at, holders, live_count};
+ghost use Rattle.pl_segments.specs.Slices.{Lies, AllLie, all_read};
 ghost use Rattle.pl_segments.specs.Turns.{Holds, Turns};
-ghost use Rattle.pl_segments.specs.Slots.{total, AllSolid, solid_of, front_of};
-ghost use Rattle.pl_file.specs.Rows.{index, IsSpot};
+ghost use Rattle.pl_segments.specs.Slots.{total, solid_of, front_of};
+ghost use Rattle.pl_file.specs.Rows.{index};
 ghost use Rattle.pl_file.specs.Joined.{goes_behind, joined, Holding};
+ghost use Rattle.pl_file.specs.Patches.{AreHeld, IsZeros, Patched};
+ghost use Rattle.pl_file.specs.Spans.{IsSpan};
 
 use crate::chunks::Chunks;
 use crate::row::Row;
@@ -19,18 +21,13 @@ const ZEROS: [u8; 4_096] = [0; 4_096];
 /// Adds a slot that is held, and makes it one with the last where both fit a segment. There is room for one more segment, and
 /// for one more slot. It takes no memory.
 fn push_joined<A: Allocator + Copy>(store: &mut Store<A>, patch: &mut Row<A>, slice: Slice)
-    requires held { Holds (segment_at store.old) (patch.old.slots ++ slice ∷ []) }
-    requires solid { AllSolid (patch.old.slots ++ slice ∷ []) }
+    requires held { AreHeld (segment_at store.old) (patch.old.slots ++ slice ∷ []) }
     requires room { 1 ≤ store.old.room }
     requires slots { length patch.old.slots + 1 ≤ patch.old.capacity }
     requires fits { patch.old.base + total patch.old.slots + slice.len < 2 ^ 64 }
-    ensures turns { Turns (segment_at store.old) (patch.old.slots ++ slice ∷ []) (segment_at store.new) patch.new.slots }
-    ensures read { all_read (segment_at store.new) patch.new.slots ≡ all_read (segment_at store.old) (patch.old.slots ++ slice ∷ []) }
-    ensures solid { AllSolid patch.new.slots }
+    ensures patched { Patched (segment_at store.old) (record patch.old { slots = patch.old.slots ++ slice ∷ [] }) (segment_at store.new) patch.new (all_read (segment_at store.old) (patch.old.slots ++ slice ∷ [])) }
     ensures room { store.old.room ≤ store.new.room + 1 }
     ensures many { length patch.new.slots ≤ length patch.old.slots + 1 }
-    ensures capacity { patch.new.capacity ≡ patch.old.capacity }
-    ensures base { patch.new.base ≡ patch.old.base }
     ensures total { total patch.new.slots ≡ total patch.old.slots + slice.len }
 {
     let len = patch.last_len();
@@ -62,19 +59,14 @@ fn goes_behind<A: Allocator>(patch: &Row<A>, part: Slice) -> bool
 pub(crate) fn hold_part<A: Allocator + Copy>(store: &mut Store<A>, patch: &mut Row<A>, part: Slice)
     requires lies { 1 ≤ part.len → Lies (segment_at store.old) part }
     requires few { 1 ≤ part.len → holders (segment_at store.old) part.segment < 2 ^ 127 }
-    requires held { Holds (segment_at store.old) patch.old.slots }
-    requires solid { AllSolid patch.old.slots }
+    requires held { AreHeld (segment_at store.old) patch.old.slots }
     requires slots { length patch.old.slots + 1 ≤ patch.old.capacity }
     requires fits { patch.old.base + total patch.old.slots + part.len < 2 ^ 64 }
     ensures slots { patch.new.slots ≡ joined patch.old.slots (solid_of (part ∷ [])) }
-    ensures turns { Turns (segment_at store.old) patch.old.slots (segment_at store.new) patch.new.slots }
+    ensures patched { Patched (segment_at store.old) patch.old (segment_at store.new) patch.new (all_read (segment_at store.old) patch.old.slots ++ all_read (segment_at store.old) (solid_of (part ∷ []))) }
     ensures held { Holding (segment_at store.old) (segment_at store.new) 1 }
-    ensures read { all_read (segment_at store.new) patch.new.slots ≡ all_read (segment_at store.old) patch.old.slots ++ all_read (segment_at store.old) (solid_of (part ∷ [])) }
-    ensures solid { AllSolid patch.new.slots }
     ensures in_use { live_count store.new.held ≡ live_count store.old.held }
     ensures room { store.new.room ≡ store.old.room }
-    ensures capacity { patch.new.capacity ≡ patch.old.capacity }
-    ensures base { patch.new.base ≡ patch.old.base }
 {
     if part.len == 0 {
         return;
@@ -99,17 +91,12 @@ pub(crate) fn hold_part<A: Allocator + Copy>(store: &mut Store<A>, patch: &mut R
 pub(crate) fn join_part<A: Allocator + Copy>(store: &mut Store<A>, patch: &mut Row<A>, part: Slice)
     requires lies { 1 ≤ part.len → Lies (segment_at store.old) part }
     requires few { 1 ≤ part.len → holders (segment_at store.old) part.segment < 2 ^ 127 }
-    requires held { Holds (segment_at store.old) patch.old.slots }
-    requires solid { AllSolid patch.old.slots }
+    requires held { AreHeld (segment_at store.old) patch.old.slots }
     requires room { 1 ≤ store.old.room }
     requires slots { length patch.old.slots + 1 ≤ patch.old.capacity }
     requires fits { patch.old.base + total patch.old.slots + part.len < 2 ^ 64 }
-    ensures turns { Turns (segment_at store.old) patch.old.slots (segment_at store.new) patch.new.slots }
-    ensures read { all_read (segment_at store.new) patch.new.slots ≡ all_read (segment_at store.old) patch.old.slots ++ all_read (segment_at store.old) (solid_of (part ∷ [])) }
-    ensures solid { AllSolid patch.new.slots }
+    ensures patched { Patched (segment_at store.old) patch.old (segment_at store.new) patch.new (all_read (segment_at store.old) patch.old.slots ++ all_read (segment_at store.old) (solid_of (part ∷ []))) }
     ensures many { length patch.new.slots ≤ length patch.old.slots + 1 }
-    ensures capacity { patch.new.capacity ≡ patch.old.capacity }
-    ensures base { patch.new.base ≡ patch.old.base }
     ensures total { total patch.new.slots ≡ total patch.old.slots + part.len }
 {
     if part.len != 0 {
@@ -121,19 +108,14 @@ pub(crate) fn join_part<A: Allocator + Copy>(store: &mut Store<A>, patch: &mut R
 /// Adds bytes in new segments: first as many as fill a segment with the last slot, which become one with it. There is room for
 /// the segments and slots, and for one segment after. It takes no memory.
 pub(crate) fn put_bytes<A: Allocator + Copy>(store: &mut Store<A>, patch: &mut Row<A>, bytes: &[u8])
-    requires held { Holds (segment_at store.old) patch.old.slots }
-    requires solid { AllSolid patch.old.slots }
+    requires held { AreHeld (segment_at store.old) patch.old.slots }
     requires some { 1 ≤ length bytes.now }
     requires room { length bytes.now + 3 * segment_size ≤ segment_size * store.old.room }
     requires slots { segment_size * length patch.old.slots + length bytes.now + 2 * segment_size ≤ segment_size * patch.old.capacity }
     requires fits { patch.old.base + total patch.old.slots + length bytes.now < 2 ^ 64 }
-    ensures turns { Turns (segment_at store.old) patch.old.slots (segment_at store.new) patch.new.slots }
-    ensures read { all_read (segment_at store.new) patch.new.slots ≡ all_read (segment_at store.old) patch.old.slots ++ bytes.now }
-    ensures solid { AllSolid patch.new.slots }
+    ensures patched { Patched (segment_at store.old) patch.old (segment_at store.new) patch.new (all_read (segment_at store.old) patch.old.slots ++ bytes.now) }
     ensures room { 1 ≤ store.new.room }
     ensures many { segment_size * length patch.new.slots ≤ segment_size * length patch.old.slots + length bytes.now + 2 * segment_size }
-    ensures capacity { patch.new.capacity ≡ patch.old.capacity }
-    ensures base { patch.new.base ≡ patch.old.base }
     ensures total { total patch.new.slots ≡ total patch.old.slots + length bytes.now }
 {
     let len = patch.last_len() as usize;
@@ -152,18 +134,13 @@ pub(crate) fn put_bytes<A: Allocator + Copy>(store: &mut Store<A>, patch: &mut R
 /// Adds bytes in new segments, all filled but the last. There is room for the segments and slots, and for one segment after. It
 /// takes no memory.
 fn put_chunks<A: Allocator + Copy>(store: &mut Store<A>, patch: &mut Row<A>, bytes: &[u8])
-    requires held { Holds (segment_at store.old) patch.old.slots }
-    requires solid { AllSolid patch.old.slots }
+    requires held { AreHeld (segment_at store.old) patch.old.slots }
     requires room { length bytes.now + segment_size ≤ segment_size * store.old.room }
     requires slots { segment_size * length patch.old.slots + length bytes.now + segment_size ≤ segment_size * patch.old.capacity }
     requires fits { patch.old.base + total patch.old.slots + length bytes.now < 2 ^ 64 }
-    ensures turns { Turns (segment_at store.old) patch.old.slots (segment_at store.new) patch.new.slots }
-    ensures read { all_read (segment_at store.new) patch.new.slots ≡ all_read (segment_at store.old) patch.old.slots ++ bytes.now }
-    ensures solid { AllSolid patch.new.slots }
+    ensures patched { Patched (segment_at store.old) patch.old (segment_at store.new) patch.new (all_read (segment_at store.old) patch.old.slots ++ bytes.now) }
     ensures room { 1 ≤ store.new.room }
     ensures many { segment_size * length patch.new.slots ≤ segment_size * length patch.old.slots + length bytes.now + segment_size }
-    ensures capacity { patch.new.capacity ≡ patch.old.capacity }
-    ensures base { patch.new.base ≡ patch.old.base }
     ensures total { total patch.new.slots ≡ total patch.old.slots + length bytes.now }
 {
     let mut rest = bytes;
@@ -179,19 +156,14 @@ fn put_chunks<A: Allocator + Copy>(store: &mut Store<A>, patch: &mut Row<A>, byt
 /// Adds so many zeros: up to 4,096 in a segment of their own, which becomes one with the last slot where both fit, and more in
 /// one segment of zeros that is held again and again. There is room for two segments and for the slots. It takes no memory.
 pub(crate) fn put_zeros<A: Allocator + Copy>(store: &mut Store<A>, patch: &mut Row<A>, count: usize)
-    requires held { Holds (segment_at store.old) patch.old.slots }
-    requires solid { AllSolid patch.old.slots }
+    requires held { AreHeld (segment_at store.old) patch.old.slots }
     requires room { 1 ≤ count → 2 ≤ store.old.room }
     requires slots { segment_size * length patch.old.slots + count + segment_size ≤ segment_size * patch.old.capacity }
     requires fits { patch.old.base + total patch.old.slots + count < 2 ^ 64 }
-    ensures turns { Turns (segment_at store.old) patch.old.slots (segment_at store.new) patch.new.slots }
-    ensures read { all_read (segment_at store.new) patch.new.slots ≡ all_read (segment_at store.old) patch.old.slots ++ replicate count 0 }
-    ensures solid { AllSolid patch.new.slots }
+    ensures patched { Patched (segment_at store.old) patch.old (segment_at store.new) patch.new (all_read (segment_at store.old) patch.old.slots ++ replicate count 0) }
     ensures same { count ≡ 0 → (store.new ≡ store.old) × (patch.new ≡ patch.old) }
     ensures room { store.old.room ≤ store.new.room + 2 }
     ensures many { segment_size * length patch.new.slots ≤ segment_size * length patch.old.slots + count + segment_size }
-    ensures capacity { patch.new.capacity ≡ patch.old.capacity }
-    ensures base { patch.new.base ≡ patch.old.base }
     ensures total { total patch.new.slots ≡ total patch.old.slots + count }
 {
     if count == 0 {
@@ -214,21 +186,14 @@ fn put_copies<A: Allocator + Copy>(
     zeros: Slice,
     count: usize,
 )
-    requires lies { Lies (segment_at store.old) zeros }
-    requires len { zeros.len ≡ segment_size }
-    requires zeros { reads (segment_at store.old) zeros ≡ replicate zeros.len 0 }
+    requires zeros { IsZeros (segment_at store.old) zeros }
     requires few { holders (segment_at store.old) zeros.segment + count < 2 ^ 127 }
-    requires held { Holds (segment_at store.old) patch.old.slots }
-    requires solid { AllSolid patch.old.slots }
+    requires held { AreHeld (segment_at store.old) patch.old.slots }
     requires slots { segment_size * length patch.old.slots + count + segment_size ≤ segment_size * patch.old.capacity }
     requires fits { patch.old.base + total patch.old.slots + count < 2 ^ 64 }
-    ensures turns { Turns (segment_at store.old) patch.old.slots (segment_at store.new) patch.new.slots }
-    ensures read { all_read (segment_at store.new) patch.new.slots ≡ all_read (segment_at store.old) patch.old.slots ++ replicate count 0 }
-    ensures solid { AllSolid patch.new.slots }
+    ensures patched { Patched (segment_at store.old) patch.old (segment_at store.new) patch.new (all_read (segment_at store.old) patch.old.slots ++ replicate count 0) }
     ensures room { store.new.room ≡ store.old.room }
     ensures many { segment_size * length patch.new.slots ≤ segment_size * length patch.old.slots + count + segment_size }
-    ensures capacity { patch.new.capacity ≡ patch.old.capacity }
-    ensures base { patch.new.base ≡ patch.old.base }
     ensures total { total patch.new.slots ≡ total patch.old.slots + count }
 {
     let mut rest = count;
@@ -254,19 +219,14 @@ pub(crate) fn put_slices<A: Allocator + Copy>(
 )
     requires lie { AllLie (segment_at store.old) slices.now }
     requires few { (key : ℕ) → holders (segment_at store.old) key + length slices.now < 2 ^ 127 }
-    requires held { Holds (segment_at store.old) patch.old.slots }
-    requires solid { AllSolid patch.old.slots }
+    requires held { AreHeld (segment_at store.old) patch.old.slots }
     requires slots { length patch.old.slots + length slices.now ≤ patch.old.capacity }
     requires fits { patch.old.base + total patch.old.slots + count < 2 ^ 64 }
     ensures slots { patch.new.slots ≡ joined patch.old.slots (solid_of (front_of count slices.now)) }
-    ensures turns { Turns (segment_at store.old) patch.old.slots (segment_at store.new) patch.new.slots }
-    ensures read { all_read (segment_at store.new) patch.new.slots ≡ all_read (segment_at store.old) patch.old.slots ++ take count (all_read (segment_at store.old) slices.now) }
-    ensures solid { AllSolid patch.new.slots }
+    ensures patched { Patched (segment_at store.old) patch.old (segment_at store.new) patch.new (all_read (segment_at store.old) patch.old.slots ++ take count (all_read (segment_at store.old) slices.now)) }
     ensures in_use { live_count store.new.held ≡ live_count store.old.held }
     ensures room { store.new.room ≡ store.old.room }
     ensures many { length patch.new.slots ≤ length patch.old.slots + length slices.now }
-    ensures capacity { patch.new.capacity ≡ patch.old.capacity }
-    ensures base { patch.new.base ≡ patch.old.base }
 {
     let mut rest = count;
     let mut place = 0;
@@ -291,14 +251,10 @@ pub(crate) fn release_range<A: Allocator + Copy>(
     first: Spot,
     end: Spot,
 )
-    requires first { IsSpot chunks.now first }
-    requires end { IsSpot chunks.now end }
-    requires order { index chunks.now first ≤ index chunks.now end }
-    requires most { index chunks.now end ≤ length chunks.now.slots }
+    requires span { IsSpan chunks.now first end }
     requires held { Holds (segment_at store.old) (drop (index chunks.now first) (take (index chunks.now end) chunks.now.slots)) }
     ensures turns { Turns (segment_at store.old) (drop (index chunks.now first) (take (index chunks.now end) chunks.now.slots)) (segment_at store.new) [] }
     ensures in_use { live_count store.new.held ≤ live_count store.old.held }
-    ensures spare { store.old.room ≤ most_spare → store.new.room ≤ most_spare }
 {
     let mut spot = first;
     while chunks.is_before(spot, end) {

@@ -2,6 +2,7 @@
 ghost use Rattle.std.specs.Prelude.{◌≡◌, ℕ, ◌+◌, ◌-◌, ◌*◌, ◌<◌, ◌≤◌, ◌^◌, ◌++◌, [], ◌∷◌, length, take, drop, IfOk, vec_len, vec_capacity};
 ghost use Rattle.pl_segments.specs.Slots.{total};
 ghost use Rattle.pl_file.specs.Rows.{most_in_chunk, piece, flat, lens_of, slots_in, left_from, index_of, IsAt, AreChunks, AreEmpty, AreReady, Adds};
+ghost use Rattle.pl_file.specs.Spans.{IsNext};
 
 use crate::row::Row;
 use crate::spot::Spot;
@@ -9,7 +10,7 @@ use pl_segments::NoMemory;
 use std::alloc::Allocator;
 
 /// The most slots of a chunk.
-const MOST_IN_CHUNK: usize = 256;
+pub(crate) const MOST_IN_CHUNK: usize = 256;
 
 /// How many slots are cut off at most as a chunk of their own: a half, so that a chunk that was cut off takes as many more before it
 /// is cut. Several chunks become one if they have no more slots than this: a chunk that came of several takes as many more, too.
@@ -112,9 +113,7 @@ pub(crate) fn add_rest<A: Allocator>(rows: &[Row<A>], spot: Spot, middle: &mut R
     ensures many { length middle.new.slots ≤ length middle.old.slots + left_from (length (slots_in rows.now spot.chunk)) spot.at }
     ensures base { middle.new.base ≡ middle.old.base }
     ensures ends { result < length rows.now → middle.new.base + total middle.new.slots ≡ total (flat (take result rows.now)) }
-    ensures from { spot.chunk ≤ result }
-    ensures behind { 1 ≤ spot.at → spot.chunk < result }
-    ensures most { result ≤ length rows.now }
+    ensures next { IsNext (length rows.now) spot result }
 {
     if spot.at == 0 {
         return spot.chunk;

@@ -128,6 +128,16 @@ impl<A: Allocator> Row<A> {
         }
     }
 
+    /// Makes room for so many more slots. An error leaves the slots as they were.
+    pub(crate) fn reserve(&mut self, count: usize) -> Result<(), NoMemory>
+        ensures room { OnOk result (length self.new.slots + count ≤ self.new.capacity) }
+        ensures slots { self.new.slots ≡ self.old.slots }
+        ensures base { self.new.base ≡ self.old.base }
+    {
+        self.entries.try_reserve(count)?;
+        Ok(())
+    }
+
     /// Adds a slot behind the last, for which there is room. It takes no memory.
     pub(crate) fn push(&mut self, slice: Slice)
         requires room { length self.old.slots + 1 ≤ self.old.capacity }

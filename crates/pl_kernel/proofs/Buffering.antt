@@ -1,6 +1,6 @@
 -- What a step on the caller's bytes tells of the flat machine.
 use Rattle.std.proofs.Common.{sym, ◌∙◌}
-use Rattle.std.specs.Prelude.{Result, Ok, Err, OnErr, Option, Some, None, IfSome, IfNone}
+use Rattle.std.specs.Prelude.{Result, Ok, Err, IfOk, OnErr, Option, Some, None, IfSome, IfNone}
 use Rattle.pl_model.specs.declared.calls.Step.{Step}
 use Rattle.pl_model.proofs.renaming.Simulates.{unused_keys, same_reply}
 use Rattle.pl_state.specs.Contents.{Contents, core_of}
@@ -11,6 +11,10 @@ pub parks : {A : Type 0} (k : Contents A) (x : Step A) → ParksAtKeys k x → P
 parks k x may = λ s stands.
     let keys = unused_keys (core_of k) s stands in
     (λ i. is_parked (sym (same_reply (core_of k) s x keys.0 stands keys.1) i)) ∙ may keys.0
+
+pub if_both : {T E : Type 0} {P Q R : T → Type 0} (result : Result T E) → ((value : T) → P value → Q value → R value) → IfOk result P → IfOk result Q → IfOk result R
+if_both (Ok value) f h k = f value h k
+if_both (Err error) f h k = tt
 
 pub if_err : {T E : Type 0} {P Q : Type 0} (result : Result T E) → (P → Q) → OnErr result P → OnErr result Q
 if_err (Ok value) f h = tt

@@ -1,10 +1,12 @@
 -- What the sizes of a reply, told beforehand, say of the step.
-use Rattle.std.proofs.Common.{◌≡◌, ℕ, Bool, true, false, cond, refl, ap, ◌∙◌, sym}
+use Rattle.std.proofs.Common.{◌≡◌, ◌≤◌, ℕ, ℤ, Bool, true, false, List, cond, length, min, refl, ap, ◌∙◌, sym, length-take-le}
 use Rattle.pl_model.specs.declared.calls.Call.{Call}
 use Rattle.pl_model.specs.declared.calls.Step.{Step}
 use Rattle.pl_model.specs.declared.calls.Step.TheVariants.{Begin}
 use Rattle.pl_model.specs.declared.replies.Reply.{Reply}
 use Rattle.pl_model.specs.declared.replies.Reply.TheVariants.{Fault, NoProcess, NoCall, CallsSpent}
+use Rattle.pl_model.specs.Begin.{open_for}
+use Rattle.pl_model.specs.Modes.{reads}
 use Rattle.pl_model.specs.Keys.{NewKeys, Drawing, Plain, Draws, drawn}
 use Rattle.pl_model.specs.Memory.{is_frugal, is_refusal}
 use Rattle.pl_model.specs.Step.{Stepped, core_step}
@@ -13,6 +15,11 @@ use Rattle.pl_model.specs.StandsFor.{Comes}
 use Rattle.pl_desc.specs.Rows.{is_pid}
 use Rattle.pl_state.specs.Contents.{Contents, core_of}
 use Rattle.pl_state.specs.Makes.{MakesAtKeys, MayWantAtKeys, WantsMemory}
+use Rattle.pl_state.specs.declared.answered.Answered.{Answered}
+use Rattle.pl_state.specs.declared.answered.Answered.TheVariants as Reading
+use Rattle.pl_transfers.specs.ReadInto.{told, read_count}
+use Rattle.pl_transfers.specs.Readable.{readable}
+use Rattle.pl_kernel.specs.Buffers.{gives}
 use Rattle.pl_kernel.specs.declared.sizes.ReplySizes.{ReplySizes}
 use Rattle.pl_kernel.specs.Sizes.{no_list, sizes_of, sizes_begun, TellsSizes}
 use Rattle.pl_kernel.proofs.Stepping.{wants}
@@ -39,6 +46,39 @@ told_reply {A} k new x reply sizes does told = by (core_step (core_of k) x) does
     by : (d : Drawing numbers (Stepped A numbers)) → Comes (core_of k) d reply (core_of new) → ((keys : NewKeys numbers) → sizes_of (drawn keys d).reply ≡ sizes) → sizes_of reply ≡ sizes
     by (Plain h) does told = ap sizes_of does.0 ∙ told (record { description = 0; other_description = 0; pipe = 0; file = 0 })
     by (Draws f) does told = ap sizes_of does.2 ∙ told does.0
+
+-- a read into the caller's bytes told as many as its reply has
+count_told : (A : Type 0) (r : Answered ℕ) (bytes : List ℕ) → read_count r ≤ length bytes → read_count r ≡ (sizes_of {A = A} (told r bytes)).bytes
+count_told A (Reading.Done n) bytes few = sym (length-take-le n bytes few)
+count_told A (Reading.Fault e) bytes few = refl
+count_told A (Reading.Parked n) bytes few = refl
+count_told A Reading.NoProcess bytes few = refl
+count_told A Reading.CallsSpent bytes few = refl
+
+-- so it gave as many as the machine does
+pub count_given : {A : Type 0} (k new : Contents A) (x : Step A) (r : Answered ℕ) (bytes : List ℕ) → read_count r ≤ length bytes → MakesAtKeys k x (told r bytes) new → read_count r ≡ (sizes_told (core_of k) x).bytes
+count_given {A} k new x r bytes few does =
+    count_told A r bytes few ∙ ap (λ (z : ReplySizes). z.bytes) (told_reply k new x (told r bytes) (sizes_told (core_of k) x) does (tells k x (sizes_told (core_of k) x) refl))
+
+module _ {A : Type 0} (k : Contents A) (pid : ℕ) (fd : ℤ) (n : ℕ) where
+  abbrev many : ℕ
+  many = min n (readable (core_of k) (open_for reads (core_of k) pid fd))
+
+  pub gives_nobody : is_pid k.tables pid ≡ false → gives k pid fd n ≡ 0
+  unfolding core_of
+  gives_nobody h = ap (λ b. cond b many 0) h
+
+  pub gives_somebody : is_pid k.tables pid ≡ true → gives k pid fd n ≡ min n (readable (core_of k) (open_for reads (core_of k) pid fd))
+  unfolding core_of
+  gives_somebody h = ap (λ b. cond b many 0) h
+
+  -- so many bytes the reply of a read has that is begun
+  pub begun_gives : (sizes_told (core_of k) (Begin pid (Call.Read fd n))).bytes ≡ gives k pid fd n
+  begun_gives = by ((core_of k).processes pid)
+    where
+      by : (b : Bool) → (cond b (record { bytes = many; masks = 0 }) no_list).bytes ≡ cond b many 0
+      by true = refl
+      by false = refl
 
 -- a reply with a list says no to nothing
 listed : {A : Type 0} (reply : Reply A) → (sizes_of reply ≡ no_list → ⊥) → is_refusal reply ≡ false

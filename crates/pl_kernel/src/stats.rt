@@ -5,6 +5,6 @@
 pub struct Stats {
     /// How many segments, of 4,096 bytes each, the bytes of pipes and files stand in.
     pub segments: u64,
-    /// How many segments more are kept for further bytes: at most 256.
+    /// How many segments more are kept for further bytes.
     pub spare: u64,
 }

@@ -1,12 +1,17 @@
 //! In how many segments and slots bytes stand that pipes and files share.
-use pl_model::{Mode, OpenFlags, SpliceFlags};
-use pl_testing::LIMITS;
+use pl_model::{Limits, Mode, OpenFlags, SpliceFlags};
 use pl_testing::asked::Ask::{self, Close, Open, Pipe, Read, SetPipeSz, Splice, Start, Tee, Write};
 use pl_testing::asked::Data::{self, Part, Text};
 use pl_testing::asked::Want::{self, Bytes, Count, Fd, Fds, Pid, Size, Unit};
 use pl_testing::bench::Bench;
 use std::alloc::Global;
 use std::test::Fail;
+
+/// 256 segments are kept.
+const LIMITS: Limits = Limits {
+    spare_max: 1_048_576,
+    ..Limits::DEFAULT
+};
 
 const F: Data = Text("f");
 

@@ -1,6 +1,6 @@
 //! Two pipes and a file over one store of segments, and what is done to them.
 use pl_model::Node;
-use pl_nodes::{CapacityFault, MakeFault, NoMemory, NoSuchName, Nodes, WriteFault};
+use pl_nodes::{CapacityFault, MakeFault, NoMemory, NoSuchName, NodeLimits, Nodes, WriteFault};
 use std::alloc::{Allocator, Global};
 use std::marker::Model;
 use std::mem;
@@ -147,7 +147,11 @@ fn written(count: Result<usize, WriteFault>) -> Answer {
 
 impl<A: Allocator + Copy> Ends<A> {
     pub(crate) fn new(alloc: A) -> Result<Ends<A>, NoMemory> {
-        let mut nodes = Nodes::new(alloc, FILE_MAX);
+        let limits = NodeLimits {
+            file_max: FILE_MAX,
+            spare_max: 1,
+        };
+        let mut nodes = Nodes::new(alloc, limits);
         let name = Vec::from_slice(alloc, b"fifo")?;
         let Ok(first) = nodes.make_fifo(name) else {
             return Err(NoMemory);

@@ -1,13 +1,17 @@
 //! A packet pipe of the nodes.
 use crate::ends::weight;
 use crate::equal::is;
-use pl_nodes::Nodes;
+use pl_nodes::{NodeLimits, Nodes};
 use pl_segments::NoMemory;
 use std::alloc::Allocator;
 
 /// The packet that a read of nine bytes gets of a pipe to which two were written.
 fn packet_of_two<A: Allocator + Copy>(alloc: A) -> Result<Vec<u8, A>, NoMemory> {
-    let mut nodes = Nodes::new(alloc, 16);
+    let limits = NodeLimits {
+        file_max: 16,
+        spare_max: 1,
+    };
+    let mut nodes = Nodes::new(alloc, limits);
     let pipe = nodes.make_packet_pipe()?;
     nodes.write_packets(pipe, b"ab")?;
     nodes.read_packet(pipe, 9)

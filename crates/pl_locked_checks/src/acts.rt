@@ -5,7 +5,8 @@ use crate::storm::storm;
 use pl_locked::{Caller, Layer, Locked};
 use pl_model::Step;
 use std::alloc::Allocator;
-use std::sync::Wait;
+use std::sync::{Condvar, Wait};
+use std::time::Duration;
 
 /// What a caller does.
 pub(crate) enum Act {
@@ -23,7 +24,7 @@ pub(crate) enum Act {
     Turns(Ask, u32),
     /// It glances.
     Glance,
-    /// It glances, at most 100,000,000 times, until there are so many steps, and then tells of that many.
+    /// It glances from time to time until there are so many steps, and then tells of that many.
     Sees(u64),
     /// It makes so many steps that look like chance, and so do three others.
     Storm(u32),
@@ -184,16 +185,20 @@ pub(crate) fn glance<N: Layer, A: Allocator + Copy>(
     locked.glance(me)
 }
 
-/// Glances, at most 100,000,000 times, until there are so many steps.
-fn sees<N: Layer, A: Allocator + Copy>(
+/// Glances, at most a million times and 50 microseconds apart, until there are so many steps. It sleeps meanwhile, since those who make the steps
+/// may want the processor.
+fn sees<N: Layer, R: Wait, A: Allocator + Copy>(
+    rt: &R,
     locked: &Locked<N, A>,
     me: &mut Caller<N, A>,
     steps: u64,
 ) -> Came {
-    for _time in 0..100_000_000u32 {
+    let pause = Condvar::new();
+    for _time in 0..1_000_000u32 {
         if steps <= glance(locked, me) {
             return Came::Steps(steps);
         }
+        pause.sleep(rt, pause.notifications(), Duration::from_micros(50));
     }
     Came::Other
 }
@@ -216,7 +221,7 @@ fn does<N: Layer, R: Wait, A: Allocator + Copy>(
         Act::Drain(count) => drain(rt, alloc, locked, me, *count),
         Act::Turns(ask, turns) => call_turns(rt, alloc, locked, me, *ask, *turns),
         Act::Glance => Came::Steps(glance(locked, me)),
-        Act::Sees(steps) => sees(locked, me, *steps),
+        Act::Sees(steps) => sees(rt, locked, me, *steps),
         Act::Storm(steps) => storm(rt, alloc, locked, me, *steps),
     }
 }

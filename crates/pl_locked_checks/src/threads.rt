@@ -163,7 +163,7 @@ const TURNS: Scene = Scene {
 };
 
 /// A read of a byte, which is tried again as often as there are more steps.
-const TAKES_TURNS: Act = Act::Turns(Ask::Read(1), 100_000_000);
+const TAKES_TURNS: Act = Act::Turns(Ask::Read(1), u32::MAX);
 
 /// The read is interrupted: its next turn finds no call.
 const INTERRUPTS: Scene = Scene {

@@ -1,5 +1,5 @@
 -- The numbers of the layer.
-use Rattle.std.specs.Prelude.{ℕ, zero, suc, ◌+◌, Bool, true, false, List, [], ◌∷◌, Option}
+use Rattle.std.specs.Prelude.{ℕ, zero, suc, ◌+◌, ◌/◌, min, Bool, true, false, List, [], ◌∷◌, Option}
 use Rattle.std.specs.declared.option.Option.TheVariants.{None, Some}
 
 -- POSIX.1-2017, limits.h, and pipe(7): a write of at most PIPE_BUF bytes goes in whole.
@@ -61,6 +61,10 @@ last_call = 18446744073709551615
 -- Our own: a limit that is never reached, the greatest number of 64 bits.
 abbrev pub no_limit : ℕ
 no_limit = 18446744073709551615
+
+-- Our own: the bytes of memory that are kept for further bytes of pipes and files, if nobody says how many, where a kernel may hold so many.
+abbrev pub usual_spare : ℕ → ℕ
+usual_spare memory = min (memory / 16) most_file_bytes
 
 -- the first of the n numbers from k on that passes the test
 unfoldable pub first_from : (ℕ → Bool) → ℕ → ℕ → Option ℕ

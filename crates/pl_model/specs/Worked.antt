@@ -10,7 +10,7 @@ use Rattle.pl_model.specs.declared.cases.WriteCase.{WriteCase}
 use Rattle.pl_model.specs.declared.replies.Reply.{Reply}
 use Rattle.pl_model.specs.declared.replies.Reply.TheVariants.{Pid, Fd, Fds, Count, Bytes, Flags, Unit, Fault, Parked, NoProcess, NoCall, CallsSpent}
 use Rattle.pl_model.specs.declared.replies.Errno.TheVariants.{EAGAIN, EBADF, EINTR, EINVAL, EMFILE, EPIPE}
-use Rattle.pl_model.specs.Numbers.{most_capacity, no_limit, open_max, numbers_from}
+use Rattle.pl_model.specs.Numbers.{most_capacity, most_file_bytes, no_limit, open_max, numbers_from}
 use Rattle.pl_model.specs.Flags.{append, nonblock, trunc, no_flags}
 use Rattle.pl_model.specs.Transfer.{write_case}
 use Rattle.pl_model.specs.Numbered.{opening}
@@ -61,8 +61,15 @@ module _ {A : Type 0} where
 
 -- limits that nothing reaches but these two
 abbrev pub usual : (first_call file_max : ℕ) → Limits
-usual first_call file_max =
-    record { first_call = first_call; file_max = file_max; names_max = no_limit; waiting_max = no_limit; capacity_max = most_capacity; descriptors_max = open_max }
+usual first_call file_max = record {
+  first_call = first_call;
+  file_max = file_max;
+  names_max = no_limit;
+  waiting_max = no_limit;
+  capacity_max = most_capacity;
+  descriptors_max = open_max;
+  spare_max = most_file_bytes;
+}
 
 -- after a new kernel's first step, which starts the process of pid 1, these steps have these replies
 abbrev pub Answers : (A : Type 0) → List (Step A) → List (Reply A) → Type 0

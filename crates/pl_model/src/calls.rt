@@ -1,6 +1,7 @@
 //! What a step asks for.
 ghost use Rattle.std.specs.Prelude.{◌≡◌, IfOk};
 ghost use Rattle.pl_model.specs.Carried.{IsSpliceOrTee};
+ghost use Rattle.pl_model.specs.Numbers.{usual_spare};
 
 use crate::bytes::Bytes8;
 use crate::flags::{OpenFlags, SpliceFlags};
@@ -31,6 +32,9 @@ pub enum Whence {
     End,
 }
 
+/// The part of a kernel's memory that it keeps for further bytes at most, if nobody says how much.
+const SPARE_PART: u64 = 16;
+
 /// The limits that are chosen when a kernel is made. `Limits::DEFAULT` has those where nobody chooses.
 #[derive(Clone, Copy, Debug, PartialEq, Eq)]
 pub struct Limits {
@@ -48,11 +52,14 @@ pub struct Limits {
     /// The most descriptors of a process, which are numbered from 0; above 256 it counts as 256 (POSIX.1-2017, getrlimit,
     /// RLIMIT_NOFILE).
     pub descriptors_max: u32,
+    /// The most bytes of memory that are kept for further bytes when no pipe or file holds them any more, in whole segments of
+    /// 4,096 bytes. No reply depends on it.
+    pub spare_max: u64,
 }
 
 impl Limits {
     /// Calls are numbered from 1, a file has at most 16,777,216 bytes, a pipe at most 1,048,576, a process at most 256 descriptors;
-    /// names and waiting calls have no limit but memory.
+    /// names and waiting calls have no limit but memory. As much memory is kept for further bytes as the longest file takes.
     pub const DEFAULT: Limits = Limits {
         first_call: 1,
         file_max: MAX_FILE_BYTES,
@@ -60,7 +67,16 @@ impl Limits {
         waiting_max: NO_LIMIT,
         capacity_max: MAX_CAPACITY,
         descriptors_max: OPEN_MAX as u32,
+        spare_max: MAX_FILE_BYTES as u64,
     };
+
+    /// The limit `spare_max` of a kernel that may hold `memory` bytes, if nobody says another: as much as the longest file takes, and at most a
+    /// sixteenth of `memory`.
+    pub fn usual_spare(memory: u64) -> u64
+        ensures { result ≡ usual_spare memory }
+    {
+        (memory / SPARE_PART).min(u64::from(MAX_FILE_BYTES))
+    }
 }
 
 /// A call of a process. A descriptor is any `i32`; one outside 0 to 255 isn't open.

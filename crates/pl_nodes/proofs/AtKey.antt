@@ -5,7 +5,7 @@ use Rattle.std.proofs.lemmas.Bool.Decides.{eqb_tells}
 use Rattle.std.proofs.lemmas.List.{get_or-set_same, get_or-set_other}
 use Rattle.pl_model.specs.Numbers.{most_file_bytes}
 use Rattle.pl_segments.specs.declared.slice.Slice.{Slice}
-use Rattle.pl_segments.specs.Segments.{Segments, most_spare, segment_at, at, holders, live_count}
+use Rattle.pl_segments.specs.Segments.{Segments, segment_at, at, holders, live_count}
 use Rattle.pl_segments.specs.Turns.{Holds, Turns}
 use Rattle.pl_segments.specs.Sharing.{slots_at, AreShared}
 use Rattle.pl_nodes.specs.declared.content.PipeNode.{PipeNode}
@@ -60,7 +60,7 @@ module _ {A : Type 0} (k : Inside A) (key : ℕ) (old : Content A) (there : at k
     ]
 
     pub still-sound : Turns (segment_at k.store) (slots_in (Some old)) (segment_at store) (slots_in (Some new)) → length (slots_in (Some new)) ≤ most_file_bytes → NamedAlike (Some old) (Some new)
-        → is_packet (Some new) ≡ is_packet (Some old) → store.room ≤ most_spare → IsSound (with_content store new)
+        → is_packet (Some new) ≡ is_packet (Some old) → store.room ≤ k.limits.spare_max → IsSound (with_content store new)
     still-sound turns few alike kind spare = record {
       shared = changed-shared (segment_at k.store) k.contents.slots key old there sound.shared (segment_at store) (slots_in (Some new)) turns new refl;
       short = still-short few;
@@ -89,7 +89,7 @@ module _ {A : Type 0} (k : Inside A) (key : ℕ) (old : Content A) (there : at k
     refused-contents : slice_set k.contents.slots key (Some new) ≡ k.contents.slots
     refused-contents = put-back k.contents.slots key old new there same
 
-    pub refused-sound : store.room ≤ most_spare → IsSound (with_content store new)
+    pub refused-sound : store.room ≤ k.limits.spare_max → IsSound (with_content store new)
     refused-sound spare = record {
       shared = subst (λ m. AreShared m (lists (slice_set k.contents.slots key (Some new)))) (sym (ap at kept)) (subst (λ cs. AreShared (segment_at k.store) (lists cs)) (sym refused-contents) sound.shared);
       short = subst (λ cs. (q : ℕ) → length (slots_at (lists cs) q) ≤ most_file_bytes) (sym refused-contents) sound.short;
@@ -107,7 +107,7 @@ module _ {A : Type 0} (k : Inside A) (key : ℕ) (old : Content A) (there : at k
       names = names_of k.names.entries;
       next = k.contents.vacant_key;
       segments = live_count (kept i);
-      file_max = k.file_max;
+      limits = k.limits;
     })
 
 -- no segment has more holders than the count can tell
@@ -119,7 +119,7 @@ few-holders k sound short key =
     omega (arith, named, counted, len, short)
 
 -- where there is nothing all is well
-pub empty-sound : {A : Type 0} (k : Inside A) → k.store.held ≡ [] → k.store.room ≡ 0 → k.contents.slots ≡ [] → k.names.entries ≡ [] → k.file_max ≤ most_file_bytes → IsSound k
+pub empty-sound : {A : Type 0} (k : Inside A) → k.store.held ≡ [] → k.store.room ≡ 0 → k.contents.slots ≡ [] → k.names.entries ≡ [] → k.limits.file_max ≤ most_file_bytes → IsSound k
 empty-sound {A} k none spare nothing nobody most = record {
   shared = subst (λ cs. AreShared (segment_at k.store) (lists cs)) (sym nothing) (record { counted = λ key. ap (λ held. holders (at held) key) none; lie = λ q. tt });
   short = λ q. subst (λ cs. length (slots_at (lists cs) q) ≤ most_file_bytes) (sym nothing) (omega arith);

@@ -8,7 +8,7 @@ use Rattle.pl_model.specs.Numbers.{most_file_bytes}
 use Rattle.pl_model.specs.declared.node.Node.{Node}
 use Rattle.pl_model.specs.Nodes.{key_of, has_name}
 use Rattle.pl_segments.specs.declared.slice.Slice.{Slice}
-use Rattle.pl_segments.specs.Segments.{Segments, most_spare, segment_at, at, live_count}
+use Rattle.pl_segments.specs.Segments.{Segments, segment_at, at, live_count}
 use Rattle.pl_segments.specs.Turns.{Turns}
 use Rattle.pl_segments.specs.Sharing.{slots_at, AreShared}
 use Rattle.slab.specs.Slab.{Slab, Updates}
@@ -39,7 +39,7 @@ module _ {A : Type 0} (k : Inside A) (sound : IsSound k) where
     ]
 
     -- it had no name
-    pub gone-sound : NamedAlike (Some old) None → store.room ≤ most_spare → (upper : Upper) → IsSound (record k { store = store; contents = after; upper = upper })
+    pub gone-sound : NamedAlike (Some old) None → store.room ≤ k.limits.spare_max → (upper : Upper) → IsSound (record k { store = store; contents = after; upper = upper })
     gone-sound alike spare upper = record {
       shared = gone-shared (segment_at k.store) (segment_at store) k.contents after key old there sound.shared turned u;
       short = λ q. subst (λ (xs : List Slice). length xs ≤ most_file_bytes) (sym (gone-lists (segment_at k.store) (segment_at store) k.contents after key old there sound.shared turned u q)) (gone-short q);

@@ -45,14 +45,14 @@ module _ {A : Type 0} (k : Inside A) (key : ℕ) (f : FileNode A) (there : at k.
           kept-list (segment_at k.store) k.contents.slots key (File f) there sound.shared (segment_at store) new.file turns (File new) refl pipes_seen refl
           ∙ ap (λ (v : Nodes). v.pipes) is;
       names = ap (λ (v : Nodes). v.names) is;
-      file_max = ap (λ (v : Nodes). v.file_max) is;
+      limits = ap (λ (v : Nodes). v.limits) is;
     }
 
   -- it was refused, and is as it was
   pub file-refused : (store : Segments) → store.held ≡ k.store.held → (new : FileNode A) → new ≡ f → SamePipes flat (view_of (with_content k key (File f) there sound store (File new)))
   file-refused store kept new same =
       let e : view_of (with_content k key (File f) there sound store (File new)) ≡ flat = refused-seen k key (File f) there sound store kept (File new) (λ i. File (same i)) ∙ is in
-      record { pipes = ap (λ (v : Nodes). v.pipes) e; names = ap (λ (v : Nodes). v.names) e; file_max = ap (λ (v : Nodes). v.file_max) e }
+      record { pipes = ap (λ (v : Nodes). v.pipes) e; names = ap (λ (v : Nodes). v.names) e; limits = ap (λ (v : Nodes). v.limits) e }
 
 -- slots that became none are none
 pub became-none : (m : Map) (xs : List Slice) (n : Map) (ys : List Slice) → ys ≡ [] → Turns m xs n [] → Turns m xs n ys

@@ -9,7 +9,8 @@ pub mod Files
 pub mod Lending
 pub mod Putting
 pub mod Coming
-pub mod Exchanged
+pub mod TwoChanged
+pub mod Moved
 pub mod Names
 pub mod Named
 pub mod Unnamed

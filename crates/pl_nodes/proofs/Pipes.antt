@@ -51,14 +51,14 @@ module _ {A : Type 0} (k : Inside A) (key : ℕ) (p : PipeNode A) (there : at k.
           kept-list (segment_at k.store) k.contents.slots key (Pipe p) there sound.shared (segment_at store) (slots_of new.queue) turns (Pipe new) refl files_seen refl
           ∙ ap (λ (v : Nodes). v.files) is;
       names = ap (λ (v : Nodes). v.names) is;
-      file_max = ap (λ (v : Nodes). v.file_max) is;
+      limits = ap (λ (v : Nodes). v.limits) is;
     }
 
   -- it was refused, and is as it was
   pub pipe-refused : (store : Segments) → store.held ≡ k.store.held → (new : PipeNode A) → new ≡ p → SameFiles flat (view_of (with_content k key (Pipe p) there sound store (Pipe new)))
   pipe-refused store kept new same =
       let e : view_of (with_content k key (Pipe p) there sound store (Pipe new)) ≡ flat = refused-seen k key (Pipe p) there sound store kept (Pipe new) (λ i. Pipe (same i)) ∙ is in
-      record { files = ap (λ (v : Nodes). v.files) e; names = ap (λ (v : Nodes). v.names) e; file_max = ap (λ (v : Nodes). v.file_max) e }
+      record { files = ap (λ (v : Nodes). v.files) e; names = ap (λ (v : Nodes). v.names) e; limits = ap (λ (v : Nodes). v.limits) e }
 
 -- a pipe with a name is no packet pipe
 none-there : {V : Type 0} (o : Option V) → is_some o ≡ false → o ≡ None

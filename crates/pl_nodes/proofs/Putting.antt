@@ -40,10 +40,10 @@ naming-put file slices place moved key =
 
 module _ {A : Type 0} (k : Inside A) (sound : IsSound k) (flat : Nodes) (is : view_of k ≡ flat)
     (from : ℕ) (s : PipeNode A) (source : at k.contents.slots from ≡ Some (Pipe s)) (count : ℕ) (slices : List Slice) (front : slices ≡ front_of count (slots_of s.queue))
-    (to : ℕ) (f : FileNode A) (there : at k.contents.slots to ≡ Some (File f)) (place : ℕ) (fits : place + count ≤ flat.file_max) where
+    (to : ℕ) (f : FileNode A) (there : at k.contents.slots to ≡ Some (File f)) (place : ℕ) (fits : place + count ≤ flat.limits.file_max) where
   -- they fit the file
-  most-is : k.file_max ≡ flat.file_max
-  most-is = ap (λ (v : Nodes). v.file_max) is
+  most-is : k.limits.file_max ≡ flat.limits.file_max
+  most-is = ap (λ (v : Nodes). v.limits.file_max) is
 
   pub put-long : total slices ≤ most_file_bytes
   put-long =
@@ -52,7 +52,7 @@ module _ {A : Type 0} (k : Inside A) (sound : IsSound k) (flat : Nodes) (is : vi
       let most = sound.most in
       omega (arith, few, e, most, fits)
 
-  pub put-some : IfSome (at flat.pipes from) (λ x. count ≤ length x.bytes) → 1 ≤ count → (moved : ℕ) → moved ≡ fitting (total slices) place k.file_max → 1 ≤ moved
+  pub put-some : IfSome (at flat.pipes from) (λ x. count ≤ length x.bytes) → 1 ≤ count → (moved : ℕ) → moved ≡ fitting (total slices) place k.limits.file_max → 1 ≤ moved
   put-some asked some moved e =
       let told = pipe-told k from s source sound flat is (λ x. count ≤ length x.bytes) asked in
       let sum = pipe-total k from s source sound flat is in
@@ -68,16 +68,16 @@ module _ {A : Type 0} (k : Inside A) (sound : IsSound k) (flat : Nodes) (is : vi
       omega (arith, told, sum)
 
   module _ (store : Segments) (file : List Slice) (turns : Turns (segment_at k.store) f.file (segment_at store) file) where
-    pub put-ok : all_read (segment_at store) file ≡ written place (take (k.file_max - place) (all_read (segment_at k.store) slices)) (all_read (segment_at k.store) f.file)
+    pub put-ok : all_read (segment_at store) file ≡ written place (take (k.limits.file_max - place) (all_read (segment_at k.store) slices)) (all_read (segment_at k.store) f.file)
         → at (view_of (with_content k to (File f) there sound store (File (record f { file = file })))).files ≡ change_at to (written place (take count (bytes_of (at flat.pipes from)))) (at flat.files)
     put-ok read =
         let bytes = take count (bytes_of (at flat.pipes from)) in
         let reads : all_read (segment_at k.store) slices ≡ bytes = front-bytes k sound flat is from s source count slices front in
         let long = length-take count (bytes_of (at flat.pipes from)) in
         let m = most-is in
-        let all : take (k.file_max - place) bytes ≡ bytes = take_all (k.file_max - place) bytes (omega (arith, long, m, fits)) in
+        let all : take (k.limits.file_max - place) bytes ≡ bytes = take_all (k.limits.file_max - place) bytes (omega (arith, long, m, fits)) in
         file-done k to f there sound flat is store (record f { file = file }) turns (written place bytes)
-        (read ∙ ap (λ bs. written place bs (all_read (segment_at k.store) f.file)) (ap (take (k.file_max - place)) reads ∙ all))
+        (read ∙ ap (λ bs. written place bs (all_read (segment_at k.store) f.file)) (ap (take (k.limits.file_max - place)) reads ∙ all))
 
     -- each segment that is named was named
     pub put-named : AreShared (segment_at store) (lists (slice_set k.contents.slots to (Some (File (record f { file = file })))))

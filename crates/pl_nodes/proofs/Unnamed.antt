@@ -58,5 +58,5 @@ module _ {A : Type 0} (k : Inside A) (sound : IsSound k) (key : ℕ) (x new : Co
     names = names_of names.entries;
     next = k.contents.vacant_key;
     segments = live_count k.store.held;
-    file_max = k.file_max;
+    limits = k.limits;
   })

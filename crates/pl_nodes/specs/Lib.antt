@@ -3,3 +3,4 @@ pub mod NodesView
 pub mod Contents
 pub mod Queue
 pub mod Lent
+pub mod Moving

@@ -6,9 +6,10 @@ use Rattle.pl_model.specs.Map.{Map}
 use Rattle.pl_model.specs.State.{Pipe}
 use Rattle.pl_segments.specs.declared.slice.Slice.{Slice}
 use Rattle.pl_segments.specs.Sharing.{named, slots_at}
+use Rattle.pl_nodes.specs.declared.nodes.NodeLimits.{NodeLimits}
 
 -- the pipes and the bytes of the files by key, the slots in which each keeps its bytes, what the names stand for, in the order of
--- their bytes, the key that the next pipe or file gets, how many segments hold all bytes, and the most bytes of a file
+-- their bytes, the key that the next pipe or file gets, how many segments hold all bytes, and the limits
 pub record Nodes : Type 0 where
   pub pipes : List (Option Pipe)
   pub files : List (Option (List ℕ))
@@ -16,7 +17,7 @@ pub record Nodes : Type 0 where
   pub names : Map (List ℕ) Node
   pub next : ℕ
   pub segments : ℕ
-  pub file_max : ℕ
+  pub limits : NodeLimits
 
 -- How bytes are kept: the slots of each pipe and file by key, and how many segments hold them all.
 pub record Memory : Type 0 where
@@ -44,13 +45,13 @@ segments_named slots n = count_by (λ key. nat_lt 0 (named slots key)) (range_wi
 pub record SameFiles (old new : Nodes) : Type 0 where
   pub files : new.files ≡ old.files
   pub names : new.names ≡ old.names
-  pub file_max : new.file_max ≡ old.file_max
+  pub limits : new.limits ≡ old.limits
 
 -- the pipes and the names are as they were
 pub record SamePipes (old new : Nodes) : Type 0 where
   pub pipes : new.pipes ≡ old.pipes
   pub names : new.names ≡ old.names
-  pub file_max : new.file_max ≡ old.file_max
+  pub limits : new.limits ≡ old.limits
 
 -- the bytes of a pipe, none of none
 abbrev pub bytes_of : Option Pipe → List ℕ

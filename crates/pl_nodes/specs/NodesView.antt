@@ -8,7 +8,7 @@ use Rattle.pl_model.specs.Map.{Map as FiniteMap}
 use Rattle.pl_model.specs.Nodes.{key_of, same_node}
 use Rattle.pl_model.specs.State.{Pipe as PipeState}
 use Rattle.pl_segments.specs.declared.slice.Slice.{Slice}
-use Rattle.pl_segments.specs.Segments.{Map, most_spare, segment_at, at, live_count}
+use Rattle.pl_segments.specs.Segments.{Map, segment_at, at, live_count}
 use Rattle.pl_segments.specs.Slices.{all_read}
 use Rattle.pl_segments.specs.Sharing.{AreShared, slots_at}
 use Rattle.pl_nodes.specs.declared.content.PipeNode.{PipeNode}
@@ -96,7 +96,7 @@ module _ {A : Type 0} where
         names = names_of k.names.entries;
         next = k.contents.vacant_key;
         segments = live_count k.store.held;
-        file_max = k.file_max;
+        limits = k.limits;
       }
 
   -- each segment has as many holders as slots name it, and nothing has more slots than the longest file has bytes; what has a
@@ -106,5 +106,5 @@ module _ {A : Type 0} where
     pub short : (q : ℕ) → length (slots_at (lists k.contents.slots) q) ≤ most_file_bytes
     pub named : AreNamed k.names.entries k.contents.slots
     pub plain : (q : ℕ) → named_packet (at k.contents.slots q) ≡ false
-    pub most : k.file_max ≤ most_file_bytes
-    pub spare : k.store.room ≤ most_spare
+    pub most : k.limits.file_max ≤ most_file_bytes
+    pub spare : k.store.room ≤ k.limits.spare_max

@@ -12,7 +12,7 @@ mod queue;
 mod upper;
 
 pub use fault::{MakeFault, NoSuchName};
-pub use nodes::Nodes;
+pub use nodes::{NodeLimits, Nodes};
 pub use pl_file::WriteFault;
 pub use pl_ring::CapacityFault;
 pub use pl_segments::NoMemory;

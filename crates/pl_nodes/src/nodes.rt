@@ -1,7 +1,7 @@
 //! Pipes and regular files under keys, over one store of segments, and their names.
 ghost use Rattle.std.specs.Prelude.{ℕ, ◌≡◌, ◌≤◌, [], None};
 ghost use Rattle.pl_model.specs.Numbers.{most_file_bytes};
-ghost use Rattle.pl_segments.specs.Segments.{most_spare, at};
+ghost use Rattle.pl_segments.specs.Segments.{at};
 ghost use Rattle.pl_nodes.specs.Nodes.{NamesBelow, segments_named};
 
 use crate::content::Content;
@@ -20,8 +20,17 @@ mod names;
 mod packets;
 mod pipes;
 
+/// The limits of pipes and files.
+#[derive(Clone, Copy, Debug, PartialEq, Eq)]
+pub struct NodeLimits {
+    /// The most bytes of a file, at most 16,777,216.
+    pub file_max: usize,
+    /// The most segments that are kept for further bytes though no slot names them.
+    pub spare_max: usize,
+}
+
 /// Pipes and regular files, by key, and what the names stand for. Contracts see the list of each, the slots in which their
-/// bytes stand, the key that the next pipe or file gets, how many segments hold all bytes, and how many bytes a file may have.
+/// bytes stand, the key that the next pipe or file gets, how many segments hold all bytes, and the limits.
 #[derive(Drop)]
 pub struct Nodes<A: Allocator = Global> {
     alloc: A,
@@ -29,7 +38,7 @@ pub struct Nodes<A: Allocator = Global> {
     contents: Slab<Content<A>, A>,
     upper: Upper,
     names: BTreeMap<Vec<u8, A>, Node, A>,
-    file_max: usize,
+    limits: NodeLimits,
 }
 
 impl<A: Allocator> Model for Nodes<A> {
@@ -44,14 +53,14 @@ impl<A: Allocator> Model for Nodes<A> {
 }
 
 impl<A: Allocator + Copy> Nodes<A> {
-    /// No pipes, no names, and no files, of which none will have more than `file_max` bytes, at most 16,777,216. It takes no memory.
-    pub fn new(alloc: A, file_max: usize) -> Nodes<A>
-        requires { file_max ≤ most_file_bytes }
+    /// No pipes, no files and no names, within these limits. It takes no memory.
+    pub fn new(alloc: A, limits: NodeLimits) -> Nodes<A>
+        requires { limits.file_max ≤ most_file_bytes }
         ensures pipes { result.pipes ≡ [] }
         ensures files { result.files ≡ [] }
         ensures names { result.names ≡ [] }
         ensures segments { result.segments ≡ 0 }
-        ensures file_max { result.file_max ≡ file_max }
+        ensures limits { result.limits ≡ limits }
     {
         Nodes {
             alloc,
@@ -59,7 +68,7 @@ impl<A: Allocator + Copy> Nodes<A> {
             contents: Slab::new(alloc),
             upper: Upper::new(),
             names: BTreeMap::new(alloc),
-            file_max,
+            limits,
         }
     }
 
@@ -79,10 +88,18 @@ impl<A: Allocator + Copy> Nodes<A> {
         self.store.in_use()
     }
 
-    /// How many segments are kept for further bytes, with 4,096 bytes of memory each, though no slot names them.
+    /// How many segments are kept for further bytes, with 4,096 bytes of memory each, though no slot names them. After each call they are no more
+    /// than the limit.
     pub fn spare(&self) -> usize
-        ensures { result ≤ most_spare }
+        ensures { result ≤ self.now.limits.spare_max }
     {
         self.store.spare()
+    }
+
+    /// Gives back the memory that is kept for further bytes. It takes no memory.
+    pub fn give_back(&mut self)
+        ensures { self.new ≡ self.old }
+    {
+        self.store.trim(0);
     }
 }

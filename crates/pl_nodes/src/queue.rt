@@ -2,12 +2,12 @@
 ghost use Rattle.std.specs.Prelude.{◌≡◌, ℕ, ◌+◌, ◌-◌, ◌*◌, ◌/◌, ◌<◌, ◌≤◌, ◌^◌, ◌↔◌, [], ◌++◌, length, take, drop, option_map, is_some, IfOk, OnOk, OnErr, Some, None, Err};
 ghost use Rattle.pl_model.specs.Numbers.{first_capacity, most_capacity, most_file_bytes};
 ghost use Rattle.pl_model.specs.Packets.{piece_lengths, without_front, spent_of};
-ghost use Rattle.pl_segments.specs.Segments.{segment_size, most_spare, segment_at, holders, live_count};
+ghost use Rattle.pl_segments.specs.Segments.{segment_size, segment_at, holders};
 ghost use Rattle.pl_segments.specs.Slices.{AllLie, all_read};
 ghost use Rattle.pl_segments.specs.Turns.{Holds, Turns};
 ghost use Rattle.pl_segments.specs.Slots.{total, drop_bytes, front_of};
 ghost use Rattle.pl_ring.specs.Merging.{lens, IsFront};
-ghost use Rattle.pl_ring.specs.Parts.{fresh};
+ghost use Rattle.pl_ring.specs.Pushed.{Gains, Passed, MakesAtMost};
 ghost use Rattle.pl_ring.specs.Ring.{IsCapacity};
 ghost use Rattle.pl_packets.specs.Packets.{first_len};
 ghost use Rattle.pl_nodes.specs.Queue.{slots_of, capacity_of, packets_of, used_by, front_by, spent_by};
@@ -133,9 +133,7 @@ impl<A: Allocator + Copy> Queue<A> {
         ensures read { OnOk result (all_read (segment_at store.new) (slots_of self.new) ≡ drop (spent_by self.old count) (all_read (segment_at store.old) (slots_of self.old))) }
         ensures turns { OnOk result (Turns (segment_at store.old) (slots_of self.old) (segment_at store.new) (slots_of self.new)) }
         ensures capacity { capacity_of self.new ≡ capacity_of self.old }
-        ensures err { OnErr result (self.new ≡ self.old) }
-        ensures spare { store.old.room ≤ most_spare → store.new.room ≤ most_spare }
-        ensures store_err { OnErr result (store.new ≡ store.old) }
+        ensures unchanged { OnErr result ((self.new ≡ self.old) × (store.new ≡ store.old)) }
     {
         match self {
             Queue::Bytes(ring) => ring.pop_bytes(store, count),
@@ -153,7 +151,6 @@ impl<A: Allocator + Copy> Queue<A> {
         ensures read { all_read (segment_at store.new) (slots_of self.new) ≡ drop (spent_by self.old (length into.old)) (all_read (segment_at store.old) (slots_of self.old)) }
         ensures turns { Turns (segment_at store.old) (slots_of self.old) (segment_at store.new) (slots_of self.new) }
         ensures capacity { capacity_of self.new ≡ capacity_of self.old }
-        ensures spare { store.old.room ≤ most_spare → store.new.room ≤ most_spare }
     {
         match self {
             Queue::Bytes(ring) => ring.pop_into(store, into),
@@ -167,12 +164,9 @@ impl<A: Allocator + Copy> Queue<A> {
         requires held { Holds (segment_at store.old) (slots_of self.old) }
         requires room { length bytes.now ≤ capacity_of self.old - used_by self.old }
         ensures packets { OnOk result (packets_of self.new ≡ option_map (λ lengths. lengths ++ piece_lengths (length bytes.now)) (packets_of self.old)) }
-        ensures read { OnOk result (all_read (segment_at store.new) (slots_of self.new) ≡ all_read (segment_at store.old) (slots_of self.old) ++ bytes.now) }
-        ensures turns { OnOk result (Turns (segment_at store.old) (slots_of self.old) (segment_at store.new) (slots_of self.new)) }
+        ensures gains { OnOk result (Gains (segment_at store.old) (slots_of self.old) bytes.now (segment_at store.new) (slots_of self.new)) }
         ensures capacity { capacity_of self.new ≡ capacity_of self.old }
-        ensures err { OnErr result (self.new ≡ self.old) }
-        ensures spare { store.old.room ≤ most_spare → store.new.room ≤ most_spare }
-        ensures store_err { OnErr result (store.new ≡ store.old) }
+        ensures unchanged { OnErr result ((self.new ≡ self.old) × (store.new ≡ store.old)) }
     {
         match self {
             Queue::Bytes(ring) => push_bytes(ring, store, bytes),
@@ -227,14 +221,10 @@ impl<A: Allocator + Copy> Queue<A> {
         requires few { (key : ℕ) → holders (segment_at store.old) key < 2 ^ 100 }
         requires fits { total (slots_of self.old) + total slices.now ≤ capacity_of self.old }
         ensures bytes { packets_of self.new ≡ None }
-        ensures turns { OnOk result (Turns (segment_at store.old) (slots_of self.old) (segment_at store.new) (slots_of self.new)) }
-        ensures read { OnOk result (all_read (segment_at store.new) (slots_of self.new) ≡ all_read (segment_at store.old) (slots_of self.old) ++ all_read (segment_at store.old) slices.now) }
-        ensures front_in_use { OnOk result (IsFront slices.now → live_count store.new.held ≤ live_count store.old.held + 3) }
-        ensures front_parts { OnOk result (IsFront slices.now → fresh (slots_of self.old ++ slices.now) (slots_of self.new) ≤ 3) }
+        ensures gains { OnOk result (Gains (segment_at store.old) (slots_of self.old) (all_read (segment_at store.old) slices.now) (segment_at store.new) (slots_of self.new)) }
+        ensures front { OnOk result (IsFront slices.now → MakesAtMost 3 (slots_of self.old ++ slices.now) store.old (slots_of self.new) store.new) }
         ensures capacity { capacity_of self.new ≡ capacity_of self.old }
-        ensures err { OnErr result (self.new ≡ self.old) }
-        ensures spare { store.old.room ≤ most_spare → store.new.room ≤ most_spare }
-        ensures store_err { OnErr result (store.new ≡ store.old) }
+        ensures unchanged { OnErr result ((self.new ≡ self.old) × (store.new ≡ store.old)) }
     {
         let Queue::Bytes(ring) = self else {
             unreachable!()
@@ -252,7 +242,6 @@ impl<A: Allocator + Copy> Queue<A> {
         ensures turns { Turns (segment_at store.old) (slots_of self.old) (segment_at store.new) (slots_of self.new) }
         ensures read { all_read (segment_at store.new) (slots_of self.new) ≡ drop count (all_read (segment_at store.old) (slots_of self.old)) }
         ensures capacity { capacity_of self.new ≡ capacity_of self.old }
-        ensures spare { store.old.room ≤ most_spare → store.new.room ≤ most_spare }
     {
         let Queue::Bytes(ring) = self else {
             unreachable!()
@@ -277,6 +266,30 @@ impl<A: Allocator + Copy> Queue<A> {
         ring.exchange(other);
     }
 
+    /// Takes the first bytes of a ring to the end of a byte queue, where they fit, as `Ring::take_front` does. An error leaves all as it was.
+    pub(crate) fn take_front(
+        &mut self,
+        store: &mut Store<A>,
+        other: &mut Ring<A>,
+        count: usize,
+    ) -> Result<(), NoMemory>
+        requires plain { packets_of self.old ≡ None }
+        requires held { Holds (segment_at store.old) (slots_of self.old ++ other.old.slots) }
+        requires few { (key : ℕ) → holders (segment_at store.old) key < 2 ^ 100 }
+        requires count { count ≤ total other.old.slots }
+        requires fits { total (slots_of self.old) + count ≤ capacity_of self.old }
+        ensures plain { packets_of self.new ≡ None }
+        ensures passed { OnOk result (Passed count (segment_at store.old) other.old.slots (slots_of self.old) (segment_at store.new) other.new.slots (slots_of self.new)) }
+        ensures makes { OnOk result (MakesAtMost 3 (slots_of self.old ++ front_of count other.old.slots) store.old (slots_of self.new) store.new) }
+        ensures capacity { (capacity_of self.new ≡ capacity_of self.old) × (other.new.capacity ≡ other.old.capacity) }
+        ensures unchanged { OnErr result ((self.new ≡ self.old) × (other.new ≡ other.old) × (store.new ≡ store.old)) }
+    {
+        let Queue::Bytes(ring) = self else {
+            unreachable!()
+        };
+        ring.take_front(store, other, count)
+    }
+
     /// Makes a byte queue what that of a new pipe is. It takes no memory.
     pub(crate) fn reset(&mut self, store: &mut Store<A>)
         requires bytes { packets_of self.old ≡ None }
@@ -285,7 +298,6 @@ impl<A: Allocator + Copy> Queue<A> {
         ensures slots { slots_of self.new ≡ [] }
         ensures capacity { capacity_of self.new ≡ first_capacity }
         ensures turns { Turns (segment_at store.old) (slots_of self.old) (segment_at store.new) [] }
-        ensures spare { store.old.room ≤ most_spare → store.new.room ≤ most_spare }
     {
         let Queue::Bytes(ring) = self else {
             unreachable!()
@@ -297,7 +309,6 @@ impl<A: Allocator + Copy> Queue<A> {
     pub(crate) fn let_go(self, store: &mut Store<A>)
         requires { Holds (segment_at store.old) (slots_of self) }
         ensures turns { Turns (segment_at store.old) (slots_of self) (segment_at store.new) [] }
-        ensures spare { store.old.room ≤ most_spare → store.new.room ≤ most_spare }
     {
         match self {
             Queue::Bytes(mut ring) => ring.reset(store),
@@ -320,9 +331,7 @@ fn pop_packet<A: Allocator + Copy>(
     ensures read { OnOk result (all_read (segment_at store.new) ring.new.slots ≡ drop (spent_of (Some (lens ring.old.slots)) count) (all_read (segment_at store.old) ring.old.slots)) }
     ensures turns { OnOk result (Turns (segment_at store.old) ring.old.slots (segment_at store.new) ring.new.slots) }
     ensures capacity { ring.new.capacity ≡ ring.old.capacity }
-    ensures err { OnErr result (ring.new ≡ ring.old) }
-    ensures spare { store.old.room ≤ most_spare → store.new.room ≤ most_spare }
-    ensures store_err { OnErr result (store.new ≡ store.old) }
+    ensures unchanged { OnErr result ((ring.new ≡ ring.old) × (store.new ≡ store.old)) }
 {
     // A proof learns here that no packet is empty.
     let _len = ring.len();
@@ -345,7 +354,6 @@ fn pop_packet_into<A: Allocator + Copy>(
     ensures read { all_read (segment_at store.new) ring.new.slots ≡ drop (spent_of (Some (lens ring.old.slots)) (length into.old)) (all_read (segment_at store.old) ring.old.slots) }
     ensures turns { Turns (segment_at store.old) ring.old.slots (segment_at store.new) ring.new.slots }
     ensures capacity { ring.new.capacity ≡ ring.old.capacity }
-    ensures spare { store.old.room ≤ most_spare → store.new.room ≤ most_spare }
 {
     // A proof learns here that no packet is empty.
     let _len = ring.len();
@@ -364,12 +372,9 @@ fn push_bytes<A: Allocator + Copy>(
 ) -> Result<(), NoMemory>
     requires held { Holds (segment_at store.old) ring.old.slots }
     requires room { length bytes.now ≤ ring.old.capacity - total ring.old.slots }
-    ensures read { OnOk result (all_read (segment_at store.new) ring.new.slots ≡ all_read (segment_at store.old) ring.old.slots ++ bytes.now) }
-    ensures turns { OnOk result (Turns (segment_at store.old) ring.old.slots (segment_at store.new) ring.new.slots) }
+    ensures gains { OnOk result (Gains (segment_at store.old) ring.old.slots bytes.now (segment_at store.new) ring.new.slots) }
     ensures capacity { ring.new.capacity ≡ ring.old.capacity }
-    ensures err { OnErr result (ring.new ≡ ring.old) }
-    ensures spare { store.old.room ≤ most_spare → store.new.room ≤ most_spare }
-    ensures store_err { OnErr result (store.new ≡ store.old) }
+    ensures unchanged { OnErr result ((ring.new ≡ ring.old) × (store.new ≡ store.old)) }
 {
     // A proof learns here that the ring holds no more than its capacity.
     let _len = ring.len();
@@ -385,12 +390,9 @@ fn push_packets<A: Allocator + Copy>(
     requires held { Holds (segment_at store.old) ring.old.slots }
     requires room { length bytes.now ≤ ring.old.capacity - segment_size * length (lens ring.old.slots) }
     ensures packets { OnOk result (lens ring.new.slots ≡ lens ring.old.slots ++ piece_lengths (length bytes.now)) }
-    ensures read { OnOk result (all_read (segment_at store.new) ring.new.slots ≡ all_read (segment_at store.old) ring.old.slots ++ bytes.now) }
-    ensures turns { OnOk result (Turns (segment_at store.old) ring.old.slots (segment_at store.new) ring.new.slots) }
+    ensures gains { OnOk result (Gains (segment_at store.old) ring.old.slots bytes.now (segment_at store.new) ring.new.slots) }
     ensures capacity { ring.new.capacity ≡ ring.old.capacity }
-    ensures err { OnErr result (ring.new ≡ ring.old) }
-    ensures spare { store.old.room ≤ most_spare → store.new.room ≤ most_spare }
-    ensures store_err { OnErr result (store.new ≡ store.old) }
+    ensures unchanged { OnErr result ((ring.new ≡ ring.old) × (store.new ≡ store.old)) }
 {
     // A proof learns here that no more packets are held than fit.
     let _slots = ring.slots();

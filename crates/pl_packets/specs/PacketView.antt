@@ -1,9 +1,9 @@
 -- The fields of a ring of packets, as its packets.
 use Rattle.std.specs.Prelude.{◌≡◌, ◌*◌}
 use Rattle.pl_packets.specs.declared.ring.PacketRing.TheInside.{Inside}
-use Rattle.pl_packets.specs.Packets.{packet_size, PacketRing, AllFit}
+use Rattle.pl_packets.specs.Packets.{packet_size, PacketRing, ArePackets}
 use Rattle.pl_ring.specs.Ring.{IsCapacity}
-use Rattle.pl_segments.specs.Slots.{total, AllSolid}
+use Rattle.pl_segments.specs.Slots.{total}
 
 -- the packets, and the capacity that their places are made for
 abbrev pub view_of : {A : Type 0} → Inside A → PacketRing
@@ -13,5 +13,4 @@ view_of r = record { slots = r.slots.items; capacity = packet_size * r.slots.cap
 pub record IsSound {A : Type 0} (r : Inside A) : Type 0 where
   pub held : r.held ≡ total r.slots.items
   pub range : IsCapacity (packet_size * r.slots.capacity)
-  pub solid : AllSolid r.slots.items
-  pub fit : AllFit r.slots.items
+  pub packets : ArePackets r.slots.items

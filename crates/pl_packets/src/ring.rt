@@ -2,13 +2,14 @@
 ghost use Rattle.std.specs.Prelude.{◌≡◌, ◌+◌, ◌-◌, ◌*◌, ◌/◌, ◌<◌, ◌≤◌, ◌↔◌, [], ◌∷◌, ◌++◌, length, min, take, drop, IfOk, OnOk, OnErr, Err};
 ghost use Rattle.circular_buffer.specs.Buffer.{buffer};
 ghost use Rattle.pl_model.specs.Packets.{piece_lengths};
-ghost use Rattle.pl_segments.specs.Segments.{most_spare, segment_at, live_count};
+ghost use Rattle.pl_segments.specs.Segments.{segment_at, live_count};
 ghost use Rattle.pl_segments.specs.Slices.{all_read};
 ghost use Rattle.pl_segments.specs.Turns.{Holds, Turns};
 ghost use Rattle.pl_segments.specs.Slots.{total, AllSolid};
 ghost use Rattle.pl_ring.specs.Merging.{lens};
+ghost use Rattle.pl_ring.specs.Pushed.{Gains};
 ghost use Rattle.pl_ring.specs.Ring.{IsCapacity};
-ghost use Rattle.pl_packets.specs.Packets.{packet_size, first_len, AllFit};
+ghost use Rattle.pl_packets.specs.Packets.{packet_size, first_len, AllFit, ArePackets};
 
 use circular_buffer::HeapCircularBuffer;
 use pl_ring::CapacityFault;
@@ -115,13 +116,10 @@ impl<A: Allocator + Copy> PacketRing<A> {
         requires held { Holds (segment_at store.old) self.old.slots }
         requires fits { packet_size * length self.old.slots + length bytes.now ≤ self.old.capacity }
         ensures lens { OnOk result (lens self.new.slots ≡ lens self.old.slots ++ piece_lengths (length bytes.now)) }
-        ensures read { OnOk result (all_read (segment_at store.new) self.new.slots ≡ all_read (segment_at store.old) self.old.slots ++ bytes.now) }
-        ensures turns { OnOk result (Turns (segment_at store.old) self.old.slots (segment_at store.new) self.new.slots) }
+        ensures gains { OnOk result (Gains (segment_at store.old) self.old.slots bytes.now (segment_at store.new) self.new.slots) }
         ensures in_use { OnOk result (live_count store.new.held ≡ live_count store.old.held + length (piece_lengths (length bytes.now))) }
         ensures capacity { self.new.capacity ≡ self.old.capacity }
-        ensures err { OnErr result (self.new ≡ self.old) }
-        ensures spare { store.old.room ≤ most_spare → store.new.room ≤ most_spare }
-        ensures store_err { OnErr result (store.new ≡ store.old) }
+        ensures unchanged { OnErr result ((self.new ≡ self.old) × (store.new ≡ store.old)) }
     {
         push_packets(store, &mut self.slots, bytes)?;
         self.held += bytes.len();
@@ -141,9 +139,7 @@ impl<A: Allocator + Copy> PacketRing<A> {
         ensures read { OnOk result (all_read (segment_at store.new) self.new.slots ≡ drop (first_len self.old.slots) (all_read (segment_at store.old) self.old.slots)) }
         ensures turns { OnOk result (Turns (segment_at store.old) self.old.slots (segment_at store.new) self.new.slots) }
         ensures capacity { self.new.capacity ≡ self.old.capacity }
-        ensures err { OnErr result (self.new ≡ self.old) }
-        ensures spare { store.old.room ≤ most_spare → store.new.room ≤ most_spare }
-        ensures store_err { OnErr result (store.new ≡ store.old) }
+        ensures unchanged { OnErr result ((self.new ≡ self.old) × (store.new ≡ store.old)) }
     {
         let count = count.min(self.front());
         let bytes = copy_first(self.alloc, store, &self.slots, count)?;
@@ -162,7 +158,6 @@ impl<A: Allocator + Copy> PacketRing<A> {
         ensures read { all_read (segment_at store.new) self.new.slots ≡ drop (first_len self.old.slots) (all_read (segment_at store.old) self.old.slots) }
         ensures turns { Turns (segment_at store.old) self.old.slots (segment_at store.new) self.new.slots }
         ensures capacity { self.new.capacity ≡ self.old.capacity }
-        ensures spare { store.old.room ≤ most_spare → store.new.room ≤ most_spare }
     {
         let first = self.slots.pop_front().unwrap();
         self.held -= first.len as usize;
@@ -196,7 +191,6 @@ impl<A: Allocator + Copy> PacketRing<A> {
         requires { Holds (segment_at store.old) self.old.slots }
         ensures value { self.new ≡ record self.old { slots = [] } }
         ensures turns { Turns (segment_at store.old) self.old.slots (segment_at store.new) [] }
-        ensures spare { store.old.room ≤ most_spare → store.new.room ≤ most_spare }
     {
         while 0 < self.slots() {
             self.pop_packet_into(store, &mut []);
@@ -211,19 +205,14 @@ fn push_packets<A: Allocator + Copy>(
     bytes: &[u8],
 ) -> Result<(), NoMemory>
     requires held { Holds (segment_at store.old) slots.old.items }
-    requires solid { AllSolid slots.old.items }
-    requires fit { AllFit slots.old.items }
+    requires packets { ArePackets slots.old.items }
     requires fits { packet_size * length slots.old.items + length bytes.now ≤ packet_size * slots.old.capacity }
     ensures lens { OnOk result (lens slots.new.items ≡ lens slots.old.items ++ piece_lengths (length bytes.now)) }
-    ensures read { OnOk result (all_read (segment_at store.new) slots.new.items ≡ all_read (segment_at store.old) slots.old.items ++ bytes.now) }
-    ensures turns { OnOk result (Turns (segment_at store.old) slots.old.items (segment_at store.new) slots.new.items) }
-    ensures solid { OnOk result (AllSolid slots.new.items) }
-    ensures fit { OnOk result (AllFit slots.new.items) }
+    ensures gains { OnOk result (Gains (segment_at store.old) slots.old.items bytes.now (segment_at store.new) slots.new.items) }
+    ensures packets { OnOk result (ArePackets slots.new.items) }
     ensures in_use { OnOk result (live_count store.new.held ≡ live_count store.old.held + length (piece_lengths (length bytes.now))) }
     ensures capacity { slots.new.capacity ≡ slots.old.capacity }
-    ensures err { OnErr result (slots.new ≡ slots.old) }
-    ensures spare { store.old.room ≤ most_spare → store.new.room ≤ most_spare }
-    ensures store_err { OnErr result (store.new ≡ store.old) }
+    ensures unchanged { OnErr result ((slots.new ≡ slots.old) × (store.new ≡ store.old)) }
 {
     store.reserve(bytes.len().div_ceil(SEGMENT_SIZE))?;
     let mut rest = bytes;

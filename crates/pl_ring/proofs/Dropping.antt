@@ -2,11 +2,11 @@
 use Rattle.std.proofs.Common.{◌≡◌, ◌≤◌, ◌-◌, ℕ, ap, sym, subst, arith}
 use Rattle.circular_buffer.specs.Buffer.{Buffer}
 use Rattle.pl_segments.specs.declared.slice.Slice.{Slice}
-use Rattle.pl_segments.specs.Slots.{total, AllSolid, drop_bytes}
+use Rattle.pl_segments.specs.Slots.{total, drop_bytes}
 use Rattle.pl_segments.proofs.Fronting.{solid-drop, total-drop}
 use Rattle.pl_ring.specs.declared.ring.Ring.TheInside.{Inside}
-use Rattle.pl_ring.specs.Merging.{lens, AreMerged}
-use Rattle.pl_ring.specs.Ring.{HasPlaces, IsBeside}
+use Rattle.pl_ring.specs.Pushed.{AreOfRing}
+use Rattle.pl_ring.specs.Ring.{HasPlaces}
 use Rattle.pl_ring.specs.RingView.{IsSound}
 use Rattle.pl_ring.proofs.Placing.{merged-dropped}
 
@@ -19,9 +19,7 @@ dropped r left n inv few is places =
       held = omega (arith, inv.held, rest, bytes);
       fits = omega (arith, inv.fits);
       enough = omega (arith, inv.enough, places);
-      places = subst HasPlaces (sym places) inv.places;
-      beside = subst (λ p. IsBeside p r.few) (sym places) inv.beside;
+      places = subst (λ p. HasPlaces p r.few) (sym places) inv.places;
       range = inv.range;
-      solid = subst AllSolid (sym is) (solid-drop r.slots.items n inv.solid);
-      merged = subst (λ zs. AreMerged (lens zs)) (sym is) (merged-dropped r.slots.items n inv.merged);
+      slots = subst AreOfRing (sym is) (record { solid = solid-drop r.slots.items n inv.slots.solid; merged = merged-dropped r.slots.items n inv.slots.merged });
     }

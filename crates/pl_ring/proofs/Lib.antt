@@ -5,3 +5,4 @@ pub mod Underway
 pub mod Apart
 pub mod First
 pub mod Dropping
+pub mod Leaving

@@ -173,7 +173,7 @@ three-merges (x ∷ xs) k count last m = elim (cases_lt x.len k) as (λ _. merge
       subst (λ ys. merges count last (lens ys) ≤ 3) (sym (front-whole k x xs l)) r
 ]
 
-solid-same : (xs : List Slice) → AllSolid xs → solid_of xs ≡ xs
+pub solid-same : (xs : List Slice) → AllSolid xs → solid_of xs ≡ xs
 solid-same [] s = refl
 solid-same (x ∷ xs) s = let l = s.0 in ap (λ b. if b then solid_of xs else x ∷ solid_of xs) (ne_eqb x.len 0 (λ e. absurd (omega (arith, l, e)))) ∙ ap (λ zs. x ∷ zs) (solid-same xs s.1)
 

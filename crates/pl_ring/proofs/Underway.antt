@@ -3,14 +3,16 @@ use Rattle.std.proofs.Common.{◌≡◌, ◌≢◌, ℕ, ◌+◌, ◌-◌, ◌<�
 use Rattle.std.specs.Prelude.{if◌then◌else◌, min, max}
 use Rattle.std.proofs.lemmas.Bool.{eq-eqb, ne_eqb}
 use Rattle.std.proofs.lemmas.List.{append-nil, append_assoc, drop_more, drop_all}
+use Rattle.circular_buffer.specs.Buffer.{Buffer, buffer}
 use Rattle.pl_segments.specs.declared.slice.Slice.{Slice}
 use Rattle.pl_segments.specs.Segments.{Map, Segments, segment_at, live_count}
 use Rattle.pl_segments.specs.Slices.{all_read, one_if}
 use Rattle.pl_segments.specs.Turns.{Holds, Turns}
 use Rattle.pl_segments.proofs.Turning.{read-append, turns-then, turns-same, holds-turned, turns-before, read-before}
 use Rattle.pl_segments.specs.Slots.{total, AllSolid, solid_of, last_len, ends_in_part}
-use Rattle.pl_ring.specs.Merging.{lens, AreMerged, joins, joining, merges, merges_onto}
-use Rattle.pl_segments.proofs.SlotLemmas.{no_slice, solid-append, solid-left, solid-right, total-append, total-read}
+use Rattle.pl_ring.specs.Merging.{lens, joins, joining, merges, merges_onto}
+use Rattle.pl_ring.specs.Pushed.{AreOfRing, TookIn, PushedOne}
+use Rattle.pl_segments.proofs.SlotLemmas.{no_slice, total-append, total-read}
 use Rattle.pl_segments.proofs.Together.{holds-left}
 use Rattle.pl_segments.proofs.LastSlot.{part-most}
 use Rattle.pl_ring.proofs.Placing.{joining-most}
@@ -35,8 +37,8 @@ merges-few count last (x ∷ ds) = by (joins count last x.len) (merges-few count
 pub record Underway (m0 : Map) (xs0 ds0 : List Slice) (live0 : ℕ) (m : Map) (xs ds : List Slice) (live room : ℕ) : Type 0 where
   pub turns : Turns m0 (xs0 ++ ds0) m (xs ++ ds)
   pub read : all_read m (xs ++ ds) ≡ all_read m0 (xs0 ++ ds0)
-  pub solid : AllSolid (xs ++ ds)
-  pub merged : AreMerged (lens xs)
+  pub slots : AreOfRing xs
+  pub solid : AllSolid ds
   pub enough : takes m xs ds ≤ room
   pub in_use : live + merges_onto xs (lens ds) ≤ live0 + merges_onto xs0 (lens ds0)
   pub count : length xs + length ds + merges_onto xs0 (lens ds0) ≡ length xs0 + length ds0 + merges_onto xs (lens ds)
@@ -71,12 +73,12 @@ underway-as {m0} {xs0} {ds0} {live0} {ds} s t ys zs e f u =
     (subst (λ ks. Underway m0 xs0 ds0 live0 (segment_at t) ks ds (live_count t.held) t.room) (sym f) u)
 
 -- before the first
-pub underway-first : (m : Map) (xs ds : List Slice) (live room : ℕ) → Holds m (xs ++ ds) → AllSolid (xs ++ ds) → AreMerged (lens xs) → takes m xs ds ≤ room → Underway m xs ds live m xs ds live room
-underway-first m xs ds live room held solid merged enough = record {
+pub underway-first : (m : Map) (xs ds : List Slice) (live room : ℕ) → Holds m (xs ++ ds) → AreOfRing xs → AllSolid ds → takes m xs ds ≤ room → Underway m xs ds live m xs ds live room
+underway-first m xs ds live room held slots solid enough = record {
   turns = turns-same m (xs ++ ds) held.lie;
   read = refl;
+  slots = slots;
   solid = solid;
-  merged = merged;
   enough = enough;
   in_use = omega arith;
   count = refl;
@@ -95,11 +97,8 @@ module _ {m0 : Map} {xs0 ds0 : List Slice} {live0 : ℕ} {m : Map} {xs : List Sl
   pub next-held : Holds m (xs ++ x ∷ [])
   next-held = holds-left m (xs ++ x ∷ []) ds held
 
-  solid : AllSolid ((xs ++ x ∷ []) ++ ds)
-  solid = subst AllSolid apart u.solid
-
-  pub next-solid : AllSolid (xs ++ x ∷ [])
-  next-solid = solid-left (xs ++ x ∷ []) ds solid
+  pub next-some : 1 ≤ x.len
+  next-some = u.solid.0
 
   pub next-total : total xs + x.len ≤ total (xs0 ++ ds0)
   next-total =
@@ -116,31 +115,30 @@ module _ {m0 : Map} {xs0 ds0 : List Slice} {live0 : ℕ} {m : Map} {xs : List Sl
       by true few l = omega (arith, few, l)
       by false few l = omega arith
 
-  module _ (n : Map) (ys : List Slice) (live1 room1 : ℕ) (t : Turns m (xs ++ x ∷ []) n ys) (r : all_read n ys ≡ all_read m (xs ++ x ∷ []))
-      (tight : AreMerged (lens ys)) (some : AllSolid ys) (left : room ≤ room1 + joining xs x)
-      (once : ends_in_part n ys + room ≤ room1 + max (1 - joining xs x) (ends_in_part m xs)) (made : live1 ≤ live + joining xs x)
-      (plan : (rest : List ℕ) → merges_onto ys rest + joining xs x ≡ merges_onto xs (x.len ∷ rest))
-      (fewer : length ys + joining xs x ≡ length xs + 1) (more : (test : Slice → Bool) → count_by test ys ≤ count_by test (xs ++ x ∷ []) + joining xs x) where
-    pub underway-next : Underway m0 xs0 ds0 live0 n ys ds live1 room1
-    underway-next = record {
-      turns = turns-then m0 m n (xs0 ++ ds0) (xs ++ (x ∷ ds)) (ys ++ ds) u.turns (subst (λ zs. Turns m zs n (ys ++ ds)) (sym apart) (turns-before m n (xs ++ x ∷ []) ys ds held t));
-      read = read-before m n (xs ++ x ∷ []) ys ds held t ∙ ap (λ bs. bs ++ all_read m ds) r ∙ sym (read-append m (xs ++ x ∷ []) ds) ∙ ap (all_read m) (sym apart) ∙ u.read;
-      solid = solid-append ys ds some (solid-right (xs ++ x ∷ []) ds solid);
-      merged = tight;
-      enough =
-          let p = plan (lens ds) in
-          let e = u.enough in
-          let one = joining-most xs x in
-          let was = part-most m xs in
-          let now = part-most n ys in
-          omega (arith, p, e, left, once, one, was, now);
-      in_use = (let p = plan (lens ds) in let e = u.in_use in omega (arith, p, e, made));
-      count = (let p = plan (lens ds) in let e = u.count in omega (arith, p, e, fewer));
-      parts = λ test.
-          let p = plan (lens ds) in let w = more test in let o = u.parts test in
-          let a = count-append test ys ds in let b = ap (count_by test) apart ∙ count-append test (xs ++ x ∷ []) ds in
-          omega (arith, p, w, o, a, b);
-    }
+  module _ (places : ℕ) (n : Map) (new : Buffer Slice) (live1 room1 : ℕ) (took : TookIn m (buffer xs places) (x ∷ []) n new) (one : PushedOne xs x new.items)
+      (left : room ≤ room1 + joining xs x) (once : ends_in_part n new.items + room ≤ room1 + max (1 - joining xs x) (ends_in_part m xs)) (made : live1 ≤ live + joining xs x) where
+    pub underway-next : Underway m0 xs0 ds0 live0 n new.items ds live1 room1
+    underway-next =
+        let ys = new.items in
+        let p = one.plan (lens ds) in
+        record {
+          turns = turns-then m0 m n (xs0 ++ ds0) (xs ++ (x ∷ ds)) (ys ++ ds) u.turns (subst (λ zs. Turns m zs n (ys ++ ds)) (sym apart) (turns-before m n (xs ++ x ∷ []) ys ds held took.turns));
+          read = read-before m n (xs ++ x ∷ []) ys ds held took.turns ∙ ap (λ bs. bs ++ all_read m ds) took.read ∙ sym (read-append m (xs ++ x ∷ []) ds) ∙ ap (all_read m) (sym apart) ∙ u.read;
+          slots = took.slots;
+          solid = u.solid.1;
+          enough =
+              let e = u.enough in
+              let most = joining-most xs x in
+              let was = part-most m xs in
+              let now = part-most n ys in
+              omega (arith, p, e, left, once, most, was, now);
+          in_use = (let e = u.in_use in omega (arith, p, e, made));
+          count = (let e = u.count in let f = one.count in omega (arith, p, e, f));
+          parts = λ test.
+              let w = one.parts test in let o = u.parts test in
+              let a = count-append test ys ds in let b = ap (count_by test) apart ∙ count-append test (xs ++ x ∷ []) ds in
+              omega (arith, p, w, o, a, b);
+        }
 
 -- after the last
 module _ {m0 : Map} {xs0 ds0 : List Slice} {live0 : ℕ} {m : Map} {xs : List Slice} {live room : ℕ} (u : Underway m0 xs0 ds0 live0 m xs [] live room) where
@@ -149,9 +147,6 @@ module _ {m0 : Map} {xs0 ds0 : List Slice} {live0 : ℕ} {m : Map} {xs : List Sl
 
   pub last-read : all_read m xs ≡ all_read m0 (xs0 ++ ds0)
   last-read = ap (all_read m) (sym (append-nil xs)) ∙ u.read
-
-  pub last-solid : AllSolid xs
-  last-solid = subst AllSolid (append-nil xs) u.solid
 
   pub last-in_use : live ≤ live0 + merges_onto xs0 (lens ds0)
   last-in_use = let e = u.in_use in omega (arith, e)

@@ -1,4 +1,5 @@
 pub mod Merging
 pub mod Parts
+pub mod Pushed
 pub mod Ring
 pub mod RingView

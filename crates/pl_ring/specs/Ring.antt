@@ -20,11 +20,6 @@ pub record IsCapacity (capacity : ℕ) : Type 0 where
   pub least : segment_size ≤ capacity
   pub most : capacity ≤ most_capacity
 
--- how many places a ring may have: two for each segment, at most as many as the greatest capacity wants
-pub record HasPlaces (places : ℕ) : Type 0 where
-  pub even : places % 2 ≡ 0
-  pub most : place_size * places ≤ most_capacity
-
 -- the places of an idle pipe
 abbrev pub few_places : ℕ
 few_places = 2
@@ -33,3 +28,9 @@ few_places = 2
 abbrev pub IsBeside : (places : ℕ) → Option (Buffer Slice) → Type 0
 IsBeside places None = places ≡ few_places
 IsBeside places (Some b) = b ≡ buffer [] few_places
+
+-- The places of a ring: two for each segment, at most as many as the greatest capacity wants, and those that it keeps beside them.
+pub record HasPlaces (places : ℕ) (few : Option (Buffer Slice)) : Type 0 where
+  pub even : places % 2 ≡ 0
+  pub most : place_size * places ≤ most_capacity
+  pub beside : IsBeside places few

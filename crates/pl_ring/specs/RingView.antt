@@ -1,9 +1,9 @@
 -- The fields of a ring, as its slots.
 use Rattle.std.specs.Prelude.{◌≡◌, ◌≤◌, ◌*◌}
 use Rattle.pl_ring.specs.declared.ring.Ring.TheInside.{Inside}
-use Rattle.pl_ring.specs.Ring.{place_size, Ring, IsCapacity, HasPlaces, IsBeside}
-use Rattle.pl_segments.specs.Slots.{total, AllSolid}
-use Rattle.pl_ring.specs.Merging.{lens, AreMerged}
+use Rattle.pl_ring.specs.Pushed.{AreOfRing}
+use Rattle.pl_ring.specs.Ring.{place_size, Ring, IsCapacity, HasPlaces}
+use Rattle.pl_segments.specs.Slots.{total}
 
 -- the slots, and the capacity
 abbrev pub view_of : {A : Type 0} → Inside A → Ring
@@ -14,8 +14,6 @@ pub record IsSound {A : Type 0} (r : Inside A) : Type 0 where
   pub held : r.held ≡ total r.slots.items
   pub fits : r.held ≤ r.capacity
   pub enough : r.held ≤ place_size * r.slots.capacity
-  pub places : HasPlaces r.slots.capacity
-  pub beside : IsBeside r.slots.capacity r.few
+  pub places : HasPlaces r.slots.capacity r.few
   pub range : IsCapacity r.capacity
-  pub solid : AllSolid r.slots.items
-  pub merged : AreMerged (lens r.slots.items)
+  pub slots : AreOfRing r.slots.items

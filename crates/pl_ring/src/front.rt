@@ -1,6 +1,6 @@
 //! Slots at the front.
-ghost use Rattle.std.specs.Prelude.{◌≡◌, ◌+◌, ◌-◌, ◌≤◌, ◌++◌, length, take, drop, vec_len, vec_capacity, IfOk};
-ghost use Rattle.pl_segments.specs.Segments.{most_spare, segment_at};
+ghost use Rattle.std.specs.Prelude.{◌≡◌, ℕ, ◌+◌, ◌-◌, ◌<◌, ◌≤◌, ◌^◌, ◌++◌, length, take, drop, vec_len, vec_capacity, IfOk, OnOk};
+ghost use Rattle.pl_segments.specs.Segments.{segment_at, holders, live_count};
 ghost use Rattle.pl_segments.specs.Slices.{Lies, AllLie, reads, all_read};
 ghost use Rattle.pl_segments.specs.Turns.{Holds, Turns};
 ghost use Rattle.pl_segments.specs.Slots.{total, AllSolid, drop_bytes, front_of};
@@ -171,7 +171,6 @@ pub(crate) fn pop_into<A: Allocator + Copy>(
     ensures turns { Turns (segment_at store.old) slots.old.items (segment_at store.new) slots.new.items }
     ensures read { all_read (segment_at store.new) slots.new.items ≡ drop (length into.old) (all_read (segment_at store.old) slots.old.items) }
     ensures capacity { slots.new.capacity ≡ slots.old.capacity }
-    ensures spare { store.old.room ≤ most_spare → store.new.room ≤ most_spare }
 {
     // Most reads take what one write brought.
     if let Some(first) = take_whole(slots, into.len()) {
@@ -196,7 +195,6 @@ pub(crate) fn pop_only<A: Allocator + Copy>(
     ensures turns { Turns (segment_at store.old) slots.old.items (segment_at store.new) slots.new.items }
     ensures read { all_read (segment_at store.new) slots.new.items ≡ drop (length into.old) (all_read (segment_at store.old) slots.old.items) }
     ensures capacity { slots.new.capacity ≡ slots.old.capacity }
-    ensures spare { store.old.room ≤ most_spare → store.new.room ≤ most_spare }
 {
     let only = take_only(slots);
     store.read_out(only, into);
@@ -217,7 +215,6 @@ fn pop_parts<A: Allocator + Copy>(
     ensures turns { Turns (segment_at store.old) slots.old.items (segment_at store.new) slots.new.items }
     ensures read { all_read (segment_at store.new) slots.new.items ≡ drop (length into.old) (all_read (segment_at store.old) slots.old.items) }
     ensures capacity { slots.new.capacity ≡ slots.old.capacity }
-    ensures spare { store.old.room ≤ most_spare → store.new.room ≤ most_spare }
 {
     let count = into.len();
     copy_into(store, slots, into);
@@ -232,38 +229,40 @@ pub(crate) fn front_slices<A: Allocator + Copy>(
 ) -> Result<Vec<Slice, A>, NoMemory>
     ensures { IfOk result (λ list. list.items ≡ front_of count slots.now.items) }
 {
-    let mut list = Vec::with_capacity(alloc, slots.len())?;
+    let mut list = Vec::new(alloc);
     let (front, back) = slots.as_slices();
-    let rest = add_slices(front, count, &mut list);
-    add_slices(back, rest, &mut list);
+    let rest = add_slices(front, count, &mut list)?;
+    add_slices(back, rest, &mut list)?;
     Ok(list)
 }
 
-/// Adds the slices of the first bytes to a list that has the capacity for all, and answers how many bytes are left to be
-/// listed.
-fn add_slices<A: Allocator>(slots: &[Slice], count: usize, list: &mut Vec<Slice, A>) -> usize
-    requires { vec_len list.old + length slots.now ≤ vec_capacity list.old }
-    ensures items { list.new.items ≡ list.old.items ++ front_of count slots.now }
-    ensures len { vec_len list.new ≤ vec_len list.old + length slots.now }
-    ensures capacity { vec_capacity list.new ≡ vec_capacity list.old }
-    ensures left { result ≡ count - total slots.now }
+/// Adds the slices of the first bytes to a list, and answers how many bytes are left to be listed.
+fn add_slices<A: Allocator + Copy>(
+    slots: &[Slice],
+    count: usize,
+    list: &mut Vec<Slice, A>,
+) -> Result<usize, NoMemory>
+    ensures items { OnOk result (list.new.items ≡ list.old.items ++ front_of count slots.now) }
+    ensures left { IfOk result (λ rest. rest ≡ count - total slots.now) }
 {
     let mut place = 0;
     let mut rest = count;
     while place < slots.len() && (slots[place].len as usize) < rest {
-        list.push_reserved(slots[place]);
         rest -= slots[place].len as usize;
         place += 1;
     }
+    // The slots before this place go whole, so they are copied at once.
+    list.try_reserve(place + 1)?;
+    list.extend_from_slice(&slots[..place])?;
     if slots.len() <= place || rest == 0 {
-        return rest;
+        return Ok(rest);
     }
     list.push_reserved(Slice {
         segment: slots[place].segment,
         from: slots[place].from,
         len: rest as u32,
     });
-    0
+    Ok(0)
 }
 
 /// Lets the first bytes go. It takes no memory.
@@ -280,7 +279,6 @@ pub(crate) fn drop_front<A: Allocator + Copy>(
     ensures turns { Turns (segment_at store.old) slots.old.items (segment_at store.new) slots.new.items }
     ensures read { all_read (segment_at store.new) slots.new.items ≡ drop count (all_read (segment_at store.old) slots.old.items) }
     ensures capacity { slots.new.capacity ≡ slots.old.capacity }
-    ensures spare { store.old.room ≤ most_spare → store.new.room ≤ most_spare }
 {
     let mut rest = count;
     while 0 < rest {
@@ -297,6 +295,42 @@ pub(crate) fn drop_front<A: Allocator + Copy>(
             return;
         }
         store.release(first);
+        rest -= first.len as usize;
+    }
+}
+
+/// Takes the first bytes out of slots that are held, and leaves them held. A slot that goes whole keeps its hold, and one that goes in part gets
+/// another for what is left of it. It takes no memory.
+pub(crate) fn leave_front<A: Allocator + Copy>(
+    store: &mut Store<A>,
+    slots: &mut HeapCircularBuffer<Slice, A>,
+    count: usize,
+)
+    requires held { Holds (segment_at store.old) slots.old.items }
+    requires few { (key : ℕ) → holders (segment_at store.old) key < 2 ^ 100 }
+    requires solid { AllSolid slots.old.items }
+    requires count { count ≤ total slots.old.items }
+    ensures turns { Turns (segment_at store.old) slots.old.items (segment_at store.new) (front_of count slots.old.items ++ slots.new.items) }
+    ensures read { all_read (segment_at store.new) (front_of count slots.old.items ++ slots.new.items) ≡ all_read (segment_at store.old) slots.old.items }
+    ensures slots { slots.new.items ≡ drop_bytes count slots.old.items }
+    ensures kept { (live_count store.new.held ≡ live_count store.old.held) × (store.new.room ≡ store.old.room) }
+    ensures capacity { slots.new.capacity ≡ slots.old.capacity }
+{
+    let mut rest = count;
+    while 0 < rest {
+        // A proof learns here that no segment has more than 4,096 bytes.
+        let _segments = store.in_use();
+        let first = take_first(slots);
+        if rest < first.len as usize {
+            let kept = Slice {
+                segment: first.segment,
+                from: first.from + rest as u32,
+                len: first.len - rest as u32,
+            };
+            store.hold(kept);
+            put_first(slots, kept);
+            return;
+        }
         rest -= first.len as usize;
     }
 }

@@ -1,13 +1,11 @@
 //! Slots in a ring of fixed places.
-ghost use Rattle.std.specs.Prelude.{◌≡◌, ℕ, ◌+◌, ◌-◌, ◌*◌, ◌%◌, ◌<◌, ◌≤◌, Bool, List, [], ◌∷◌, ◌++◌, length, max, count_by, IfSome, IfNone};
+ghost use Rattle.std.specs.Prelude.{◌≡◌, ◌+◌, ◌-◌, ◌<◌, ◌≤◌, [], ◌∷◌, ◌++◌, length, max, IfSome, IfNone};
 ghost use Rattle.circular_buffer.specs.Buffer.{buffer};
-ghost use Rattle.pl_segments.specs.declared.slice.Slice.{Slice as Part};
 ghost use Rattle.pl_segments.specs.Segments.{segment_at, live_count};
-ghost use Rattle.pl_segments.specs.Slices.{all_read};
-ghost use Rattle.pl_segments.specs.Turns.{Holds, Turns};
-ghost use Rattle.pl_segments.specs.Slots.{total, AllSolid, last_len, ends_in_part};
-ghost use Rattle.pl_ring.specs.Ring.{place_size};
-ghost use Rattle.pl_ring.specs.Merging.{lens, AreMerged, joining, merges_onto};
+ghost use Rattle.pl_segments.specs.Turns.{Holds};
+ghost use Rattle.pl_segments.specs.Slots.{last_len, ends_in_part};
+ghost use Rattle.pl_ring.specs.Merging.{joining};
+ghost use Rattle.pl_ring.specs.Pushed.{CanTake, TookIn, PushedOne};
 
 use crate::plan::joins;
 use circular_buffer::HeapCircularBuffer;
@@ -125,22 +123,14 @@ pub(crate) fn push_slot<A: Allocator + Copy>(
     slot: Slice,
 )
     requires held { Holds (segment_at store.old) (slots.old.items ++ slot ∷ []) }
+    requires ring { CanTake slots.old slot.len }
+    requires some { 1 ≤ slot.len }
     requires room { joining slots.old.items slot ≤ store.old.room }
-    requires solid { AllSolid (slots.old.items ++ slot ∷ []) }
-    requires merged { AreMerged (lens slots.old.items) }
-    requires even { slots.old.capacity % 2 ≡ 0 }
-    requires fits { total slots.old.items + slot.len ≤ place_size * slots.old.capacity }
-    ensures turns { Turns (segment_at store.old) (slots.old.items ++ slot ∷ []) (segment_at store.new) slots.new.items }
-    ensures read { all_read (segment_at store.new) slots.new.items ≡ all_read (segment_at store.old) (slots.old.items ++ slot ∷ []) }
-    ensures merged { AreMerged (lens slots.new.items) }
-    ensures solid { AllSolid slots.new.items }
-    ensures capacity { slots.new.capacity ≡ slots.old.capacity }
+    ensures took { TookIn (segment_at store.old) slots.old (slot ∷ []) (segment_at store.new) slots.new }
+    ensures one { PushedOne slots.old.items slot slots.new.items }
     ensures room { store.old.room ≤ store.new.room + joining slots.old.items slot }
     ensures once { ends_in_part (segment_at store.new) slots.new.items + store.old.room ≤ store.new.room + max (1 - joining slots.old.items slot) (ends_in_part (segment_at store.old) slots.old.items) }
     ensures in_use { live_count store.new.held ≤ live_count store.old.held + joining slots.old.items slot }
-    ensures plan { (rest : List ℕ) → merges_onto slots.new.items rest + joining slots.old.items slot ≡ merges_onto slots.old.items (slot.len ∷ rest) }
-    ensures count { length slots.new.items + joining slots.old.items slot ≡ length slots.old.items + 1 }
-    ensures parts { (test : Part → Bool) → count_by test slots.new.items ≤ count_by test (slots.old.items ++ slot ∷ []) + joining slots.old.items slot }
 {
     if joins(slots.len(), last_len(slots), slot.len) {
         let last = take_last(slots);

@@ -1,14 +1,14 @@
 //! Slots that are pushed.
-ghost use Rattle.std.specs.Prelude.{◌≡◌, ℕ, ◌+◌, ◌-◌, ◌*◌, ◌%◌, ◌<◌, ◌≤◌, ◌^◌, Bool, [], ◌++◌, length, min, count_by, IfOk, OnOk, OnErr};
+ghost use Rattle.std.specs.Prelude.{◌≡◌, ℕ, ◌+◌, ◌-◌, ◌*◌, ◌<◌, ◌≤◌, ◌^◌, Bool, [], ◌++◌, length, min, count_by, IfOk, OnOk, OnErr};
 ghost use Rattle.pl_segments.specs.declared.slice.Slice.{Slice as Part};
-ghost use Rattle.pl_segments.specs.Segments.{segment_size, most_spare, segment_at, holders, live_count};
+ghost use Rattle.pl_segments.specs.Segments.{segment_size, segment_at, holders, live_count};
 ghost use Rattle.pl_segments.specs.Slices.{AllLie, all_read};
 ghost use Rattle.pl_segments.specs.Turns.{Holds, Turns};
-ghost use Rattle.pl_segments.specs.Slots.{total, AllSolid, solid_of, tail_room, ends_in_part};
-ghost use Rattle.pl_ring.specs.Ring.{place_size};
-ghost use Rattle.pl_ring.specs.Merging.{lens, AreMerged, merges_onto};
-ghost use Rattle.pl_ring.specs.Parts.{fresh};
+ghost use Rattle.pl_segments.specs.Slots.{total, solid_of, tail_room, ends_in_part, front_of};
+ghost use Rattle.pl_ring.specs.Merging.{lens, merges_onto};
+ghost use Rattle.pl_ring.specs.Pushed.{AreOfRing, CanTake, Pushed, TookIn, Moved, MakesAtMost, MergesOnto};
 
+use crate::front::leave_front;
 use crate::places::{last_len, push_slot, put_all, put_last, take_last};
 use crate::plan::plan_of;
 use circular_buffer::HeapCircularBuffer;
@@ -35,17 +35,12 @@ fn grow_tail<A: Allocator + Copy>(
     bytes: &[u8],
 )
     requires held { Holds (segment_at store.old) slots.old.items }
-    requires solid { AllSolid slots.old.items }
-    requires merged { AreMerged (lens slots.old.items) }
+    requires slots { AreOfRing slots.old.items }
     requires some { 1 ≤ length bytes.now }
     requires fits { length bytes.now ≤ tail_room (segment_at store.old) slots.old.items }
-    ensures turns { Turns (segment_at store.old) slots.old.items (segment_at store.new) slots.new.items }
-    ensures read { all_read (segment_at store.new) slots.new.items ≡ all_read (segment_at store.old) slots.old.items ++ bytes.now }
-    ensures solid { AllSolid slots.new.items }
-    ensures merged { AreMerged (lens slots.new.items) }
+    ensures pushed { Pushed (segment_at store.old) slots.old bytes.now (segment_at store.new) slots.new }
     ensures in_use { live_count store.new.held ≡ live_count store.old.held }
     ensures room { store.new.room ≡ store.old.room }
-    ensures capacity { slots.new.capacity ≡ slots.old.capacity }
 {
     let last = take_last(slots);
     let longer = store.try_append(last, bytes).unwrap();
@@ -60,17 +55,10 @@ fn push_new<A: Allocator + Copy>(
     bytes: &[u8],
 )
     requires held { Holds (segment_at store.old) slots.old.items }
-    requires solid { AllSolid slots.old.items }
-    requires merged { AreMerged (lens slots.old.items) }
-    requires even { slots.old.capacity % 2 ≡ 0 }
-    requires fits { total slots.old.items + length bytes.now ≤ place_size * slots.old.capacity }
+    requires ring { CanTake slots.old (length bytes.now) }
     requires room { 1 ≤ length bytes.now → length bytes.now + segment_size ≤ segment_size * store.old.room }
-    ensures turns { Turns (segment_at store.old) slots.old.items (segment_at store.new) slots.new.items }
-    ensures read { all_read (segment_at store.new) slots.new.items ≡ all_read (segment_at store.old) slots.old.items ++ bytes.now }
-    ensures solid { AllSolid slots.new.items }
-    ensures merged { AreMerged (lens slots.new.items) }
+    ensures pushed { Pushed (segment_at store.old) slots.old bytes.now (segment_at store.new) slots.new }
     ensures in_use { segment_size * live_count store.new.held ≤ segment_size * live_count store.old.held + length bytes.now + 2 * segment_size }
-    ensures capacity { slots.new.capacity ≡ slots.old.capacity }
 {
     let mut rest = bytes;
     while 0 < rest.len() {
@@ -93,15 +81,9 @@ fn push_first<A: Allocator + Copy>(
     requires place { 1 ≤ slots.old.capacity }
     requires some { 1 ≤ length bytes.now }
     requires most { length bytes.now ≤ segment_size }
-    ensures turns { OnOk result (Turns (segment_at store.old) [] (segment_at store.new) slots.new.items) }
-    ensures read { OnOk result (all_read (segment_at store.new) slots.new.items ≡ bytes.now) }
-    ensures solid { OnOk result (AllSolid slots.new.items) }
-    ensures merged { OnOk result (AreMerged (lens slots.new.items)) }
+    ensures pushed { OnOk result (Pushed (segment_at store.old) slots.old bytes.now (segment_at store.new) slots.new) }
     ensures in_use { OnOk result (live_count store.new.held ≡ live_count store.old.held + 1) }
-    ensures capacity { OnOk result (slots.new.capacity ≡ slots.old.capacity) }
-    ensures err { OnErr result (slots.new ≡ slots.old) }
-    ensures spare { store.old.room ≤ most_spare → store.new.room ≤ most_spare }
-    ensures store_err { OnErr result (store.new ≡ store.old) }
+    ensures unchanged { OnErr result ((slots.new ≡ slots.old) × (store.new ≡ store.old)) }
 {
     store.reserve(1)?;
     let slice = store.make_reserved(bytes);
@@ -118,19 +100,10 @@ pub(crate) fn push_bytes<A: Allocator + Copy>(
     bytes: &[u8],
 ) -> Result<(), NoMemory>
     requires held { Holds (segment_at store.old) slots.old.items }
-    requires solid { AllSolid slots.old.items }
-    requires merged { AreMerged (lens slots.old.items) }
-    requires even { slots.old.capacity % 2 ≡ 0 }
-    requires fits { total slots.old.items + length bytes.now ≤ place_size * slots.old.capacity }
-    ensures turns { OnOk result (Turns (segment_at store.old) slots.old.items (segment_at store.new) slots.new.items) }
-    ensures read { OnOk result (all_read (segment_at store.new) slots.new.items ≡ all_read (segment_at store.old) slots.old.items ++ bytes.now) }
-    ensures solid { OnOk result (AllSolid slots.new.items) }
-    ensures merged { OnOk result (AreMerged (lens slots.new.items)) }
+    requires ring { CanTake slots.old (length bytes.now) }
+    ensures pushed { OnOk result (Pushed (segment_at store.old) slots.old bytes.now (segment_at store.new) slots.new) }
     ensures in_use { OnOk result (segment_size * live_count store.new.held ≤ segment_size * live_count store.old.held + length bytes.now + 2 * segment_size) }
-    ensures capacity { OnOk result (slots.new.capacity ≡ slots.old.capacity) }
-    ensures err { OnErr result (slots.new ≡ slots.old) }
-    ensures spare { store.old.room ≤ most_spare → store.new.room ≤ most_spare }
-    ensures store_err { OnErr result (store.new ≡ store.old) }
+    ensures unchanged { OnErr result ((slots.new ≡ slots.old) × (store.new ≡ store.old)) }
 {
     // Most writes are small, and most pipes are empty when they come.
     if slots.is_empty() && !bytes.is_empty() && bytes.len() <= SEGMENT_SIZE {
@@ -147,19 +120,10 @@ fn push_behind<A: Allocator + Copy>(
     bytes: &[u8],
 ) -> Result<(), NoMemory>
     requires held { Holds (segment_at store.old) slots.old.items }
-    requires solid { AllSolid slots.old.items }
-    requires merged { AreMerged (lens slots.old.items) }
-    requires even { slots.old.capacity % 2 ≡ 0 }
-    requires fits { total slots.old.items + length bytes.now ≤ place_size * slots.old.capacity }
-    ensures turns { OnOk result (Turns (segment_at store.old) slots.old.items (segment_at store.new) slots.new.items) }
-    ensures read { OnOk result (all_read (segment_at store.new) slots.new.items ≡ all_read (segment_at store.old) slots.old.items ++ bytes.now) }
-    ensures solid { OnOk result (AllSolid slots.new.items) }
-    ensures merged { OnOk result (AreMerged (lens slots.new.items)) }
+    requires ring { CanTake slots.old (length bytes.now) }
+    ensures pushed { OnOk result (Pushed (segment_at store.old) slots.old bytes.now (segment_at store.new) slots.new) }
     ensures in_use { OnOk result (segment_size * live_count store.new.held ≤ segment_size * live_count store.old.held + length bytes.now + 2 * segment_size) }
-    ensures capacity { OnOk result (slots.new.capacity ≡ slots.old.capacity) }
-    ensures err { OnErr result (slots.new ≡ slots.old) }
-    ensures spare { store.old.room ≤ most_spare → store.new.room ≤ most_spare }
-    ensures store_err { OnErr result (store.new ≡ store.old) }
+    ensures unchanged { OnErr result ((slots.new ≡ slots.old) × (store.new ≡ store.old)) }
 {
     let grown = tail_room(store, slots).min(bytes.len());
     let (first, rest) = bytes.split_at(grown);
@@ -171,7 +135,6 @@ fn push_behind<A: Allocator + Copy>(
         grow_tail(store, slots, first);
     }
     push_new(store, slots, rest);
-    store.trim();
     Ok(())
 }
 
@@ -202,20 +165,13 @@ fn push_held<A: Allocator + Copy>(
     many: usize,
 )
     requires held { Holds (segment_at store.old) (slots.old.items ++ solid_of slices.now) }
+    requires ring { CanTake slots.old (total slices.now) }
     requires room { min (merges_onto slots.old.items (lens (solid_of slices.now))) (length (solid_of slices.now) + 1 + ends_in_part (segment_at store.old) slots.old.items - merges_onto slots.old.items (lens (solid_of slices.now))) ≤ store.old.room }
     requires many { many + merges_onto slots.old.items (lens (solid_of slices.now)) ≡ length slots.old.items + length (solid_of slices.now) }
-    requires solid { AllSolid slots.old.items }
-    requires merged { AreMerged (lens slots.old.items) }
-    requires even { slots.old.capacity % 2 ≡ 0 }
-    requires fits { total slots.old.items + total slices.now ≤ place_size * slots.old.capacity }
-    ensures turns { Turns (segment_at store.old) (slots.old.items ++ solid_of slices.now) (segment_at store.new) slots.new.items }
-    ensures read { all_read (segment_at store.new) slots.new.items ≡ all_read (segment_at store.old) (slots.old.items ++ solid_of slices.now) }
-    ensures solid { AllSolid slots.new.items }
-    ensures merged { AreMerged (lens slots.new.items) }
-    ensures capacity { slots.new.capacity ≡ slots.old.capacity }
-    ensures in_use { live_count store.new.held ≤ live_count store.old.held + merges_onto slots.old.items (lens (solid_of slices.now)) }
+    ensures took { TookIn (segment_at store.old) slots.old (solid_of slices.now) (segment_at store.new) slots.new }
     ensures count { length slots.new.items ≡ many }
     ensures parts { (test : Part → Bool) → count_by test slots.new.items ≤ count_by test (slots.old.items ++ solid_of slices.now) + merges_onto slots.old.items (lens (solid_of slices.now)) }
+    ensures in_use { live_count store.new.held ≤ live_count store.old.held + merges_onto slots.old.items (lens (solid_of slices.now)) }
 {
     if many == slots.len() + slices.len() {
         // None is empty, and none becomes one with another.
@@ -241,29 +197,45 @@ pub(crate) fn push_slices<A: Allocator + Copy>(
     requires lie { AllLie (segment_at store.old) slices.now }
     requires held { Holds (segment_at store.old) slots.old.items }
     requires few { (key : ℕ) → holders (segment_at store.old) key < 2 ^ 100 }
-    requires solid { AllSolid slots.old.items }
-    requires merged { AreMerged (lens slots.old.items) }
-    requires even { slots.old.capacity % 2 ≡ 0 }
+    requires ring { CanTake slots.old (total slices.now) }
     requires most { slots.old.capacity ≤ 512 }
-    requires fits { total slots.old.items + total slices.now ≤ place_size * slots.old.capacity }
     ensures bytes { IfOk result (λ bytes. bytes ≡ total slices.now) }
-    ensures turns { OnOk result (Turns (segment_at store.old) slots.old.items (segment_at store.new) slots.new.items) }
-    ensures read { OnOk result (all_read (segment_at store.new) slots.new.items ≡ all_read (segment_at store.old) slots.old.items ++ all_read (segment_at store.old) slices.now) }
-    ensures solid { OnOk result (AllSolid slots.new.items) }
-    ensures merged { OnOk result (AreMerged (lens slots.new.items)) }
-    ensures capacity { OnOk result (slots.new.capacity ≡ slots.old.capacity) }
-    ensures in_use { OnOk result (live_count store.new.held ≤ live_count store.old.held + merges_onto slots.old.items (lens (solid_of slices.now))) }
-    ensures count { OnOk result (length slots.new.items + merges_onto slots.old.items (lens (solid_of slices.now)) ≡ length slots.old.items + length (solid_of slices.now)) }
-    ensures parts { OnOk result (fresh (slots.old.items ++ slices.now) slots.new.items ≤ merges_onto slots.old.items (lens (solid_of slices.now))) }
-    ensures err { OnErr result (slots.new ≡ slots.old) }
-    ensures spare { store.old.room ≤ most_spare → store.new.room ≤ most_spare }
-    ensures store_err { OnErr result (store.new ≡ store.old) }
+    ensures pushed { OnOk result (Pushed (segment_at store.old) slots.old (all_read (segment_at store.old) slices.now) (segment_at store.new) slots.new) }
+    ensures merges { OnOk result (MergesOnto slots.old.items slices.now store.old slots.new.items store.new) }
+    ensures unchanged { OnErr result ((slots.new ≡ slots.old) × (store.new ≡ store.old)) }
 {
     let count = slots.len();
     let plan = plan_of(count, last_len(slots), slices);
     store.reserve(plan.merges.min(plan.slots - count + 2))?;
     hold_all(store, slices);
     push_held(store, slots, slices, plan.slots);
-    store.trim();
     Ok(plan.bytes)
+}
+
+/// Moves the first bytes of one ring's slots to another's, where they fit, all but the last slot with their holds. `slices` are those of these
+/// bytes. Answers how many bytes were moved. An error leaves all as it was.
+pub(crate) fn move_slices<A: Allocator + Copy>(
+    store: &mut Store<A>,
+    from: &mut HeapCircularBuffer<Slice, A>,
+    to: &mut HeapCircularBuffer<Slice, A>,
+    slices: &[Slice],
+    count: usize,
+) -> Result<(), NoMemory>
+    requires held { Holds (segment_at store.old) (to.old.items ++ from.old.items) }
+    requires few { (key : ℕ) → holders (segment_at store.old) key < 2 ^ 100 }
+    requires front { slices.now ≡ front_of count from.old.items }
+    requires count { count ≤ total from.old.items }
+    requires source { AreOfRing from.old.items }
+    requires ring { CanTake to.old count }
+    requires most { to.old.capacity ≤ 512 }
+    ensures moved { OnOk result (Moved count (segment_at store.old) from.old to.old (segment_at store.new) from.new to.new) }
+    ensures makes { OnOk result (MakesAtMost 3 (to.old.items ++ front_of count from.old.items) store.old to.new.items store.new) }
+    ensures unchanged { OnErr result ((from.new ≡ from.old) × (to.new ≡ to.old) × (store.new ≡ store.old)) }
+{
+    let before = to.len();
+    let plan = plan_of(before, last_len(to), slices);
+    store.reserve(plan.merges.min(plan.slots - before + 2))?;
+    leave_front(store, from, count);
+    push_held(store, to, slices, plan.slots);
+    Ok(())
 }

@@ -1,18 +1,18 @@
 //! The ring of a pipe.
 ghost use Rattle.std.specs.Prelude.{◌≡◌, ℕ, ◌+◌, ◌-◌, ◌*◌, ◌/◌, ◌<◌, ◌≤◌, ◌^◌, ◌↔◌, [], ◌++◌, length, take, drop, IfOk, IsOk, OnOk, OnErr, Err};
 ghost use Rattle.pl_model.specs.Numbers.{first_capacity};
-ghost use Rattle.pl_segments.specs.Segments.{segment_size, most_spare, segment_at, holders, live_count};
+ghost use Rattle.pl_segments.specs.Segments.{segment_size, segment_at, holders, live_count};
 ghost use Rattle.pl_segments.specs.Slices.{AllLie, all_read};
 ghost use Rattle.pl_segments.specs.Turns.{Holds, Turns};
-ghost use Rattle.pl_segments.specs.Slots.{total, AllSolid, solid_of, drop_bytes, front_of};
-ghost use Rattle.pl_ring.specs.Merging.{lens, AreMerged, merges_onto, IsFront};
-ghost use Rattle.pl_ring.specs.Parts.{fresh};
+ghost use Rattle.pl_segments.specs.Slots.{total, AllSolid, drop_bytes, front_of};
+ghost use Rattle.pl_ring.specs.Merging.{lens, AreMerged, IsFront};
+ghost use Rattle.pl_ring.specs.Pushed.{AreOfRing, Gains, Passed, MakesAtMost, MergesOnto};
 ghost use Rattle.circular_buffer.specs.Buffer.{buffer};
-ghost use Rattle.pl_ring.specs.Ring.{place_size, few_places, IsCapacity, HasPlaces, IsBeside};
+ghost use Rattle.pl_ring.specs.Ring.{place_size, few_places, IsCapacity, HasPlaces};
 
 use crate::fault::CapacityFault;
 use crate::front::{copy_front, drop_front, front_slices, pop_into, pop_only};
-use crate::push::{push_bytes, push_slices};
+use crate::push::{move_slices, push_bytes, push_slices};
 use circular_buffer::HeapCircularBuffer;
 use pl_model::numbers::FIRST_CAPACITY;
 use pl_segments::{NoMemory, Slice, SliceList, Store};
@@ -105,13 +105,10 @@ impl<A: Allocator + Copy> Ring<A> {
     pub fn push_bytes(&mut self, store: &mut Store<A>, bytes: &[u8]) -> Result<(), NoMemory>
         requires held { Holds (segment_at store.old) self.old.slots }
         requires fits { total self.old.slots + length bytes.now ≤ self.old.capacity }
-        ensures turns { OnOk result (Turns (segment_at store.old) self.old.slots (segment_at store.new) self.new.slots) }
-        ensures read { OnOk result (all_read (segment_at store.new) self.new.slots ≡ all_read (segment_at store.old) self.old.slots ++ bytes.now) }
+        ensures gains { OnOk result (Gains (segment_at store.old) self.old.slots bytes.now (segment_at store.new) self.new.slots) }
         ensures in_use { OnOk result (segment_size * live_count store.new.held ≤ segment_size * live_count store.old.held + length bytes.now + 2 * segment_size) }
         ensures capacity { self.new.capacity ≡ self.old.capacity }
-        ensures err { OnErr result (self.new ≡ self.old) }
-        ensures spare { store.old.room ≤ most_spare → store.new.room ≤ most_spare }
-        ensures store_err { OnErr result (store.new ≡ store.old) }
+        ensures unchanged { OnErr result ((self.new ≡ self.old) × (store.new ≡ store.old)) }
     {
         let held = self.held + bytes.len();
         make_places(
@@ -139,17 +136,11 @@ impl<A: Allocator + Copy> Ring<A> {
         requires held { Holds (segment_at store.old) self.old.slots }
         requires few { (key : ℕ) → holders (segment_at store.old) key < 2 ^ 100 }
         requires fits { total self.old.slots + total slices.now ≤ self.old.capacity }
-        ensures turns { OnOk result (Turns (segment_at store.old) self.old.slots (segment_at store.new) self.new.slots) }
-        ensures read { OnOk result (all_read (segment_at store.new) self.new.slots ≡ all_read (segment_at store.old) self.old.slots ++ all_read (segment_at store.old) slices.now) }
-        ensures in_use { OnOk result (live_count store.new.held ≤ live_count store.old.held + merges_onto self.old.slots (lens (solid_of slices.now))) }
-        ensures count { OnOk result (length self.new.slots + merges_onto self.old.slots (lens (solid_of slices.now)) ≡ length self.old.slots + length (solid_of slices.now)) }
-        ensures parts { OnOk result (fresh (self.old.slots ++ slices.now) self.new.slots ≤ merges_onto self.old.slots (lens (solid_of slices.now))) }
-        ensures front_in_use { OnOk result (IsFront slices.now → live_count store.new.held ≤ live_count store.old.held + 3) }
-        ensures front_parts { OnOk result (IsFront slices.now → fresh (self.old.slots ++ slices.now) self.new.slots ≤ 3) }
+        ensures gains { OnOk result (Gains (segment_at store.old) self.old.slots (all_read (segment_at store.old) slices.now) (segment_at store.new) self.new.slots) }
+        ensures merges { OnOk result (MergesOnto self.old.slots slices.now store.old self.new.slots store.new) }
+        ensures front { OnOk result (IsFront slices.now → MakesAtMost 3 (self.old.slots ++ slices.now) store.old self.new.slots store.new) }
         ensures capacity { self.new.capacity ≡ self.old.capacity }
-        ensures err { OnErr result (self.new ≡ self.old) }
-        ensures spare { store.old.room ≤ most_spare → store.new.room ≤ most_spare }
-        ensures store_err { OnErr result (store.new ≡ store.old) }
+        ensures unchanged { OnErr result ((self.new ≡ self.old) × (store.new ≡ store.old)) }
     {
         make_places(
             self.alloc,
@@ -171,6 +162,43 @@ impl<A: Allocator + Copy> Ring<A> {
         Ok(SliceList::from_vec(list))
     }
 
+    /// Takes the first bytes of another ring, which fit, to the end: slots that go whole are handed over with their holds. But for three at most, all
+    /// slots are slots that were there or slices of these bytes, and at most three segments are made. An error leaves all as it was.
+    pub fn take_front(
+        &mut self,
+        store: &mut Store<A>,
+        other: &mut Ring<A>,
+        count: usize,
+    ) -> Result<(), NoMemory>
+        requires held { Holds (segment_at store.old) (self.old.slots ++ other.old.slots) }
+        requires few { (key : ℕ) → holders (segment_at store.old) key < 2 ^ 100 }
+        requires count { count ≤ total other.old.slots }
+        requires fits { total self.old.slots + count ≤ self.old.capacity }
+        ensures passed { OnOk result (Passed count (segment_at store.old) other.old.slots self.old.slots (segment_at store.new) other.new.slots self.new.slots) }
+        ensures makes { OnOk result (MakesAtMost 3 (self.old.slots ++ front_of count other.old.slots) store.old self.new.slots store.new) }
+        ensures capacity { (self.new.capacity ≡ self.old.capacity) × (other.new.capacity ≡ other.old.capacity) }
+        ensures unchanged { OnErr result ((self.new ≡ self.old) × (other.new ≡ other.old) × (store.new ≡ store.old)) }
+    {
+        make_places(
+            self.alloc,
+            &mut self.slots,
+            &mut self.few,
+            self.capacity,
+            self.held + count,
+        )?;
+        let slices = front_slices(self.alloc, &other.slots, count)?;
+        move_slices(
+            store,
+            &mut other.slots,
+            &mut self.slots,
+            slices.as_slice(),
+            count,
+        )?;
+        self.held += count;
+        other.held -= count;
+        Ok(())
+    }
+
     /// Takes the first bytes. An error leaves all as it was.
     #[inline(always)]
     pub fn pop_bytes(&mut self, store: &mut Store<A>, count: usize) -> Result<Vec<u8, A>, NoMemory>
@@ -181,9 +209,7 @@ impl<A: Allocator + Copy> Ring<A> {
         ensures turns { OnOk result (Turns (segment_at store.old) self.old.slots (segment_at store.new) self.new.slots) }
         ensures read { OnOk result (all_read (segment_at store.new) self.new.slots ≡ drop count (all_read (segment_at store.old) self.old.slots)) }
         ensures capacity { self.new.capacity ≡ self.old.capacity }
-        ensures err { OnErr result (self.new ≡ self.old) }
-        ensures spare { store.old.room ≤ most_spare → store.new.room ≤ most_spare }
-        ensures store_err { OnErr result (store.new ≡ store.old) }
+        ensures unchanged { OnErr result ((self.new ≡ self.old) × (store.new ≡ store.old)) }
     {
         let bytes = copy_front(self.alloc, store, &self.slots, count)?;
         self.drop_front(store, count);
@@ -199,7 +225,6 @@ impl<A: Allocator + Copy> Ring<A> {
         ensures turns { Turns (segment_at store.old) self.old.slots (segment_at store.new) self.new.slots }
         ensures read { all_read (segment_at store.new) self.new.slots ≡ drop (length into.old) (all_read (segment_at store.old) self.old.slots) }
         ensures capacity { self.new.capacity ≡ self.old.capacity }
-        ensures spare { store.old.room ≤ most_spare → store.new.room ≤ most_spare }
     {
         // Most reads take all that is held, as one write brought it: the place of the first slot isn't worked out then.
         if into.len() == self.held && self.slots.len() == 1 {
@@ -220,7 +245,6 @@ impl<A: Allocator + Copy> Ring<A> {
         ensures turns { Turns (segment_at store.old) self.old.slots (segment_at store.new) self.new.slots }
         ensures read { all_read (segment_at store.new) self.new.slots ≡ drop count (all_read (segment_at store.old) self.old.slots) }
         ensures capacity { self.new.capacity ≡ self.old.capacity }
-        ensures spare { store.old.room ≤ most_spare → store.new.room ≤ most_spare }
     {
         drop_front(store, &mut self.slots, count);
         self.held -= count;
@@ -244,7 +268,6 @@ impl<A: Allocator + Copy> Ring<A> {
         requires { Holds (segment_at store.old) self.old.slots }
         ensures value { self.new ≡ record { slots = []; capacity = first_capacity } }
         ensures turns { Turns (segment_at store.old) self.old.slots (segment_at store.new) [] }
-        ensures spare { store.old.room ≤ most_spare → store.new.room ≤ most_spare }
     {
         let held = self.held;
         drop_front(store, &mut self.slots, held);
@@ -287,7 +310,7 @@ fn make_all_places<A: Allocator + Copy>(
     requires { length slots.old.items ≤ capacity / place_size }
     ensures slots { OnOk result (slots.new ≡ record slots.old { capacity = capacity / place_size }) }
     ensures beside { OnOk result (few.new ≡ Some (buffer [] few_places)) }
-    ensures err { OnErr result ((slots.new ≡ slots.old) × (few.new ≡ few.old)) }
+    ensures unchanged { OnErr result ((slots.new ≡ slots.old) × (few.new ≡ few.old)) }
 {
     let beside = HeapCircularBuffer::with_capacity(alloc, FEW_PLACES)?;
     slots.resize(capacity / PLACE_SIZE)?;
@@ -308,15 +331,12 @@ fn make_places<A: Allocator + Copy>(
     requires capacity { IsCapacity capacity }
     requires fits { bytes ≤ capacity }
     requires among { total slots.old.items ≤ bytes }
-    requires solid { AllSolid slots.old.items }
-    requires merged { AreMerged (lens slots.old.items) }
-    requires places { HasPlaces slots.old.capacity }
-    requires beside { IsBeside slots.old.capacity few.old }
+    requires slots { AreOfRing slots.old.items }
+    requires places { HasPlaces slots.old.capacity few.old }
     ensures items { slots.new.items ≡ slots.old.items }
-    ensures places { HasPlaces slots.new.capacity }
-    ensures beside { IsBeside slots.new.capacity few.new }
+    ensures places { HasPlaces slots.new.capacity few.new }
     ensures enough { OnOk result (bytes ≤ place_size * slots.new.capacity) }
-    ensures err { OnErr result ((slots.new ≡ slots.old) × (few.new ≡ few.old)) }
+    ensures unchanged { OnErr result ((slots.new ≡ slots.old) × (few.new ≡ few.old)) }
 {
     if bytes <= slots.capacity() * PLACE_SIZE {
         return Ok(());

@@ -122,7 +122,8 @@ fn with_option<'a>(
     command.arg(Arg::new(alloc, name).long(name))
 }
 
-/// The command with the options `--file-max N`, `--names-max N`, `--waiting-max N`, `--capacity-max N` and `--descriptors-max N`.
+/// The command with the options `--file-max N`, `--names-max N`, `--waiting-max N`, `--capacity-max N`, `--descriptors-max N` and
+/// `--spare-max BYTES`.
 fn with_limits<'a>(alloc: Global, command: Command<'a>) -> Result<Command<'a>, AllocError>
     ensures { IfOk result (λ made. app_of made ≡ with_limits (app_of command.entry)) }
 {
@@ -130,7 +131,8 @@ fn with_limits<'a>(alloc: Global, command: Command<'a>) -> Result<Command<'a>, A
     let command = with_option(alloc, command, "names-max")?;
     let command = with_option(alloc, command, "waiting-max")?;
     let command = with_option(alloc, command, "capacity-max")?;
-    with_option(alloc, command, "descriptors-max")
+    let command = with_option(alloc, command, "descriptors-max")?;
+    with_option(alloc, command, "spare-max")
 }
 
 /// The command `piperun [OPTION ..] [FILE]`, with all of these options.
@@ -200,8 +202,8 @@ fn file_of(alloc: Global, matches: &ArgMatches) -> Result<Option<String>, Fault>
 fn run_of(alloc: Global, matches: &ArgMatches) -> Result<Choice, Fault>
     ensures { HoldsMatches (told_of (one_text (found_of matches.now)) (first_value (found_of matches.now))) result }
 {
-    let limits = limits_of(matches)?;
     let memory = memory_of(matches)?;
+    let limits = limits_of(matches, memory)?;
     let file = file_of(alloc, matches)?;
     let check = matches.get_flag("check");
     let all = matches.get_flag("all");
@@ -226,12 +228,13 @@ fn refusal(error: &Error) -> Result<Choice, Fault>
 /// What the words of the command line ask for, without the program's own name: `--help` or `-h` for the help text, `--version` or
 /// `-V` for the version, else each option at most once, and at most one FILE. The options are `--check`, `--all` beside it, `--live`,
 /// `--strict` beside that, `--explain`, and, each with a number below 2^64, `--first-call`, `--file-max`, `--names-max`, `--waiting-max`,
-/// `--capacity-max` and `--memory`. What stands behind `--` is FILE, whatever it looks like.
+/// `--capacity-max`, `--descriptors-max`, `--spare-max` and `--memory`. What stands behind `--` is FILE, whatever it looks like.
 ///
 /// # Errors
 ///
 /// `CommandLine` where the command doesn't take the words, `--all` stands without `--check`, `--strict` without `--live`, both `--check`
-/// and `--live` are there, or an option's value isn't a number, or above 16,777,216 of `--file-max` or 1,048,576 of `--capacity-max`;
+/// and `--live` are there, or an option's value isn't a number, or above 16,777,216 of `--file-max`, 1,048,576 of `--capacity-max` or 256 of
+/// `--descriptors-max`;
 /// `NoMemory` where there was none to read them.
 pub fn words(alloc: Global, words: &[String]) -> Result<Choice, Fault>
     ensures { Chooses (map string_bytes words.now) result }

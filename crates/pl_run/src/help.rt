@@ -2,9 +2,9 @@
 
 /// The text of `--help`: the commands, each line of a script, an example with what it prints, and the statuses.
 pub const HELP: &str = "\
-Usage: piperun [--explain] [LIMIT ..] [--memory BYTES] [FILE]
-       piperun --check [--all] [--explain] [LIMIT ..] [--memory BYTES] [FILE]
-       piperun --live [--strict] [--explain] [LIMIT ..] [--memory BYTES] [FILE]
+Usage: piperun [--explain] [LIMIT ..] [FILE]
+       piperun --check [--all] [--explain] [LIMIT ..] [FILE]
+       piperun --live [--strict] [--explain] [LIMIT ..] [FILE]
 
 Runs a script of pipe calls and prints a line for each reply. The script is
 FILE, or standard input where there is none. LIMIT is one of these:
@@ -19,10 +19,14 @@ FILE, or standard input where there is none. LIMIT is one of these:
       --descriptors-max N
                       the most descriptors of a process; else it is 256, the
                       most
-
       --memory BYTES  the most bytes that the script, what it makes and its
                       output may take at once; a call that finds none prints
                       `nomem`, and changes nothing
+      --spare-max BYTES
+                      the most bytes of memory that are kept for further bytes
+                      of pipes and files; else it is 16777216, or a sixteenth
+                      of --memory where that is less
+
       --check         runs a record, and prints where the last reply isn't the
                       text of a comment `# => TEXT`: three lines, with the
                       number of the comment, that text and the reply

@@ -8,6 +8,7 @@ use crate::LIMITS;
 use crate::fault::Fault;
 use clap::ArgMatches;
 use pl_model::Limits;
+use pl_model::numbers::NO_LIMIT;
 
 /// The number that the option of this name gives, at most `most`, and `none` where the option isn't given.
 fn limit_of(matches: &ArgMatches, name: &str, most: u64, none: u64) -> Result<u64, Fault>
@@ -23,8 +24,10 @@ fn limit_of(matches: &ArgMatches, name: &str, most: u64, none: u64) -> Result<u6
     }
 }
 
-/// The number of the first call and the limits of the kernel, by the words that the command took.
-pub(crate) fn limits_of(matches: &ArgMatches) -> Result<Limits, Fault>
+/// The number of the first call and the limits of the kernel, by the words that the command took; `memory` is the limit on memory that they
+/// give.
+pub(crate) fn limits_of(matches: &ArgMatches, memory: Option<u64>) -> Result<Limits, Fault>
+    requires { IsMemory (one_text (found_of matches.now) (codes "memory")) memory }
     ensures { MatchResult result (AreLimits (told_of (one_text (found_of matches.now)) (first_value (found_of matches.now))))
         (λ fault. (fault ≡ CommandLine) × AreNoLimits (told_of (one_text (found_of matches.now)) (first_value (found_of matches.now)))) }
 {
@@ -42,6 +45,8 @@ pub(crate) fn limits_of(matches: &ArgMatches) -> Result<Limits, Fault>
         most_descriptors,
         most_descriptors,
     )?;
+    let usual_spare = Limits::usual_spare(memory.unwrap_or(NO_LIMIT));
+    let spare_max = limit_of(matches, "spare-max", u64::MAX, usual_spare)?;
     Ok(Limits {
         first_call,
         file_max: file_max as u32,
@@ -49,6 +54,7 @@ pub(crate) fn limits_of(matches: &ArgMatches) -> Result<Limits, Fault>
         waiting_max,
         capacity_max: capacity_max as u32,
         descriptors_max: descriptors_max as u32,
+        spare_max,
     })
 }
 

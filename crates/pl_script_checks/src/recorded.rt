@@ -16,6 +16,7 @@ const LIMITS: Limits = Limits {
     waiting_max: 2,
     capacity_max: 65_536,
     descriptors_max: 32,
+    spare_max: 0,
 };
 
 const MADE: &[(Ask, Want)] = &[

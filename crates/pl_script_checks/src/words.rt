@@ -58,6 +58,12 @@ const ALL_SET: Limits = Limits {
     waiting_max: 2,
     capacity_max: 8_192,
     descriptors_max: 5,
+    spare_max: 8_191,
+};
+
+const NOTHING_SPARE: Limits = Limits {
+    spare_max: 0,
+    ..LIMITS
 };
 
 const WORDS: &[(&[&str], Asked)] = &[
@@ -174,9 +180,16 @@ const WORDS_OF_LIMITS: &[(&[&str], Asked)] = &[
     (&["--descriptors-max", "256"], Runs(1)),
     (&["--descriptors-max", "257"], BAD),
     (&["--descriptors-max", "4294967299"], BAD),
+    (&["--spare-max", "0"], RunsIn(NOTHING_SPARE)),
+    (
+        &["--spare-max", "0", "--memory", "65536"],
+        RunsIn(NOTHING_SPARE),
+    ),
+    (&["--spare-max", "18446744073709551616"], BAD),
     (&["--file-max", "1", "--file-max", "1"], BAD),
     (
         &[
+            "--spare-max=8191",
             "--descriptors-max=5",
             "--capacity-max=8192",
             "--waiting-max=2",
@@ -214,13 +227,21 @@ fn from_call(first_call: u64) -> Limits {
     }
 }
 
+/// The same where the run may hold so many bytes.
+fn from_call_within(first_call: u64, memory: u64) -> Limits {
+    Limits {
+        spare_max: (memory / 16).min(16_777_216),
+        ..from_call(first_call)
+    }
+}
+
 /// Whether this live run is asked for.
 fn is_live(live: &LiveChoice, asked: Asked) -> bool {
     match asked {
         LivesOn(strict, n, memory) => {
             live.strict == strict
                 && !live.explain
-                && live.limits == from_call(n)
+                && live.limits == from_call_within(n, memory.unwrap_or(u64::MAX))
                 && live.memory == memory
                 && live.file.is_none()
         }
@@ -257,7 +278,7 @@ fn is_so(choice: &Result<Choice, Fault>, asked: Asked) -> bool {
                 *limits == from_call(n) && memory.is_none() && file.as_deref() == Some(name)
             }
             RunsWithin(n, most) => {
-                *limits == from_call(n) && *memory == Some(most) && file.is_none()
+                *limits == from_call_within(n, most) && *memory == Some(most) && file.is_none()
             }
             RunsIn(wanted) => *limits == wanted,
             _ => false,

@@ -1,5 +1,5 @@
 -- What each of two rings and a file over one store has of the laws on sharing.
-use Rattle.std.proofs.Common.{◌≡◌, ℕ, zero, suc, ◌-◌, ◌<◌, ◌≤◌, ◌^◌, Bool, true, false, List, [], ◌∷◌, nat_eq, arith}
+use Rattle.std.proofs.Common.{◌≡◌, ℕ, zero, suc, ◌-◌, ◌<◌, ◌≤◌, ◌^◌, Bool, true, false, List, [], ◌∷◌, ◌++◌, nat_eq, arith}
 use Rattle.pl_segments.specs.declared.slice.Slice.{Slice}
 use Rattle.pl_segments.specs.Segments.{Map}
 use Rattle.pl_segments.specs.Slices.{AllLie, naming, one_if}
@@ -7,6 +7,7 @@ use Rattle.pl_segments.specs.Slots.{total, AllSolid, drop_bytes, front_of}
 use Rattle.pl_segments.specs.Turns.{Holds, Turns}
 use Rattle.pl_segments.specs.Sharing.{AreShared, named, slots_at}
 use Rattle.pl_segments.proofs.Fronting.{front-total, total-drop}
+use Rattle.pl_segments.proofs.Turning.{naming-append, lie-append, lie-left, lie-right, others-lie}
 use Rattle.pl_segments.proofs.Shared.{one-held, shared-turned}
 
 one-le : (b : Bool) → one_if b ≤ 1
@@ -53,6 +54,29 @@ module _ (m : Map) (xs ys zs : List Slice) (shared : AreShared m (xs ∷ ys ∷ 
 
     pub file-turned : Turns m zs n new → AreShared n (xs ∷ ys ∷ new ∷ [])
     file-turned t = shared-turned m n (xs ∷ ys ∷ zs ∷ []) 2 new (omega arith) shared t
+
+-- bytes of the one ring go to the other
+pub ring-passed : (m n : Map) (xs ys zs left got : List Slice) → AreShared m (xs ∷ ys ∷ zs ∷ []) → Turns m (ys ++ xs) n (got ++ left) → AreShared n (left ∷ got ∷ zs ∷ [])
+ring-passed m n xs ys zs left got shared t = record {
+  counted = λ key. let a = naming-append ys xs key in let b = naming-append got left key in let c = shared.counted key in let d = t.counted key in omega (arith, a, b, c, d);
+  lie = lie;
+}
+  where
+    file : AllLie n zs
+    file = others-lie m n (ys ++ xs) (got ++ left) t zs (λ key. let a = naming-append ys xs key in let c = shared.counted key in omega (arith, a, c)) (shared.lie 2)
+
+    lie : (p : ℕ) → AllLie n (slots_at (left ∷ got ∷ zs ∷ []) p)
+    lie zero = lie-right n got left t.lie
+    lie (suc zero) = lie-left n got left t.lie
+    lie (suc (suc zero)) = file
+    lie (suc (suc (suc p))) = tt
+
+-- both rings are held
+pub both-held : (m : Map) (xs ys zs : List Slice) → AreShared m (xs ∷ ys ∷ zs ∷ []) → Holds m (ys ++ xs)
+both-held m xs ys zs shared = record {
+  lie = lie-append m ys xs (shared.lie 1) (shared.lie 0);
+  few = λ key. let a = naming-append ys xs key in let c = shared.counted key in omega (arith, a, c);
+}
 
 -- how many bytes the slices of a range have
 pub listed-total : (xs : List Slice) (from count : ℕ) → from ≤ total xs → count ≤ total xs - from → total (front_of count (drop_bytes from xs)) ≡ count

@@ -2,7 +2,7 @@
 use crate::fault::Fault;
 use crate::operation::MOST;
 use crate::operation::Operation::{
-    self, Copy, InUse, IsDense, Pop, Push, Put, Read, Reset, SetCapacity, Skip, Take, Tee,
+    self, Copy, InUse, IsDense, Pass, Pop, Push, Put, Read, Reset, SetCapacity, Skip, Take, Tee,
     Truncate, Turn, Write,
 };
 use crate::watched::{Draws, Watched};
@@ -70,7 +70,7 @@ const OF_ALL: &[Drawing] = &[Drawing {
     then: InUse(0, MOST),
 }];
 
-/// Operations of rings, 40 of them.
+/// Operations of rings.
 const RINGS: &[Operation] = &[
     Push(1),
     Push(1),
@@ -91,6 +91,11 @@ const RINGS: &[Operation] = &[
     Tee(4_097),
     Tee(20_000),
     Tee(1_048_576),
+    Pass(1),
+    Pass(4_095),
+    Pass(4_097),
+    Pass(20_000),
+    Pass(1_048_576),
     Pop(1),
     Pop(63),
     Pop(4_095),
@@ -146,6 +151,7 @@ const ALL: &[Operation] = &[
     Take(25_000, 1),
     Put(1, 25_000),
     Tee(1),
+    Pass(1),
     Pop(1),
     Copy(25_000, 1, 25_000),
     Skip(1),
@@ -173,6 +179,7 @@ const ALL: &[Operation] = &[
     Take(25_000, 4_096),
     Put(4_096, 25_000),
     Tee(4_096),
+    Pass(4_096),
     Pop(4_096),
     Copy(25_000, 4_096, 25_000),
     Skip(4_096),
@@ -191,6 +198,7 @@ const ALL: &[Operation] = &[
     Take(25_000, 9_000),
     Put(9_000, 25_000),
     Tee(9_000),
+    Pass(9_000),
     Pop(9_000),
     Copy(25_000, 9_000, 25_000),
     Skip(9_000),

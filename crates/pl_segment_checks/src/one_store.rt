@@ -128,6 +128,20 @@ impl<A: Allocator + Copy> OneStore<A> {
         Ok(())
     }
 
+    /// Moves the first bytes of the left ring to the right one.
+    pub(crate) fn pass(&mut self, count: usize) -> Result<(), Fault> {
+        if self.left.len() < count {
+            return Err(Fault::Unfit);
+        }
+        name_few(&self.left, &self.right, &self.file);
+        if !fits(&self.right, count) {
+            return Err(Fault::Unfit);
+        }
+        self.right
+            .take_front(&mut self.store, &mut self.left, count)?;
+        Ok(())
+    }
+
     /// Adds bytes of the file to the left ring, as slices.
     pub(crate) fn take(&mut self, from: usize, count: usize) -> Result<(), Fault> {
         let slices = range_of(&self.file, from, count)?;

@@ -12,6 +12,8 @@ pub(crate) enum Operation {
     PushThese(&'static [u8]),
     /// So many of the first bytes are added to the right ring.
     Tee(usize),
+    /// So many of the first bytes go over to the right ring.
+    Pass(usize),
     /// So many of the first bytes are taken.
     Pop(usize),
     /// So many of the first bytes go.

@@ -67,6 +67,7 @@ impl<A: Allocator + Copy> Watched<A> {
             Operation::Push(count) => self.push_made(count),
             Operation::PushThese(bytes) => self.push(bytes),
             Operation::Tee(count) => self.tee(count),
+            Operation::Pass(count) => self.pass(count),
             Operation::Pop(count) => self.pop(count),
             Operation::Skip(count) => self.skip(count),
             Operation::Reset => self.reset(),
@@ -135,6 +136,16 @@ impl<A: Allocator + Copy> Watched<A> {
         let front = self.left.bytes().get(..count).ok_or(Fault::Unfit)?;
         self.real.tee(count)?;
         self.right.push(front)?;
+        self.in_use_within(0, most)
+    }
+
+    /// So does a move of it.
+    fn pass(&mut self, count: usize) -> Result<(), Fault> {
+        let most = self.real.in_use().saturating_add(3);
+        let front = self.left.bytes().get(..count).ok_or(Fault::Unfit)?;
+        self.real.pass(count)?;
+        self.right.push(front)?;
+        self.left.skip(count);
         self.in_use_within(0, most)
     }
 
@@ -298,6 +309,7 @@ impl<A: Allocator + Copy> Watched<A> {
         match operation {
             Operation::Push(count) => Operation::Push(count.min(room)),
             Operation::Tee(count) => Operation::Tee(count.min(held).min(self.right.room())),
+            Operation::Pass(count) => Operation::Pass(count.min(held).min(self.right.room())),
             Operation::Pop(count) => Operation::Pop(count.min(held)),
             Operation::Skip(count) => Operation::Skip(count.min(held)),
             Operation::Take(from, count) => Operation::Take(draws.below(from), count.min(room)),

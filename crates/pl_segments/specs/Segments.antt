@@ -1,14 +1,10 @@
 -- Segments by key, as contracts see a store of them.
-use Rattle.std.specs.Prelude.{◌≤◌, ℕ, ◌+◌, ◌-◌, nat_eq, List, [], ◌++◌, length, Option, None, Some, IfSome, is_some, if◌then◌else◌, slice_index_or, count_by}
+use Rattle.std.specs.Prelude.{◌≤◌, ℕ, ◌+◌, ◌-◌, nat_eq, List, [], ◌++◌, length, min, Option, None, Some, IfSome, is_some, if◌then◌else◌, slice_index_or, count_by}
 use Rattle.std.specs.List.{splice}
 
 -- how many bytes fit a segment
 abbrev pub segment_size : ℕ
 segment_size = 4096
-
--- Our own: the blocks of gone segments that are kept for further ones, 1,048,576 bytes of memory.
-abbrev pub most_spare : ℕ
-most_spare = 256
 
 -- the bytes that a segment is filled with, and how many hold it
 pub record Segment : Type 0 where
@@ -80,6 +76,10 @@ less_held (Some s) = if nat_eq s.holders 1 then None else Some (record s { holde
 abbrev pub longer : List ℕ → Option Segment → Option Segment
 longer more None = None
 longer more (Some s) = Some (record s { filled = s.filled ++ more })
+
+-- at most so many spare segments are left
+abbrev pub trimmed : ℕ → Segments → Segments
+trimmed most m = record m { room = min most m.room }
 
 -- the segment with bytes from a place on, over those that are there
 abbrev pub overwritten : ℕ → List ℕ → Option Segment → Option Segment

@@ -1,33 +1,23 @@
 //! The keys of the spare segments.
 ghost use Rattle.std.specs.Prelude.{◌≡◌, ◌+◌, ◌<◌, ◌≤◌, ◌↔◌, [], ◌∷◌, ◌++◌, true, false, length, OnOk, IfSome, IsSome};
 ghost use Rattle.std.specs.Option.{option_to_list};
-ghost use Rattle.pl_segments.specs.Segments.{most_spare};
 
 use std::alloc::{AllocError, Allocator};
 use std::marker::Model;
-
-/// The segments that are kept for their memory when nobody holds them any more: 1,048,576 bytes of memory, as much as one full
-/// pipe of the greatest capacity holds, so that filling and draining it again takes memory for one segment at most.
-pub(crate) const MOST_SPARE: usize = 256;
 
 /// Keys, and how many there are places for.
 #[derive(Drop)]
 pub(crate) struct Keys<A: Allocator> {
     keys: Vec<usize, A>,
-    // As many as there are places for, but at most `MOST_SPARE`: one comparison tells whether a key is kept.
-    most: usize,
 }
 
 impl<A: Allocator> Model for Keys<A> {
-    ghost use Rattle.std.specs.Prelude.{◌≤◌, vec_capacity};
+    ghost use Rattle.std.specs.Prelude.{vec_capacity};
     ghost use Rattle.pl_segments.specs.Keys.{Keys as Listed};
-    ghost use Rattle.pl_segments.specs.Segments.{most_spare};
 
     ghost Value = { Listed };
 
     ghost view = { λ k. record { items = k.keys.items; capacity = vec_capacity k.keys } };
-
-    ghost invariant = { λ k. (k.most ≤ most_spare) × (k.most ≤ vec_capacity k.keys) };
 }
 
 impl<A: Allocator> Keys<A> {
@@ -37,7 +27,6 @@ impl<A: Allocator> Keys<A> {
     {
         Keys {
             keys: Vec::new(alloc),
-            most: 0,
         }
     }
 
@@ -62,9 +51,7 @@ impl<A: Allocator> Keys<A> {
         ensures items { self.new.items ≡ self.old.items }
         ensures ok { OnOk result (length self.new.items + additional ≤ self.new.capacity) }
     {
-        self.keys.try_reserve(additional)?;
-        self.most = self.keys.capacity().min(MOST_SPARE);
-        Ok(())
+        self.keys.try_reserve(additional)
     }
 
     /// Adds one, for which there is a place.
@@ -75,13 +62,13 @@ impl<A: Allocator> Keys<A> {
         self.keys.push_reserved(key);
     }
 
-    /// Adds one where there are fewer than `MOST_SPARE` and there is a place for it, and answers whether it did.
+    /// Adds one where there is a place for it, and returns whether it did.
     #[inline(always)]
     pub(crate) fn keep(&mut self, key: usize) -> bool
-        ensures kept { result ≡ true → (self.new.items ≡ self.old.items ++ key ∷ []) × (length self.old.items < most_spare) }
+        ensures kept { result ≡ true → self.new.items ≡ self.old.items ++ key ∷ [] }
         ensures full { result ≡ false → self.new ≡ self.old }
     {
-        if self.keys.len() < self.most {
+        if self.keys.len() < self.keys.capacity() {
             self.keys.push_reserved(key);
             true
         } else {

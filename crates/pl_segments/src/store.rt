@@ -1,13 +1,13 @@
 //! The store of segments.
-ghost use Rattle.std.specs.Prelude.{◌≡◌, ◌++◌, nat_eq, if◌then◌else◌, ◌+◌, ◌-◌, ◌<◌, ◌≤◌, ◌^◌, [], ◌∷◌, length, take, min, max, IsOk, IfOk, OnErr, OnOk, Some, None};
+ghost use Rattle.std.specs.Prelude.{◌≡◌, ◌++◌, nat_eq, if◌then◌else◌, ◌+◌, ◌-◌, ◌<◌, ◌≤◌, ◌^◌, [], ◌∷◌, length, take, max, IsOk, IfOk, OnErr, OnOk, Some, None};
 ghost use Rattle.std.specs.List.{splice};
-ghost use Rattle.pl_segments.specs.Segments.{segment_size, most_spare, segment_at, set_at, filled, holders, AreGood, live_count, more_held, less_held, longer, overwritten};
+ghost use Rattle.pl_segments.specs.Segments.{segment_size, segment_at, set_at, filled, holders, AreGood, live_count, more_held, less_held, longer, trimmed, overwritten};
 ghost use Rattle.pl_segments.specs.Slices.{Lies, reads, longer_by, appended, room_after, is_part};
 ghost use Rattle.pl_segments.specs.Turns.{Holds, Turns};
 
 use crate::block::{Block, SEGMENT_SIZE, put};
 use crate::fault::{AppendFault, NoMemory};
-use crate::keys::{Keys, MOST_SPARE};
+use crate::keys::Keys;
 use crate::segment::Segment;
 use crate::slice::Slice;
 use slab::Slab;
@@ -64,14 +64,13 @@ impl<A: Allocator + Copy> Store<A> {
         self.spare.len()
     }
 
-    /// Gives back the memory of spare segments, but for 256 of them. It takes no memory.
+    /// Gives back the memory of spare segments, so that at most so many stay. It takes no memory.
     #[inline(always)]
-    pub fn trim(&mut self)
-        ensures room { self.new.room ≡ min most_spare self.old.room }
-        ensures kept { self.new ≡ record self.old { room = self.new.room } }
+    pub fn trim(&mut self, most: usize)
+        ensures { self.new ≡ trimmed most self.old }
     {
-        if MOST_SPARE < self.spare.len() {
-            self.drop_spares(MOST_SPARE);
+        if most < self.spare.len() {
+            self.drop_spares(most);
         }
     }
 
@@ -101,11 +100,10 @@ impl<A: Allocator + Copy> Store<A> {
         ensures kept { self.new ≡ record self.old { room = self.new.room } }
         ensures err { OnErr result (self.new ≡ self.old) }
     {
-        self.segments.reserve(1)?;
         // A place for the key of each segment that there is then, so that all can be kept when nobody holds them any more.
-        let places = self.segments.len().min(MOST_SPARE - 1) + 1;
-        self.spare
-            .try_reserve(places.saturating_sub(self.spare.len()).max(1))?;
+        let places = self.in_use().saturating_add(1);
+        self.segments.reserve(1)?;
+        self.spare.try_reserve(places)?;
         let block = Block::new(self.alloc)?;
         let key = self.segments.insert_reserved(Segment::new(block));
         self.spare.push_reserved(key);
@@ -195,7 +193,6 @@ impl<A: Allocator + Copy> Store<A> {
         ensures released { segment_at self.new ≡ set_at (segment_at self.old) slice.segment (less_held (segment_at self.old slice.segment)) }
         ensures in_use { live_count self.new.held + (if nat_eq (holders (segment_at self.old) slice.segment) 1 then 1 else 0) ≡ live_count self.old.held }
         ensures room { self.old.room ≤ self.new.room }
-        ensures spare { self.new.room ≤ max most_spare self.old.room }
         ensures turns { Turns (segment_at self.old) (slice ∷ []) (segment_at self.new) [] }
     {
         self.read_out(slice, &mut []);
@@ -210,7 +207,6 @@ impl<A: Allocator + Copy> Store<A> {
         ensures released { segment_at self.new ≡ set_at (segment_at self.old) slice.segment (less_held (segment_at self.old slice.segment)) }
         ensures in_use { live_count self.new.held + (if nat_eq (holders (segment_at self.old) slice.segment) 1 then 1 else 0) ≡ live_count self.old.held }
         ensures room { self.old.room ≤ self.new.room }
-        ensures spare { self.new.room ≤ max most_spare self.old.room }
         ensures turns { Turns (segment_at self.old) (slice ∷ []) (segment_at self.new) [] }
     {
         let segment = &mut self.segments[slice.segment];
@@ -222,7 +218,7 @@ impl<A: Allocator + Copy> Store<A> {
             put(into, bytes);
             return;
         }
-        // It is kept where fewer than `MOST_SPARE` are and there is a place for its key.
+        // It stays for further bytes where there is a place for its key.
         if self.spare.keep(slice.segment) {
             put(into, bytes);
         } else {

@@ -1,3 +1,5 @@
+-- What a move or a copy asks of a pipe, said of one that is there.
+pub mod Asking
 -- What a try of a splice or a tee comes to.
 pub mod Trying
 -- What bytes that went over leave.

@@ -1,5 +1,5 @@
 -- How bytes are kept after a splice or a tee: they are shared, not copied.
-use Rattle.std.specs.Prelude.{ℕ, ℤ, ◌+◌, ◌≤◌, List, [], ◌∷◌, length, nat_eq, Option, IfSome, unwrap_or, option_and_then}
+use Rattle.std.specs.Prelude.{ℕ, ℤ, ◌≤◌, List, [], ◌∷◌, length, nat_eq, Option, IfSome, unwrap_or, option_and_then}
 use Rattle.std.specs.declared.option.Option.TheVariants.{None, Some}
 use Rattle.pl_model.specs.declared.calls.Call.{Call}
 use Rattle.pl_model.specs.declared.calls.Call.TheVariants.{Splice, Tee}
@@ -9,24 +9,12 @@ use Rattle.pl_model.specs.declared.node.Node.{Node}
 use Rattle.pl_model.specs.declared.node.Node.TheVariants.{Pipe, File}
 use Rattle.pl_model.specs.Map.{get}
 use Rattle.pl_parked.specs.declared.call.ParkedCall.{ParkedCall}
-use Rattle.pl_segments.specs.Sharing.{named, slots_at}
-use Rattle.pl_ring.specs.Parts.{strange}
 use Rattle.pl_desc.specs.Rows.{at, row_of}
 use Rattle.pl_desc.specs.Descs.{Opened}
 use Rattle.pl_nodes.specs.Nodes.{Memory}
+use Rattle.pl_nodes.specs.Moving.{SharesSlots, AddsNone}
 use Rattle.pl_state.specs.Contents.{Contents}
 use Rattle.pl_splices.specs.declared.sides.Side.{Side}
-
--- At most three segments came, and but for three at most all slots of the one are slots that it had, or lie within slots of the
--- other.
-pub record SharesSlots (old new : Memory) (from to : ℕ) : Type 0 where
-  pub few : new.segments ≤ old.segments + 3
-  pub parts : strange (slots_at old.slots to) (slots_at old.slots from) (slots_at new.slots to) ≤ 3
-
--- No segment came.
-pub record AddsNone (old new : Memory) : Type 0 where
-  pub fewer : new.segments ≤ old.segments
-  pub named_before : (key : ℕ) → 1 ≤ named new.slots key → 1 ≤ named old.slots key
 
 -- splice(2), tee(2): what may come of memory as bytes go from one node to another, into a file at this place. That they share
 -- segments is our own.

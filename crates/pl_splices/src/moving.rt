@@ -2,10 +2,11 @@
 ghost use Rattle.std.specs.Prelude.{◌≡◌, ◌≢◌, ◌≤◌, IfOk, OnOk, OnErr, IfSome, None, length, unwrap_or, ◌-◌, false};
 ghost use Rattle.pl_model.specs.Transfer.{room};
 ghost use Rattle.pl_desc.specs.Rows.{at};
+ghost use Rattle.pl_nodes.specs.Moving.{SharesSlots, AddsNone};
 ghost use Rattle.pl_state.specs.Opens.{OpenOn};
 ghost use Rattle.pl_splices.specs.Sides.{either_is_packets};
 ghost use Rattle.pl_splices.specs.Moves.{Goes, Fits, GoesOver, Tries, WouldMove};
-ghost use Rattle.pl_splices.specs.Shares.{SharesSlots, AddsNone, SharesBetween, place_in};
+ghost use Rattle.pl_splices.specs.Shares.{SharesBetween, place_in};
 
 use crate::sides::{Side, advance, either_is_packet, source_of, start_of, target_of};
 use pl_decisions::case_of_move;

@@ -59,7 +59,7 @@ module _ {A : Type 0} (k : Inside A) (invariant : IsSound A (view_of k) × AreCo
 
 -- what a call on a pipe leaves: other pipes, and all else as it was
 pub moved_view : {A : Type 0} (k : Inside A) (new : KeptNodes) → SameFiles k.nodes new → with_pipes (view_of k) (nodes_of new) ≡ view_of (record k { nodes = new })
-moved_view k new same = (λ i. contents k.descs (record { pipes = new.pipes; files = sym same.files i; names = sym same.names i; file_max = sym same.file_max i; memory = memory_of new }) k.parked k.limits)
+moved_view k new same = (λ i. contents k.descs (record { pipes = new.pipes; files = sym same.files i; names = sym same.names i; limits = sym same.limits i; memory = memory_of new }) k.parked k.limits)
 
 -- A call is parked, and waits on a description that is open on a pipe.
 pub record CallOnPipe {A : Type 0} (k : Contents A) : Type 0 where

@@ -1,5 +1,5 @@
 -- What a kernel holds, and the machine's state that it is.
-use Rattle.std.specs.Prelude.{ℕ, Bool, List, length, nat_lt, Option, IsSome, IsTrue, option_map, map}
+use Rattle.std.specs.Prelude.{◌/◌, ℕ, Bool, List, length, nat_lt, Option, IsSome, IsTrue, option_map, map}
 use Rattle.pl_model.specs.declared.calls.Limits.{Limits}
 use Rattle.pl_model.specs.declared.calls.Mode.{Mode}
 use Rattle.pl_model.specs.declared.node.Node.{Node}
@@ -15,23 +15,29 @@ use Rattle.pl_parked.specs.declared.call.ParkedCall.{ParkedCall}
 use Rattle.pl_parked.specs.Calls.{Calls}
 use Rattle.pl_desc.specs.Rows.{at, Tables, is_pid, row_at}
 use Rattle.pl_desc.specs.Descs.{Opened, Descs}
+use Rattle.pl_segments.specs.Segments.{segment_size}
+use Rattle.pl_nodes.specs.declared.nodes.NodeLimits.{NodeLimits}
 use Rattle.pl_nodes.specs.Nodes.{Nodes as KeptNodes}
 use Rattle.pl_nodes.specs.Nodes.{Memory, memory_of}
 use Rattle.pl_state.specs.declared.access.Access.{Access}
 use Rattle.pl_state.specs.declared.access.Access.TheVariants.{Reading, Writing}
 
--- The nodes: pipes and files by key, the names of files and FIFOs, the most bytes of a file, and how bytes are kept, of which
--- processes see nothing.
+-- The nodes: pipes and files by key, the names of files and FIFOs, their limits, and how bytes are kept, of which processes see
+-- nothing.
 pub record Nodes : Type 0 where
   pub pipes : List (Option PipeState)
   pub files : List (Option (List ℕ))
   pub names : Map (List ℕ) Node
-  pub file_max : ℕ
+  pub limits : NodeLimits
   pub memory : Memory
+
+-- The limits of pipes and files. Of the memory that is kept for further bytes whole segments count.
+abbrev pub node_limits : Limits → NodeLimits
+node_limits limits = record { file_max = limits.file_max; spare_max = limits.spare_max / segment_size }
 
 -- what the kernel has of its nodes
 abbrev pub nodes_of : KeptNodes → Nodes
-nodes_of n = record { pipes = n.pipes; files = n.files; names = n.names; file_max = n.file_max; memory = memory_of n }
+nodes_of n = record { pipes = n.pipes; files = n.files; names = n.names; limits = n.limits; memory = memory_of n }
 
 -- the node is there
 abbrev pub IsThere : Nodes → Node → Type 0

@@ -50,7 +50,7 @@ pub record Leaves (before after : List (Option Opened)) (old new : Nodes) (n : N
   pub pipes : at new.pipes ≡ pipes_left before after old n
   pub files : at new.files ≡ files_left after old n
   pub names : new.names ≡ old.names
-  pub file_max : new.file_max ≡ old.file_max
+  pub limits : new.limits ≡ old.limits
 
 -- a loose hold of the description was given up
 pub record Releases (old new : Descs) (before after : Nodes) (key : ℕ) : Type 0 where

@@ -13,7 +13,7 @@ use Rattle.pl_parked.specs.declared.call.ParkedCall.{ParkedCall}
 use Rattle.pl_numbered.specs.Rising.{Rise}
 use Rattle.pl_desc.specs.Rows.{at, is_pid, count_at}
 use Rattle.pl_desc.specs.Descs.{Opened, Descs, IsTidy}
-use Rattle.pl_state.specs.Contents.{Contents, Nodes, IsThere, core_of}
+use Rattle.pl_state.specs.Contents.{Contents, Nodes, IsThere, node_limits, core_of}
 
 -- What may wait, with so many bytes taken: a read, an open, a splice, a tee and a poll take none, a write less than it has, and none
 -- where it is to go in whole. A poll has no more entries than a process has descriptors.
@@ -79,8 +79,8 @@ pub record IsWhole (A : Type 0) (k : Contents A) : Type 0 where
   pub numbered : k.calls.next ≤ last_call
   -- so a call on a description finds its node
   pub there : AreThere (at k.opened) k.nodes
-  -- so a file ends where the machine's does
-  pub limit : k.nodes.file_max ≡ k.limits.file_max
+  -- so a file ends where the machine's does, and no more memory is kept than the host let be
+  pub limit : k.nodes.limits ≡ node_limits k.limits
   -- so a name that is taken away stood for one node alone
   pub once : EachOnce (pointwise nat_eq) k.nodes.names
   -- the end of a step has nothing more to tidy, so what is described is live, and a refused call changes nothing

@@ -29,7 +29,7 @@ fn leave_pipe<A: Allocator + Copy>(
     ensures pipes { at nodes.new.pipes ≡ set_at nat_eq (at nodes.old.pipes) pipe (option_map (with_these_ends has_reader has_writer had_writer) (kept_if ((has_reader || has_writer) || has_name nodes.old.names (Node.Pipe pipe)) (at nodes.old.pipes pipe))) }
     ensures files { at nodes.new.files ≡ at nodes.old.files }
     ensures names { nodes.new.names ≡ nodes.old.names }
-    ensures file_max { nodes.new.file_max ≡ nodes.old.file_max }
+    ensures limits { nodes.new.limits ≡ nodes.old.limits }
     ensures shrinks { Shrinks (memory_of nodes.old) (memory_of nodes.new) }
 {
     let was_hung = nodes.is_hung(pipe);
@@ -57,7 +57,7 @@ fn leave_file<A: Allocator + Copy>(
     ensures files { at nodes.new.files ≡ set_at nat_eq (at nodes.old.files) file (kept_if ((has_reader || has_writer) || has_name nodes.old.names (Node.File file)) (at nodes.old.files file)) }
     ensures pipes { at nodes.new.pipes ≡ at nodes.old.pipes }
     ensures names { nodes.new.names ≡ nodes.old.names }
-    ensures file_max { nodes.new.file_max ≡ nodes.old.file_max }
+    ensures limits { nodes.new.limits ≡ nodes.old.limits }
     ensures shrinks { Shrinks (memory_of nodes.old) (memory_of nodes.new) }
 {
     if has_reader || has_writer || nodes.has_name(Node::File(file)) {

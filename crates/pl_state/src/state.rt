@@ -1,11 +1,13 @@
 //! All that a kernel holds.
 ghost use Rattle.pl_model.specs.Numbers.{most_file_bytes};
-ghost use Rattle.std.specs.Prelude.{◌≤◌};
+ghost use Rattle.pl_state.specs.Contents.{node_limits};
+ghost use Rattle.std.specs.Prelude.{◌≡◌, ◌≤◌};
 
 use pl_desc::Descs;
 use pl_model::Limits;
-use pl_nodes::Nodes;
+use pl_nodes::{NodeLimits, Nodes};
 use pl_parked::Parked;
+use pl_segments::SEGMENT_SIZE;
 use std::alloc::{Allocator, Global};
 use std::marker::Model;
 
@@ -32,6 +34,16 @@ impl<A: Allocator> Model for KernelState<A> {
     ghost invariant = { λ k. IsSound A (view_of k) × AreCounted A k.descs k.parked.calls };
 }
 
+// The limits of pipes and files. Of the memory that is kept for further bytes whole segments count.
+fn node_limits(limits: Limits) -> NodeLimits
+    ensures { result ≡ node_limits limits }
+{
+    NodeLimits {
+        file_max: limits.file_max as usize,
+        spare_max: (limits.spare_max / SEGMENT_SIZE as u64) as usize,
+    }
+}
+
 impl<A: Allocator + Copy> KernelState<A> {
     ghost use Rattle.pl_model.specs.Numbered.{opening};
     ghost use Rattle.pl_state.specs.Makes.{Stands};
@@ -45,7 +57,7 @@ impl<A: Allocator + Copy> KernelState<A> {
             alloc,
             limits,
             descs: Descs::new(alloc),
-            nodes: Nodes::new(alloc, limits.file_max as usize),
+            nodes: Nodes::new(alloc, node_limits(limits)),
             parked: Parked::new(alloc, limits.first_call),
         }
     }

@@ -41,17 +41,19 @@ impl Clay {
             capacity,
             file_max,
             descriptors_max,
+            spare_max,
         } = *limits;
         let sizes = u64::from(file_max) << 32 | u64::from(capacity);
         // the words of bindingclay_limits, whose first one is its size
         let words = [
-            56,
+            64,
             first_call,
             memory,
             names,
             waiting_calls,
             sizes,
             u64::from(descriptors_max),
+            spare_max,
         ];
         let mut kernel = std::ptr::null_mut();
         let mut budget = std::ptr::null_mut();

@@ -11,7 +11,7 @@ impl Clay {
     /// has to be the recorded one then.
     ///
     /// The record is in the memory of the kernel until it is handed out. So while steps are recorded, any of them may be `NoMemory`, and has
-    /// changed nothing then. A read asks for as much memory as there is room for its bytes.
+    /// changed nothing then. A read asks for memory for a copy of the bytes that it gives and for its two lines.
     ///
     /// # Errors
     ///

@@ -16,6 +16,7 @@ impl Clay {
             capacity,
             file_max,
             descriptors_max,
+            spare_max,
         } = *limits;
         let limits = Limits {
             memory,
@@ -24,6 +25,7 @@ impl Clay {
             capacity,
             file_max,
             descriptors_max,
+            spare_max,
             ..Limits::default()
         };
         Clay::open_within(&limits).ok_or_else(|| io::ErrorKind::OutOfMemory.into())

@@ -72,6 +72,9 @@ pub struct Limits {
     pub file_max: u32,
     /// The most descriptors of a process, numbered from 0, at most `MOST_DESCRIPTORS`. A call that would give one from there on is EMFILE.
     pub descriptors_max: u32,
+    /// The most bytes of memory that the kernel keeps for further bytes when no pipe or file holds them any more, in segments of 4,096.
+    /// `u64::MAX`: 16,777,216, but at most a sixteenth of `memory`.
+    pub spare_max: u64,
 }
 
 impl Default for Limits {
@@ -84,6 +87,7 @@ impl Default for Limits {
             capacity: MOST_CAPACITY,
             file_max: MOST_FILE_BYTES,
             descriptors_max: MOST_DESCRIPTORS,
+            spare_max: u64::MAX,
         }
     }
 }

@@ -98,6 +98,9 @@ pub struct Limits {
     pub file_max: u32,
     /// The most descriptors of a process, numbered from 0, at most 256. A call that would give one from there on is `EMFILE`.
     pub descriptors_max: u32,
+    /// The most bytes of memory that the kernel keeps for further bytes when no pipe or file holds them any more, in segments of 4,096.
+    /// `u64::MAX`: 16,777,216, but at most a sixteenth of `memory`.
+    pub spare_max: u64,
 }
 
 impl Default for Limits {
@@ -109,6 +112,7 @@ impl Default for Limits {
             capacity: 1_048_576,
             file_max: 16_777_216,
             descriptors_max: 256,
+            spare_max: u64::MAX,
         }
     }
 }

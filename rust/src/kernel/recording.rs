@@ -7,13 +7,9 @@ use super::Kernel;
 use crate::faults::{NoMemory, NotDone};
 use crate::memory::{Allocator, Vec};
 use crate::parts::kernel::{Answered, Resumed, Written, reply_of_write};
-use crate::parts::model::numbers::MAX_BYTES;
 use crate::parts::polls::{asked_of, mark_entries};
 use crate::parts::recorder::{Most, Recorder};
-use crate::{Bytes8, Call, CallKind, Errno, MaskList, Outcome, PollEntry, PollMask, Reply, Step};
-
-/// More bytes than any pipe holds, so that no read that waited gives more.
-const MOST_CAPACITY: usize = 1_048_576;
+use crate::{Bytes8, Call, Errno, MaskList, Outcome, PollEntry, PollMask, Reply, Step};
 
 impl<A: Allocator + Copy> Kernel<A> {
     /// Begins to record the steps of this kernel, which [`recorded`](Self::recorded) hands out.
@@ -22,7 +18,7 @@ impl<A: Allocator + Copy> Kernel<A> {
     /// names the limits of the kernel. `piperun --check` runs it again, and tells each reply that differs.
     ///
     /// The record is in the memory of the kernel until it is handed out. So while steps are recorded, any of them may find no memory, and has
-    /// changed nothing then. A read takes as much memory as its caller has room for bytes.
+    /// changed nothing then. A read takes memory for a copy of the bytes that it gives and for its two lines.
     ///
     /// # Errors
     ///
@@ -139,7 +135,13 @@ struct Room<A: Allocator> {
 }
 
 impl<A: Allocator + Copy> Room<A> {
-    fn new(alloc: A, bytes: usize, masks: usize) -> Result<Room<A>, NoMemory> {
+    /// Room for a reply that has this at most.
+    fn new(alloc: A, most: Most) -> Result<Room<A>, NoMemory> {
+        let (bytes, masks) = match most {
+            Most::Plain => (0, 0),
+            Most::Bytes(count) => (count as usize, 0),
+            Most::Masks(count) => (0, count as usize),
+        };
         Ok(Room {
             bytes: Vec::with_capacity(alloc, bytes).map_err(|_| NoMemory)?,
             masks: Vec::with_capacity(alloc, masks).map_err(|_| NoMemory)?,
@@ -218,22 +220,16 @@ impl<A: Allocator + Copy> Kernel<A> {
         }
     }
 
-    /// What the reply of a read of so many bytes has at most: those that its pipe holds, or its file has.
-    fn most_read(&self, pid: u32, fd: i32, n: u32) -> Most {
-        match self.inner.fd_facts(pid, fd) {
-            Some(facts) => Most::Bytes(facts.size.min(n)),
-            None => Most::Plain,
-        }
-    }
-
     /// What the reply of a step has at most.
     fn most_of(&self, step: &Step<A>) -> Most {
         match step {
-            Step::Begin(pid, Call::Read { fd, n }) => self.most_read(*pid, *fd, *n),
+            Step::Begin(pid, Call::Read { fd, n }) => {
+                Most::Bytes(self.inner.bytes_to_read(*pid, *fd, *n) as u32)
+            }
             Step::Begin(_, Call::Poll { entries, .. }) => most_polled(entries.as_slice().len()),
-            Step::Resume(number) => match self.inner.call_facts(*number) {
-                Some(facts) if facts.kind == CallKind::Read => Most::Bytes(MOST_CAPACITY as u32),
-                _ => most_polled(self.inner.ready_entries(*number)),
+            Step::Resume(number) => match self.inner.ready_entries(*number) {
+                0 => Most::Bytes(self.inner.bytes_to_resume(*number) as u32),
+                entries => most_polled(entries),
             },
             _ => Most::Plain,
         }
@@ -275,17 +271,9 @@ impl<A: Allocator + Copy> Kernel<A> {
         &mut self,
         step: Step<A>,
     ) -> Result<(Reply<A>, Reply<A>), NoMemory> {
-        let (bytes, masks) = match &step {
-            Step::Begin(_, Call::Read { n, .. }) => (MAX_BYTES.min(*n as usize), 0),
-            Step::Begin(_, Call::Poll { entries, .. }) => (0, entries.as_slice().len()),
-            Step::Resume(number) => match self.inner.call_facts(*number) {
-                Some(facts) if facts.kind == CallKind::Read => (MOST_CAPACITY, 0),
-                _ => (0, self.inner.ready_entries(*number)),
-            },
-            _ => (0, 0),
-        };
-        let room = Room::new(self.alloc, bytes, masks)?;
-        self.begin_line(&step, self.most_of(&step))?;
+        let most = self.most_of(&step);
+        let room = Room::new(self.alloc, most)?;
+        self.begin_line(&step, most)?;
         let answered = self.inner.step_pair(step);
         let (reply, again) = self.made(answered)?;
         self.end_line(room.copy_of(&reply));
@@ -331,12 +319,11 @@ impl<A: Allocator + Copy> Kernel<A> {
         fd: i32,
         into: &mut [u8],
     ) -> Result<Answered<usize>, NoMemory> {
-        let room = Room::new(self.alloc, MAX_BYTES.min(into.len()), 0)?;
         let n = into.len() as u32;
-        self.begin_line(
-            &Step::Begin(pid, Call::Read { fd, n }),
-            self.most_read(pid, fd, n),
-        )?;
+        let step = Step::Begin(pid, Call::Read { fd, n });
+        let most = self.most_of(&step);
+        let room = Room::new(self.alloc, most)?;
+        self.begin_line(&step, most)?;
         let answered = self.inner.read_into(pid, fd, into);
         let reply = self.made(answered)?;
         self.end_line(room.reply_of_read(reply, into));
@@ -375,14 +362,13 @@ impl<A: Allocator + Copy> Kernel<A> {
         into: &mut [u8],
         masks: usize,
     ) -> Result<Resumed<A>, NoMemory> {
-        let bytes = MOST_CAPACITY.min(into.len());
-        let room = Room::new(self.alloc, bytes, masks)?;
         let most = match masks {
-            0 => Most::Bytes(bytes as u32),
+            0 => Most::Bytes(self.inner.bytes_to_resume(number).min(into.len()) as u32),
             _ => most_polled(masks),
         };
+        let room = Room::new(self.alloc, most)?;
         self.begin_line(&Step::Resume(number), most)?;
-        let answered = self.inner.resume_into(number, &mut into[..bytes]);
+        let answered = self.inner.resume_into(number, into);
         let resumed = self.made(answered)?;
         match &resumed {
             Resumed::Read(reply) => self.end_line(room.reply_of_read(*reply, into)),

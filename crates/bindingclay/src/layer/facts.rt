@@ -1,5 +1,5 @@
 //! What is told of pipes, files and parked calls, and of the segments of a kernel.
-ghost use Rattle.std.specs.Prelude.{◌≡◌, ◌≤◌};
+ghost use Rattle.std.specs.Prelude.{◌≡◌, ◌≤◌, ◌/◌};
 ghost use Rattle.pl_kernel.specs.ToldSegments.{TellsUsed, TellsNone};
 ghost use Rattle.pl_kernel.specs.ToldNodes.{OfFd, OfName, node_at, facts_named, TellsShape, TellsWhich};
 ghost use Rattle.bindingclay.specs.Heap.{InBudget};
@@ -186,7 +186,7 @@ impl Layer {
 
     /// In how many segments the kernel keeps bytes.
     pub fn segments(&self) -> SegmentUse
-        ensures spare { result.spare ≤ 256 }
+        ensures spare { result.spare ≤ self.now.kernel.limits.spare_max / 4096 }
         ensures used { result.used ≡ self.now.kernel.nodes.memory.segments }
         ensures named { TellsUsed {A = InBudget} self.now.kernel result.used }
         ensures none { TellsNone {A = InBudget} self.now.kernel result.used }

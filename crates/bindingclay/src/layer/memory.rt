@@ -33,14 +33,14 @@ impl Layer {
     /// What the kernel takes of its memory.
     pub fn memory(&self) -> Memory
         ensures most { result.most ≡ self.now.heap.now.counter.most }
-        ensures spare { result.spare ≤ 1048576 }
+        ensures spare { result.spare ≤ self.now.kernel.limits.spare_max }
     {
         let account = self.heap.account();
         Memory {
             held: account.held,
             peak: account.peak,
             most: account.most,
-            spare: self.kernel.stats().spare * SEGMENT,
+            spare: self.kernel.stats().spare.saturating_mul(SEGMENT),
         }
     }
 

@@ -2,7 +2,7 @@
 //!
 //! Each function is out of line, so that a step that isn't recorded stays short.
 ghost use Rattle.std.specs.Prelude.{◌≡◌, ◌≤◌, [], length, vec_capacity, IfOk};
-ghost use Rattle.pl_model.specs.Numbers.{most_bytes, most_capacity};
+ghost use Rattle.pl_model.specs.Numbers.{most_bytes};
 ghost use Rattle.pl_model.specs.declared.calls.Call.{Call as CallOf};
 ghost use Rattle.pl_model.specs.declared.calls.Step.{Step as StepOf};
 ghost use Rattle.pl_numbers.specs.Answers.{ends_after};
@@ -24,9 +24,6 @@ use pl_numbers::{Answer, Ends, answer_of, tell_ends};
 use pl_polls::{asked_of, mark_entries};
 use pl_recorder::{Most, Recorder};
 
-/// More bytes than any pipe holds, so that no read that waited gives more.
-const MOST_CAPACITY: usize = 1_048_576;
-
 // The bytes, in room that was taken for them.
 fn bytes_in(mut room: Vec<u8, Heap>, bytes: &[u8]) -> Bytes8<Heap>
     requires empty { room.items ≡ [] }
@@ -38,14 +35,6 @@ fn bytes_in(mut room: Vec<u8, Heap>, bytes: &[u8]) -> Bytes8<Heap>
     Bytes8::from_vec(room).unwrap()
 }
 
-// What the reply of a read of so many bytes has at most: those that its pipe holds, or its file has.
-fn most_read(kernel: &Kernel<Heap>, pid: u32, fd: i32, n: u32) -> Most {
-    match kernel.fd_facts(pid, fd) {
-        Some(facts) => Most::Bytes(facts.size.min(n)),
-        None => Most::Plain,
-    }
-}
-
 // What the reply of a poll of so many entries has at most. Nobody has memory for more than can be told.
 fn most_polled(entries: usize) -> Most {
     Most::Masks(entries.min(u32::MAX as usize) as u32)
@@ -54,7 +43,7 @@ fn most_polled(entries: usize) -> Most {
 // The reply of a read into the caller's bytes, with room for those that it read.
 fn reply_of_read(answered: Answered<usize>, room: Vec<u8, Heap>, read: &[u8]) -> Reply<Heap>
     requires within { read_count answered ≤ length read.now }
-    requires fits { Fits room read.now }
+    requires fits { Fits room (read_count answered) }
     ensures { result ≡ told answered read.now }
 {
     match answered {
@@ -122,7 +111,7 @@ pub(super) fn pipe(
     }
 }
 
-/// Reads as many bytes as the caller's are. Room for a copy of them is taken before.
+/// Reads as many bytes as the caller's are. Room for a copy of those that it gives is taken before.
 #[inline(never)]
 pub(super) fn read(
     kernel: &mut Kernel<Heap>,
@@ -138,13 +127,13 @@ pub(super) fn read(
     ensures unread { result.kind ≡ 6 → into.new ≡ into.old }
     ensures records { IsRecorded kernel.old (unread recorder.old) (StepOf.Begin pid (CallOf.Read fd (length into.old))) result (unread recorder.new) }
 {
-    let Ok(room) = Vec::with_capacity(heap, into.len()) else {
+    let n = into.len() as u32;
+    let count = kernel.bytes_to_read(pid, fd, n);
+    let Ok(room) = Vec::with_capacity(heap, count) else {
         return no_memory();
     };
-    let n = into.len() as u32;
-    let most = most_read(kernel, pid, fd, n);
     let step = Step::Begin(pid, Call::Read { fd, n });
-    if recorder.begin(&step, most).is_err() {
+    if recorder.begin(&step, Most::Bytes(count as u32)).is_err() {
         return no_memory();
     }
     match kernel.read_into(pid, fd, into) {
@@ -239,7 +228,7 @@ fn end_try(
     read: &[u8],
 )
     requires within { IfOk resumed (λ r. resumed_count r ≤ length read.now) }
-    requires fits { Fits room read.now }
+    requires fits { IfOk resumed (λ r. Fits room (resumed_count r)) }
     ensures { EndsBy resumed.entry read.now (unread recorder.old) (line_of recorder.old) (unread recorder.new) }
 {
     match resumed {
@@ -247,34 +236,6 @@ fn end_try(
         Ok(Resumed::Other(reply)) => recorder.end(reply),
         Ok(Resumed::Short(_)) | Err(NoMemory) => recorder.cancel(),
     }
-}
-
-// Tries the parked call of a number again; a read gives its bytes into the caller's, if they fit. These are no more than a pipe holds.
-fn gather_few(
-    kernel: &mut Kernel<Heap>,
-    recorder: &mut Recorder<Heap>,
-    heap: Heap,
-    number: u64,
-    into: &mut [u8],
-) -> Answer
-    requires { length into.old ≤ most_capacity }
-    ensures made { Resumes kernel.old number (length into.old) result kernel.new }
-    ensures moved { Moves kernel.old (StepOf.Resume number) result }
-    ensures bytes { Gathers kernel.old number into.old result into.new }
-    ensures records { IsTryRecorded kernel.old (unread recorder.old) number result (unread recorder.new) }
-{
-    let Ok(room) = Vec::with_capacity(heap, into.len()) else {
-        return no_memory();
-    };
-    let most = Most::Bytes(into.len() as u32);
-    if recorder.begin(&Step::Resume(number), most).is_err() {
-        return no_memory();
-    }
-    let before = taken_so_far(kernel, number);
-    let resumed = kernel.resume_into(number, into);
-    let answer = tell_moved(kernel, before, answer_of_resumed(&resumed));
-    end_try(recorder, resumed, room, into);
-    answer
 }
 
 /// Tries the parked call of a number again; a read gives its bytes into the caller's, if they fit.
@@ -291,8 +252,19 @@ pub(super) fn gather(
     ensures bytes { Gathers kernel.old number into.old result into.new }
     ensures records { IsTryRecorded kernel.old (unread recorder.old) number result (unread recorder.new) }
 {
-    let count = MOST_CAPACITY.min(into.len());
-    gather_few(kernel, recorder, heap, number, &mut into[..count])
+    let count = kernel.bytes_to_resume(number).min(into.len());
+    let Ok(room) = Vec::with_capacity(heap, count) else {
+        return no_memory();
+    };
+    let most = Most::Bytes(count as u32);
+    if recorder.begin(&Step::Resume(number), most).is_err() {
+        return no_memory();
+    }
+    let before = taken_so_far(kernel, number);
+    let resumed = kernel.resume_into(number, into);
+    let answer = tell_moved(kernel, before, answer_of_resumed(&resumed));
+    end_try(recorder, resumed, room, into);
+    answer
 }
 
 /// Tries the parked call of a number again; a poll notes in each entry what was found.

@@ -9,10 +9,11 @@ ghost use Rattle.pl_transfers.specs.Waits.{reply_of};
 ghost use Rattle.pl_polls.specs.Entries.{asked, entries_after};
 ghost use Rattle.pl_polls.specs.Into.{told as poll_told};
 ghost use Rattle.pl_kernel.specs.Taken.{TellsTaken};
-ghost use Rattle.pl_kernel.specs.Buffers.{Parks, resumed_count, IsRead, IsOfRead, IsOfOther, IsWaitingRead, Resumes, ResumesByReply};
+ghost use Rattle.pl_kernel.specs.Buffers.{Parks, gives, resumed_count, IsOfOther, IsWaitingRead, ReadsAgain, Resumes, ResumesByReply};
 
 use super::Kernel;
 use crate::resuming::resume_read_into;
+use crate::sizes::bytes_to_read;
 use crate::steps::{
     begin_poll_into, begin_read_into, begin_write_from, refusal_of_write, try_again,
 };
@@ -20,7 +21,7 @@ use crate::touch::{touch_again, touch_named};
 use pl_model::{Call, Reply, Step};
 use pl_polls::PollEntry;
 use pl_state::{Answered, NoMemory};
-use pl_transfers::{Written, read_again};
+use pl_transfers::{Written, bytes_to_resume, read_again};
 use std::alloc::{Allocator, Global};
 
 /// What the resumption of a call answers, where a read gives its bytes into the caller's.
@@ -78,6 +79,24 @@ impl<A: Allocator + Copy> Kernel<A> {
         refusal_of_write(&self.state, pid, fd, count)
     }
 
+    /// How many bytes a Read of at most `n` gives that the process of a pid begins now. It is 0 where the Read is refused or waits, and at the end
+    /// of a file. It changes nothing and takes no memory.
+    pub fn bytes_to_read(&self, pid: u32, fd: i32, n: u32) -> usize
+        ensures value { result ≡ gives {A = A} self.now pid fd n }
+        ensures most { result ≤ n }
+    {
+        bytes_to_read(&self.state, pid, fd, n)
+    }
+
+    /// How many bytes the parked call of a number gives that is tried again now: at most 1,048,576. It is 0 where the call waits on or is no Read, and
+    /// where there is none of the number. It changes nothing and takes no memory.
+    pub fn bytes_to_resume(&self, number: u64) -> usize
+        ensures value { result ≡ gives_again {A = A} self.now number }
+        ensures most { result ≤ most_capacity }
+    {
+        bytes_to_resume(&self.state, number)
+    }
+
     /// Makes the step at which the process of a pid begins a Read of as many bytes as the caller's are, into the first of these; the
     /// others stay as they are. What `step` promises of that step holds.
     ///
@@ -94,6 +113,7 @@ impl<A: Allocator + Copy> Kernel<A> {
         requires { length into.old < 2 ^ 32 }
         ensures made { IfOk result (λ reply. Makes {A = A} self.old (Step.Begin pid (Call.Read fd (length into.old))) (told reply into.new) self.new) }
         ensures refused { IfOk result (λ reply. LeavesByReply {A = A} self.old (Step.Begin pid (Call.Read fd (length into.old))) (told reply into.new) self.new) }
+        ensures given { IfOk result (λ reply. read_count reply ≡ gives {A = A} self.old pid fd (length into.old)) }
         ensures within { IfOk result (λ reply. read_count reply ≤ length into.new) }
         ensures rest { IfOk result (λ reply. drop (read_count reply) into.new ≡ drop (read_count reply) into.old) }
         ensures unmade { OnErr result (self.new ≡ self.old) }
@@ -156,17 +176,13 @@ impl<A: Allocator + Copy> Kernel<A> {
     pub fn resume_into(&mut self, number: u64, into: &mut [u8]) -> Result<Resumed<A>, NoMemory>
         ensures made { IfOk result (λ resumed. Resumes {A = A} self.old number (length into.old) resumed into.new self.new) }
         ensures refused { IfOk result (λ resumed. ResumesByReply {A = A} self.old number resumed into.new self.new) }
-        ensures short { (key n : ℕ) → ReadWaits {A = A} self.old number key n → length into.old < gives_again {A = A} self.old number → result ≡ Ok (Resumed.Short (gives_again {A = A} self.old number)) }
-        ensures fits { (key n : ℕ) → ReadWaits {A = A} self.old number key n → gives_again {A = A} self.old number ≤ length into.old → IfOk result IsRead }
-        ensures enough { (key n : ℕ) → ReadWaits {A = A} self.old number key n → most_capacity ≤ length into.old → IfOk result IsRead }
-        ensures reads { (key n : ℕ) → ReadWaits {A = A} self.old number key n → IfOk result IsOfRead }
+        ensures reads { (key n : ℕ) → ReadWaits {A = A} self.old number key n → IsOk result × IfOk result (ReadsAgain {A = A} self.old number (length into.old)) }
         ensures others { ((key n : ℕ) → ¬ ReadWaits {A = A} self.old number key n) → IfOk result IsOfOther }
+        ensures given { IfOk result (λ resumed. resumed_count resumed ≤ gives_again {A = A} self.old number) }
         ensures within { IfOk result (λ resumed. resumed_count resumed ≤ length into.new) }
         ensures rest { IfOk result (λ resumed. drop (resumed_count resumed) into.new ≡ drop (resumed_count resumed) into.old) }
-        ensures unmade { OnErr result (self.new ≡ self.old) }
-        ensures unread { OnErr result (into.new ≡ into.old) }
+        ensures unchanged { OnErr result ((self.new ≡ self.old) × (into.new ≡ into.old)) }
         ensures wanted { OnErr result (WantsMemory {A = A} self.old (Step.Resume number)) }
-        ensures frugal { (key n : ℕ) → ReadWaits {A = A} self.old number key n → IsOk result }
     {
         let Some(resumed) = self.resume_read(number, into) else {
             // A proof learns here that nothing was left to settle, so that a refused step leaves the very state.
@@ -190,16 +206,13 @@ impl<A: Allocator + Copy> Kernel<A> {
     pub fn resume_read(&mut self, number: u64, into: &mut [u8]) -> Option<Resumed<A>>
         ensures made { IfSome result (λ resumed. Resumes {A = A} self.old number (length into.old) resumed into.new self.new) }
         ensures refused { IfSome result (λ resumed. ResumesByReply {A = A} self.old number resumed into.new self.new) }
-        ensures reads { IfSome result (λ resumed. IsOfRead resumed × IsWaitingRead {A = A} self.old number) }
-        ensures short { (key n : ℕ) → ReadWaits {A = A} self.old number key n → length into.old < gives_again {A = A} self.old number → result ≡ Some (Resumed.Short (gives_again {A = A} self.old number)) }
-        ensures fits { (key n : ℕ) → ReadWaits {A = A} self.old number key n → gives_again {A = A} self.old number ≤ length into.old → IfSome result IsRead }
-        ensures enough { (key n : ℕ) → ReadWaits {A = A} self.old number key n → most_capacity ≤ length into.old → IfSome result IsRead }
+        ensures reads { IfSome result (λ resumed. IsWaitingRead {A = A} self.old number × ReadsAgain {A = A} self.old number (length into.old) resumed) }
+        ensures given { IfSome result (λ resumed. resumed_count resumed ≤ gives_again {A = A} self.old number) }
         ensures within { IfSome result (λ resumed. resumed_count resumed ≤ length into.new) }
         ensures rest { IfSome result (λ resumed. drop (resumed_count resumed) into.new ≡ drop (resumed_count resumed) into.old) }
         ensures untaken { IfSome result (λ resumed. TellsTaken {A = A} self.old number (Some 0)) }
         ensures others { IfNone result ((key n : ℕ) → ¬ ReadWaits {A = A} self.old number key n) }
-        ensures same { IfNone result (self.new ≡ self.old) }
-        ensures unread { IfNone result (into.new ≡ into.old) }
+        ensures unchanged { IfNone result ((self.new ≡ self.old) × (into.new ≡ into.old)) }
     {
         // A proof learns here that nothing was left to settle, so that a refused step leaves the very state.
         let state = &self.state;

@@ -75,7 +75,7 @@ module _ {A : Type 0} (m : Caller A) (name : List ℕ) (mode : Mode) (flags : Op
   module _ (may : MayOpen k pid name mode flags fd None) (can : lets_name k ≡ true) (f d : ℕ) (vacant_file : at nodes.files f ≡ None) (vacant : at descs.opened d ≡ None)
       (descs' : Descs) (nodes' : Nodes) (pids : is_pid descs'.tables ≡ is_pid descs.tables) (rows : row_at descs'.tables ≡ with_row (row_at descs.tables) pid fd (Some d))
       (opened : at descs'.opened ≡ set_at nat_eq (at descs.opened) d (Some (fresh (node.File f) mode (status_flags flags)))) (pipes_are : at nodes'.pipes ≡ at nodes.pipes)
-      (files_are : at nodes'.files ≡ set_at nat_eq (at nodes.files) f (Some [])) (names_are : nodes'.names ≡ put nodes.names name (node.File f)) (file_max_is : nodes'.file_max ≡ nodes.file_max) where
+      (files_are : at nodes'.files ≡ set_at nat_eq (at nodes.files) f (Some [])) (names_are : nodes'.names ≡ put nodes.names name (node.File f)) (limits_are : nodes'.limits ≡ nodes.limits) where
     abbrev new : Contents A
     new = contents descs' nodes' calls limits
 
@@ -122,7 +122,7 @@ module _ {A : Type 0} (m : Caller A) (name : List ℕ) (mode : Mode) (flags : Op
 
     pub created : (IsSound A new) × (MakesAtKeys k (Begin pid (Call.OpenName name mode flags)) (Fd (pos fd)) new)
     created = (
-      opened_sound m calls sound are fd may.lowest (node.File f) d vacant mode (status_flags flags) descs' nodes' pids rows opened file_max_is end settles there here once,
-      opened_makes m calls sound are fd may.lowest (node.File f) d vacant mode (status_flags flags) descs' nodes' pids rows opened file_max_is end settles there here once
+      opened_sound m calls sound are fd may.lowest (node.File f) d vacant mode (status_flags flags) descs' nodes' pids rows opened limits_are end settles there here once,
+      opened_makes m calls sound are fd may.lowest (node.File f) d vacant mode (status_flags flags) descs' nodes' pids rows opened limits_are end settles there here once
           (Call.OpenName name mode flags) f vacant_file (made m name mode flags fd) (new-begun m name mode flags fd may true can) refl,
     )

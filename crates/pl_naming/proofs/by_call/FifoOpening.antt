@@ -118,7 +118,7 @@ module _ {A : Type 0} (m : Caller A) (mode : Mode) (flags : OpenFlags) (fd p : �
 
     module _ (descs' : Descs) (nodes' : Nodes) (pids : is_pid descs'.tables ≡ is_pid descs.tables) (rows : row_at descs'.tables ≡ with_row (row_at descs.tables) pid fd (Some d))
         (opened : at descs'.opened ≡ set_at nat_eq (at descs.opened) d (Some (fresh (node.Pipe p) mode (status_flags flags)))) (pipes_are : at nodes'.pipes ≡ change_at p (unhung mode) (at nodes.pipes))
-        (files_are : at nodes'.files ≡ at nodes.files) (names_are : nodes'.names ≡ nodes.names) (file_max_is : nodes'.file_max ≡ nodes.file_max) where
+        (files_are : at nodes'.files ≡ at nodes.files) (names_are : nodes'.names ≡ nodes.names) (limits_are : nodes'.limits ≡ nodes.limits) where
       abbrev new : Contents A
       new = contents descs' nodes' met limits
 
@@ -140,10 +140,10 @@ module _ {A : Type 0} (m : Caller A) (mode : Mode) (flags : OpenFlags) (fd p : �
 
       pub fifo_sound : IsSound A new
       fifo_sound = opened_sound m met (met_sound kernel p mode) (met_held kernel p mode) fd least (node.Pipe p) d vacant mode (status_flags flags)
-          descs' nodes' pids rows opened file_max_is (end d (meet c p mode)) settles there here once
+          descs' nodes' pids rows opened limits_are (end d (meet c p mode)) settles there here once
 
       pub fifo_makes : (name : List ℕ) → MayOpen k pid name mode flags fd (Some (node.Pipe p)) → can_open c p mode flags ≡ true → MakesAtKeys k (Begin pid (Call.OpenName name mode flags)) (Fd (pos fd)) new
       fifo_makes name may can =
           opened_makes m met (met_sound kernel p mode) (met_held kernel p mode) fd least (node.Pipe p) d vacant mode (status_flags flags)
-          descs' nodes' pids rows opened file_max_is (end d (meet c p mode)) settles there here once
+          descs' nodes' pids rows opened limits_are (end d (meet c p mode)) settles there here once
           (Call.OpenName name mode flags) (length nodes.files) (past_end nodes.files) opens (begun name may true can) refl

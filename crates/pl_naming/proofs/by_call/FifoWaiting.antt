@@ -133,7 +133,7 @@ module _ {A : Type 0} (m : Caller A) (name : List ℕ) (mode : Mode) (flags : Op
     -- it is parked, with a description of its own
     module _ (x : Pipe) (was : at nodes.pipes p ≡ Some x) (d : ℕ) (descs' : Descs) (calls' : Calls A) (nodes' : Nodes)
         (awaits : Awaits descs calls descs' calls' d (open_on d pid p call) (fresh (node.Pipe p) mode (status_flags flags))) (pipes_are : at nodes'.pipes ≡ change_at p (unhung mode) (at nodes.pipes))
-        (files_are : at nodes'.files ≡ at nodes.files) (names_are : nodes'.names ≡ nodes.names) (file_max_is : nodes'.file_max ≡ nodes.file_max) where
+        (files_are : at nodes'.files ≡ at nodes.files) (names_are : nodes'.names ≡ nodes.names) (limits_are : nodes'.limits ≡ nodes.limits) where
       abbrev w : ParkedCall A
       w = open_on d pid p call
 
@@ -199,7 +199,7 @@ module _ {A : Type 0} (m : Caller A) (name : List ℕ) (mode : Mode) (flags : Op
           rise = Rise-push 0 calls.next met.calls w s.rise;
           numbered = not_last calls.next sound.numbered left;
           there = subst (λ z. AreThere z nodes') (sym awaits.opened) (there-added (at descs.opened) nodes' (there-still (at descs.opened) nodes nodes' names_are (still mode p nodes nodes' pipes_are files_are) sound.there) d (fresh (node.Pipe p) mode (status_flags flags)) there);
-          limit = file_max_is ∙ sound.limit;
+          limit = limits_are ∙ sound.limit;
           once = subst (EachOnce (pointwise nat_eq)) (sym names_are) sound.once;
           settled = settled_after (core_of new) c (parked (described_by d) (waiting_of w)) waits_core;
         };

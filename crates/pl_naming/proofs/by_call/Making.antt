@@ -96,7 +96,7 @@ module _ {A : Type 0} (m : Caller A) (name : List ℕ) where
           λ new. ap (λ (a : Drawing numbers (Stepped A numbers)). is_refusal (drawn {X = Stepped A numbers} new a).reply) (step-draws k pid call process (λ new. Answered (made new) reply.Unit) draws)
 
       module _ (p : ℕ) (vacant : at nodes.pipes p ≡ None) (nodes' : Nodes) (pipes_are : at nodes'.pipes ≡ set_at nat_eq (at nodes.pipes) p (Some empty_pipe)) (files_are : at nodes'.files ≡ at nodes.files)
-          (names_are : nodes'.names ≡ put nodes.names name (node.Pipe p)) (file_max_is : nodes'.file_max ≡ nodes.file_max) where
+          (names_are : nodes'.names ≡ put nodes.names name (node.Pipe p)) (limits_are : nodes'.limits ≡ nodes.limits) where
         abbrev new : Contents A
         new = contents descs nodes' calls limits
 
@@ -143,7 +143,7 @@ module _ {A : Type 0} (m : Caller A) (name : List ℕ) where
             rise = sound.rise;
             numbered = sound.numbered;
             there = there;
-            limit = file_max_is ∙ sound.limit;
+            limit = limits_are ∙ sound.limit;
             once = subst (EachOnce (pointwise nat_eq)) (sym names_are) (put-once nodes.names name (node.Pipe p) sound.once none);
             settled = settled_after (core_of new) c (made drawn_keys) made_core;
           };

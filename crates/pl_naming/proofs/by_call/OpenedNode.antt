@@ -54,7 +54,7 @@ module _ {A : Type 0} (m : Caller A) (calls' : Calls A) (sound' : IsSound A (con
   left nodes' = install (describe (record c { pipes = at nodes'.pipes; files = at nodes'.files; names = keyed nodes'.names; parked = parked_of calls'.calls; next_call = calls'.next }) d (node_of n) mode flags) pid fd d
 
   module _ (descs' : Descs) (nodes' : Nodes) (pids : is_pid descs'.tables ≡ is_pid descs.tables) (rows : row_at descs'.tables ≡ with_row (row_at descs.tables) pid fd (Some d))
-      (opened : at descs'.opened ≡ set_at nat_eq (at descs.opened) d (Some end)) (file_max_is : nodes'.file_max ≡ nodes.file_max)
+      (opened : at descs'.opened ≡ set_at nat_eq (at descs.opened) d (Some end)) (limits_are : nodes'.limits ≡ nodes.limits)
       (u : Core A numbers) (settles : settle c u ≡ left nodes') (there : AreThere (at descs.opened) nodes') (here : IsThere nodes' n)
       (once : EachOnce (pointwise nat_eq) nodes'.names) where
     abbrev new : Contents A
@@ -83,7 +83,7 @@ module _ {A : Type 0} (m : Caller A) (calls' : Calls A) (sound' : IsSound A (con
         rise = sound'.rise;
         numbered = sound'.numbered;
         there = subst (λ z. AreThere z nodes') (sym opened) (there-added (at descs.opened) nodes' there d end here);
-        limit = file_max_is ∙ sound.limit;
+        limit = limits_are ∙ sound.limit;
         once = once;
         settled = settled_after (core_of new) c u opened_core;
       };

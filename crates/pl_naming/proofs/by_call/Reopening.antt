@@ -80,7 +80,7 @@ module _ {A : Type 0} (m : Caller A) (name : List ℕ) (mode : Mode) (flags : Op
 
     module _ (descs' : Descs) (nodes' : Nodes) (pids : is_pid descs'.tables ≡ is_pid descs.tables) (rows : row_at descs'.tables ≡ with_row (row_at descs.tables) pid fd (Some d))
         (opened : at descs'.opened ≡ set_at nat_eq (at descs.opened) d (Some (fresh (node.File f) mode (status_flags flags)))) (pipes_are : at nodes'.pipes ≡ at nodes.pipes)
-        (files_are : at nodes'.files ≡ change_at f (λ bytes. cond (has flags.0 trunc && writes mode) [] bytes) (at nodes.files)) (names_are : nodes'.names ≡ nodes.names) (file_max_is : nodes'.file_max ≡ nodes.file_max) where
+        (files_are : at nodes'.files ≡ change_at f (λ bytes. cond (has flags.0 trunc && writes mode) [] bytes) (at nodes.files)) (names_are : nodes'.names ≡ nodes.names) (limits_are : nodes'.limits ≡ nodes.limits) where
       abbrev new : Contents A
       new = contents descs' nodes' calls limits
 
@@ -113,9 +113,9 @@ module _ {A : Type 0} (m : Caller A) (name : List ℕ) (mode : Mode) (flags : Op
       settles = again does ∙ sym left_is
 
       pub reopened_sound : IsSound A new
-      reopened_sound = opened_sound m calls sound are fd least (node.File f) d vacant mode (status_flags flags) descs' nodes' pids rows opened file_max_is (end (truncated c f mode flags)) settles there here once
+      reopened_sound = opened_sound m calls sound are fd least (node.File f) d vacant mode (status_flags flags) descs' nodes' pids rows opened limits_are (end (truncated c f mode flags)) settles there here once
 
       pub reopened_makes : MayOpen k pid name mode flags fd (Some (node.File f)) → MakesAtKeys k (Begin pid (Call.OpenName name mode flags)) (Fd (pos fd)) new
       reopened_makes may =
-          opened_makes m calls sound are fd least (node.File f) d vacant mode (status_flags flags) descs' nodes' pids rows opened file_max_is (end (truncated c f mode flags)) settles there here once
+          opened_makes m calls sound are fd least (node.File f) d vacant mode (status_flags flags) descs' nodes' pids rows opened limits_are (end (truncated c f mode flags)) settles there here once
           (Call.OpenName name mode flags) (length nodes.files) (past_end nodes.files) (reopened m name mode flags fd f) may.begun refl

@@ -160,7 +160,7 @@ module _ {A : Type 0} (k : Contents A) (sound : IsSound A k) (name : List ℕ) (
         rise = sound.rise;
         numbered = sound.numbered;
         there = there-left k.opened k.opened unnamed nodes' n left unnamed_there;
-        limit = left.file_max ∙ sound.limit;
+        limit = left.limits ∙ sound.limit;
         once = subst (EachOnce (pointwise nat_eq)) (sym left.names) (without-once k.nodes.names name sound.once);
         settled = settled_after (core_of new) c u unlinked;
       };

@@ -3,7 +3,7 @@ ghost use Rattle.std.specs.Prelude.{◌≡◌, ◌↔◌, ◌-◌, ◌≤◌, fa
 ghost use Rattle.pl_model.specs.Numbers.{most_file_bytes};
 ghost use Rattle.pl_model.specs.Map.{set_at, change_at};
 ghost use Rattle.pl_model.specs.Nodes.{has_name};
-ghost use Rattle.pl_segments.specs.Segments.{most_spare, segment_at, at};
+ghost use Rattle.pl_segments.specs.Segments.{segment_at, at};
 ghost use Rattle.pl_segments.specs.Turns.{Holds, Turns};
 ghost use Rattle.pl_file.specs.File.{written, fitting};
 ghost use Rattle.pl_nodes.specs.Nodes.{SamePipes, Shrinks, memory_of};
@@ -19,7 +19,6 @@ use std::alloc::Allocator;
 fn let_go<A: Allocator + Copy>(store: &mut Store<A>, file: File<A>)
     requires { Holds (segment_at store.old) file }
     ensures turns { Turns (segment_at store.old) file (segment_at store.new) [] }
-    ensures spare { store.old.room ≤ most_spare → store.new.room ≤ most_spare }
 {
     let mut file = file;
     file.truncate(store);
@@ -77,9 +76,9 @@ impl<A: Allocator + Copy> Nodes<A> {
         bytes: &[u8],
     ) -> Result<usize, WriteFault>
         requires { IsSome (at self.old.files key) }
-        ensures count { IfOk result (λ count. count ≡ fitting (length bytes.now) place self.old.file_max) }
-        ensures big { (result ≡ Err WriteFault.TooBig) ↔ ((1 ≤ length bytes.now) × (self.old.file_max ≤ place)) }
-        ensures ok { OnOk result (at self.new.files ≡ change_at key (written place (take (self.old.file_max - place) bytes.now)) (at self.old.files)) }
+        ensures count { IfOk result (λ count. count ≡ fitting (length bytes.now) place self.old.limits.file_max) }
+        ensures big { (result ≡ Err WriteFault.TooBig) ↔ ((1 ≤ length bytes.now) × (self.old.limits.file_max ≤ place)) }
+        ensures ok { OnOk result (at self.new.files ≡ change_at key (written place (take (self.old.limits.file_max - place) bytes.now)) (at self.old.files)) }
         ensures pipes { SamePipes self.old self.new }
         ensures err { OnErr result (self.new ≡ self.old) }
     {
@@ -90,9 +89,10 @@ impl<A: Allocator + Copy> Nodes<A> {
         };
         let written = node
             .file
-            .write_at(&mut self.store, place, bytes, self.file_max)?;
+            .write_at(&mut self.store, place, bytes, self.limits.file_max)?;
         // And here that the file has no more slots than it may have bytes.
         let _len = node.file.len();
+        self.store.trim(self.limits.spare_max);
         Ok(written)
     }
 
@@ -107,6 +107,7 @@ impl<A: Allocator + Copy> Nodes<A> {
             unreachable!()
         };
         node.file.truncate(&mut self.store);
+        self.store.trim(self.limits.spare_max);
     }
 
     /// Lets a file go that has no name, with its bytes. It takes no memory, and no slot and no segment comes.
@@ -116,7 +117,7 @@ impl<A: Allocator + Copy> Nodes<A> {
         ensures ok { at self.new.files ≡ set_at nat_eq (at self.old.files) key None }
         ensures pipes { at self.new.pipes ≡ at self.old.pipes }
         ensures names { self.new.names ≡ self.old.names }
-        ensures file_max { self.new.file_max ≡ self.old.file_max }
+        ensures limits { self.new.limits ≡ self.old.limits }
         ensures shrinks { Shrinks (memory_of self.old) (memory_of self.new) }
     {
         let Content::File(gone) = self.contents.remove(key) else {
@@ -126,5 +127,6 @@ impl<A: Allocator + Copy> Nodes<A> {
         self.upper.went(&mut self.contents, key);
         // A proof learns here that a segment that is there is held.
         let _segments = self.store.in_use();
+        self.store.trim(self.limits.spare_max);
     }
 }

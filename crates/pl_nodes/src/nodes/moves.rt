@@ -1,14 +1,14 @@
 //! Bytes that go from one pipe or file to another, or are copied, by sharing the segments in which they stand.
-ghost use Rattle.std.specs.Prelude.{◌≡◌, ◌≢◌, ◌↔◌, ℕ, ◌+◌, ◌≤◌, [], ◌++◌, length, take, drop, slice_set, IfOk, OnErr, OnOk, IsSome, IfSome, None, Err};
+ghost use Rattle.std.specs.Prelude.{◌≡◌, ◌≢◌, ◌↔◌, ◌+◌, ◌≤◌, [], length, take, slice_set, IfOk, OnErr, OnOk, IsSome, IfSome, Err};
 ghost use Rattle.pl_model.specs.Packets.{lose, gain};
 ghost use Rattle.pl_model.specs.Transfer.{room};
 ghost use Rattle.pl_model.specs.Map.{change_at};
 ghost use Rattle.pl_segments.specs.Segments.{at};
 ghost use Rattle.pl_segments.specs.Slots.{drop_bytes};
-ghost use Rattle.pl_segments.specs.Sharing.{named, slots_at};
-ghost use Rattle.pl_ring.specs.Parts.{strange};
+ghost use Rattle.pl_segments.specs.Sharing.{slots_at};
 ghost use Rattle.pl_file.specs.File.{written, fitting};
-ghost use Rattle.pl_nodes.specs.Nodes.{SameFiles, SamePipes, bytes_of, part_of};
+ghost use Rattle.pl_nodes.specs.Nodes.{memory_of, SameFiles, SamePipes, bytes_of, part_of};
+ghost use Rattle.pl_nodes.specs.Moving.{IsBytePipe, HoldsBytes, HasRoom, SharesSlots, AddsNone};
 
 use super::Nodes;
 use crate::content::Content;
@@ -23,17 +23,12 @@ impl<A: Allocator + Copy> Nodes<A> {
     /// most three segments are made, and but for three slots at most the other pipe then has slots that it had or that lie
     /// within those of the first. `NoMemory` where there is no memory for that; an error leaves all as it was.
     pub fn copy_pipe_pipe(&mut self, from: usize, to: usize, count: usize) -> Result<(), NoMemory>
-        requires from { IsSome (at self.old.pipes from) }
-        requires to { IsSome (at self.old.pipes to) }
+        requires from { HoldsBytes (at self.old.pipes from) count }
+        requires to { HasRoom (at self.old.pipes to) count }
         requires other { from ≢ to }
-        requires from_bytes { IfSome (at self.old.pipes from) (λ x. x.packets ≡ None) }
-        requires to_bytes { IfSome (at self.old.pipes to) (λ x. x.packets ≡ None) }
-        requires held { IfSome (at self.old.pipes from) (λ x. count ≤ length x.bytes) }
-        requires room { IfSome (at self.old.pipes to) (λ x. count ≤ room x) }
         ensures ok { OnOk result (at self.new.pipes ≡ change_at to (gain (take count (bytes_of (at self.old.pipes from)))) (at self.old.pipes)) }
         ensures files { SameFiles self.old self.new }
-        ensures segments { OnOk result (self.new.segments ≤ self.old.segments + 3) }
-        ensures parts { OnOk result (strange (slots_at self.old.slots to) (slots_at self.old.slots from) (slots_at self.new.slots to) ≤ 3) }
+        ensures shares { OnOk result (SharesSlots (memory_of self.old) (memory_of self.new) from to) }
         ensures err { OnErr result (self.new ≡ self.old) }
     {
         // A proof learns here that there are fewer files and pipes than a segment can have holders.
@@ -50,6 +45,7 @@ impl<A: Allocator + Copy> Nodes<A> {
         target.queue.push_slices(&mut self.store, &slices)?;
         // And here that it has few slots.
         let _slots = target.queue.slots();
+        self.store.trim(self.limits.spare_max);
         Ok(())
     }
 
@@ -57,35 +53,62 @@ impl<A: Allocator + Copy> Nodes<A> {
     /// are made, and but for three slots at most the other pipe then has slots that it had or that lie within those that the
     /// first had. `NoMemory` where there is no memory for that; an error leaves all as it was.
     pub fn move_pipe_pipe(&mut self, from: usize, to: usize, count: usize) -> Result<(), NoMemory>
-        requires from { IsSome (at self.old.pipes from) }
-        requires to { IsSome (at self.old.pipes to) }
+        requires from { HoldsBytes (at self.old.pipes from) count }
+        requires to { HasRoom (at self.old.pipes to) count }
         requires other { from ≢ to }
-        requires from_bytes { IfSome (at self.old.pipes from) (λ x. x.packets ≡ None) }
-        requires to_bytes { IfSome (at self.old.pipes to) (λ x. x.packets ≡ None) }
-        requires held { IfSome (at self.old.pipes from) (λ x. count ≤ length x.bytes) }
-        requires room { IfSome (at self.old.pipes to) (λ x. count ≤ room x) }
         ensures ok { OnOk result (at self.new.pipes ≡ change_at to (gain (take count (bytes_of (at self.old.pipes from)))) (change_at from (lose count) (at self.old.pipes))) }
         ensures files { SameFiles self.old self.new }
-        ensures segments { OnOk result (self.new.segments ≤ self.old.segments + 3) }
-        ensures parts { OnOk result (strange (slots_at self.old.slots to) (slots_at self.old.slots from) (slots_at self.new.slots to) ≤ 3) }
+        ensures shares { OnOk result (SharesSlots (memory_of self.old) (memory_of self.new) from to) }
         ensures err { OnErr result (self.new ≡ self.old) }
     {
         if self.held(from) == count && self.slots(to) == 0 {
             return self.hand_over(from, to);
         }
-        self.copy_pipe_pipe(from, to, count)?;
-        self.drop_front(from, count);
-        Ok(())
+        self.move_front(from, to, count)
+    }
+
+    // Moves the first bytes of a pipe to another. Meanwhile the ring of the first one stands by itself, and the pipe has one that is new, since only
+    // one pipe can be borrowed at a time. An error leaves all as it was.
+    fn move_front(&mut self, from: usize, to: usize, count: usize) -> Result<(), NoMemory>
+        requires from { HoldsBytes (at self.old.pipes from) count }
+        requires to { HasRoom (at self.old.pipes to) count }
+        requires other { from ≢ to }
+        ensures ok { OnOk result (at self.new.pipes ≡ change_at to (gain (take count (bytes_of (at self.old.pipes from)))) (change_at from (lose count) (at self.old.pipes))) }
+        ensures files { SameFiles self.old self.new }
+        ensures shares { OnOk result (SharesSlots (memory_of self.old) (memory_of self.new) from to) }
+        ensures err { OnErr result (self.new ≡ self.old) }
+    {
+        // A proof learns here that there are fewer files and pipes than a segment can have holders.
+        let _most = self.contents.capacity();
+        let mut ring = Ring::new(self.alloc, MAX_CAPACITY as usize)?;
+        let Some(source) = self.contents[from].as_pipe_mut() else {
+            unreachable!()
+        };
+        // And here that no capacity is greater.
+        let _held = source.queue.len();
+        source.queue.exchange(&mut ring);
+        let Some(target) = self.contents[to].as_pipe_mut() else {
+            unreachable!()
+        };
+        let _held = target.queue.len();
+        let moved = target.queue.take_front(&mut self.store, &mut ring, count);
+        // And here that each pipe has few slots.
+        let _few = target.queue.slots();
+        let Some(source) = self.contents[from].as_pipe_mut() else {
+            unreachable!()
+        };
+        source.queue.exchange(&mut ring);
+        let _few = source.queue.slots();
+        self.store.trim(self.limits.spare_max);
+        moved
     }
 
     // Moves all that a pipe holds to one that holds nothing: the other gets the ring in which the bytes stand, and the first one that is new. An
     // error leaves all as it was.
     fn hand_over(&mut self, from: usize, to: usize) -> Result<(), NoMemory>
-        requires from { IsSome (at self.old.pipes from) }
-        requires to { IsSome (at self.old.pipes to) }
+        requires from { IsBytePipe (at self.old.pipes from) }
+        requires to { IsBytePipe (at self.old.pipes to) }
         requires other { from ≢ to }
-        requires from_bytes { IfSome (at self.old.pipes from) (λ x. x.packets ≡ None) }
-        requires to_bytes { IfSome (at self.old.pipes to) (λ x. x.packets ≡ None) }
         requires empty { slots_at self.old.slots to ≡ [] }
         requires room { IfSome (at self.old.pipes to) (λ x. length (bytes_of (at self.old.pipes from)) ≤ x.capacity) }
         ensures ok { OnOk result (at self.new.pipes ≡ change_at to (gain (bytes_of (at self.old.pipes from))) (change_at from (lose (length (bytes_of (at self.old.pipes from)))) (at self.old.pipes))) }
@@ -118,9 +141,7 @@ impl<A: Allocator + Copy> Nodes<A> {
         count: usize,
     ) -> Result<(), NoMemory>
         requires from { IsSome (at self.old.files from) }
-        requires to { IsSome (at self.old.pipes to) }
-        requires bytes { IfSome (at self.old.pipes to) (λ x. x.packets ≡ None) }
-        requires room { IfSome (at self.old.pipes to) (λ x. count ≤ room x) }
+        requires to { HasRoom (at self.old.pipes to) count }
         ensures ok { OnOk result (at self.new.pipes ≡ change_at to (gain (part_of place count (at self.old.files from))) (at self.old.pipes)) }
         ensures files { SameFiles self.old self.new }
         ensures err { OnErr result (self.new ≡ self.old) }
@@ -137,6 +158,7 @@ impl<A: Allocator + Copy> Nodes<A> {
         let _held = pipe.queue.len();
         pipe.queue.push_slices(&mut self.store, &slices)?;
         let _slots = pipe.queue.slots();
+        self.store.trim(self.limits.spare_max);
         Ok(())
     }
 
@@ -155,28 +177,25 @@ impl<A: Allocator + Copy> Nodes<A> {
         place: usize,
         count: usize,
     ) -> Result<usize, WriteFault>
-        requires from { IsSome (at self.old.pipes from) }
+        requires from { HoldsBytes (at self.old.pipes from) count }
         requires to { IsSome (at self.old.files to) }
-        requires bytes { IfSome (at self.old.pipes from) (λ x. x.packets ≡ None) }
-        requires held { IfSome (at self.old.pipes from) (λ x. count ≤ length x.bytes) }
-        ensures count { IfOk result (λ moved. moved ≡ fitting count place self.old.file_max) }
-        ensures big { (result ≡ Err WriteFault.TooBig) ↔ ((1 ≤ count) × (self.old.file_max ≤ place)) }
-        ensures pipes { OnOk result (at self.new.pipes ≡ change_at from (lose (fitting count place self.old.file_max)) (at self.old.pipes)) }
-        ensures files { OnOk result (at self.new.files ≡ change_at to (written place (take (fitting count place self.old.file_max) (bytes_of (at self.old.pipes from)))) (at self.old.files)) }
+        ensures count { IfOk result (λ moved. moved ≡ fitting count place self.old.limits.file_max) }
+        ensures big { (result ≡ Err WriteFault.TooBig) ↔ ((1 ≤ count) × (self.old.limits.file_max ≤ place)) }
+        ensures pipes { OnOk result (at self.new.pipes ≡ change_at from (lose (fitting count place self.old.limits.file_max)) (at self.old.pipes)) }
+        ensures files { OnOk result (at self.new.files ≡ change_at to (written place (take (fitting count place self.old.limits.file_max) (bytes_of (at self.old.pipes from)))) (at self.old.files)) }
         ensures names { self.new.names ≡ self.old.names }
-        ensures file_max { self.new.file_max ≡ self.old.file_max }
-        ensures segments { OnOk result (IfSome (at self.old.files to) (λ bytes. place ≤ length bytes) → self.new.segments ≤ self.old.segments) }
-        ensures none_added { OnOk result (IfSome (at self.old.files to) (λ bytes. place ≤ length bytes) → (key : ℕ) → 1 ≤ named self.new.slots key → 1 ≤ named self.old.slots key) }
+        ensures limits { self.new.limits ≡ self.old.limits }
+        ensures none_added { OnOk result (IfSome (at self.old.files to) (λ bytes. place ≤ length bytes) → AddsNone (memory_of self.old) (memory_of self.new)) }
         ensures err { OnErr result (self.new ≡ self.old) }
     {
         if count == 0 {
             return Ok(0);
         }
         // Before any memory is asked for.
-        if self.file_max <= place {
+        if self.limits.file_max <= place {
             return Err(WriteFault::TooBig);
         }
-        let moved = count.min(self.file_max - place);
+        let moved = count.min(self.limits.file_max - place);
         let Ok(()) = self.put_front(from, to, place, moved) else {
             return Err(WriteFault::NoMemory);
         };
@@ -192,16 +211,13 @@ impl<A: Allocator + Copy> Nodes<A> {
         place: usize,
         count: usize,
     ) -> Result<(), NoMemory>
-        requires from { IsSome (at self.old.pipes from) }
+        requires from { HoldsBytes (at self.old.pipes from) count }
         requires to { IsSome (at self.old.files to) }
-        requires bytes { IfSome (at self.old.pipes from) (λ x. x.packets ≡ None) }
-        requires held { IfSome (at self.old.pipes from) (λ x. count ≤ length x.bytes) }
         requires some { 1 ≤ count }
-        requires fits { place + count ≤ self.old.file_max }
+        requires fits { place + count ≤ self.old.limits.file_max }
         ensures ok { OnOk result (at self.new.files ≡ change_at to (written place (take count (bytes_of (at self.old.pipes from)))) (at self.old.files)) }
         ensures pipes { SamePipes self.old self.new }
-        ensures segments { OnOk result (IfSome (at self.old.files to) (λ bytes. place ≤ length bytes) → self.new.segments ≤ self.old.segments) }
-        ensures none_added { OnOk result (IfSome (at self.old.files to) (λ bytes. place ≤ length bytes) → (key : ℕ) → 1 ≤ named self.new.slots key → 1 ≤ named self.old.slots key) }
+        ensures none_added { OnOk result (IfSome (at self.old.files to) (λ bytes. place ≤ length bytes) → AddsNone (memory_of self.old) (memory_of self.new)) }
         ensures err { OnErr result (self.new ≡ self.old) }
     {
         // A proof learns here that there are fewer files and pipes than a segment can have holders.
@@ -215,20 +231,19 @@ impl<A: Allocator + Copy> Nodes<A> {
         };
         let Ok(_moved) = file
             .file
-            .put_slices_at(&mut self.store, place, &slices, self.file_max)
+            .put_slices_at(&mut self.store, place, &slices, self.limits.file_max)
         else {
             return Err(NoMemory);
         };
         // And here that the file has no more slots than it may have bytes.
         let _end = file.file.len();
+        self.store.trim(self.limits.spare_max);
         Ok(())
     }
 
     // Lets the first bytes of a pipe go. It takes no memory.
     fn drop_front(&mut self, key: usize, count: usize)
-        requires here { IsSome (at self.old.pipes key) }
-        requires bytes { IfSome (at self.old.pipes key) (λ x. x.packets ≡ None) }
-        requires held { IfSome (at self.old.pipes key) (λ x. count ≤ length x.bytes) }
+        requires { HoldsBytes (at self.old.pipes key) count }
         ensures ok { at self.new.pipes ≡ change_at key (lose count) (at self.old.pipes) }
         ensures files { SameFiles self.old self.new }
         ensures slots { self.new.slots ≡ slice_set self.old.slots key (drop_bytes count (slots_at self.old.slots key)) }
@@ -241,5 +256,6 @@ impl<A: Allocator + Copy> Nodes<A> {
         // A proof learns here that the pipe has few slots, and that a segment that is there is held.
         let _slots = node.queue.slots();
         let _segments = self.store.in_use();
+        self.store.trim(self.limits.spare_max);
     }
 }

@@ -31,7 +31,7 @@ impl<A: Allocator + Copy> Nodes<A> {
         ensures pipes { at self.new.pipes ≡ at self.old.pipes }
         ensures slots { (key : ℕ) → slots_at self.new.slots key ≡ slots_at self.old.slots key }
         ensures segments { self.new.segments ≡ self.old.segments }
-        ensures file_max { self.new.file_max ≡ self.old.file_max }
+        ensures limits { self.new.limits ≡ self.old.limits }
         ensures err { OnErr result (self.new ≡ self.old) }
     {
         if self.names.contains_key(&name) {

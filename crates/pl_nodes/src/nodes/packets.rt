@@ -26,7 +26,7 @@ impl<A: Allocator + Copy> Nodes<A> {
         ensures ok { IfOk result (λ key. at self.new.pipes ≡ set_at nat_eq (at self.old.pipes) key (Some empty_packet_pipe)) }
         ensures files { at self.new.files ≡ at self.old.files }
         ensures names { self.new.names ≡ self.old.names }
-        ensures file_max { self.new.file_max ≡ self.old.file_max }
+        ensures limits { self.new.limits ≡ self.old.limits }
         ensures slots { (key : ℕ) → slots_at self.new.slots key ≡ slots_at self.old.slots key }
         ensures segments { self.new.segments ≡ self.old.segments }
         ensures err { OnErr result (self.new ≡ self.old) }
@@ -51,7 +51,7 @@ impl<A: Allocator + Copy> Nodes<A> {
         ensures ok { IfOk result (λ key. at self.new.pipes ≡ set_at nat_eq (at self.old.pipes) key (Some (pipe_made packets))) }
         ensures files { at self.new.files ≡ at self.old.files }
         ensures names { self.new.names ≡ self.old.names }
-        ensures file_max { self.new.file_max ≡ self.old.file_max }
+        ensures limits { self.new.limits ≡ self.old.limits }
         ensures slots { (key : ℕ) → slots_at self.new.slots key ≡ slots_at self.old.slots key }
         ensures segments { self.new.segments ≡ self.old.segments }
         ensures err { OnErr result (self.new ≡ self.old) }

@@ -29,7 +29,7 @@ impl<A: Allocator + Copy> Nodes<A> {
         ensures ok { IfOk result (λ key. at self.new.pipes ≡ set_at nat_eq (at self.old.pipes) key (Some empty_pipe)) }
         ensures files { at self.new.files ≡ at self.old.files }
         ensures names { self.new.names ≡ self.old.names }
-        ensures file_max { self.new.file_max ≡ self.old.file_max }
+        ensures limits { self.new.limits ≡ self.old.limits }
         ensures slots { (key : ℕ) → slots_at self.new.slots key ≡ slots_at self.old.slots key }
         ensures segments { self.new.segments ≡ self.old.segments }
         ensures err { OnErr result (self.new ≡ self.old) }
@@ -148,6 +148,7 @@ impl<A: Allocator + Copy> Nodes<A> {
         let bytes = node.queue.pop(self.alloc, &mut self.store, count)?;
         // And here that it has few slots.
         let _slots = node.queue.slots();
+        self.store.trim(self.limits.spare_max);
         Ok(bytes)
     }
 
@@ -167,6 +168,7 @@ impl<A: Allocator + Copy> Nodes<A> {
         node.queue.pop_into(&mut self.store, into);
         // A proof learns here that a pipe has few slots.
         let _slots = node.queue.slots();
+        self.store.trim(self.limits.spare_max);
     }
 
     /// Adds bytes at the end of a pipe that has room for them. An error leaves all as it was.
@@ -184,6 +186,7 @@ impl<A: Allocator + Copy> Nodes<A> {
         node.queue.push(&mut self.store, bytes)?;
         // A proof learns here that a pipe has few slots.
         let _slots = node.queue.slots();
+        self.store.trim(self.limits.spare_max);
         Ok(())
     }
 
@@ -225,6 +228,7 @@ impl<A: Allocator + Copy> Nodes<A> {
         node.hung = false;
         // A proof learns here that a segment that is there is held.
         let _segments = self.store.in_use();
+        self.store.trim(self.limits.spare_max);
     }
 
     /// Lets a pipe go that has no name, with its bytes. It takes no memory, and no slot and no segment comes.
@@ -234,7 +238,7 @@ impl<A: Allocator + Copy> Nodes<A> {
         ensures ok { at self.new.pipes ≡ set_at nat_eq (at self.old.pipes) key None }
         ensures files { at self.new.files ≡ at self.old.files }
         ensures names { self.new.names ≡ self.old.names }
-        ensures file_max { self.new.file_max ≡ self.old.file_max }
+        ensures limits { self.new.limits ≡ self.old.limits }
         ensures shrinks { Shrinks (memory_of self.old) (memory_of self.new) }
     {
         let Content::Pipe(gone) = self.contents.remove(key) else {
@@ -244,6 +248,7 @@ impl<A: Allocator + Copy> Nodes<A> {
         self.upper.went(&mut self.contents, key);
         // A proof learns here that a segment that is there is held.
         let _segments = self.store.in_use();
+        self.store.trim(self.limits.spare_max);
     }
 
     /// Says whether a pipe is hung. It takes no memory, and all slots and segments stay as they are.

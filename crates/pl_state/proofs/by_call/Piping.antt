@@ -186,7 +186,7 @@ module _ {A : Type 0} (m : Caller A) (nonblock direct : Bool) where
         module _ (p d d' : ℕ) (vacant_pipe : at k.nodes.pipes p ≡ None) (vacant : at k.opened d ≡ None) (vacant' : at k.opened d' ≡ None) (apart : d ≢ d') (descs' : Descs) (nodes' : Nodes) (pids : is_pid descs'.tables ≡ is_pid k.tables)
             (rows : row_at descs'.tables ≡ with_row (with_row (row_at k.tables) pid first (Some d)) pid second (Some d'))
             (opened : at descs'.opened ≡ set_at nat_eq (set_at nat_eq (at k.opened) d (Some (fresh (node.Pipe p) mode.Read (nonblock_if nonblock)))) d' (Some (fresh (node.Pipe p) mode.Write (write_end_flags nonblock direct))))
-            (pipes_are : at nodes'.pipes ≡ set_at nat_eq (at k.nodes.pipes) p (Some (pipe_made direct))) (files_are : at nodes'.files ≡ at k.nodes.files) (names_are : nodes'.names ≡ k.nodes.names) (file_max_is : nodes'.file_max ≡ k.nodes.file_max) where
+            (pipes_are : at nodes'.pipes ≡ set_at nat_eq (at k.nodes.pipes) p (Some (pipe_made direct))) (files_are : at nodes'.files ≡ at k.nodes.files) (names_are : nodes'.names ≡ k.nodes.names) (limits_are : nodes'.limits ≡ k.nodes.limits) where
           abbrev new : Contents A
           new = contents descs' nodes' calls limits
 
@@ -257,7 +257,7 @@ module _ {A : Type 0} (m : Caller A) (nonblock direct : Bool) where
                   rise = sound.rise;
                   numbered = sound.numbered;
                   there = subst (λ m. AreThere m nodes') (sym opened) both;
-                  limit = file_max_is ∙ sound.limit;
+                  limit = limits_are ∙ sound.limit;
                   once = subst (EachOnce (pointwise nat_eq)) (sym names_are) sound.once;
                   settled = settled_after (core_of {A = A} new) c (make_pipe c keys pid first second direct (nonblock_if nonblock) (write_end_flags nonblock direct)) high;
                 };

@@ -20,7 +20,7 @@ use Rattle.pl_model.proofs.streams.StreamRuns.{opening_below}
 use Rattle.pl_desc.specs.Rows.{at, table_of, rows_in, is_pid, row_at, free_pid, count_at}
 use Rattle.pl_desc.specs.Descs.{Descs, IsTidy}
 use Rattle.pl_nodes.specs.Nodes.{Memory}
-use Rattle.pl_state.specs.Contents.{Contents, contents, core_of}
+use Rattle.pl_state.specs.Contents.{Contents, contents, node_limits, core_of}
 use Rattle.pl_state.specs.Sound.{IsSound, AreCounted}
 use Rattle.pl_state.specs.Makes.{MakesAtKeys, MayWantAtKeys, Stands}
 use Rattle.pl_state.proofs.Known.{Known}
@@ -75,7 +75,7 @@ module _ {A : Type 0} (m : Known A) where
 
 -- a new kernel
 abbrev nothing : {A : Type 0} → Memory → Limits → Contents A
-nothing memory limits = record { tables = []; opened = []; nodes = record { pipes = []; files = []; names = []; file_max = limits.file_max; memory = memory }; calls = record { calls = []; next = limits.first_call }; limits = limits }
+nothing memory limits = record { tables = []; opened = []; nodes = record { pipes = []; files = []; names = []; limits = node_limits limits; memory = memory }; calls = record { calls = []; next = limits.first_call }; limits = limits }
 
 no_table : (pid : ℕ) → table_of [] pid ≡ None
 no_table pid = by (nat_lt 0 pid)

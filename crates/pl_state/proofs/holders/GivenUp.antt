@@ -17,7 +17,7 @@ use Rattle.pl_numbered.specs.Rising.{Rise}
 use Rattle.pl_parked.specs.Calls.{Calls}
 use Rattle.pl_desc.specs.Rows.{at, is_pid, row_at, naming, count_at}
 use Rattle.pl_desc.specs.Descs.{Opened, Descs, IsTidy, holders, last_hold}
-use Rattle.pl_state.specs.Contents.{Contents, Nodes, IsThere, contents, node_of, description_of, core_of}
+use Rattle.pl_state.specs.Contents.{Contents, Nodes, IsThere, contents, node_limits, node_of, description_of, core_of}
 use Rattle.pl_state.specs.LastHold.{Leaves, Releases}
 use Rattle.pl_state.specs.Sound.{IsWhole, AreThere, AreCounted, keeping}
 use Rattle.pl_state.proofs.Known.{Parts}
@@ -179,12 +179,12 @@ module _ {A : Type 0} (m : Parts A) (u : Core A numbers) (key : ℕ) (loosed : D
       by true last = given_goes last
       by false last = given_stays last
 
-  limit_stays : nodes'.file_max ≡ limits.file_max
+  limit_stays : nodes'.limits ≡ node_limits limits
   limit_stays = by (last_hold loosed key) refl
     where
-      by : (b : Bool) → last_hold loosed key ≡ b → nodes'.file_max ≡ limits.file_max
-      by true last = (nodes_less last).file_max ∙ whole.limit
-      by false last = ap (λ (ns : Nodes). ns.file_max) (releases.stays last) ∙ whole.limit
+      by : (b : Bool) → last_hold loosed key ≡ b → nodes'.limits ≡ node_limits limits
+      by true last = (nodes_less last).limits ∙ whole.limit
+      by false last = ap (λ (ns : Nodes). ns.limits) (releases.stays last) ∙ whole.limit
 
   names_stay : nodes'.names ≡ nodes.names
   names_stay = by (last_hold loosed key) refl

@@ -73,23 +73,23 @@ module _ (before after : List (Option Opened)) (p : ℕ) (old new : KeptNodes) (
   open_is = (λ i. r_is i || w_is i) ∙ sym (any_end (node.Pipe p) after)
 
   pub leaves_pipe : at new.pipes ≡ set_at nat_eq (at old.pipes) p (option_map (with_these_ends r w w0) (kept_if ((r || w) || has_name old.names (node.Pipe p)) (at old.pipes p)))
-      → at new.files ≡ at old.files → new.names ≡ old.names → new.file_max ≡ old.file_max → Leaves before after (nodes_of old) (nodes_of new) (node.Pipe p)
-  leaves_pipe is files names file_max = record {
+      → at new.files ≡ at old.files → new.names ≡ old.names → new.limits ≡ old.limits → Leaves before after (nodes_of old) (nodes_of new) (node.Pipe p)
+  leaves_pipe is files names limits = record {
     pipes = is ∙ (λ i. set_at nat_eq (at old.pipes) p (option_map (λ x. with_ends (open_is i) (r_is i) (w_is i) (x.hung || w0_is i) x) (kept_if (open_is i || has_name old.names (node.Pipe p)) (at old.pipes p))));
     files = files;
     names = names;
-    file_max = file_max;
+    limits = limits;
   }
 
 -- and likewise of a file
 pub leaves_file : (before after : List (Option Opened)) (f : ℕ) (old new : KeptNodes) (b : Bool) → b ≡ is_open_on after (node.File f)
     → at new.files ≡ set_at nat_eq (at old.files) f (kept_if (b || has_name old.names (node.File f)) (at old.files f)) → at new.pipes ≡ at old.pipes
-    → new.names ≡ old.names → new.file_max ≡ old.file_max → Leaves before after (nodes_of old) (nodes_of new) (node.File f)
-leaves_file before after f old new b b_is is pipes names file_max = record {
+    → new.names ≡ old.names → new.limits ≡ old.limits → Leaves before after (nodes_of old) (nodes_of new) (node.File f)
+leaves_file before after f old new b b_is is pipes names limits = record {
   pipes = pipes;
   files = is ∙ ap (λ z. set_at nat_eq (at old.files) f (kept_if (z || has_name old.names (node.File f)) (at old.files f))) b_is;
   names = names;
-  file_max = file_max;
+  limits = limits;
 }
 
 -- of the description of a key, which was on the node

@@ -13,7 +13,7 @@ use Rattle.pl_file.proofs.compact.bytes_of.Goals as goal
 pub overflow_sub-start : goal.overflow_sub-start
 overflow_sub-start g c =
     let v = c.args.chunks.now in
-    let t = total-take v.slots (index v c.args.first) (index v c.args.end) c.requires.order in
+    let t = total-take v.slots (index v c.args.first) (index v c.args.end) c.requires.span.order in
     omega (arith, t, c.start.ensures, c.start-2.ensures)
 
 pub bytes-requires : goal.bytes-requires

@@ -55,39 +55,27 @@ module _ (g : Over) (c : After-unwrap-longer g) where
 pub set_last-requires-clause-fits : goal.set_last-requires-clause-fits
 set_last-requires-clause-fits g c = let s = sum g (goal.at.set_last-requires-clause-fits g c).After-unwrap-longer in omega (arith, s, c.requires.most)
 
-pub returns-clause-turns : goal.returns-clause-turns
-returns-clause-turns g c =
+pub returns-clause-added : goal.returns-clause-added
+returns-clause-added g c =
     let m = segment_at c.args.store.now in
     let n = segment_at c.try_append.new.self in
-    subst (Turns m c.args.chunks.now.slots n) (sym c.set_last.ensures)
-    (tail-turns m n c.args.chunks.now.slots (front c.args.chunks.now.slots) c.last-last.result c.unwrap-longer.result c.args.bytes.now c.last-last.ensures.shape c.requires.held (turns g (goal.at.returns-clause-turns g c).After-unwrap-longer))
-
-pub returns-clause-read : goal.returns-clause-read
-returns-clause-read g c =
-    let m = segment_at c.args.store.now in
-    let n = segment_at c.try_append.new.self in
-    let k = (goal.at.returns-clause-read g c).After-unwrap-longer in
-    ap (all_read n) c.set_last.ensures
-    ∙ tail-read m n c.args.chunks.now.slots (front c.args.chunks.now.slots) c.last-last.result c.unwrap-longer.result c.args.bytes.now c.last-last.ensures.shape c.requires.held (turns g k) (read g k)
-
-pub returns-clause-solid : goal.returns-clause-solid
-returns-clause-solid g c =
-    let m = segment_at c.args.store.now in
-    let l = len g (goal.at.returns-clause-solid g c).After-unwrap-longer in
-    subst AllSolid (sym c.set_last.ensures)
-    (tail-solid m m c.args.chunks.now.slots (front c.args.chunks.now.slots) c.last-last.result c.unwrap-longer.result c.args.bytes.now c.last-last.ensures.shape c.requires.held c.requires.solid (omega (arith, l, c.requires.some)))
-
-pub returns-clause-total : goal.returns-clause-total
-returns-clause-total g c =
-    let s = sum g (goal.at.returns-clause-total g c).After-unwrap-longer in
-    let a = ap total c.set_last.ensures in
-    let b = total-append (front c.args.chunks.now.slots) (c.unwrap-longer.result ∷ []) in
-    omega (arith, s, a, b)
-
-pub returns-clause-within : goal.returns-clause-within
-returns-clause-within g c =
-    let m = segment_at c.args.store.now in
-    let n = segment_at c.try_append.new.self in
-    let k = (goal.at.returns-clause-within g c).After-unwrap-longer in
-    let t = tail-turns m n c.args.chunks.now.slots (front c.args.chunks.now.slots) c.last-last.result c.unwrap-longer.result c.args.bytes.now c.last-last.ensures.shape c.requires.held (turns g k) in
-    subst AllWithin (sym c.set_last.ensures) (lie-within c.try_append.new.self.held ((front c.args.chunks.now.slots) ++ c.unwrap-longer.result ∷ []) c.in_use-segments.ensures.good t.lie)
+    let xs = c.args.chunks.now.slots in
+    let k = (goal.at.returns-clause-added g c).After-unwrap-longer in
+    let last = c.last-last.result in
+    let longer = c.unwrap-longer.result in
+    let shape = c.last-last.ensures.shape in
+    let set = c.set_last.ensures in
+    let turned = tail-turns m n xs (front xs) last longer c.args.bytes.now shape c.requires.held (turns g k) in
+    record {
+      turns = subst (Turns m xs n) (sym set) turned;
+      read = ap (all_read n) set ∙ tail-read m n xs (front xs) last longer c.args.bytes.now shape c.requires.held (turns g k) (read g k);
+      solid =
+          let l = len g k in
+          subst AllSolid (sym set) (tail-solid m m xs (front xs) last longer c.args.bytes.now shape c.requires.held c.requires.solid (omega (arith, l, c.requires.some)));
+      within = subst AllWithin (sym set) (lie-within c.try_append.new.self.held ((front xs) ++ longer ∷ []) c.in_use-segments.ensures.good turned.lie);
+      total =
+          let s = sum g k in
+          let a = ap total set in
+          let b = total-append (front xs) (longer ∷ []) in
+          omega (arith, s, a, b);
+    }

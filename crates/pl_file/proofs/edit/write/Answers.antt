@@ -1,33 +1,68 @@
-use Rattle.std.proofs.Common.{◌≡◌, ◌∙◌, ap, sym, length, arith}
-use Rattle.pl_segments.specs.Segments.{segment_at}
+use Rattle.std.proofs.Common.{◌≡◌, List, ◌∙◌, sym, subst, length, arith}
+use Rattle.std.specs.Prelude.{OnOk}
+use Rattle.std.proofs.lemmas.Result.{on_err_weaker}
+use Rattle.pl_segments.specs.declared.slice.Slice.{Slice}
+use Rattle.pl_segments.specs.Segments.{Segments, segment_at}
+use Rattle.pl_segments.proofs.Turning.{holds-turned}
+use Rattle.pl_file.specs.File.{written}
+use Rattle.pl_file.specs.Written.{Becomes, IsFile}
+use Rattle.pl_file.proofs.edit.write.Given.{Over}
+use Rattle.pl_file.proofs.edit.write.Goals.{Then-branch, Else-branch}
 use Rattle.pl_segments.specs.Slices.{all_read}
 use Rattle.pl_segments.proofs.SlotLemmas.{total-read}
-use Rattle.pl_file.proofs.Compacting.{written-some, turned-some, turned-few}
+use Rattle.pl_file.specs.Added.{Adds, IsAdded}
 use Rattle.pl_file.proofs.Editing.{written-end}
 use Rattle.pl_file.proofs.edit.write.Goals as goal
 
-pub returns-then-bytes-tail_room-clause-read : goal.returns-then-bytes-tail_room-clause-read
-returns-then-bytes-tail_room-clause-read g c =
-    let m = segment_at c.args.store.now in
-    let old = all_read m c.args.chunks.now.slots in
-    let end : c.args.place ≡ length old = (let e = c.if-place-end.true in let d = c.end.ensures in let t = total-read m c.args.chunks.now.slots c.requires.held.lie in omega (arith, e, d, t)) in
-    c.grow_tail.ensures.read ∙ sym (written-end c.args.place c.args.bytes.now old c.requires.some end)
+-- the bytes were added at the end
+module _ (g : Over) (c : Then-branch g) where
+  done : Adds (segment_at c.args.store.now) c.args.chunks.now.slots c.args.bytes.now (segment_at c.append.new.store) c.append.new.chunks.slots
+  done = subst (λ b. IsAdded (segment_at c.args.store.now) c.args.chunks.now.slots c.args.bytes.now b (segment_at c.append.new.store) c.append.new.chunks.slots) c.if-branch.true c.in_ok-append.ensures.added
 
-pub compact-requires-clause-some : goal.compact-requires-clause-some
-compact-requires-clause-some g c =
+pub returns-then-branch-clause-becomes : goal.returns-then-branch-clause-becomes
+returns-then-branch-clause-becomes g c =
     let m = segment_at c.args.store.now in
-    let n = segment_at c.write_over.new.store in
     let xs = c.args.chunks.now.slots in
-    let ys = c.write_over.new.chunks.slots in
-    let e = ap length c.in_ok-write_over.ensures.read in
-    let w = written-some c.args.place c.args.bytes.now (all_read m xs) c.requires.some in
-    turned-some m n xs ys c.in_ok-write_over.ensures.turns (omega (arith, e, w))
+    let old = all_read m xs in
+    let end : c.args.place ≡ length old = (let e = c.if-place-end.false in let d = c.end.ensures in let t = total-read m xs c.requires.file.held.lie in omega (arith, e, d, t)) in
+    let added = done g (goal.at.returns-then-branch-clause-becomes g c).Then-branch in
+    record { turns = added.turns; read = added.read ∙ sym (written-end c.args.place c.args.bytes.now old c.requires.some end) }
 
-pub compact-requires-clause-few : goal.compact-requires-clause-few
-compact-requires-clause-few g c =
-    let e = c.in_ok-write_over.ensures in
-    λ key.
-    let f = turned-few (segment_at c.args.store.now) (segment_at c.write_over.new.store) c.args.chunks.now.slots c.write_over.new.chunks.slots e.turns e.solid key in
-    let l = c.requires.few key in
-    let t = e.most in
-    omega (arith, f, l, t)
+pub returns-then-branch-clause-file : goal.returns-then-branch-clause-file
+returns-then-branch-clause-file g c =
+    let m = segment_at c.args.store.now in
+    let xs = c.args.chunks.now.slots in
+    let added = done g (goal.at.returns-then-branch-clause-file g c).Then-branch in
+    record {
+      held = holds-turned m (segment_at c.append.new.store) xs c.append.new.chunks.slots c.requires.file.held added.turns;
+      solid = added.solid;
+      within = added.within;
+      most = omega (arith, added.total, c.if-place-end.false, c.end.ensures, c.requires.fits);
+    }
+
+-- nothing was added, and all is as it was
+module _ (g : Over) (c : Else-branch g) where
+  slots : c.append.new.chunks.slots ≡ c.args.chunks.now.slots
+  slots = subst (λ b. IsAdded (segment_at c.args.store.now) c.args.chunks.now.slots c.args.bytes.now b (segment_at c.append.new.store) c.append.new.chunks.slots) c.if-branch.false c.in_ok-append.ensures.added
+
+  store : c.append.new.store ≡ c.args.store.now
+  store = c.in_ok-append.ensures.none c.if-branch.false
+
+pub write_within-requires-2-clause-file : goal.write_within-requires-2-clause-file
+write_within-requires-2-clause-file g c =
+    let k = (goal.at.write_within-requires-2-clause-file g c).Else-branch in
+    subst (λ (s : Segments). IsFile (segment_at s) c.append.new.chunks.slots) (sym (store g k)) (subst (IsFile (segment_at c.args.store.now)) (sym (slots g k)) c.requires.file)
+
+pub returns-clause-becomes : goal.returns-clause-becomes
+returns-clause-becomes g c =
+    let k = (goal.at.returns-clause-becomes g c).Else-branch in
+    let n = segment_at c.write_within-2.new.store in
+    let ys = c.write_within-2.new.chunks.slots in
+    let new = written c.args.place c.args.bytes.now in
+    subst (λ (xs : List Slice). OnOk c.write_within-2.result (Becomes (segment_at c.args.store.now) xs n ys (new (all_read (segment_at c.args.store.now) xs)))) (slots g k)
+    (subst (λ (s : Segments). OnOk c.write_within-2.result (Becomes (segment_at s) c.append.new.chunks.slots n ys (new (all_read (segment_at s) c.append.new.chunks.slots)))) (store g k) c.write_within-2.ensures.becomes)
+
+pub returns-clause-unchanged : goal.returns-clause-unchanged
+returns-clause-unchanged g c =
+    let k = (goal.at.returns-clause-unchanged g c).Else-branch in
+    on_err_weaker c.write_within-2.result (λ same. (same.0 ∙ slots g k, same.1 ∙ store g k)) c.write_within-2.ensures.unchanged

@@ -3,6 +3,7 @@ use Rattle.pl_segments.specs.Segments.{segment_at}
 use Rattle.pl_segments.specs.Slices.{all_read}
 use Rattle.pl_segments.specs.Turns.{Turns}
 use Rattle.pl_segments.specs.Slots.{AllSolid}
+use Rattle.pl_segments.proofs.Turning.{turns-same}
 use Rattle.pl_segments.proofs.Together.{is-last, one-solid, one-some, both-held, one-turns, one-read}
 use Rattle.pl_file.proofs.Patching.{last-there, added-total, added-length}
 use Rattle.pl_file.proofs.patch.push_joined.Goals as goal
@@ -13,12 +14,12 @@ pop-last-requires g c = last-there c.args.patch.now.slots (λ e. c.if-len-eq0.fa
 pub join_reserved-joined-requires-clause-held : goal.join_reserved-joined-requires-clause-held
 join_reserved-joined-requires-clause-held g c =
     let m = segment_at c.args.store.now in
-    both-held m m c.args.patch.now.slots c.pop-last.new.self.slots c.pop-last.result c.pop-last.result c.args.slice c.pop-last.ensures.slots c.requires.held
+    both-held m m c.args.patch.now.slots c.pop-last.new.self.slots c.pop-last.result c.pop-last.result c.args.slice c.pop-last.ensures.slots c.requires.held.held
 
 pub join_reserved-joined-requires-clause-some : goal.join_reserved-joined-requires-clause-some
 join_reserved-joined-requires-clause-some g c =
     let m = segment_at c.args.store.now in
-    one-some m m c.args.patch.now.slots c.pop-last.new.self.slots c.pop-last.result c.pop-last.result c.args.slice c.pop-last.ensures.slots c.requires.solid
+    one-some m m c.args.patch.now.slots c.pop-last.new.self.slots c.pop-last.result c.pop-last.result c.args.slice c.pop-last.ensures.slots c.requires.held.solid
 
 pub join_reserved-joined-requires-clause-most : goal.join_reserved-joined-requires-clause-most
 join_reserved-joined-requires-clause-most g c =
@@ -37,26 +38,25 @@ push-requires-2-clause-fits g c =
     let t = added-total c.pop-last.new.self.slots c.args.patch.now.slots c.pop-last.result c.pop-last.ensures.slots in
     omega (arith, t, c.pop-last.ensures.base, c.join_reserved-joined.ensures.len, c.requires.fits)
 
-pub returns-clause-turns : goal.returns-clause-turns
-returns-clause-turns g c =
+pub returns-clause-patched : goal.returns-clause-patched
+returns-clause-patched g c =
     let m = segment_at c.args.store.now in
     let n = segment_at c.join_reserved-joined.new.self in
     let xs = c.args.patch.now.slots in
-    subst (Turns m (xs ++ c.args.slice ∷ []) n) (sym c.push-2.ensures.slots)
-    (one-turns m n xs c.pop-last.new.self.slots c.pop-last.result c.join_reserved-joined.result c.args.slice c.pop-last.ensures.slots c.requires.held c.join_reserved-joined.ensures.turns)
-
-pub returns-clause-read : goal.returns-clause-read
-returns-clause-read g c =
-    let m = segment_at c.args.store.now in
-    let n = segment_at c.join_reserved-joined.new.self in
-    ap (all_read n) c.push-2.ensures.slots
-    ∙ one-read m n c.args.patch.now.slots c.pop-last.new.self.slots c.pop-last.result c.join_reserved-joined.result c.args.slice c.pop-last.ensures.slots c.requires.held c.join_reserved-joined.ensures.turns c.join_reserved-joined.ensures.reads
-
-pub returns-clause-solid : goal.returns-clause-solid
-returns-clause-solid g c =
-    let m = segment_at c.args.store.now in
-    subst AllSolid (sym c.push-2.ensures.slots)
-    (one-solid m m c.args.patch.now.slots c.pop-last.new.self.slots c.pop-last.result c.join_reserved-joined.result c.args.slice c.pop-last.ensures.slots c.requires.solid c.join_reserved-joined.ensures.len)
+    let shape = c.pop-last.ensures.slots in
+    let both = c.join_reserved-joined.ensures in
+    record {
+      becomes = record {
+        turns = subst (Turns m (xs ++ c.args.slice ∷ []) n) (sym c.push-2.ensures.slots)
+            (one-turns m n xs c.pop-last.new.self.slots c.pop-last.result c.join_reserved-joined.result c.args.slice shape c.requires.held.held both.turns);
+        read = ap (all_read n) c.push-2.ensures.slots
+            ∙ one-read m n xs c.pop-last.new.self.slots c.pop-last.result c.join_reserved-joined.result c.args.slice shape c.requires.held.held both.turns both.reads;
+      };
+      solid = subst AllSolid (sym c.push-2.ensures.slots)
+          (one-solid m m xs c.pop-last.new.self.slots c.pop-last.result c.join_reserved-joined.result c.args.slice shape c.requires.held.solid both.len);
+      base = c.push-2.ensures.base ∙ c.pop-last.ensures.base;
+      capacity = c.push-2.ensures.capacity ∙ c.pop-last.ensures.capacity;
+    }
 
 pub returns-clause-many : goal.returns-clause-many
 returns-clause-many g c =
@@ -72,3 +72,17 @@ returns-clause-total g c =
 
 pub returns-then-len-eq0-clause-total : goal.returns-then-len-eq0-clause-total
 returns-then-len-eq0-clause-total g c = added-total c.args.patch.now.slots c.push.new.self.slots c.args.slice c.push.ensures.slots
+
+pub returns-then-len-eq0-clause-patched : goal.returns-then-len-eq0-clause-patched
+returns-then-len-eq0-clause-patched g c =
+    let m = segment_at c.args.store.now in
+    let zs = c.args.patch.now.slots ++ c.args.slice ∷ [] in
+    record {
+      becomes = record {
+        turns = subst (Turns m zs m) (sym c.push.ensures.slots) (turns-same m zs c.requires.held.held.lie);
+        read = ap (all_read m) c.push.ensures.slots;
+      };
+      solid = subst AllSolid (sym c.push.ensures.slots) c.requires.held.solid;
+      base = c.push.ensures.base;
+      capacity = c.push.ensures.capacity;
+    }

@@ -1,6 +1,6 @@
-use Rattle.std.proofs.Common.{◌≡◌, ◌∙◌, ◌++◌, ◌+◌, ap, length, arith}
+use Rattle.std.proofs.Common.{◌≡◌, ℕ, List, [], ◌∷◌, ◌∙◌, ◌++◌, ◌+◌, refl, sym, ap, length, arith}
 use Rattle.std.specs.Prelude.{min}
-use Rattle.std.proofs.lemmas.List.{append_assoc}
+use Rattle.std.proofs.lemmas.List.{append_assoc, append-nil}
 use Rattle.pl_segments.specs.Segments.{segment_size, segment_at}
 use Rattle.pl_segments.specs.Slices.{all_read}
 use Rattle.pl_segments.specs.Turns.{Holds}
@@ -10,9 +10,13 @@ use Rattle.pl_file.proofs.patch.put_chunks.Given.{Over}
 use Rattle.pl_file.proofs.patch.put_chunks.Goals.{After-make_reserved-slice}
 use Rattle.pl_file.proofs.patch.put_chunks.Goals as goal
 
+nothing-left : (bs : List ℕ) → length bs ≡ 0 → bs ≡ []
+nothing-left [] e = refl
+nothing-left (b ∷ bs) e = absurd (omega (arith, e))
+
 module _ (g : Over) (c : After-make_reserved-slice g) where
   held : Holds (segment_at c.loop-rest.store) c.loop-rest.patch.slots
-  held = holds-turned (segment_at c.args.store.now) (segment_at c.loop-rest.store) c.args.patch.now.slots c.loop-rest.patch.slots c.requires.held c.loop-rest.invariant.turns
+  held = holds-turned (segment_at c.args.store.now) (segment_at c.loop-rest.store) c.args.patch.now.slots c.loop-rest.patch.slots c.requires.held.held c.loop-rest.invariant.turns
 
   lens : (c.make_reserved-slice.result.len ≡ min (length c.loop-rest.rest.now) segment_size) × (length c.split_at.result.1.now + c.make_reserved-slice.result.len ≡ length c.loop-rest.rest.now)
   lens =
@@ -69,4 +73,16 @@ loop-rest-preserved g c =
       capacity = c.push.ensures.capacity ∙ inv.capacity;
       base = c.push.ensures.base ∙ inv.base;
       total = let e = inv.total in omega (arith, sum, e, l);
+    }
+
+pub returns-clause-patched : goal.returns-clause-patched
+returns-clause-patched g c =
+    let inv = c.loop-rest.invariant in
+    let bytes = all_read (segment_at c.loop-rest.store) c.loop-rest.patch.slots in
+    let none = nothing-left c.loop-rest.rest.now (omega arith) in
+    record {
+      becomes = record { turns = inv.turns; read = sym (append-nil bytes) ∙ ap (λ bs. bytes ++ bs) (sym none) ∙ inv.read };
+      solid = inv.solid;
+      base = inv.base;
+      capacity = inv.capacity;
     }

@@ -1,5 +1,6 @@
-use Rattle.std.proofs.Common.{◌≡◌, ℕ, ◌≤◌, ◌∙◌, ◌++◌, ◌-◌, ap, append_assoc, arith}
+use Rattle.std.proofs.Common.{◌≡◌, ℕ, ◌≤◌, ◌∙◌, ◌++◌, ◌-◌, ap, sym, append_assoc, arith}
 use Rattle.std.specs.Prelude.{replicate}
+use Rattle.std.proofs.lemmas.List.{append-nil}
 use Rattle.pl_segments.specs.Segments.{segment_at}
 use Rattle.pl_segments.specs.Slices.{all_read}
 use Rattle.pl_segments.specs.Turns.{Holds}
@@ -14,10 +15,10 @@ use Rattle.pl_file.proofs.patch.put_copies.Goals as goal
 
 module _ (g : Over) (c : After-min-len g) where
   fits : c.min-len.result ≤ c.args.zeros.len
-  fits = let k = c.min-len.ensures in omega (arith, k, c.requires.len)
+  fits = let k = c.min-len.ensures in omega (arith, k, c.requires.zeros.len)
 
   held : Holds (segment_at c.loop-rest.store) c.loop-rest.patch.slots
-  held = holds-turned (segment_at c.args.store.now) (segment_at c.loop-rest.store) c.args.patch.now.slots c.loop-rest.patch.slots c.requires.held c.loop-rest.invariant.turns
+  held = holds-turned (segment_at c.args.store.now) (segment_at c.loop-rest.store) c.args.patch.now.slots c.loop-rest.patch.slots c.requires.held.held c.loop-rest.invariant.turns
 
 pub hold-requires-clause-lies : goal.hold-requires-clause-lies
 hold-requires-clause-lies g c =
@@ -61,4 +62,16 @@ loop-rest-preserved g c =
       capacity = c.push.ensures.capacity ∙ inv.capacity;
       base = c.push.ensures.base ∙ inv.base;
       total = let e = inv.total in omega (arith, more, e, min);
+    }
+
+pub returns-clause-patched : goal.returns-clause-patched
+returns-clause-patched g c =
+    let inv = c.loop-rest.invariant in
+    let bytes = all_read (segment_at c.loop-rest.store) c.loop-rest.patch.slots in
+    let none : c.loop-rest.rest ≡ 0 = omega arith in
+    record {
+      becomes = record { turns = inv.turns; read = sym (append-nil bytes) ∙ ap (λ n. bytes ++ replicate n 0) (sym none) ∙ inv.read };
+      solid = inv.solid;
+      base = inv.base;
+      capacity = inv.capacity;
     }

@@ -1,4 +1,4 @@
-use Rattle.std.proofs.Common.{◌≡◌, ◌∙◌, ◌++◌, ◌∷◌, ◌+◌, ◌-◌, [], ap, refl, drop, length, slice_index_or, arith}
+use Rattle.std.proofs.Common.{◌≡◌, ◌∙◌, ◌++◌, ◌∷◌, ◌+◌, ◌-◌, [], ap, refl, take, drop, length, slice_index_or, arith}
 use Rattle.std.proofs.lemmas.List.{drop_more, drop_all}
 use Rattle.pl_segments.specs.declared.slice.Slice.{Slice}
 use Rattle.pl_segments.specs.Segments.{segment_at}
@@ -8,11 +8,12 @@ use Rattle.pl_segments.proofs.Turning.{holds-turned}
 use Rattle.pl_segments.proofs.SlotLemmas.{no_slice, total-solid, lies-cut_end}
 use Rattle.pl_segments.proofs.Pushing.{lie-at}
 use Rattle.pl_segments.proofs.Fronting.{front-none}
+use Rattle.pl_file.specs.Patches.{Patched}
 use Rattle.pl_file.proofs.Patching.{solid-one, solid-lies, asked-read, front-step, putting-first, putting-next, putting-lies, putting-slots, putting-read}
 use Rattle.pl_file.proofs.Editing.{still-few}
 use Rattle.pl_file.proofs.Joining.{length-joined, total-joined}
 use Rattle.pl_file.proofs.patch.put_slices.Given.{Over}
-use Rattle.pl_file.proofs.patch.put_slices.Goals.{After-min-len}
+use Rattle.pl_file.proofs.patch.put_slices.Goals.{After-min-len, At-loop-rest}
 use Rattle.pl_file.proofs.patch.put_slices.Goals as goal
 
 module _ (g : Over) (c : After-min-len g) where
@@ -30,9 +31,9 @@ module _ (g : Over) (c : After-min-len g) where
 
 pub loop-rest-init : goal.loop-rest-init
 loop-rest-init g c = record {
-  putting = putting-first (segment_at c.args.store.now) c.args.patch.now.slots (solid_of (front_of c.args.count c.args.slices.now)) c.requires.held;
+  putting = putting-first (segment_at c.args.store.now) c.args.patch.now.slots (solid_of (front_of c.args.count c.args.slices.now)) c.requires.held.held;
   few = λ key. omega arith;
-  solid = c.requires.solid;
+  solid = c.requires.held.solid;
   in_use = refl;
   room = refl;
   place = omega arith;
@@ -54,8 +55,11 @@ hold_part-requires-clause-few g c =
 
 pub hold_part-requires-clause-held : goal.hold_part-requires-clause-held
 hold_part-requires-clause-held g c =
-    holds-turned (segment_at c.args.store.now) (segment_at c.loop-rest.store) c.args.patch.now.slots c.loop-rest.patch.slots c.requires.held
-    c.loop-rest.invariant.putting.turns
+    let inv = c.loop-rest.invariant in
+    record {
+      held = holds-turned (segment_at c.args.store.now) (segment_at c.loop-rest.store) c.args.patch.now.slots c.loop-rest.patch.slots c.requires.held.held inv.putting.turns;
+      solid = inv.solid;
+    }
 
 pub loop-rest-preserved : goal.loop-rest-preserved
 loop-rest-preserved g c =
@@ -81,28 +85,41 @@ loop-rest-preserved g c =
     let lie = lies0 g (goal.at.loop-rest-preserved g c).After-min-len in
     let bytes = total-solid (y ∷ []) in
     record {
-      putting = putting-next inv.putting n (solid_of (y ∷ [])) zs (solid_of (front_of (k - len) more)) e.held.added step e.slots e.turns e.held.turns (solid-lies (segment_at c.args.store.now) y lie) e.read;
+      putting = putting-next inv.putting n (solid_of (y ∷ [])) zs (solid_of (front_of (k - len) more)) e.held.added step e.slots e.patched.becomes.turns e.held.turns (solid-lies (segment_at c.args.store.now) y lie) e.patched.becomes.read;
       few = λ key. let a = inv.few key in let b = still-few (segment_at c.loop-rest.store) n e.held.added e.held.turns key in omega (arith, a, b, e.held.few);
-      solid = e.solid;
+      solid = e.patched.solid;
       in_use = e.in_use ∙ inv.in_use;
       room = e.room ∙ inv.room;
       place = omega arith;
       many = omega (arith, inv.many, all, few, long);
-      capacity = e.capacity ∙ inv.capacity;
-      base = e.base ∙ inv.base;
+      capacity = e.patched.capacity ∙ inv.capacity;
+      base = e.patched.base ∙ inv.base;
       left = let l = inv.left in omega (arith, sum, bytes, l, min);
     }
 
-pub returns-else-place-slices-clause-turns : goal.returns-else-place-slices-clause-turns
-returns-else-place-slices-clause-turns g c = c.loop-rest.invariant.putting.turns
+-- once nothing is left, all that was asked is put in
+module _ (g : Over) (c : At-loop-rest g) where
+  all_put :
+      solid_of (front_of c.loop-rest.rest (drop c.loop-rest.place c.args.slices.now)) ≡ []
+      → Patched (segment_at c.args.store.now) c.args.patch.now (segment_at c.loop-rest.store) c.loop-rest.patch
+      (all_read (segment_at c.args.store.now) c.args.patch.now.slots ++ take c.args.count (all_read (segment_at c.args.store.now) c.args.slices.now))
+  all_put none =
+      let m = segment_at c.args.store.now in
+      let inv = c.loop-rest.invariant in
+      record {
+        becomes = record {
+          turns = inv.putting.turns;
+          read = putting-read inv.putting none ∙ ap (λ bs. all_read m c.args.patch.now.slots ++ bs) (asked-read m c.args.count c.args.slices.now c.requires.lie);
+        };
+        solid = inv.solid;
+        base = inv.base;
+        capacity = inv.capacity;
+      }
 
-pub returns-else-place-slices-clause-read : goal.returns-else-place-slices-clause-read
-returns-else-place-slices-clause-read g c =
-    let m = segment_at c.args.store.now in
-    let slices = c.args.slices.now in
-    let none = ap (λ ys. solid_of (front_of c.loop-rest.rest ys)) (drop_all c.loop-rest.place slices c.if-place-slices.false) in
-    putting-read c.loop-rest.invariant.putting none
-    ∙ ap (λ bs. all_read m c.args.patch.now.slots ++ bs) (asked-read m c.args.count slices c.requires.lie)
+pub returns-else-place-slices-clause-patched : goal.returns-else-place-slices-clause-patched
+returns-else-place-slices-clause-patched g c =
+    all_put g (goal.at.returns-else-place-slices-clause-patched g c).At-loop-rest
+    (ap (λ ys. solid_of (front_of c.loop-rest.rest ys)) (drop_all c.loop-rest.place c.args.slices.now c.if-place-slices.false))
 
 pub returns-after-loop-rest-clause-slots : goal.returns-after-loop-rest-clause-slots
 returns-after-loop-rest-clause-slots g c =
@@ -110,14 +127,8 @@ returns-after-loop-rest-clause-slots g c =
     let e : c.loop-rest.rest ≡ 0 = omega arith in
     putting-slots c.loop-rest.invariant.putting (ap (λ k. solid_of (front_of k left)) e ∙ ap solid_of (front-none left))
 
-pub returns-after-loop-rest-clause-turns : goal.returns-after-loop-rest-clause-turns
-returns-after-loop-rest-clause-turns g c = c.loop-rest.invariant.putting.turns
-
-pub returns-after-loop-rest-clause-read : goal.returns-after-loop-rest-clause-read
-returns-after-loop-rest-clause-read g c =
-    let m = segment_at c.args.store.now in
-    let slices = c.args.slices.now in
-    let left = drop c.loop-rest.place slices in
+pub returns-after-loop-rest-clause-patched : goal.returns-after-loop-rest-clause-patched
+returns-after-loop-rest-clause-patched g c =
+    let left = drop c.loop-rest.place c.args.slices.now in
     let e : c.loop-rest.rest ≡ 0 = omega arith in
-    putting-read c.loop-rest.invariant.putting (ap (λ k. solid_of (front_of k left)) e ∙ ap solid_of (front-none left))
-    ∙ ap (λ bs. all_read m c.args.patch.now.slots ++ bs) (asked-read m c.args.count slices c.requires.lie)
+    all_put g (goal.at.returns-after-loop-rest-clause-patched g c).At-loop-rest (ap (λ k. solid_of (front_of k left)) e ∙ ap solid_of (front-none left))

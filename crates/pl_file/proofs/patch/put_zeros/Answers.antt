@@ -1,12 +1,11 @@
-use Rattle.std.proofs.Common.{◌≡◌, ◌∙◌, ◌-◌, ◌∷◌, [], ap, sym, arith}
+use Rattle.std.proofs.Common.{◌≡◌, ◌≤◌, ◌∙◌, ◌-◌, ◌++◌, ap, sym, arith}
 use Rattle.std.specs.Prelude.{replicate}
 use Rattle.std.proofs.lemmas.List.{take-replicate}
 use Rattle.pl_segments.specs.Segments.{segment_at}
 use Rattle.pl_segments.specs.Slices.{reads, all_read}
-use Rattle.pl_segments.specs.Turns.{Turns}
-use Rattle.pl_segments.proofs.Turning.{turns-then, holds-turned}
-use Rattle.pl_segments.proofs.SlotLemmas.{solid-append}
-use Rattle.pl_file.proofs.Patching.{added-solid, added-total, added-turns, added-read, beside-held, beside-turns, beside-read, zeros-parts, zeros-len, reads-on}
+use Rattle.pl_file.specs.Patches.{Patched}
+use Rattle.pl_file.proofs.Patching.{added-total, zeros-parts, zeros-len}
+use Rattle.pl_file.proofs.Patched.{patched-held, patched-same, patched-then, slot-held, slot-pushed, slot-joined}
 use Rattle.pl_file.proofs.patch.put_zeros.Given.{Over}
 use Rattle.pl_file.proofs.patch.put_zeros.Goals.{After-make_reserved-slice, After-make_reserved-zeros, After-push}
 use Rattle.pl_file.proofs.patch.put_zeros.Goals as goal
@@ -21,24 +20,19 @@ module _ (g : Over) (c : After-make_reserved-slice g) where
 
 pub push_joined-requires-clause-held : goal.push_joined-requires-clause-held
 push_joined-requires-clause-held g c =
-    beside-held (segment_at c.args.store.now) (segment_at c.make_reserved-slice.new.self) c.args.patch.now.slots c.make_reserved-slice.result c.requires.held c.make_reserved-slice.ensures.turns
-
-pub push_joined-requires-clause-solid : goal.push_joined-requires-clause-solid
-push_joined-requires-clause-solid g c =
-    let n = part_len g (goal.at.push_joined-requires-clause-solid g c).After-make_reserved-slice in
+    let n = part_len g (goal.at.push_joined-requires-clause-held g c).After-make_reserved-slice in
     let some = c.if-count-eq0.false in
-    solid-append c.args.patch.now.slots (c.make_reserved-slice.result ∷ []) c.requires.solid (omega (arith, n, some), tt)
+    slot-held (segment_at c.args.store.now) (segment_at c.make_reserved-slice.new.self) c.args.patch.now c.make_reserved-slice.result c.requires.held c.make_reserved-slice.ensures.turns (omega (arith, n, some))
 
-pub returns-then-count-le-SEGMENT_SIZE-clause-turns : goal.returns-then-count-le-SEGMENT_SIZE-clause-turns
-returns-then-count-le-SEGMENT_SIZE-clause-turns g c =
-    beside-turns (segment_at c.args.store.now) (segment_at c.make_reserved-slice.new.self) c.args.patch.now.slots c.make_reserved-slice.result c.requires.held c.make_reserved-slice.ensures.turns
-    (segment_at c.push_joined.new.store) c.push_joined.new.patch.slots c.push_joined.ensures.turns
+pub returns-then-count-le-SEGMENT_SIZE-clause-patched : goal.returns-then-count-le-SEGMENT_SIZE-clause-patched
+returns-then-count-le-SEGMENT_SIZE-clause-patched g c =
+    slot-joined (segment_at c.args.store.now) (segment_at c.make_reserved-slice.new.self) c.args.patch.now c.make_reserved-slice.result c.requires.held c.make_reserved-slice.ensures.turns (replicate c.args.count 0)
+    (part_read g (goal.at.returns-then-count-le-SEGMENT_SIZE-clause-patched g c).After-make_reserved-slice)
+    (segment_at c.push_joined.new.store) c.push_joined.new.patch c.push_joined.ensures.patched
 
-pub returns-then-count-le-SEGMENT_SIZE-clause-read : goal.returns-then-count-le-SEGMENT_SIZE-clause-read
-returns-then-count-le-SEGMENT_SIZE-clause-read g c =
-    beside-read (segment_at c.args.store.now) (segment_at c.make_reserved-slice.new.self) c.args.patch.now.slots c.make_reserved-slice.result c.requires.held c.make_reserved-slice.ensures.turns
-    (segment_at c.push_joined.new.store) c.push_joined.new.patch.slots c.push_joined.ensures.turns (replicate c.args.count 0)
-    (part_read g (goal.at.returns-then-count-le-SEGMENT_SIZE-clause-read g c).After-make_reserved-slice) c.push_joined.ensures.read
+pub returns-then-count-eq0-clause-patched : goal.returns-then-count-eq0-clause-patched
+returns-then-count-eq0-clause-patched g c =
+    patched-same (segment_at c.args.store.now) c.args.patch.now (replicate c.args.count 0) c.requires.held (ap (λ n. replicate n 0) c.if-count-eq0.true)
 
 -- a segment of zeros
 module _ (g : Over) (c : After-make_reserved-zeros g) where
@@ -48,24 +42,27 @@ module _ (g : Over) (c : After-make_reserved-zeros g) where
   whole_read : reads (segment_at c.make_reserved-zeros.new.self) c.make_reserved-zeros.result ≡ replicate c.make_reserved-zeros.result.len 0
   whole_read = c.make_reserved-zeros.ensures.reads ∙ ap (λ n. replicate n 0) (sym whole_len)
 
-module _ (g : Over) (c : After-push g) where
-  turns : Turns (segment_at c.args.store.now) c.args.patch.now.slots (segment_at c.make_reserved-zeros.new.self) c.push.new.self.slots
-  turns =
-      added-turns (segment_at c.args.store.now) (segment_at c.make_reserved-zeros.new.self) c.args.patch.now.slots c.push.new.self.slots c.make_reserved-zeros.result [] c.requires.held
-      c.make_reserved-zeros.ensures.turns c.push.ensures.slots
+  whole_some : 1 ≤ c.make_reserved-zeros.result.len
+  whole_some = let n = whole_len in omega (arith, n)
+
+pushed : (g : Over) (c : After-push g) → 1 ≤ c.make_reserved-zeros.result.len → reads (segment_at c.make_reserved-zeros.new.self) c.make_reserved-zeros.result ≡ replicate c.make_reserved-zeros.result.len 0
+    → Patched (segment_at c.args.store.now) c.args.patch.now (segment_at c.make_reserved-zeros.new.self) c.push.new.self (all_read (segment_at c.args.store.now) c.args.patch.now.slots ++ replicate c.make_reserved-zeros.result.len 0)
+pushed g c some read =
+    slot-pushed (segment_at c.args.store.now) (segment_at c.make_reserved-zeros.new.self) c.args.patch.now c.make_reserved-zeros.result c.requires.held c.make_reserved-zeros.ensures.turns
+    (replicate c.make_reserved-zeros.result.len 0) read c.push.new.self some c.push.ensures.slots c.push.ensures.base c.push.ensures.capacity
 
 pub put_copies-requires-clause-zeros : goal.put_copies-requires-clause-zeros
-put_copies-requires-clause-zeros g c = whole_read g (goal.at.put_copies-requires-clause-zeros g c).After-make_reserved-zeros
+put_copies-requires-clause-zeros g c =
+    let k = (goal.at.put_copies-requires-clause-zeros g c).After-make_reserved-zeros in
+    record { lies = c.make_reserved-zeros.ensures.turns.lie.0; len = whole_len g k; read = whole_read g k }
 
 pub put_copies-requires-clause-held : goal.put_copies-requires-clause-held
 put_copies-requires-clause-held g c =
-    holds-turned (segment_at c.args.store.now) (segment_at c.make_reserved-zeros.new.self) c.args.patch.now.slots c.push.new.self.slots c.requires.held
-    (turns g (goal.at.put_copies-requires-clause-held g c).After-push)
-
-pub put_copies-requires-clause-solid : goal.put_copies-requires-clause-solid
-put_copies-requires-clause-solid g c =
-    let n = whole_len g (goal.at.put_copies-requires-clause-solid g c).After-make_reserved-zeros in
-    added-solid c.args.patch.now.slots c.push.new.self.slots c.make_reserved-zeros.result c.push.ensures.slots c.requires.solid (omega (arith, n))
+    let k = goal.at.put_copies-requires-clause-held g c in
+    let z = k.After-make_reserved-zeros in
+    let m = segment_at c.args.store.now in
+    patched-held m (segment_at c.make_reserved-zeros.new.self) c.args.patch.now c.push.new.self (all_read m c.args.patch.now.slots ++ replicate c.make_reserved-zeros.result.len 0) c.requires.held
+    (pushed g k.After-push (whole_some g z) (whole_read g z))
 
 pub put_copies-requires-clause-fits : goal.put_copies-requires-clause-fits
 put_copies-requires-clause-fits g c =
@@ -74,25 +71,17 @@ put_copies-requires-clause-fits g c =
     let many = c.if-count-le-SEGMENT_SIZE.false in
     omega (arith, n, t, many, c.push.ensures.base, c.requires.fits)
 
-pub returns-clause-turns : goal.returns-clause-turns
-returns-clause-turns g c =
-    turns-then (segment_at c.args.store.now) (segment_at c.make_reserved-zeros.new.self) (segment_at c.put_copies.new.store) c.args.patch.now.slots c.push.new.self.slots c.put_copies.new.patch.slots
-    (turns g (goal.at.returns-clause-turns g c).After-push) c.put_copies.ensures.turns
-
-pub returns-clause-read : goal.returns-clause-read
-returns-clause-read g c =
-    let k = (goal.at.returns-clause-read g c).After-make_reserved-zeros in
-    let m = segment_at c.args.store.now in
-    let n = segment_at c.make_reserved-zeros.new.self in
-    let xs = c.args.patch.now.slots in
-    let z = c.make_reserved-zeros.result in
+pub returns-clause-patched : goal.returns-clause-patched
+returns-clause-patched g c =
+    let k = goal.at.returns-clause-patched g c in
+    let z = k.After-make_reserved-zeros in
     let left = c.args.count - 4096 in
-    let len = whole_len g k in
+    let len = whole_len g z in
     let many = c.if-count-le-SEGMENT_SIZE.false in
-    reads-on (all_read (segment_at c.put_copies.new.store) c.put_copies.new.patch.slots) (all_read n c.push.new.self.slots) (all_read m xs) (replicate z.len 0) (replicate left 0) (replicate c.args.count 0)
-    c.put_copies.ensures.read
-    (added-read m n xs c.push.new.self.slots z (replicate z.len 0) c.requires.held c.make_reserved-zeros.ensures.turns c.push.ensures.slots (whole_read g k))
-    (zeros-parts z.len left c.args.count (omega (arith, len, many)))
+    patched-then (segment_at c.args.store.now) (segment_at c.make_reserved-zeros.new.self) (segment_at c.put_copies.new.store) c.args.patch.now c.push.new.self c.put_copies.new.patch
+    (replicate c.make_reserved-zeros.result.len 0) (replicate left 0) (replicate c.args.count 0)
+    (pushed g k.After-push (whole_some g z) (whole_read g z)) c.put_copies.ensures.patched
+    (zeros-parts c.make_reserved-zeros.result.len left c.args.count (omega (arith, len, many)))
 
 pub returns-clause-total : goal.returns-clause-total
 returns-clause-total g c =

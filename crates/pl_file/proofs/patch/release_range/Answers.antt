@@ -13,17 +13,16 @@ use Rattle.pl_file.proofs.patch.release_range.Goals as goal
 
 pub loop-end-init : goal.loop-end-init
 loop-end-init g c = record {
-  spot = c.requires.first;
-  most = c.requires.order;
+  spot = c.requires.span.from;
+  most = c.requires.span.order;
   turns = turns-same (segment_at c.args.store.now) (drop (index c.args.chunks.now c.args.first) (take (index c.args.chunks.now c.args.end) c.args.chunks.now.slots)) c.requires.held.lie;
   in_use = omega arith;
-  spare = λ few. few;
 }
 
 pub get-requires-clause-within : goal.get-requires-clause-within
 get-requires-clause-within g c =
     let l = ltb-true (index c.args.chunks.now c.loop-end.spot) (index c.args.chunks.now c.args.end) (sym c.loop-end-test.ensures) in
-    omega (arith, l, c.requires.most)
+    omega (arith, l, c.requires.span.most)
 
 -- the slot that goes, and those behind it
 module _ (g : Over) (c : After-get g) where
@@ -69,7 +68,6 @@ loop-end-preserved g c =
           subst (λ j. Turns (segment_at c.args.store.now) xs n (drop j span)) (sym i)
           (turns-then (segment_at c.args.store.now) m n xs (c.get.result ∷ rest) rest (turns g k) (gone-turns m n c.get.result rest (held g k) c.release.ensures.turns));
       in_use = omega (arith, c.loop-end.invariant.in_use, c.release.ensures.in_use);
-      spare = λ few. let was = c.loop-end.invariant.spare few in let now = c.release.ensures.spare in omega (arith, was, now);
     }
 
 pub returns-clause-turns : goal.returns-clause-turns

@@ -28,8 +28,14 @@ returns-then-spot-eq0-clause-ends g c =
     let e = c.requires.ends (index-within rows c.args.spot.chunk at c.requires.spot l) in
     omega (arith, t, none, e)
 
-pub returns-then-spot-eq0-clause-most : goal.returns-then-spot-eq0-clause-most
-returns-then-spot-eq0-clause-most g c = spot-most c.args.rows.now c.args.spot.chunk c.args.spot.at c.requires.spot
+pub returns-then-spot-eq0-clause-next : goal.returns-then-spot-eq0-clause-next
+returns-then-spot-eq0-clause-next g c =
+    let z = c.if-spot-eq0.true in
+    record {
+      from = omega arith;
+      behind = λ some. absurd (omega (arith, some, z));
+      most = spot-most c.args.rows.now c.args.spot.chunk c.args.spot.at c.requires.spot;
+    }
 
 there : (g : Over) (c : Else-spot-eq0 g) → c.args.spot.chunk < length c.args.rows.now
 there g c = let some = c.if-spot-eq0.false in spot-some c.args.rows.now c.args.spot.chunk c.args.spot.at c.requires.spot (omega (arith, some))
@@ -120,5 +126,7 @@ returns-clause-ends g c =
     let same = ap (λ n. total (flat (take n rows))) next in
     λ l. omega (arith, e, a, p, s, b, end, same)
 
-pub returns-clause-most : goal.returns-clause-most
-returns-clause-most g c = let l = here g (goal.at.returns-clause-most g c).After-index-rows-spot in omega (arith, l)
+pub returns-clause-next : goal.returns-clause-next
+returns-clause-next g c =
+    let l = here g (goal.at.returns-clause-next g c).After-index-rows-spot in
+    record { from = omega arith; behind = λ some. omega arith; most = omega (arith, l) }

@@ -60,7 +60,7 @@ made g c can left =
     let pipes = c.unhang_if.ensures.pipes ∙ (λ i. change_at end.pipe (λ (x : Pipe). record x { hung = cond (c.is_allowed_by-gets_writer.ensures i) false x.hung }) (at m.nodes.pipes)) in
     let same = c.unhang_if.ensures.files in
     wait-leaves m c.args.name end.mode end.flags end.pipe waits can left held.0 held.1 c.in_ok-park_open.field-0 c.park_open.new.descs c.park_open.new.parked (nodes_of c.unhang_if.new.nodes)
-    c.in_ok-park_open.ensures.ok pipes (ap at same.files) same.names same.file_max c.mark_met.new.self c.mark_met.ensures
+    c.in_ok-park_open.ensures.ok pipes (ap at same.files) same.names same.limits c.mark_met.new.self c.mark_met.ensures
 
 pub invariant_of-kernel-2 : goal.invariant_of-kernel-2
 invariant_of-kernel-2 g c =

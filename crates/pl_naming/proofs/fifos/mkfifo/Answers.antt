@@ -78,8 +78,8 @@ made g c none can =
     let p = c.in-Ok.field-0 in
     let after = nodes_of c.make_fifo.new.self in
     let names = c.in-Ok.ensures.names ∙ (λ i. put_in_order (slice_cmp nat_cmp) m.nodes.names (c.in_ok-kept.ensures.items i) (node.Pipe p)) in (
-      mkfifo_sound m name good none can p c.in-Ok.ensures.vacant.0 after c.in-Ok.ensures.ok c.in-Ok.ensures.files names c.in-Ok.ensures.file_max,
-      mkfifo_makes m name good none can p c.in-Ok.ensures.vacant.0 after c.in-Ok.ensures.ok c.in-Ok.ensures.files names c.in-Ok.ensures.file_max,
+      mkfifo_sound m name good none can p c.in-Ok.ensures.vacant.0 after c.in-Ok.ensures.ok c.in-Ok.ensures.files names c.in-Ok.ensures.limits,
+      mkfifo_makes m name good none can p c.in-Ok.ensures.vacant.0 after c.in-Ok.ensures.ok c.in-Ok.ensures.files names c.in-Ok.ensures.limits,
     )
 
 stood_for_nothing : (g : Over) (c : In-Ok g) → get (pointwise nat_eq) c.kernel.inside.nodes.names c.as_slice-bytes.result.now ≡ None

@@ -82,9 +82,9 @@ made g c can =
     let same = c.unhang_if.ensures.files in
     subst (λ (z : Calls A). (IsSound A (contents c.open_at.new.descs (nodes_of c.unhang_if.new.nodes) z c.kernel.inside.limits)) × (AreCounted A c.open_at.new.descs z.calls)
     × MakesAtKeys (view_of c.kernel.inside) (Begin c.args.pid (Call.OpenName c.args.name c.args.mode c.args.flags)) (Fd (pos c.args.fd)) (contents c.open_at.new.descs (nodes_of c.unhang_if.new.nodes) z c.kernel.inside.limits)) (sym c.mark_met.ensures) (
-      fifo_sound m c.args.mode c.args.flags c.args.fd c.args.pipe may.lowest d held.0 held.1 vacant c.open_at.new.descs (nodes_of c.unhang_if.new.nodes) pids rows opened pipes (ap at same.files) same.names same.file_max,
+      fifo_sound m c.args.mode c.args.flags c.args.fd c.args.pipe may.lowest d held.0 held.1 vacant c.open_at.new.descs (nodes_of c.unhang_if.new.nodes) pids rows opened pipes (ap at same.files) same.names same.limits,
       record { tidy = c.open_at.ensures.tidy; counted = λ q. same_holds q ∙ (met_held m.kernel c.args.pipe c.args.mode).counted q },
-      fifo_makes m c.args.mode c.args.flags c.args.fd c.args.pipe may.lowest d held.0 held.1 vacant c.open_at.new.descs (nodes_of c.unhang_if.new.nodes) pids rows opened pipes (ap at same.files) same.names same.file_max c.args.name may can,
+      fifo_makes m c.args.mode c.args.flags c.args.fd c.args.pipe may.lowest d held.0 held.1 vacant c.open_at.new.descs (nodes_of c.unhang_if.new.nodes) pids rows opened pipes (ap at same.files) same.names same.limits c.args.name may can,
     )
 
 pub invariant_of-kernel-2 : goal.invariant_of-kernel-2

@@ -77,7 +77,7 @@ made g c can =
     let rows = c.open_at.ensures.rows ∙ ap (λ (z : Descs). with_row (row_at z.tables) c.args.pid c.args.fd (Some d)) kept in
     let pids = c.open_at.ensures.pids ∙ ap (λ (z : Descs). is_pid z.tables) kept in
     let same_holds : (q : ℕ) → count_at c.open_at.new.descs.loose q ≡ count_at m.descs.loose q = λ q. (λ i. c.open_at.ensures.loose i q) ∙ ap (λ (z : Descs). count_at z.loose q) kept in
-    let both = created m c.args.name.now c.args.mode c.args.flags c.args.fd may can f d vacant_file vacant c.open_at.new.descs (nodes_of c.make_file.new.self) pids rows opened c.in-Ok.ensures.pipes files names c.in-Ok.ensures.file_max in
+    let both = created m c.args.name.now c.args.mode c.args.flags c.args.fd may can f d vacant_file vacant c.open_at.new.descs (nodes_of c.make_file.new.self) pids rows opened c.in-Ok.ensures.pipes files names c.in-Ok.ensures.limits in
     (both.0, record { tidy = c.open_at.ensures.tidy; counted = λ q. same_holds q ∙ m.are.counted q }, both.1)
 
 pub invariant_of-kernel-2 : goal.invariant_of-kernel-2

@@ -57,9 +57,9 @@ made g c =
     let pids = c.open_at.ensures.pids ∙ ap (λ (z : Descs). is_pid z.tables) kept in
     let same_holds : (q : ℕ) → count_at c.open_at.new.descs.loose q ≡ count_at m.descs.loose q = λ q. (λ i. c.open_at.ensures.loose i q) ∙ ap (λ (z : Descs). count_at z.loose q) kept in
     let same = c.empty_if.ensures.pipes in (
-      reopened_sound m [] c.args.mode c.args.flags c.args.fd c.args.file least d held.0 held.1 vacant c.open_at.new.descs (nodes_of c.empty_if.new.nodes) pids rows opened (ap at same.pipes) files same.names same.file_max,
+      reopened_sound m [] c.args.mode c.args.flags c.args.fd c.args.file least d held.0 held.1 vacant c.open_at.new.descs (nodes_of c.empty_if.new.nodes) pids rows opened (ap at same.pipes) files same.names same.limits,
       record { tidy = c.open_at.ensures.tidy; counted = λ q. same_holds q ∙ m.are.counted q },
-      λ name may. reopened_makes m name c.args.mode c.args.flags c.args.fd c.args.file least d held.0 held.1 vacant c.open_at.new.descs (nodes_of c.empty_if.new.nodes) pids rows opened (ap at same.pipes) files same.names same.file_max may,
+      λ name may. reopened_makes m name c.args.mode c.args.flags c.args.fd c.args.file least d held.0 held.1 vacant c.open_at.new.descs (nodes_of c.empty_if.new.nodes) pids rows opened (ap at same.pipes) files same.names same.limits may,
     )
 
 pub invariant_of-kernel-2 : goal.invariant_of-kernel-2

@@ -4,14 +4,13 @@ use Rattle.pl_model.specs.Packets.{piece_lengths}
 use Rattle.pl_segments.specs.declared.slice.Slice.{Slice}
 use Rattle.pl_segments.specs.Segments.{Segments, segment_at, live_count}
 use Rattle.pl_segments.specs.Slices.{all_read}
-use Rattle.pl_segments.specs.Slots.{AllSolid}
 use Rattle.pl_segments.specs.Turns.{Turns, Holds}
 use Rattle.pl_segments.proofs.Turning.{turns-same, turns-then, holds-turned}
 use Rattle.pl_segments.proofs.SlotLemmas.{solid-append}
 use Rattle.pl_segments.proofs.Pushing.{push-turns, push-read}
 use Rattle.pl_ring.specs.Merging.{lens}
 use Rattle.pl_ring.proofs.Placing.{lens-append}
-use Rattle.pl_packets.specs.Packets.{AllFit}
+use Rattle.pl_packets.specs.Packets.{ArePackets}
 use Rattle.pl_packets.proofs.Cutting.{many-pieces, next-piece, fit-push}
 use Rattle.pl_packets.proofs.ring.push_packets.Given.{Over}
 use Rattle.pl_packets.proofs.ring.push_packets.Goals.{After-put_last}
@@ -24,18 +23,15 @@ loop-rest-init g c =
     let d = c.div_ceil.ensures in
     let e = c.in_ok-reserve.ensures in
     let room = e.room in
-    let most = e.most in
     record {
       lens = refl;
       read = ap (λ s. all_read (segment_at s) c.args.slots.now.items ++ c.args.bytes.now) e.kept;
       turns = subst (λ s. Turns m c.args.slots.now.items (segment_at s) c.args.slots.now.items) (sym e.kept) (turns-same m c.args.slots.now.items c.requires.held.lie);
-      solid = c.requires.solid;
-      fit = c.requires.fit;
+      packets = c.requires.packets;
       in_use = ap (λ (s : Segments). live_count s.held + length (piece_lengths (length c.args.bytes.now))) e.kept;
       capacity = refl;
       fits = c.requires.fits;
       room = omega (arith, n, d, room);
-      spare = λ few. omega (arith, n, d, most, few);
     }
 
 pub make_reserved-slice-requires-clause-room : goal.make_reserved-slice-requires-clause-room
@@ -107,11 +103,14 @@ loop-rest-preserved g c =
           ∙ ap (λ bs. all_read m ys ++ bs) whole
           ∙ inv.read;
       turns = subst (Turns m0 c.args.slots.now.items n) (sym (items g k)) (turns-then m0 m n c.args.slots.now.items ys (ys ++ x ∷ []) inv.turns (push-turns m n ys x first (held g k) made.turns));
-      solid = subst AllSolid (sym (items g k)) (solid-append ys (x ∷ []) inv.solid (omega (arith, l, count, some), tt));
-      fit = subst AllFit (sym (items g k)) (fit-push ys x inv.fit (omega (arith, l, count)));
+      packets = subst ArePackets (sym (items g k)) (
+          record {
+            solid = solid-append ys (x ∷ []) inv.packets.solid (omega (arith, l, count, some), tt);
+            fit = fit-push ys x inv.packets.fit (omega (arith, l, count));
+          }
+          );
       in_use = let u = inv.in_use in let v = made.in_use in omega (arith, u, v, many);
       capacity = (λ i. (c.put_last.ensures i).capacity) ∙ inv.capacity;
       fits = let f = inv.fits in let p : c.put_last.new.slots.capacity ≡ c.loop-rest.slots.capacity = (λ i. (c.put_last.ensures i).capacity) in omega (arith, f, p, one, r, count, some);
       room = let f = inv.room in let v = made.room in omega (arith, f, v, many);
-      spare = λ few. let f = inv.spare few in let v = made.room in omega (arith, f, v, many);
     }

@@ -41,7 +41,6 @@ loop-rest-preserved g c =
       solid = (subst AllSolid shape inv.solid).1;
       left = omega (arith, left, inv.left, whole);
       capacity = c.take_first-first.ensures.capacity ∙ inv.capacity;
-      spare = λ few. let was = inv.spare few in let now = c.release.ensures.spare in omega (arith, was, now);
     }
 
 pub returns-clause-slots : goal.returns-clause-slots

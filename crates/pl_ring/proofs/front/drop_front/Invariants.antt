@@ -1,5 +1,5 @@
 use Rattle.std.proofs.Common.{◌≡◌, ◌≤◌, drop}
-use Rattle.pl_segments.specs.Segments.{most_spare, segment_at}
+use Rattle.pl_segments.specs.Segments.{segment_at}
 use Rattle.pl_segments.specs.Slices.{all_read}
 use Rattle.pl_segments.specs.Turns.{Turns}
 use Rattle.pl_segments.specs.Slots.{total, AllSolid, drop_bytes}
@@ -14,7 +14,6 @@ invariant-loop-rest g l = record {
   solid : AllSolid l.slots.items;
   left : l.rest ≤ total l.slots.items;
   capacity : l.slots.capacity ≡ l.fn.slots.capacity;
-  spare : l.fn.store.room ≤ most_spare → l.store.room ≤ most_spare;
 }
 
 abbrev pub decreases-loop-rest : goal.decreases-loop-rest

@@ -8,9 +8,9 @@ returns g c =
     let n = c.args.count in
     let front = c.as_slices.result.0.now in
     let back = c.as_slices.result.1.now in
-    let none = c.in_ok-list.ensures.items in
-    let first : c.add_slices-rest.new.list.items ≡ front_of n front = c.add_slices-rest.ensures.items ∙ ap (λ zs. zs ++ front_of n front) none in
-    c.add_slices.ensures.items
-    ∙ (λ i. first i ++ front_of (c.add_slices-rest.ensures.left i) back)
+    let none = c.new-list.ensures.items in
+    let first : c.add_slices.new.list.items ≡ front_of n front = c.in_ok-rest.ensures.items ∙ ap (λ zs. zs ++ front_of n front) none in
+    c.in_ok-add_slices.ensures.items
+    ∙ (λ i. first i ++ front_of (c.in_ok-rest.ensures.left i) back)
     ∙ sym (front-append n front back)
     ∙ ap (front_of n) c.as_slices.ensures

@@ -5,8 +5,8 @@ use Rattle.pl_segments.specs.declared.slice.Slice.{Slice}
 use Rattle.pl_segments.specs.Segments.{segment_at}
 use Rattle.pl_segments.specs.Slices.{reads, all_read}
 use Rattle.pl_segments.specs.Turns.{Turns}
-use Rattle.pl_segments.specs.Slots.{AllSolid}
 use Rattle.pl_ring.specs.Merging.{lens, AreMerged}
+use Rattle.pl_ring.specs.Pushed.{AreOfRing}
 use Rattle.pl_segments.proofs.Pushing.{tail-lies, tail-fits, tail-turns, tail-read, tail-solid}
 use Rattle.pl_ring.proofs.Placing.{longer-merged}
 use Rattle.pl_ring.proofs.push.grow_tail.Given.{Over}
@@ -43,31 +43,30 @@ module _ (g : Over) (c : After-unwrap-longer g) where
 pub put_last-requires : goal.put_last-requires
 put_last-requires g c = c.take_last-last.ensures.place
 
-pub returns-clause-turns : goal.returns-clause-turns
-returns-clause-turns g c =
+pub returns-clause-pushed : goal.returns-clause-pushed
+returns-clause-pushed g c =
+    let k = (goal.at.returns-clause-pushed g c).After-unwrap-longer in
     let m = segment_at c.args.store.now in
     let n = segment_at c.try_append.new.self in
-    let items : c.put_last.new.slots.items ≡ c.take_last-last.new.slots.items ++ c.unwrap-longer.result ∷ [] = (λ i. (c.put_last.ensures i).items) in
-    subst (Turns m c.args.slots.now.items n) (sym items)
-    (tail-turns m n c.args.slots.now.items c.take_last-last.new.slots.items c.take_last-last.result c.unwrap-longer.result c.args.bytes.now c.take_last-last.ensures.items c.requires.held (turns g (goal.at.returns-clause-turns g c).After-unwrap-longer))
-
-pub returns-clause-read : goal.returns-clause-read
-returns-clause-read g c =
-    let m = segment_at c.args.store.now in
-    let n = segment_at c.try_append.new.self in
-    let k = (goal.at.returns-clause-read g c).After-unwrap-longer in
-    ap (all_read n) (λ i. (c.put_last.ensures i).items)
-    ∙ tail-read m n c.args.slots.now.items c.take_last-last.new.slots.items c.take_last-last.result c.unwrap-longer.result c.args.bytes.now c.take_last-last.ensures.items c.requires.held (turns g k) (read g k)
-
-pub returns-clause-solid : goal.returns-clause-solid
-returns-clause-solid g c =
-    let m = segment_at c.args.store.now in
-    let l = len g (goal.at.returns-clause-solid g c).After-unwrap-longer in
-    subst AllSolid (sym (λ i. (c.put_last.ensures i).items))
-    (tail-solid m m c.args.slots.now.items c.take_last-last.new.slots.items c.take_last-last.result c.unwrap-longer.result c.args.bytes.now c.take_last-last.ensures.items c.requires.held c.requires.solid (omega (arith, l, c.requires.some)))
-
-pub returns-clause-merged : goal.returns-clause-merged
-returns-clause-merged g c =
-    let l = len g (goal.at.returns-clause-merged g c).After-unwrap-longer in
-    subst (λ zs. AreMerged (lens zs)) (sym (λ i. (c.put_last.ensures i).items))
-    (longer-merged c.take_last-last.new.slots.items c.take_last-last.result c.unwrap-longer.result (omega (arith, l)) (subst (λ zs. AreMerged (lens zs)) c.take_last-last.ensures.items c.requires.merged))
+    let xs = c.args.slots.now.items in
+    let front = c.take_last-last.new.slots.items in
+    let x = c.take_last-last.result in
+    let y = c.unwrap-longer.result in
+    let bytes = c.args.bytes.now in
+    let last = c.take_last-last.ensures.items in
+    let held = c.requires.held in
+    let l = len g k in
+    let items : c.put_last.new.slots.items ≡ front ++ y ∷ [] = (λ i. (c.put_last.ensures i).items) in
+    record {
+      gains = record {
+        turns = subst (Turns m xs n) (sym items) (tail-turns m n xs front x y bytes last held (turns g k));
+        read = ap (all_read n) items ∙ tail-read m n xs front x y bytes last held (turns g k) (read g k);
+      };
+      slots = subst AreOfRing (sym items) (
+          record {
+            solid = tail-solid m m xs front x y bytes last held c.requires.slots.solid (omega (arith, l, c.requires.some));
+            merged = longer-merged front x y (omega (arith, l)) (subst (λ zs. AreMerged (lens zs)) last c.requires.slots.merged);
+          }
+          );
+      capacity = (λ i. (c.put_last.ensures i).capacity) ∙ c.take_last-last.ensures.capacity;
+    }

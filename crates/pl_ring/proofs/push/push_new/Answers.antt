@@ -5,7 +5,6 @@ use Rattle.pl_segments.specs.Segments.{segment_at}
 use Rattle.pl_segments.specs.Slices.{all_read}
 use Rattle.pl_segments.specs.Turns.{Turns, Holds}
 use Rattle.pl_segments.proofs.Turning.{turns-then, holds-turned}
-use Rattle.pl_segments.proofs.SlotLemmas.{solid-append}
 use Rattle.pl_segments.proofs.Pushing.{push-turns, push-read, total-pushed}
 use Rattle.pl_ring.proofs.Placing.{full-alone, joining-most}
 use Rattle.pl_ring.proofs.push.push_new.Given.{Over}
@@ -39,10 +38,20 @@ push_slot-requires-clause-held g c =
     let k = (goal.at.push_slot-requires-clause-held g c).After-make_reserved-slice in
     holds-turned (segment_at c.loop-rest.store) (segment_at c.make_reserved-slice.new.self) c.loop-rest.slots.items (c.loop-rest.slots.items ++ c.make_reserved-slice.result ∷ []) (held g k) (pushed g k)
 
-pub push_slot-requires-clause-solid : goal.push_slot-requires-clause-solid
-push_slot-requires-clause-solid g c =
-    let n = lens g (goal.at.push_slot-requires-clause-solid g c).After-make_reserved-slice in
-    solid-append c.loop-rest.slots.items (c.make_reserved-slice.result ∷ []) c.loop-rest.invariant.solid (omega (arith, n), tt)
+pub push_slot-requires-clause-ring : goal.push_slot-requires-clause-ring
+push_slot-requires-clause-ring g c =
+    let n = lens g (goal.at.push_slot-requires-clause-ring g c).After-make_reserved-slice in
+    let inv = c.loop-rest.invariant in
+    record {
+      slots = inv.slots;
+      even = let k = inv.capacity in omega (arith, k, c.requires.ring.even);
+      fits = let f = inv.fits in let k = inv.capacity in omega (arith, n, f, k);
+    }
+
+pub push_slot-requires-clause-some : goal.push_slot-requires-clause-some
+push_slot-requires-clause-some g c =
+    let n = lens g (goal.at.push_slot-requires-clause-some g c).After-make_reserved-slice in
+    omega (arith, n)
 
 pub loop-rest-preserved : goal.loop-rest-preserved
 loop-rest-preserved g c =
@@ -57,27 +66,27 @@ loop-rest-preserved g c =
     let more = c.split_at.result.1.now in
     let inv = c.loop-rest.invariant in
     let n = lens g k in
+    let took = c.push_slot.ensures.took in
     let whole : first ++ more ≡ c.loop-rest.rest.now = (λ i. c.split_at.ensures.front i ++ c.split_at.ensures.back i) ∙ take-append-drop c.min-count.result c.loop-rest.rest.now in
-    let both : Turns m ys o zs = turns-then m (segment_at c.make_reserved-slice.new.self) o ys (ys ++ x ∷ []) zs (pushed g k) c.push_slot.ensures.turns in
-    let reads : all_read o zs ≡ all_read m ys ++ first = c.push_slot.ensures.read ∙ read g k in
+    let both : Turns m ys o zs = turns-then m (segment_at c.make_reserved-slice.new.self) o ys (ys ++ x ∷ []) zs (pushed g k) took.turns in
+    let reads : all_read o zs ≡ all_read m ys ++ first = took.read ∙ read g k in
     let sum = total-pushed m o ys zs first (held g k).lie both.lie reads in
     record {
       turns = turns-then m0 m o c.args.slots.now.items ys zs inv.turns both;
       read = ap (λ bs. bs ++ more) reads ∙ append_assoc (all_read m ys) first more ∙ ap (λ bs. all_read m ys ++ bs) whole ∙ inv.read;
-      solid = c.push_slot.ensures.solid;
-      merged = c.push_slot.ensures.merged;
+      slots = took.slots;
       in_use =
           let all = inv.in_use.0 c.loop-rest-test.true in
           let made = c.make_reserved-slice.ensures.in_use in
           let joined = c.push_slot.ensures.in_use in
           let count = c.min-count.ensures in
           let one = joining-most ys x in
-          ((λ some. let alone = full-alone ys x inv.solid (omega (arith, n, count, some)) in omega (arith, all, made, joined, alone, n, count, some)), omega (arith, all, made, joined, one, n));
-      capacity = c.push_slot.ensures.capacity ∙ inv.capacity;
+          ((λ some. let alone = full-alone ys x inv.slots.solid (omega (arith, n, count, some)) in omega (arith, all, made, joined, alone, n, count, some)), omega (arith, all, made, joined, one, n));
+      capacity = took.capacity ∙ inv.capacity;
       fits = omega (arith, sum, n, inv.fits);
       room = λ some.
           let count = c.min-count.ensures in
-          let alone = full-alone ys x inv.solid (omega (arith, n, count, some)) in
+          let alone = full-alone ys x inv.slots.solid (omega (arith, n, count, some)) in
           let r = c.push_slot.ensures.room in
           let s = c.make_reserved-slice.ensures.room in
           let t = inv.room (omega (arith, n, some)) in

@@ -9,4 +9,5 @@ returns c =
     let two = c.in_ok-command-2.ensures ∙ ap (λ (app : App). with_rule app (valued_rule (codes "names-max"))) c.in_ok-command.ensures in
     let three = c.in_ok-command-3.ensures ∙ ap (λ (app : App). with_rule app (valued_rule (codes "waiting-max"))) two in
     let four = c.in_ok-command-4.ensures ∙ ap (λ (app : App). with_rule app (valued_rule (codes "capacity-max"))) three in
-    subst (λ (app : App). IfOk c.with_option-5.result (λ made. app_of made ≡ with_rule app (valued_rule (codes "descriptors-max")))) four c.with_option-5.ensures
+    let five = c.in_ok-command-5.ensures ∙ ap (λ (app : App). with_rule app (valued_rule (codes "descriptors-max"))) four in
+    subst (λ (app : App). IfOk c.with_option-6.result (λ made. app_of made ≡ with_rule app (valued_rule (codes "spare-max")))) five c.with_option-6.ensures

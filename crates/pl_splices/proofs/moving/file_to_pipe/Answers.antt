@@ -3,10 +3,12 @@ use Rattle.std.specs.Prelude.{is_some, unwrap_or, if◌then◌else◌}
 use Rattle.pl_model.specs.Packets.{gain}
 use Rattle.pl_model.specs.declared.node.Node.TheVariants as node
 use Rattle.pl_model.specs.Map.{change_at}
+use Rattle.pl_model.specs.Transfer.{room}
 use Rattle.pl_model.specs.State.{Pipe}
 use Rattle.pl_desc.specs.Rows.{at, count_at}
 use Rattle.pl_desc.specs.Descs.{Opened, Descs}
 use Rattle.pl_nodes.specs.Nodes.{part_of}
+use Rattle.pl_splices.proofs.by_call.Asking.{has_room}
 use Rattle.pl_state.specs.KernelView.{view_of}
 use Rattle.pl_state.specs.Contents.{Contents, contents, nodes_of, with_pipes}
 use Rattle.pl_state.specs.Opens.{OpenOn}
@@ -75,5 +77,9 @@ returns-clause-done g c =
     subst (λ z. GoesOver z c.args.from c.args.to false c.args.count new) c.kernel.view_is
     (subst (GoesOver (k g c) c.args.from c.args.to false c.args.count) (new_is g c) (from_file (k g c) c.kernel.invariant.0 c.args.from c.args.to c.args.source c.args.target (on_f g c) (on_q g c) (file g c).0 (pipe g c).0 (file g c).1 (pipe g c).1 c.args.count (left g c) (nodes_of c.move_file_pipe.new.self) (after g c) c.advance.new.descs.opened (moves g c)))
 
-pub move_file_pipe-requires-clause-bytes : goal.move_file_pipe-requires-clause-bytes
-move_file_pipe-requires-clause-bytes g c = subst (λ (z : Contents g.row.A.Denot). IfSome (at z.nodes.pipes c.args.target) (λ x. x.packets ≡ None)) (sym c.kernel.view_is) c.requires.to_bytes
+pub move_file_pipe-requires-clause-to : goal.move_file_pipe-requires-clause-to
+move_file_pipe-requires-clause-to g c =
+    let of = at (view_of c.kernel.inside).nodes.pipes c.args.target in
+    let there = pipe_there (view_of c.kernel.inside) c.kernel.invariant.0.whole c.args.to.key c.args.target (subst (λ z. OpenOn z c.args.to.key (node.Pipe c.args.target)) (sym c.kernel.view_is) c.requires.target) in
+    has_room of there.0 there.1 (subst (λ (z : Contents g.row.A.Denot). IfSome (at z.nodes.pipes c.args.target) (λ x. x.packets ≡ None)) (sym c.kernel.view_is) c.requires.to_bytes) c.args.count
+    (subst (λ (z : Contents g.row.A.Denot). IfSome (at z.nodes.pipes c.args.target) (λ x. c.args.count ≤ room x)) (sym c.kernel.view_is) c.requires.room)

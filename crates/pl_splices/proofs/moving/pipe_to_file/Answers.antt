@@ -7,13 +7,16 @@ use Rattle.pl_model.specs.State.{Pipe}
 use Rattle.pl_desc.specs.Rows.{at, count_at}
 use Rattle.pl_desc.specs.Descs.{Opened, Descs}
 use Rattle.pl_file.specs.File.{written, fitting}
+use Rattle.pl_nodes.specs.declared.nodes.NodeLimits.{NodeLimits}
 use Rattle.pl_nodes.specs.Nodes.{bytes_of, memory_of}
+use Rattle.pl_nodes.specs.Moving.{AddsNone}
+use Rattle.pl_splices.proofs.by_call.Asking.{holds_bytes}
 use Rattle.pl_state.specs.KernelView.{view_of}
 use Rattle.pl_state.specs.Contents.{Contents, contents, nodes_of}
 use Rattle.pl_state.specs.Opens.{OpenOn}
 use Rattle.pl_state.specs.Sound.{IsSound}
 use Rattle.pl_state.proofs.by_call.Begun.{pipe_there, file_there}
-use Rattle.pl_splices.specs.Shares.{AddsNone, place_in}
+use Rattle.pl_splices.specs.Shares.{place_in}
 use Rattle.pl_splices.specs.Moves.{GoesOver}
 use Rattle.pl_splices.proofs.by_call.Trying.{of_one}
 use Rattle.pl_splices.proofs.by_call.Moving.{to_file, to_file_sound}
@@ -52,13 +55,13 @@ module _ (g : Over) (c : After-advance g) where
       (subst (λ (z : Contents g.row.A.Denot). IfSome (at z.opened c.args.to.key) (λ o. c.start_of-start.result ≡ unwrap_or c.args.to.given o.offset)) (sym c.kernel.view_is) c.start_of-start.ensures)
 
   abbrev most : ℕ
-  most = c.kernel.inside.nodes.file_max
+  most = c.kernel.inside.nodes.limits.file_max
 
   room : c.args.count ≤ most - c.start_of-start.result
   room =
       let said : c.args.count ≤ k.limits.file_max - start = of_one (at k.opened c.args.to.key) on_g.opened (λ o. c.args.count ≤ k.limits.file_max - unwrap_or c.args.to.given o.offset) on_g.here
       (subst (λ (z : Contents g.row.A.Denot). IfSome (at z.opened c.args.to.key) (λ o. c.args.count ≤ z.limits.file_max - unwrap_or c.args.to.given o.offset)) (sym c.kernel.view_is) c.requires.room) in
-      let limit : most ≡ k.limits.file_max = c.kernel.invariant.0.limit in
+      let limit : most ≡ k.limits.file_max = ap (λ (l : NodeLimits). l.file_max) c.kernel.invariant.0.limit in
       subst (λ n. c.args.count ≤ most - n) (sym start_is) (subst (λ n. c.args.count ≤ n - start) (sym limit) said)
 
   fits : fitting c.args.count c.start_of-start.result most ≡ c.args.count
@@ -81,7 +84,7 @@ module _ (g : Over) (c : After-advance g) where
 
   new_is : record k { opened = c.advance.new.descs.opened; nodes = record k.nodes { pipes = c.move_pipe_file.new.self.pipes; files = c.move_pipe_file.new.self.files; memory = memory_of c.move_pipe_file.new.self } } ≡ new
   new_is =
-      (λ i. record k { opened = c.advance.new.descs.opened; nodes = record { pipes = c.move_pipe_file.new.self.pipes; files = c.move_pipe_file.new.self.files; names = sym c.move_pipe_file.ensures.names i; file_max = sym c.move_pipe_file.ensures.file_max i; memory = memory_of c.move_pipe_file.new.self } })
+      (λ i. record k { opened = c.advance.new.descs.opened; nodes = record { pipes = c.move_pipe_file.new.self.pipes; files = c.move_pipe_file.new.self.files; names = sym c.move_pipe_file.ensures.names i; limits = sym c.move_pipe_file.ensures.limits i; memory = memory_of c.move_pipe_file.new.self } })
       ∙ ap (λ (d : Descs). contents d (nodes_of c.move_pipe_file.new.self) c.kernel.inside.parked c.kernel.inside.limits) (sym c.advance.ensures.rest)
 
 pub invariant_of-kernel-2 : goal.invariant_of-kernel-2
@@ -100,8 +103,11 @@ returns-clause-shares g c =
     let begins : c.start_of-start.result ≡ place_in (at (k g c).opened c.args.to.key) c.args.to.given = start_is g c ∙ ap (λ o. place_in o c.args.to.given) (sym (on_g g c).here) in
     subst (λ (z : Contents g.row.A.Denot). IfSome (at z.nodes.files c.args.target) (λ bytes. place_in (at z.opened c.args.to.key) c.args.to.given ≤ length bytes) → AddsNone z.nodes.memory (new g c).nodes.memory) c.kernel.view_is
     (λ within.
-    let here = subst (λ n. IfSome (at (k g c).nodes.files c.args.target) (λ (bytes : List ℕ). n ≤ length bytes)) (sym begins) within in
-    record { fewer = c.in-Ok.ensures.segments here; named_before = c.in-Ok.ensures.none_added here })
+    c.in-Ok.ensures.none_added (subst (λ n. IfSome (at (k g c).nodes.files c.args.target) (λ (bytes : List ℕ). n ≤ length bytes)) (sym begins) within))
 
-pub move_pipe_file-requires-clause-bytes : goal.move_pipe_file-requires-clause-bytes
-move_pipe_file-requires-clause-bytes g c = subst (λ (z : Contents g.row.A.Denot). IfSome (at z.nodes.pipes c.args.source) (λ x. x.packets ≡ None)) (sym c.kernel.view_is) c.requires.from_bytes
+pub move_pipe_file-requires-clause-from : goal.move_pipe_file-requires-clause-from
+move_pipe_file-requires-clause-from g c =
+    let of = at (view_of c.kernel.inside).nodes.pipes c.args.source in
+    let there = pipe_there (view_of c.kernel.inside) c.kernel.invariant.0.whole c.args.from.key c.args.source (subst (λ z. OpenOn z c.args.from.key (node.Pipe c.args.source)) (sym c.kernel.view_is) c.requires.source) in
+    holds_bytes of there.0 there.1 (subst (λ (z : Contents g.row.A.Denot). IfSome (at z.nodes.pipes c.args.source) (λ x. x.packets ≡ None)) (sym c.kernel.view_is) c.requires.from_bytes) c.args.count
+    (subst (λ (z : Contents g.row.A.Denot). IfSome (at z.nodes.pipes c.args.source) (λ x. c.args.count ≤ length x.bytes)) (sym c.kernel.view_is) c.requires.held)

@@ -2,16 +2,18 @@ use Rattle.std.proofs.Common.{◌≡◌, ◌≤◌, true, false, Some, IfSome, l
 use Rattle.pl_model.specs.Packets.{lose, gain}
 use Rattle.pl_model.specs.declared.node.Node.TheVariants as node
 use Rattle.pl_model.specs.Map.{change_at}
+use Rattle.pl_model.specs.Transfer.{room as pipe_room}
 use Rattle.pl_model.specs.State.{Pipe}
 use Rattle.pl_desc.specs.Rows.{at}
 use Rattle.pl_nodes.specs.Nodes.{bytes_of, memory_of}
+use Rattle.pl_nodes.specs.Moving.{HoldsBytes, HasRoom, SharesSlots}
+use Rattle.pl_splices.proofs.by_call.Asking.{holds_bytes, has_room}
 use Rattle.pl_state.specs.KernelView.{view_of}
 use Rattle.pl_state.specs.Contents.{Contents, nodes_of}
 use Rattle.pl_state.specs.Opens.{OpenOn}
 use Rattle.pl_state.specs.Sound.{IsSound}
 use Rattle.pl_state.proofs.Known.{moved_view}
 use Rattle.pl_state.proofs.by_call.Begun.{pipe_there}
-use Rattle.pl_splices.specs.Shares.{SharesSlots}
 use Rattle.pl_splices.specs.Moves.{GoesOver}
 use Rattle.pl_splices.proofs.by_call.Moving.{copied, copied_sound, moved_over, moved_sound}
 use Rattle.pl_splices.proofs.moving.pipe_to_pipe.Given.{Over}
@@ -37,6 +39,16 @@ module _ (g : Over) (c : After-kernel g) where
 
   held : c.args.count ≤ length p.0.bytes
   held = subst (λ z. IfSome z (λ x. c.args.count ≤ length x.bytes)) p.1 (subst (λ (z : Contents g.row.A.Denot). IfSome (at z.nodes.pipes c.args.source) (λ x. c.args.count ≤ length x.bytes)) (sym c.kernel.view_is) c.requires.held)
+
+  source_holds : HoldsBytes (at k.nodes.pipes c.args.source) c.args.count
+  source_holds =
+      holds_bytes (at k.nodes.pipes c.args.source) p.0 p.1 (subst (λ (z : Contents g.row.A.Denot). IfSome (at z.nodes.pipes c.args.source) (λ x. x.packets ≡ None)) (sym c.kernel.view_is) c.requires.from_bytes) c.args.count
+      (subst (λ (z : Contents g.row.A.Denot). IfSome (at z.nodes.pipes c.args.source) (λ x. c.args.count ≤ length x.bytes)) (sym c.kernel.view_is) c.requires.held)
+
+  target_has_room : HasRoom (at k.nodes.pipes c.args.target) c.args.count
+  target_has_room =
+      has_room (at k.nodes.pipes c.args.target) q.0 q.1 (subst (λ (z : Contents g.row.A.Denot). IfSome (at z.nodes.pipes c.args.target) (λ x. x.packets ≡ None)) (sym c.kernel.view_is) c.requires.to_bytes) c.args.count
+      (subst (λ (z : Contents g.row.A.Denot). IfSome (at z.nodes.pipes c.args.target) (λ x. c.args.count ≤ pipe_room x)) (sym c.kernel.view_is) c.requires.room)
 
   -- the bytes that go over
   front : take c.args.count (bytes_of (at k.nodes.pipes c.args.source)) ≡ take c.args.count p.0.bytes
@@ -73,21 +85,21 @@ returns-in_ok-move_pipe_pipe-clause-done g c =
 pub returns-in_ok-copy_pipe_pipe-clause-shares : goal.returns-in_ok-copy_pipe_pipe-clause-shares
 returns-in_ok-copy_pipe_pipe-clause-shares g c =
     subst (λ (z : Contents g.row.A.Denot). SharesSlots z.nodes.memory (memory_of c.copy_pipe_pipe.new.self) c.args.source c.args.target) c.kernel.view_is
-    (record { few = c.in_ok-copy_pipe_pipe.ensures.segments; parts = c.in_ok-copy_pipe_pipe.ensures.parts })
+    c.in_ok-copy_pipe_pipe.ensures.shares
 
 pub returns-in_ok-move_pipe_pipe-clause-shares : goal.returns-in_ok-move_pipe_pipe-clause-shares
 returns-in_ok-move_pipe_pipe-clause-shares g c =
     subst (λ (z : Contents g.row.A.Denot). SharesSlots z.nodes.memory (memory_of c.move_pipe_pipe.new.self) c.args.source c.args.target) c.kernel.view_is
-    (record { few = c.in_ok-move_pipe_pipe.ensures.segments; parts = c.in_ok-move_pipe_pipe.ensures.parts })
+    c.in_ok-move_pipe_pipe.ensures.shares
 
-pub copy_pipe_pipe-requires-clause-from_bytes : goal.copy_pipe_pipe-requires-clause-from_bytes
-copy_pipe_pipe-requires-clause-from_bytes g c = subst (λ (z : Contents g.row.A.Denot). IfSome (at z.nodes.pipes c.args.source) (λ x. x.packets ≡ None)) (sym c.kernel.view_is) c.requires.from_bytes
+pub copy_pipe_pipe-requires-clause-from : goal.copy_pipe_pipe-requires-clause-from
+copy_pipe_pipe-requires-clause-from g c = source_holds g (goal.at.copy_pipe_pipe-requires-clause-from g c).After-kernel
 
-pub copy_pipe_pipe-requires-clause-to_bytes : goal.copy_pipe_pipe-requires-clause-to_bytes
-copy_pipe_pipe-requires-clause-to_bytes g c = subst (λ (z : Contents g.row.A.Denot). IfSome (at z.nodes.pipes c.args.target) (λ x. x.packets ≡ None)) (sym c.kernel.view_is) c.requires.to_bytes
+pub copy_pipe_pipe-requires-clause-to : goal.copy_pipe_pipe-requires-clause-to
+copy_pipe_pipe-requires-clause-to g c = target_has_room g (goal.at.copy_pipe_pipe-requires-clause-to g c).After-kernel
 
-pub move_pipe_pipe-requires-clause-from_bytes : goal.move_pipe_pipe-requires-clause-from_bytes
-move_pipe_pipe-requires-clause-from_bytes g c = subst (λ (z : Contents g.row.A.Denot). IfSome (at z.nodes.pipes c.args.source) (λ x. x.packets ≡ None)) (sym c.kernel.view_is) c.requires.from_bytes
+pub move_pipe_pipe-requires-clause-from : goal.move_pipe_pipe-requires-clause-from
+move_pipe_pipe-requires-clause-from g c = source_holds g (goal.at.move_pipe_pipe-requires-clause-from g c).After-kernel
 
-pub move_pipe_pipe-requires-clause-to_bytes : goal.move_pipe_pipe-requires-clause-to_bytes
-move_pipe_pipe-requires-clause-to_bytes g c = subst (λ (z : Contents g.row.A.Denot). IfSome (at z.nodes.pipes c.args.target) (λ x. x.packets ≡ None)) (sym c.kernel.view_is) c.requires.to_bytes
+pub move_pipe_pipe-requires-clause-to : goal.move_pipe_pipe-requires-clause-to
+move_pipe_pipe-requires-clause-to g c = target_has_room g (goal.at.move_pipe_pipe-requires-clause-to g c).After-kernel

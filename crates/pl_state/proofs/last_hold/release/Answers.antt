@@ -36,7 +36,7 @@ returns-in-Pipe-clause-leaves g c =
     subst (λ n. (nat_lt 0 c.in-Gone.readers ≡ nat_lt 0 (ends_on reads c.release.new.self.opened n)) × (nat_lt 0 c.in-Gone.writers ≡ nat_lt 0 (ends_on writes c.release.new.self.opened n))) c.in-Pipe.is (counts g w) in
     let had = ap (nat_lt 0) c.writers-had_writer.ensures ∙ ap (λ n. nat_lt 0 (ends_on writes c.args.descs.now.opened n)) c.in-Pipe.is in
     λ last. leaves_at c.args.descs.now.opened c.release.new.self.opened c.args.key (node.Pipe c.in-Pipe.pipe) (nodes_of c.args.nodes.now) (nodes_of c.leave_pipe.new.nodes) is_on
-    (leaves_pipe c.args.descs.now.opened c.release.new.self.opened c.in-Pipe.pipe c.args.nodes.now c.leave_pipe.new.nodes _ _ _ ends.0 ends.1 had c.leave_pipe.ensures.pipes c.leave_pipe.ensures.files c.leave_pipe.ensures.names c.leave_pipe.ensures.file_max)
+    (leaves_pipe c.args.descs.now.opened c.release.new.self.opened c.in-Pipe.pipe c.args.nodes.now c.leave_pipe.new.nodes _ _ _ ends.0 ends.1 had c.leave_pipe.ensures.pipes c.leave_pipe.ensures.files c.leave_pipe.ensures.names c.leave_pipe.ensures.limits)
 
 pub returns-in-File-clause-leaves : goal.returns-in-File-clause-leaves
 returns-in-File-clause-leaves g c =
@@ -46,4 +46,4 @@ returns-in-File-clause-leaves g c =
     let ends : (nat_lt 0 c.in-Gone.readers || nat_lt 0 c.in-Gone.writers) ≡ is_open_on after (node.File c.in-File.file) =
     (λ i. (counts g w).0 i || (counts g w).1 i) ∙ sym (any_end c.node-node.result after) ∙ ap (is_open_on after) c.in-File.is in
     λ last. leaves_at c.args.descs.now.opened after c.args.key (node.File c.in-File.file) (nodes_of c.args.nodes.now) (nodes_of c.leave_file.new.nodes) is_on
-    (leaves_file c.args.descs.now.opened after c.in-File.file c.args.nodes.now c.leave_file.new.nodes _ ends c.leave_file.ensures.files c.leave_file.ensures.pipes c.leave_file.ensures.names c.leave_file.ensures.file_max)
+    (leaves_file c.args.descs.now.opened after c.in-File.file c.args.nodes.now c.leave_file.new.nodes _ ends c.leave_file.ensures.files c.leave_file.ensures.pipes c.leave_file.ensures.names c.leave_file.ensures.limits)

@@ -8,6 +8,7 @@ use Rattle.pl_model.specs.Transfer.{put_bytes}
 use Rattle.pl_desc.specs.Rows.{at, count_at}
 use Rattle.pl_desc.specs.Descs.{Opened, Descs}
 use Rattle.pl_file.specs.File.{written}
+use Rattle.pl_nodes.specs.declared.nodes.NodeLimits.{NodeLimits}
 use Rattle.pl_nodes.specs.Nodes.{memory_of}
 use Rattle.pl_state.specs.KernelView.{view_of}
 use Rattle.pl_state.specs.Contents.{Contents, contents}
@@ -42,8 +43,8 @@ module _ (g : Over) (c : After-set_offset g) where
   abbrev fits : List ℕ
   fits = take (c.kernel.inside.limits.file_max - c.place_to_write-place.result) c.args.bytes.now
 
-  limit : c.kernel.inside.nodes.file_max ≡ c.kernel.inside.limits.file_max
-  limit = c.kernel.invariant.0.whole.limit
+  limit : c.kernel.inside.nodes.limits.file_max ≡ c.kernel.inside.limits.file_max
+  limit = ap (λ (l : NodeLimits). l.file_max) c.kernel.invariant.0.whole.limit
 
   below : c.kernel.inside.limits.file_max ≤ c.place_to_write-place.result → ⊥
   below past = (let big = c.in_ok-count.ensures.big.1 (c.requires.some, subst (λ n. n ≤ c.place_to_write-place.result) (sym limit) past) in absurd (cc))
@@ -64,7 +65,7 @@ module _ (g : Over) (c : After-set_offset g) where
   after = view_of (record c.kernel.inside { descs = c.set_offset.new.self; nodes = c.write_file.new.self })
 
   rest : after ≡ record (view_of c.kernel.inside) { opened = after.opened; nodes = record (view_of c.kernel.inside).nodes { files = after.nodes.files; memory = after.nodes.memory } }
-  rest = (λ i. contents (c.set_offset.ensures.rest i) (record { pipes = c.in_ok-count.ensures.pipes.pipes i; files = c.write_file.new.self.files; names = c.in_ok-count.ensures.pipes.names i; file_max = c.in_ok-count.ensures.pipes.file_max i; memory = memory_of c.write_file.new.self }) c.kernel.inside.parked c.kernel.inside.limits)
+  rest = (λ i. contents (c.set_offset.ensures.rest i) (record { pipes = c.in_ok-count.ensures.pipes.pipes i; files = c.write_file.new.self.files; names = c.in_ok-count.ensures.pipes.names i; limits = c.in_ok-count.ensures.pipes.limits i; memory = memory_of c.write_file.new.self }) c.kernel.inside.parked c.kernel.inside.limits)
 
 pub invariant_of-kernel-2 : goal.invariant_of-kernel-2
 invariant_of-kernel-2 g c =

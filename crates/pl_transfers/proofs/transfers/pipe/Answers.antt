@@ -142,7 +142,7 @@ made g c first second few =
     let rows = c.open_at-2.ensures.rows ∙ ap (λ z. with_row z c.args.pid c.in-Some-lowest.second (Some d')) (c.open_at.ensures.rows ∙ ap (λ (z : Descs). with_row (row_at z.tables) c.args.pid c.in-Some.first (Some d)) kept) in
     let pids = c.open_at-2.ensures.pids ∙ c.open_at.ensures.pids ∙ ap (λ (z : Descs). is_pid z.tables) kept in
     let same_ends : (q : ℕ) → count_at c.open_at-2.new.descs.loose q ≡ count_at m.descs.loose q = λ q. (λ i. c.open_at-2.ensures.loose i q) ∙ (λ i. c.open_at.ensures.loose i q) ∙ ap (λ (z : Descs). count_at z.loose q) kept in
-    let both = pipe-made m c.args.nonblock c.args.direct c.in-Some.first first c.in-Some-lowest.second second few p d d' vacant_pipe vacant other.0 other.1 c.open_at-2.new.descs (nodes_of c.make.new.self) pids rows opened_both made c.in_ok-make.ensures.files c.in_ok-make.ensures.names c.in_ok-make.ensures.file_max in
+    let both = pipe-made m c.args.nonblock c.args.direct c.in-Some.first first c.in-Some-lowest.second second few p d d' vacant_pipe vacant other.0 other.1 c.open_at-2.new.descs (nodes_of c.make.new.self) pids rows opened_both made c.in_ok-make.ensures.files c.in_ok-make.ensures.names c.in_ok-make.ensures.limits in
     (both.0, record { tidy = c.open_at-2.ensures.tidy; counted = λ q. same_ends q ∙ m.are.counted q }, both.1)
 
 pub invariant_of-kernel-2 : goal.invariant_of-kernel-2

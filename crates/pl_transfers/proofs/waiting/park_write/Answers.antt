@@ -65,7 +65,7 @@ module _ (g : Over) (c : After-hold g) where
   held_moved : SameFiles c.kernel.inside.nodes c.write_pipe.new.self → with_pipes with_it pipes ≡ contents c.hold.new.self (nodes_of c.write_pipe.new.self) with_it.calls c.kernel.inside.limits
   held_moved same =
       sym (ap (λ (z : Contents g.row.A.Denot). with_pipes z pipes) held_with)
-      ∙ (λ i. contents c.hold.new.self (record { pipes = pipes.pipes; files = sym same.files i; names = sym same.names i; file_max = sym same.file_max i; memory = pipes.memory }) with_it.calls c.kernel.inside.limits)
+      ∙ (λ i. contents c.hold.new.self (record { pipes = pipes.pipes; files = sym same.files i; names = sym same.names i; limits = sym same.limits i; memory = pipes.memory }) with_it.calls c.kernel.inside.limits)
 
 pub unwrap-call-requires : goal.unwrap-call-requires
 unwrap-call-requires g c = lent_some (λ (b : Bor (ParkedCall g.row.A.Denot)). b.now) c.get.result (w g c) (c.get.ensures ∙ here g c)

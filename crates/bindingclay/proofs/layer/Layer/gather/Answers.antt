@@ -14,7 +14,7 @@ returns-clause-made c =
     subst (λ a. Resumes old c.args.number room a z.new.self) (sym t.rest)
     (resumes_told old z.new.self c.args.number c.answer_of_resumed.result c.tell_moved.result.moved room
     (subst (λ a. Resumes old c.args.number room a z.new.self) (sym c.answer_of_resumed.ensures)
-    (resumes_of old z.new.self c.args.number c.args.into.now z.new.into z.result z.ensures.made z.ensures.within z.ensures.unmade)))
+    (resumes_of old z.new.self c.args.number c.args.into.now z.new.into z.result z.ensures.made z.ensures.within z.ensures.unchanged)))
 
 pub returns-clause-moved : goal.returns-clause-moved
 returns-clause-moved c =
@@ -38,7 +38,7 @@ returns-clause-bytes c =
     subst (λ a. Gathers old c.args.number before a z.new.into) (sym c.tell_moved.ensures.rest)
     (gathers_told old z.new.self c.args.number c.answer_of_resumed.result c.tell_moved.result.moved c.tell_moved.ensures.others before z.new.into
     (subst (λ a. Gathers old c.args.number before a z.new.into) (sym c.answer_of_resumed.ensures)
-    (gathers_of old z.new.self c.args.number before z.new.into z.result z.ensures.made z.ensures.short z.ensures.fits z.ensures.enough z.ensures.reads z.ensures.others z.ensures.within z.ensures.rest z.ensures.unread)))
+    (gathers_of old z.new.self c.args.number before z.new.into z.result z.ensures.made z.ensures.reads z.ensures.others z.ensures.within z.ensures.rest z.ensures.unchanged)))
 
 pub returns-clause-frugal : goal.returns-clause-frugal
 returns-clause-frugal c =
@@ -47,4 +47,4 @@ returns-clause-frugal c =
     λ plain. subst (λ a. IsFrugal old c.args.number a) (sym c.tell_moved.ensures.rest)
     (frugal_told old z.new.self c.args.number c.answer_of_resumed.result c.tell_moved.result.moved
     (subst (λ a. IsFrugal old c.args.number a) (sym c.answer_of_resumed.ensures)
-    (frugal_of old z.new.self c.args.number c.args.into.now z.new.into z.result z.ensures.reads z.ensures.frugal)))
+    (frugal_of old z.new.self c.args.number c.args.into.now z.new.into z.result z.ensures.reads)))

@@ -14,17 +14,17 @@ use Rattle.bindingclay.proofs.layer.Layer.resume.Goals as goal
 pub returns-in_default-clause-tries : goal.returns-in_default-clause-tries
 returns-in_default-clause-tries c =
     let e = c.in_default.ensures in
-    subst (λ k. TriesAgain k c.args.number c.args.into.now c.resume_any-in_default.result c.resume_any-in_default.new.into c.resume_any-in_default.new.self.kernel) e.same
-    (subst (λ before. TriesAgain c.resume_read.new.self c.args.number before c.resume_any-in_default.result c.resume_any-in_default.new.into c.resume_any-in_default.new.self.kernel) e.unread c.resume_any-in_default.ensures.tries)
+    subst (λ k. TriesAgain k c.args.number c.args.into.now c.resume_any-in_default.result c.resume_any-in_default.new.into c.resume_any-in_default.new.self.kernel) e.unchanged.0
+    (subst (λ before. TriesAgain c.resume_read.new.self c.args.number before c.resume_any-in_default.result c.resume_any-in_default.new.into c.resume_any-in_default.new.self.kernel) e.unchanged.1 c.resume_any-in_default.ensures.tries)
 
 pub returns-in_default-clause-moved : goal.returns-in_default-clause-moved
-returns-in_default-clause-moved c = subst (λ k. Moves k (Resume c.args.number) c.resume_any-in_default.result) c.in_default.ensures.same c.resume_any-in_default.ensures.moved
+returns-in_default-clause-moved c = subst (λ k. Moves k (Resume c.args.number) c.resume_any-in_default.result) c.in_default.ensures.unchanged.0 c.resume_any-in_default.ensures.moved
 
 pub returns-in_default-clause-wants : goal.returns-in_default-clause-wants
-returns-in_default-clause-wants c = λ plain. subst (λ k. Wants k (Resume c.args.number) c.resume_any-in_default.result) c.in_default.ensures.same (c.resume_any-in_default.ensures.wants plain)
+returns-in_default-clause-wants c = λ plain. subst (λ k. Wants k (Resume c.args.number) c.resume_any-in_default.result) c.in_default.ensures.unchanged.0 (c.resume_any-in_default.ensures.wants plain)
 
 pub returns-in_default-clause-frugal : goal.returns-in_default-clause-frugal
-returns-in_default-clause-frugal c = λ plain. subst (λ k. IsFrugal k c.args.number c.resume_any-in_default.result) c.in_default.ensures.same (c.resume_any-in_default.ensures.frugal plain)
+returns-in_default-clause-frugal c = λ plain. subst (λ k. IsFrugal k c.args.number c.resume_any-in_default.result) c.in_default.ensures.unchanged.0 (c.resume_any-in_default.ensures.frugal plain)
 
 -- it is a read that isn't recorded
 
@@ -39,7 +39,7 @@ returns-clause-tries c =
     let z : Result (KernelResumed InBudget) ⊤ = Ok c.in-Some.resumed in
     let t = c.tell_moved.ensures in
     let b = c.answer_of_read_again.result in
-    let none = no_entries old n e.reads.1 in
+    let none = no_entries old n e.reads.0 in
     record {
       polls = λ ready. absurd (omega (arith, none, ready));
       others = λ is. (
@@ -50,7 +50,7 @@ returns-clause-tries c =
         subst (λ a. Gathers old n before a after) (sym t.rest)
             (gathers_told old new n b c.tell_moved.result.moved t.others before after
             (subst (λ a. Gathers old n before a after) (sym c.answer_of_read_again.ensures)
-            (gathers_of old new n before after z e.made (λ key m waits less. (let is = e.short key m waits less in cc)) e.fits e.enough (λ key m waits. e.reads.0) (λ none. absurd (let r = e.reads.1 in none r.0 r.1 r.2)) e.within e.rest tt))),
+            (gathers_of old new n before after z e.made (λ key m waits. (refl, e.reads.1)) (λ none. absurd (let r = e.reads.0 in none r.0 r.1 r.2)) e.within e.rest tt))),
       );
     }
 
@@ -80,4 +80,4 @@ returns-clause-frugal c =
     λ plain. subst (λ a. IsFrugal old c.args.number a) (sym c.tell_moved.ensures.rest)
     (frugal_told old c.resume_read.new.self c.args.number c.answer_of_read_again.result c.tell_moved.result.moved
     (subst (λ a. IsFrugal old c.args.number a) (sym c.answer_of_read_again.ensures)
-    (frugal_of old c.resume_read.new.self c.args.number c.args.into.now c.resume_read.new.into z (λ key m waits. e.reads.0) (λ key m waits. refl))))
+    (frugal_of old c.resume_read.new.self c.args.number c.args.into.now c.resume_read.new.into z (λ key m waits. (refl, e.reads.1)))))

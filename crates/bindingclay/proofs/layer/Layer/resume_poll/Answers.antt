@@ -12,7 +12,7 @@ returns-clause-made c =
     subst (λ a. Resumes old c.args.number 0 a z.new.self) (sym c.tell_moved.ensures.rest)
     (resumes_told old z.new.self c.args.number c.answer_of_resumed.result c.tell_moved.result.moved 0
     (subst (λ a. Resumes old c.args.number 0 a z.new.self) (sym c.answer_of_resumed.ensures)
-    (resumes_of old z.new.self c.args.number [] z.new.into z.result z.ensures.made z.ensures.within z.ensures.unmade)))
+    (resumes_of old z.new.self c.args.number [] z.new.into z.result z.ensures.made z.ensures.within z.ensures.unchanged)))
 
 pub returns-clause-moved : goal.returns-clause-moved
 returns-clause-moved c =
@@ -38,7 +38,7 @@ returns-clause-entries c =
     (subst (λ a. Notes old c.args.number before a after) (sym c.tell_moved.ensures.rest)
     (notes_told old z.new.self c.args.number c.answer_of_resumed.result c.tell_moved.result.moved c.tell_moved.ensures.others before after
     (subst (λ a. Notes old c.args.number before a after) (sym c.answer_of_resumed.ensures)
-    (notes_of old z.new.self c.args.number [] z.new.into z.result before z.ensures.made z.ensures.short z.ensures.fits z.ensures.others refl))))
+    (notes_of old z.new.self c.args.number [] z.new.into z.result before z.ensures.made z.ensures.reads z.ensures.others refl))))
 
 pub returns-clause-frugal : goal.returns-clause-frugal
 returns-clause-frugal c =
@@ -47,4 +47,4 @@ returns-clause-frugal c =
     λ plain. subst (λ a. IsFrugal old c.args.number a) (sym c.tell_moved.ensures.rest)
     (frugal_told old z.new.self c.args.number c.answer_of_resumed.result c.tell_moved.result.moved
     (subst (λ a. IsFrugal old c.args.number a) (sym c.answer_of_resumed.ensures)
-    (frugal_of old z.new.self c.args.number [] z.new.into z.result z.ensures.reads z.ensures.frugal)))
+    (frugal_of old z.new.self c.args.number [] z.new.into z.result z.ensures.reads)))

@@ -14,7 +14,7 @@ module _ (g : Over) (c : After-add_front g) (rows : List Row) (same : rows ≡ c
       let s = ap (λ n. left_from n c.args.end.at) (len-in c.self.inside.rows.items c.args.end.chunk) in
       let d = ap (λ (rs : List Row). left_from (length (slots_in rs c.args.end.chunk)) c.args.end.at) same in
       let v = ap (λ (v : Chunks). left_from (slice_index_or v.lens c.args.end.chunk 0) c.args.end.at) c.self.view_is in
-      omega (arith, s, d, v, c.add_front.ensures.many, c.requires.room)
+      omega (arith, s, d, v, c.add_front.ensures.many, c.requires.memory.slots)
 
 pub add_rest-last-requires-clause-room : goal.add_rest-last-requires-clause-room
 add_rest-last-requires-clause-room g c =
@@ -27,9 +27,9 @@ put_rows-requires-clause-order g c =
     let ns = c.args.self.now.lens in
     let first = c.args.first in
     let end = c.args.end in
-    let from = c.add_rest-last.ensures.from in
+    let from = c.add_rest-last.ensures.next.from in
     elim (cases_lt end.chunk first.chunk) as (λ _. first.chunk ≤ c.add_rest-last.result) [
-      | inl l ↦ let h = index-less ns end.chunk end.at first.chunk first.at c.requires.end c.requires.first l in absurd (omega (arith, h, c.requires.order))
+      | inl l ↦ let h = index-less ns end.chunk end.at first.chunk first.at c.requires.fits.span.to c.requires.fits.span.from l in absurd (omega (arith, h, c.requires.fits.span.order))
       | inr l ↦ omega (arith, l, from)
     ]
 
@@ -40,7 +40,7 @@ put_rows-requires-clause-ready g c =
     let n = length-lens c.self.inside.rows.items in
     let v = ap (λ (v : Chunks). length v.lens) c.self.view_is in
     let r = ap (λ (v : Chunks). v.room) c.self.view_is in
-    let ready = c.requires.ready in
+    let ready = c.requires.memory.ready in
     record {
       empty = ready.empty;
       none = ready.none;

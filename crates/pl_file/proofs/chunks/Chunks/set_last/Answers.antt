@@ -69,9 +69,10 @@ invariant_of-self g c =
     let m = length_push c.pop.new.self.slots c.pop.result in
     let o = ap length c.push.ensures.slots in
     let p = length_push c.pop.new.self.slots c.args.slice in
+    let was = chunk-at 0 rs (length rs - 1) c.index_mut-row.result.now c.self.invariant.chunks (got g k) in
     record {
       chunks = subst (λ i. AreChunks 0 (slice_set rs i c.push.new.self)) (sym (at g k))
-          (last-set_chunks rs c.index_mut-row.result.now c.push.new.self (got g k) c.self.invariant.chunks (c.push.ensures.base ∙ c.pop.ensures.base) (omega (arith, n, m, o, p)));
+          (last-set_chunks rs c.index_mut-row.result.now c.push.new.self (got g k) c.self.invariant.chunks (c.push.ensures.base ∙ c.pop.ensures.base) (omega (arith, n, m, o, p, was.some)) (omega (arith, n, m, o, p, was.most)));
     }
 
 pub returns : goal.returns

@@ -18,7 +18,7 @@ use Rattle.pl_file.proofs.file.File.read_into.Goals as goal
 
 -- the part of the slot before the cut, and the slots from there on
 cut_is : (g : Over) (c : After-rest_cut-cut g) → drop_bytes c.args.place c.args.self.now ≡ solid_of (c.rest_cut-cut.result.part ∷ []) ++ drop (index c.self.inside.chunks c.rest_cut-cut.result.place) c.args.self.now
-cut_is g c = subst (λ ys. drop_bytes c.args.place ys ≡ solid_of (c.rest_cut-cut.result.part ∷ []) ++ drop (index c.self.inside.chunks c.rest_cut-cut.result.place) ys) c.self.view_is c.rest_cut-cut.ensures.rest
+cut_is g c = subst (λ ys. drop_bytes c.args.place ys ≡ solid_of (c.rest_cut-cut.result.part ∷ []) ++ drop (index c.self.inside.chunks c.rest_cut-cut.result.place) ys) c.self.view_is c.rest_cut-cut.ensures.rest.is
 
 -- the slot that is read
 got : (g : Over) (c : After-get g) → slice_get c.args.self.now (index c.self.inside.chunks c.loop-filled.spot) ≡ Some c.get.result

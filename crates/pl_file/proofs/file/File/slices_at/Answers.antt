@@ -17,7 +17,7 @@ loop-rest-init g c =
     let xs = c.args.self.now in
     let p = c.rest_cut-cut.result in
     let part = solid_of (p.part ∷ []) in
-    let rest = subst (λ ys. drop_bytes c.args.place ys ≡ part ++ drop (index c.self.inside.chunks p.place) ys) c.self.view_is c.rest_cut-cut.ensures.rest in
+    let rest = subst (λ ys. drop_bytes c.args.place ys ≡ part ++ drop (index c.self.inside.chunks p.place) ys) c.self.view_is c.rest_cut-cut.ensures.rest.is in
     let items : c.list_part.new.list.items ≡ front_of c.args.count part = c.in_ok-rest.ensures.items ∙ ap (λ ys. ys ++ front_of c.args.count part) c.in_ok-list.ensures.items in
     let left : c.in_ok-rest.rest ≡ c.args.count - total part = (let l = c.in_ok-rest.ensures.left in let t = total-solid (p.part ∷ []) in omega (arith, l, t)) in
     record {

@@ -1,4 +1,4 @@
-use Rattle.std.proofs.Common.{subst, length, rules, w32, SFits}
+use Rattle.std.proofs.Common.{◌∙◌, subst, length, rules, w32, SFits}
 use Rattle.std.proofs.lemmas.Int.{to_z-of_z}
 use Rattle.pl_model.specs.declared.calls.Call.{Call}
 use Rattle.pl_model.specs.declared.calls.Step.{Step}
@@ -7,7 +7,8 @@ use Rattle.pl_state.specs.Sound.{IsSound}
 use Rattle.pl_nodes.proofs.Keyed.{if_ok}
 use Rattle.pl_transfers.specs.ReadInto.{told}
 use Rattle.pl_kernel.proofs.Stepping.{makes, leaves}
-use Rattle.pl_kernel.proofs.Buffering.{if_err, parks}
+use Rattle.pl_kernel.proofs.Buffering.{if_both, if_err, parks}
+use Rattle.pl_kernel.proofs.Pairing.{count_given, begun_gives}
 use Rattle.pl_model.specs.Touching.{touches_by}
 use Rattle.pl_kernel.proofs.index.Stepping.{knows_after, none-found}
 use Rattle.pl_state.proofs.Known.{known}
@@ -44,6 +45,16 @@ returns-clause-refused g c =
     let new = c.begin_read_into-made.new.kernel in
     let sound = subst (IsSound g.row.A.Denot) c.state.view_is c.state.invariant.0 in
     rw c.keep_up.ensures (rw (← c.self.view_is) (if_ok c.begin_read_into-made.result (λ reply does. leaves old new sound x (told reply read) (makes old new x (told reply read) does)) (rw (to_z-of_z w32 c.args.fd fits) at c.begin_read_into-made.ensures.done)))
+
+pub returns-clause-given : goal.returns-clause-given
+returns-clause-given g c =
+    let fits : SFits w32 c.args.fd = search rules in
+    let x : Step g.row.A.Denot = Begin c.args.pid (Call.Read c.args.fd (length c.args.into.now)) in
+    let read = c.begin_read_into-made.new.into in
+    let old = c.self.inside.state in
+    rw (← c.self.view_is)
+    (if_both c.begin_read_into-made.result (λ reply does few. count_given old c.begin_read_into-made.new.kernel x reply read few does ∙ begun_gives old c.args.pid c.args.fd (length c.args.into.now))
+    (rw (to_z-of_z w32 c.args.fd fits) at c.begin_read_into-made.ensures.done) c.begin_read_into-made.ensures.within)
 
 pub returns-clause-wanted : goal.returns-clause-wanted
 returns-clause-wanted g c =

@@ -32,19 +32,16 @@ invariant_of-self-in_default g c = (
 
 -- the call is no read: it is tried again as by a step
 
-pub returns-in_err-made-clause-short : goal.returns-in_err-made-clause-short
-returns-in_err-made-clause-short g c = λ key n waits short. absurd (c.in_default.ensures.others key n waits)
+pub returns-in_err-made-clause-reads : goal.returns-in_err-made-clause-reads
+returns-in_err-made-clause-reads g c = λ key n waits. absurd (c.in_default.ensures.others key n waits)
 
 pub returns-in_err-made-clause-wanted : goal.returns-in_err-made-clause-wanted
 returns-in_err-made-clause-wanted g c =
-    rw (← c.in_default.ensures.same) (rw (← c.self.view_is) (on_err c.from_residual.result (wants c.self.inside.state (Resume c.args.number) c.in_err-made.ensures.wanted refl)))
-
-pub returns-in_err-made-clause-frugal : goal.returns-in_err-made-clause-frugal
-returns-in_err-made-clause-frugal g c = λ key n waits. absurd (c.in_default.ensures.others key n waits)
+    rw (← c.in_default.ensures.unchanged.0) (rw (← c.self.view_is) (on_err c.from_residual.result (wants c.self.inside.state (Resume c.args.number) c.in_err-made.ensures.wanted refl)))
 
 pub returns-in_default-clause-made : goal.returns-in_default-clause-made
 returns-in_default-clause-made g c =
-    rw (← c.in_default.ensures.same) (rw (← c.self.view_is) (makes c.self.inside.state c.try_again-made.new.kernel (Resume c.args.number) c.in_ok-made.field-0 c.in_ok-made.ensures.done))
+    rw (← c.in_default.ensures.unchanged.0) (rw (← c.self.view_is) (makes c.self.inside.state c.try_again-made.new.kernel (Resume c.args.number) c.in_ok-made.field-0 c.in_ok-made.ensures.done))
 
 pub returns-in_default-clause-refused : goal.returns-in_default-clause-refused
 returns-in_default-clause-refused g c =
@@ -53,27 +50,15 @@ returns-in_default-clause-refused g c =
     let x : Step g.row.A.Denot = Resume c.args.number in
     let reply = c.in_ok-made.field-0 in
     let sound = subst (IsSound g.row.A.Denot) c.state.view_is c.state.invariant.0 in
-    rw (← c.in_default.ensures.same) (rw (← c.self.view_is) (leaves old new sound x reply (makes old new x reply c.in_ok-made.ensures.done)))
-
-pub returns-in_default-clause-fits : goal.returns-in_default-clause-fits
-returns-in_default-clause-fits g c = λ key n waits few. absurd (c.in_default.ensures.others key n waits)
-
-pub returns-in_default-clause-enough : goal.returns-in_default-clause-enough
-returns-in_default-clause-enough g c = λ key n waits few. absurd (c.in_default.ensures.others key n waits)
+    rw (← c.in_default.ensures.unchanged.0) (rw (← c.self.view_is) (leaves old new sound x reply (makes old new x reply c.in_ok-made.ensures.done)))
 
 pub returns-in_default-clause-reads : goal.returns-in_default-clause-reads
-returns-in_default-clause-reads g c = λ key n waits. c.in_default.ensures.others key n waits
-
-pub returns-in_default-clause-short : goal.returns-in_default-clause-short
-returns-in_default-clause-short g c = λ key n waits short. absurd (c.in_default.ensures.others key n waits)
+returns-in_default-clause-reads g c = λ key n waits. absurd (c.in_default.ensures.others key n waits)
 
 -- it is a read
 
-pub returns-clause-short : goal.returns-clause-short
-returns-clause-short g c = λ key n waits less. (let is = c.in-Some.ensures.short key n waits less in cc)
-
 pub returns-clause-reads : goal.returns-clause-reads
-returns-clause-reads g c = λ key n waits. c.in-Some.ensures.reads.0
+returns-clause-reads g c = λ key n waits. (refl, c.in-Some.ensures.reads.1)
 
 pub returns-clause-others : goal.returns-clause-others
-returns-clause-others g c = λ none. (let r = c.in-Some.ensures.reads.1 in absurd (none r.0 r.1 r.2))
+returns-clause-others g c = λ none. (let r = c.in-Some.ensures.reads.0 in absurd (none r.0 r.1 r.2))

@@ -1,6 +1,6 @@
 use Rattle.std.proofs.Common.{ap}
 use Rattle.pl_segments.specs.Segments.{at}
-use Rattle.pl_layer_checks.proofs.Staying.{is-bytes, stays-pipe, stays-same}
+use Rattle.pl_layer_checks.proofs.Staying.{stays-pipe, stays-same}
 use Rattle.pl_layer_checks.proofs.ends.Ends.copy.Goals as goal
 
 pub invariant_of-self : goal.invariant_of-self
@@ -14,9 +14,3 @@ invariant_of-self g c =
       stays-same (at k.nodes.files) (at new.files) (ap at done.files.files) k.file c.self.invariant.2,
       c.self.invariant.3,
     )
-
-pub copy_pipe_pipe-requires-clause-from_bytes : goal.copy_pipe_pipe-requires-clause-from_bytes
-copy_pipe_pipe-requires-clause-from_bytes g c = is-bytes (at c.self.inside.nodes.pipes c.self.inside.first) c.is_packet.result c.is_packet.ensures c.if-is_packet.false
-
-pub copy_pipe_pipe-requires-clause-to_bytes : goal.copy_pipe_pipe-requires-clause-to_bytes
-copy_pipe_pipe-requires-clause-to_bytes g c = is-bytes (at c.self.inside.nodes.pipes c.self.inside.second) c.is_packet-2.result c.is_packet-2.ensures c.if-is_packet-2.false

@@ -1,5 +1,4 @@
-use Rattle.pl_segments.specs.Segments.{at}
-use Rattle.pl_layer_checks.proofs.Staying.{is-bytes, stays-file, stays-pipe}
+use Rattle.pl_layer_checks.proofs.Staying.{stays-file, stays-pipe}
 use Rattle.pl_layer_checks.proofs.ends.Ends.move_to_file.Goals as goal
 
 pub invariant_of-self : goal.invariant_of-self
@@ -13,6 +12,3 @@ invariant_of-self g c =
       stays-file c.move_pipe_file.result k.file k.nodes new _ done.files done.err k.file c.self.invariant.2,
       c.self.invariant.3,
     )
-
-pub move_pipe_file-requires-clause-bytes : goal.move_pipe_file-requires-clause-bytes
-move_pipe_file-requires-clause-bytes g c = is-bytes (at c.self.inside.nodes.pipes c.self.inside.second) c.is_packet.result c.is_packet.ensures c.if-is_packet.false

@@ -1,6 +1,6 @@
 use Rattle.std.proofs.Common.{ap}
 use Rattle.pl_segments.specs.Segments.{at}
-use Rattle.pl_layer_checks.proofs.Staying.{is-bytes, stays-pipe, stays-same}
+use Rattle.pl_layer_checks.proofs.Staying.{stays-pipe, stays-same}
 use Rattle.pl_layer_checks.proofs.ends.Ends.take_from_file.Goals as goal
 
 pub invariant_of-self : goal.invariant_of-self
@@ -14,6 +14,3 @@ invariant_of-self g c =
       stays-same (at k.nodes.files) (at new.files) (ap at done.files.files) k.file c.self.invariant.2,
       c.self.invariant.3,
     )
-
-pub move_file_pipe-requires-clause-bytes : goal.move_file_pipe-requires-clause-bytes
-move_file_pipe-requires-clause-bytes g c = is-bytes (at c.self.inside.nodes.pipes c.self.inside.first) c.is_packet.result c.is_packet.ensures c.if-is_packet.false

@@ -1,7 +1,7 @@
-use Rattle.std.proofs.Common.{◌∙◌, Some, None, refl, sym, ap, nat_eq}
+use Rattle.std.proofs.Common.{◌∙◌, Some, None, refl, sym, ap, nat_eq, arith}
 use Rattle.pl_model.specs.declared.node.Node.TheVariants as node
 use Rattle.pl_model.specs.Map.{set_at}
-use Rattle.pl_segments.specs.Segments.{segment_at, at}
+use Rattle.pl_segments.specs.Segments.{segment_at, at, trimmed}
 use Rattle.pl_nodes.specs.declared.content.Content.TheVariants.{File}
 use Rattle.pl_nodes.specs.Nodes.{Nodes}
 use Rattle.pl_nodes.specs.NodesView.{file_named}
@@ -18,26 +18,26 @@ pub invariant_of-self : goal.invariant_of-self
 invariant_of-self g c =
     let k = c.self.inside in
     let there = c.remove.ensures.value ∙ ap (λ x. Some x) c.in-File.is in
-    gone-sound k c.self.invariant c.let_go.new.store c.went.new.table c.args.key (File c.in-File.gone) there c.let_go.ensures.turns (cut-updates c.self.inside.contents c.remove.new.self c.went.new.table c.args.key None c.remove.ensures.updates c.went.ensures)
-    (refl, sym (sym (ap file_named there) ∙ says-unnamed k c.self.invariant c.args.self.now c.self.view_is (node.File c.args.key) c.requires.unnamed)) (c.let_go.ensures.spare c.self.invariant.spare) c.went.new.self
+    rw (c.trim.ensures) (gone-sound k c.self.invariant (trimmed c.self.inside.limits.spare_max c.let_go.new.store) c.went.new.table c.args.key (File c.in-File.gone) there c.let_go.ensures.turns (cut-updates c.self.inside.contents c.remove.new.self c.went.new.table c.args.key None c.remove.ensures.updates c.went.ensures)
+    (refl, sym (sym (ap file_named there) ∙ says-unnamed k c.self.invariant c.args.self.now c.self.view_is (node.File c.args.key) c.requires.unnamed)) (omega arith) c.went.new.self)
 
 pub returns-clause-ok : goal.returns-clause-ok
 returns-clause-ok g c =
     let k = c.self.inside in
-    gone-seen (segment_at k.store) (segment_at c.let_go.new.store) k.contents c.went.new.table c.args.key (File c.in-File.gone) (c.remove.ensures.value ∙ ap (λ x. Some x) c.in-File.is)
+    rw (c.trim.ensures) (gone-seen (segment_at k.store) (segment_at (trimmed c.self.inside.limits.spare_max c.let_go.new.store)) k.contents c.went.new.table c.args.key (File c.in-File.gone) (c.remove.ensures.value ∙ ap (λ x. Some x) c.in-File.is)
     c.self.invariant.shared c.let_go.ensures.turns (cut-updates c.self.inside.contents c.remove.new.self c.went.new.table c.args.key None c.remove.ensures.updates c.went.ensures) files_seen
-    ∙ ap (λ (v : Nodes). set_at nat_eq (at v.files) c.args.key None) c.self.view_is
+    ∙ ap (λ (v : Nodes). set_at nat_eq (at v.files) c.args.key None) c.self.view_is)
 
 pub returns-clause-pipes : goal.returns-clause-pipes
 returns-clause-pipes g c =
     let k = c.self.inside in
-    gone-unseen (segment_at k.store) (segment_at c.let_go.new.store) k.contents c.went.new.table c.args.key (File c.in-File.gone) (c.remove.ensures.value ∙ ap (λ x. Some x) c.in-File.is)
+    rw (c.trim.ensures) (gone-unseen (segment_at k.store) (segment_at (trimmed c.self.inside.limits.spare_max c.let_go.new.store)) k.contents c.went.new.table c.args.key (File c.in-File.gone) (c.remove.ensures.value ∙ ap (λ x. Some x) c.in-File.is)
     c.self.invariant.shared c.let_go.ensures.turns (cut-updates c.self.inside.contents c.remove.new.self c.went.new.table c.args.key None c.remove.ensures.updates c.went.ensures) pipes_seen refl
-    ∙ ap (λ (v : Nodes). at v.pipes) c.self.view_is
+    ∙ ap (λ (v : Nodes). at v.pipes) c.self.view_is)
 
 pub returns-clause-shrinks : goal.returns-clause-shrinks
 returns-clause-shrinks g c =
     let k = c.self.inside in
     let there = c.remove.ensures.value ∙ ap (λ x. Some x) c.in-File.is in
-    gone-shrinks k c.self.invariant c.let_go.new.store c.went.new.table c.args.key (File c.in-File.gone) there c.let_go.ensures.turns (cut-updates c.self.inside.contents c.remove.new.self c.went.new.table c.args.key None c.remove.ensures.updates c.went.ensures)
-    (none-left k.store.held c.let_go.new.store.held c.in-File.gone.file c.in_use-segments.ensures.good c.let_go.ensures.turns) c.args.self.now c.self.view_is
+    rw (c.trim.ensures) (gone-shrinks k c.self.invariant (trimmed c.self.inside.limits.spare_max c.let_go.new.store) c.went.new.table c.args.key (File c.in-File.gone) there c.let_go.ensures.turns (cut-updates c.self.inside.contents c.remove.new.self c.went.new.table c.args.key None c.remove.ensures.updates c.went.ensures)
+    (none-left k.store.held (trimmed c.self.inside.limits.spare_max c.let_go.new.store).held c.in-File.gone.file c.in_use-segments.ensures.good c.let_go.ensures.turns) c.args.self.now c.self.view_is)

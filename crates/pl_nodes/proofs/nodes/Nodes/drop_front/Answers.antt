@@ -2,7 +2,7 @@ use Rattle.std.proofs.Common.{refl, ◌≡◌, ◌≤◌, ◌∙◌, ap, subst, 
 use Rattle.std.specs.Prelude.{is_some, option_map}
 use Rattle.pl_model.specs.Packets.{without_front, lose}
 use Rattle.pl_segments.specs.declared.slice.Slice.{Slice}
-use Rattle.pl_segments.specs.Segments.{live_count}
+use Rattle.pl_segments.specs.Segments.{live_count, trimmed}
 use Rattle.pl_segments.specs.Slots.{drop_bytes}
 use Rattle.pl_segments.specs.Slices.{naming}
 use Rattle.pl_segments.specs.Sharing.{slots_at}
@@ -21,7 +21,7 @@ pub drop_front-requires-clause-bytes : goal.drop_front-requires-clause-bytes
 drop_front-requires-clause-bytes g c =
     let node = c.in-Some.node.now in
     let there = pipe-there c.self.inside.contents.slots c.args.key c.index_mut.result.now c.in-Some.node.now c.index_mut.ensures.value c.in-Some.ensures.value in
-    pipe-told c.self.inside c.args.key node there c.self.invariant c.args.self.now c.self.view_is (λ x. x.packets ≡ None) c.requires.bytes
+    pipe-told c.self.inside c.args.key node there c.self.invariant c.args.self.now c.self.view_is (λ x. x.packets ≡ None) c.requires.plain.bytes
 
 pub drop_front-requires-clause-held : goal.drop_front-requires-clause-held
 drop_front-requires-clause-held g c = held c.self.inside c.args.key (Pipe c.in-Some.node.now) (pipe-there c.self.inside.contents.slots c.args.key c.index_mut.result.now c.in-Some.node.now c.index_mut.ensures.value c.in-Some.ensures.value) c.self.invariant
@@ -38,23 +38,23 @@ pub invariant_of-self : goal.invariant_of-self
 invariant_of-self g c =
     let node = c.in-Some.node.now in
     let there = pipe-there c.self.inside.contents.slots c.args.key c.index_mut.result.now c.in-Some.node.now c.index_mut.ensures.value c.in-Some.ensures.value in
-    still-sound c.self.inside c.args.key (Pipe node) there c.self.invariant c.drop_front.new.store (Pipe (record node { queue = c.drop_front.new.self })) c.drop_front.ensures.turns
-    (omega (arith, c.slots-slots.ensures.value, c.slots-slots.ensures.few)) (refl, refl) (ap is_some (c.drop_front.ensures.bytes ∙ sym (pipe-told c.self.inside c.args.key node there c.self.invariant c.args.self.now c.self.view_is (λ x. x.packets ≡ None) c.requires.bytes))) (c.drop_front.ensures.spare c.self.invariant.spare)
+    rw (c.trim.ensures) (still-sound c.self.inside c.args.key (Pipe node) there c.self.invariant (trimmed c.self.inside.limits.spare_max c.drop_front.new.store) (Pipe (record node { queue = c.drop_front.new.self })) c.drop_front.ensures.turns
+    (omega (arith, c.slots-slots.ensures.value, c.slots-slots.ensures.few)) (refl, refl) (ap is_some (c.drop_front.ensures.bytes ∙ sym (pipe-told c.self.inside c.args.key node there c.self.invariant c.args.self.now c.self.view_is (λ x. x.packets ≡ None) c.requires.plain.bytes))) (omega arith))
 
 pub returns-clause-ok : goal.returns-clause-ok
 returns-clause-ok g c =
     let done = c.drop_front.ensures in
     let node = c.in-Some.node.now in
     let there = pipe-there c.self.inside.contents.slots c.args.key c.index_mut.result.now c.in-Some.node.now c.index_mut.ensures.value c.in-Some.ensures.value in
-    pipe-done c.self.inside c.args.key node there c.self.invariant c.args.self.now c.self.view_is c.drop_front.new.store (record node { queue = c.drop_front.new.self }) done.turns
+    rw (c.trim.ensures) (pipe-done c.self.inside c.args.key node there c.self.invariant c.args.self.now c.self.view_is (trimmed c.self.inside.limits.spare_max c.drop_front.new.store) (record node { queue = c.drop_front.new.self }) done.turns
     (lose c.args.count)
-    (λ i. record { bytes = done.read i; packets = (done.bytes ∙ sym (ap (option_map (without_front c.args.count)) (pipe-told c.self.inside c.args.key node there c.self.invariant c.args.self.now c.self.view_is (λ x. x.packets ≡ None) c.requires.bytes))) i; capacity = done.capacity i; hung = node.hung })
+    (λ i. record { bytes = done.read i; packets = (done.bytes ∙ sym (ap (option_map (without_front c.args.count)) (pipe-told c.self.inside c.args.key node there c.self.invariant c.args.self.now c.self.view_is (λ x. x.packets ≡ None) c.requires.plain.bytes))) i; capacity = done.capacity i; hung = node.hung }))
 
 pub returns-clause-files : goal.returns-clause-files
 returns-clause-files g c =
     let node = c.in-Some.node.now in
     let there = pipe-there c.self.inside.contents.slots c.args.key c.index_mut.result.now c.in-Some.node.now c.index_mut.ensures.value c.in-Some.ensures.value in
-    pipe-files c.self.inside c.args.key node there c.self.invariant c.args.self.now c.self.view_is c.drop_front.new.store (record node { queue = c.drop_front.new.self }) c.drop_front.ensures.turns
+    rw (c.trim.ensures) (pipe-files c.self.inside c.args.key node there c.self.invariant c.args.self.now c.self.view_is (trimmed c.self.inside.limits.spare_max c.drop_front.new.store) (record node { queue = c.drop_front.new.self }) c.drop_front.ensures.turns)
 
 pub returns-clause-slots : goal.returns-clause-slots
 returns-clause-slots g c =
@@ -70,7 +70,7 @@ returns-clause-segments g c =
     let k = c.self.inside in
     let node = c.in-Some.node.now in
     let done = c.drop_front.ensures in
-    let fewer = fewer-segments k.store.held c.drop_front.new.store.held (slots_of node.queue) (slots_of c.drop_front.new.self) c.in_use-segments.ensures.good done.turns
+    let fewer = fewer-segments k.store.held (trimmed c.self.inside.limits.spare_max c.drop_front.new.store).held (slots_of node.queue) (slots_of c.drop_front.new.self) c.in_use-segments.ensures.good done.turns
     (λ key. subst (λ (ys : List Slice). naming ys key ≤ naming (slots_of node.queue) key) (sym done.slots) (naming-drop c.args.count (slots_of node.queue) key)) in
     let seen : live_count k.store.held ≡ c.args.self.now.segments = ap (λ (v : Nodes). v.segments) c.self.view_is in
-    omega (arith, fewer, seen)
+    rw (c.trim.ensures) (omega (arith, fewer, seen))

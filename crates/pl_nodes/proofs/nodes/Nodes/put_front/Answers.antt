@@ -1,5 +1,5 @@
-use Rattle.std.proofs.Common.{refl, ◌≡◌, ◌∙◌, Some, None, ap, arith}
-use Rattle.pl_segments.specs.Segments.{Segments, live_count}
+use Rattle.std.proofs.Common.{refl, ◌≡◌, ◌≤◌, ◌∙◌, Some, None, ap, sym, arith, subst}
+use Rattle.pl_segments.specs.Segments.{Segments, live_count, trimmed}
 use Rattle.pl_file.proofs.Editing.{solid-length}
 use Rattle.pl_nodes.specs.declared.content.Content.TheVariants.{File}
 use Rattle.pl_nodes.specs.Nodes.{Nodes}
@@ -12,7 +12,7 @@ use Rattle.pl_nodes.proofs.nodes.Nodes.put_front.Goals as goal
 
 pub front_slices-requires : goal.front_slices-requires
 front_slices-requires g c =
-    pipe-told c.self.inside c.args.from c.in-Pipe.pipe (c.index.ensures ∙ ap (λ x. Some x) c.in-Pipe.is) c.self.invariant c.args.self.now c.self.view_is (λ x. x.packets ≡ None) c.requires.bytes
+    pipe-told c.self.inside c.args.from c.in-Pipe.pipe (c.index.ensures ∙ ap (λ x. Some x) c.in-Pipe.is) c.self.invariant c.args.self.now c.self.view_is (λ x. x.packets ≡ None) c.requires.from.plain.bytes
 
 pub put_slices_at-requires-clause-lie : goal.put_slices_at-requires-clause-lie
 put_slices_at-requires-clause-lie g c =
@@ -43,8 +43,8 @@ invariant_of-self g c =
     let k = c.self.inside in
     let target = c.in-Some.file.now in
     let there = file-there k.contents.slots c.args.to c.index_mut.result.now target c.index_mut.ensures.value c.in-Some.ensures.value in
-    refused-sound k c.args.to (File target) there c.self.invariant c.put_slices_at.new.store (ap (λ (s : Segments). s.held) refused.store_err)
-    (File (record target { file = c.put_slices_at.new.self })) (λ i. File (record target { file = refused.err i })) (refused.spare c.self.invariant.spare)
+    refused-sound k c.args.to (File target) there c.self.invariant c.put_slices_at.new.store (ap (λ (s : Segments). s.held) refused.unchanged.1)
+    (File (record target { file = c.put_slices_at.new.self })) (λ i. File (record target { file = refused.unchanged.0 i })) (subst (λ (s : Segments). s.room ≤ c.self.inside.limits.spare_max) (sym refused.unchanged.1) c.self.invariant.spare)
 
 pub returns-in_default-put_slices_at-clause-pipes : goal.returns-in_default-put_slices_at-clause-pipes
 returns-in_default-put_slices_at-clause-pipes g c =
@@ -52,8 +52,8 @@ returns-in_default-put_slices_at-clause-pipes g c =
     let k = c.self.inside in
     let target = c.in-Some.file.now in
     let there = file-there k.contents.slots c.args.to c.index_mut.result.now target c.index_mut.ensures.value c.in-Some.ensures.value in
-    file-refused k c.args.to target there c.self.invariant c.args.self.now c.self.view_is c.put_slices_at.new.store (ap (λ (s : Segments). s.held) refused.store_err)
-    (record target { file = c.put_slices_at.new.self }) (λ i. record target { file = refused.err i })
+    file-refused k c.args.to target there c.self.invariant c.args.self.now c.self.view_is c.put_slices_at.new.store (ap (λ (s : Segments). s.held) refused.unchanged.1)
+    (record target { file = c.put_slices_at.new.self }) (λ i. record target { file = refused.unchanged.0 i })
 
 pub returns-in_default-put_slices_at-clause-err : goal.returns-in_default-put_slices_at-clause-err
 returns-in_default-put_slices_at-clause-err g c =
@@ -61,8 +61,8 @@ returns-in_default-put_slices_at-clause-err g c =
     let k = c.self.inside in
     let target = c.in-Some.file.now in
     let there = file-there k.contents.slots c.args.to c.index_mut.result.now target c.index_mut.ensures.value c.in-Some.ensures.value in
-    refused-seen k c.args.to (File target) there c.self.invariant c.put_slices_at.new.store (ap (λ (s : Segments). s.held) refused.store_err)
-    (File (record target { file = c.put_slices_at.new.self })) (λ i. File (record target { file = refused.err i })) ∙ c.self.view_is
+    refused-seen k c.args.to (File target) there c.self.invariant c.put_slices_at.new.store (ap (λ (s : Segments). s.held) refused.unchanged.1)
+    (File (record target { file = c.put_slices_at.new.self })) (λ i. File (record target { file = refused.unchanged.0 i })) ∙ c.self.view_is
 
 pub invariant_of-self-2 : goal.invariant_of-self-2
 invariant_of-self-2 g c =
@@ -70,8 +70,8 @@ invariant_of-self-2 g c =
     let target = c.in-Some.file.now in
     let there = file-there k.contents.slots c.args.to c.index_mut.result.now target c.index_mut.ensures.value c.in-Some.ensures.value in
     let long = solid-length c.put_slices_at.new.self c.len-end.ensures.solid in
-    still-sound k c.args.to (File target) there c.self.invariant c.put_slices_at.new.store (File (record target { file = c.put_slices_at.new.self })) c.in-Ok.ensures.turns
-    (omega (arith, long, c.len-end.ensures.value, c.len-end.ensures.most)) (refl, refl) refl (c.in-Ok.ensures.spare c.self.invariant.spare)
+    rw (c.trim.ensures) (still-sound k c.args.to (File target) there c.self.invariant (trimmed c.self.inside.limits.spare_max c.put_slices_at.new.store) (File (record target { file = c.put_slices_at.new.self })) c.in-Ok.ensures.becomes.turns
+    (omega (arith, long, c.len-end.ensures.value, c.len-end.ensures.most)) (refl, refl) refl (omega arith))
 
 pub returns-clause-ok : goal.returns-clause-ok
 returns-clause-ok g c =
@@ -79,28 +79,16 @@ returns-clause-ok g c =
     let source = c.index.ensures ∙ ap (λ x. Some x) c.in-Pipe.is in
     let target = c.in-Some.file.now in
     let there = file-there k.contents.slots c.args.to c.index_mut.result.now target c.index_mut.ensures.value c.in-Some.ensures.value in
-    put-ok k c.self.invariant c.args.self.now c.self.view_is c.args.from c.in-Pipe.pipe source c.args.count c.in_ok-slices.slices c.in_ok-slices.ensures.value
+    rw (c.trim.ensures) (put-ok k c.self.invariant c.args.self.now c.self.view_is c.args.from c.in-Pipe.pipe source c.args.count c.in_ok-slices.slices c.in_ok-slices.ensures.value
     c.args.to target there c.args.place c.requires.fits
-    c.put_slices_at.new.store c.put_slices_at.new.self c.in-Ok.ensures.turns c.in-Ok.ensures.read
+    (trimmed c.self.inside.limits.spare_max c.put_slices_at.new.store) c.put_slices_at.new.self c.in-Ok.ensures.becomes.turns c.in-Ok.ensures.becomes.read)
 
 pub returns-clause-pipes : goal.returns-clause-pipes
 returns-clause-pipes g c =
     let k = c.self.inside in
     let target = c.in-Some.file.now in
     let there = file-there k.contents.slots c.args.to c.index_mut.result.now target c.index_mut.ensures.value c.in-Some.ensures.value in
-    file-pipes k c.args.to target there c.self.invariant c.args.self.now c.self.view_is c.put_slices_at.new.store (record target { file = c.put_slices_at.new.self }) c.in-Ok.ensures.turns
-
-pub returns-clause-segments : goal.returns-clause-segments
-returns-clause-segments g c = λ asked.
-    let k = c.self.inside in
-    let source = c.index.ensures ∙ ap (λ x. Some x) c.in-Pipe.is in
-    let target = c.in-Some.file.now in
-    let there = file-there k.contents.slots c.args.to c.index_mut.result.now target c.index_mut.ensures.value c.in-Some.ensures.value in
-    let within = put-within k c.self.invariant c.args.self.now c.self.view_is c.args.from c.in-Pipe.pipe source c.args.count c.in_ok-slices.slices c.in_ok-slices.ensures.value
-    c.args.to target there c.args.place c.requires.fits asked in
-    let fewer = c.in-Ok.ensures.in_use within in
-    let seen : live_count k.store.held ≡ c.args.self.now.segments = ap (λ (v : Nodes). v.segments) c.self.view_is in
-    omega (arith, fewer, seen)
+    rw (c.trim.ensures) (file-pipes k c.args.to target there c.self.invariant c.args.self.now c.self.view_is (trimmed c.self.inside.limits.spare_max c.put_slices_at.new.store) (record target { file = c.put_slices_at.new.self }) c.in-Ok.ensures.becomes.turns)
 
 pub returns-clause-none_added : goal.returns-clause-none_added
 returns-clause-none_added g c = λ asked.
@@ -108,13 +96,21 @@ returns-clause-none_added g c = λ asked.
     let source = c.index.ensures ∙ ap (λ x. Some x) c.in-Pipe.is in
     let target = c.in-Some.file.now in
     let there = file-there k.contents.slots c.args.to c.index_mut.result.now target c.index_mut.ensures.value c.in-Some.ensures.value in
-    let long = solid-length c.put_slices_at.new.self c.len-end.ensures.solid in
-    let now = still-sound k c.args.to (File target) there c.self.invariant c.put_slices_at.new.store (File (record target { file = c.put_slices_at.new.self })) c.in-Ok.ensures.turns
-    (omega (arith, long, c.len-end.ensures.value, c.len-end.ensures.most)) (refl, refl) refl (c.in-Ok.ensures.spare c.self.invariant.spare) in
     let within = put-within k c.self.invariant c.args.self.now c.self.view_is c.args.from c.in-Pipe.pipe source c.args.count c.in_ok-slices.slices c.in_ok-slices.ensures.value
     c.args.to target there c.args.place c.requires.fits asked in
-    let some = put-some k c.self.invariant c.args.self.now c.self.view_is c.args.from c.in-Pipe.pipe source c.args.count c.in_ok-slices.slices c.in_ok-slices.ensures.value
-    c.args.to target there c.args.place c.requires.fits c.requires.held c.requires.some c.in-Ok._moved c.in-Ok.ensures.count in
-    put-named k c.self.invariant c.args.self.now c.self.view_is c.args.from c.in-Pipe.pipe source c.args.count c.in_ok-slices.slices c.in_ok-slices.ensures.value
-    c.args.to target there c.args.place c.requires.fits
-    c.put_slices_at.new.store c.put_slices_at.new.self c.in-Ok.ensures.turns now.shared c.in-Ok._moved (c.in-Ok.ensures.slots some within)
+    record {
+      fewer =
+          let fewer = (c.in-Ok.ensures.between within).in_use in
+          let seen : live_count k.store.held ≡ c.args.self.now.segments = ap (λ (v : Nodes). v.segments) c.self.view_is in
+          let kept = ap (λ (s : Segments). live_count s.held) c.trim.ensures in
+          omega (arith, fewer, seen, kept);
+      named_before =
+          let long = solid-length c.put_slices_at.new.self c.len-end.ensures.solid in
+          let now = still-sound k c.args.to (File target) there c.self.invariant (trimmed c.self.inside.limits.spare_max c.put_slices_at.new.store) (File (record target { file = c.put_slices_at.new.self })) c.in-Ok.ensures.becomes.turns
+          (omega (arith, long, c.len-end.ensures.value, c.len-end.ensures.most)) (refl, refl) refl (omega arith) in
+          let some = put-some k c.self.invariant c.args.self.now c.self.view_is c.args.from c.in-Pipe.pipe source c.args.count c.in_ok-slices.slices c.in_ok-slices.ensures.value
+          c.args.to target there c.args.place c.requires.fits c.requires.from.held c.requires.some c.in-Ok._moved c.in-Ok.ensures.count in
+          put-named k c.self.invariant c.args.self.now c.self.view_is c.args.from c.in-Pipe.pipe source c.args.count c.in_ok-slices.slices c.in_ok-slices.ensures.value
+          c.args.to target there c.args.place c.requires.fits
+          (trimmed c.self.inside.limits.spare_max c.put_slices_at.new.store) c.put_slices_at.new.self c.in-Ok.ensures.becomes.turns now.shared c.in-Ok._moved ((c.in-Ok.ensures.between within).slots some);
+    }

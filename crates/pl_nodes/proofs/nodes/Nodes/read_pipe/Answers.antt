@@ -2,7 +2,7 @@ use Rattle.std.proofs.Common.{refl, ◌≤◌, ◌∙◌, ap, sym, subst, length
 use Rattle.std.specs.Prelude.{is_some}
 use Rattle.std.proofs.lemmas.List.{length-take}
 use Rattle.pl_model.specs.Packets.{front, front_of, spent, lose}
-use Rattle.pl_segments.specs.Segments.{Segments, segment_at}
+use Rattle.pl_segments.specs.Segments.{Segments, segment_at, trimmed}
 use Rattle.pl_segments.specs.Slices.{all_read}
 use Rattle.pl_nodes.specs.declared.content.Content.TheVariants.{Pipe}
 use Rattle.pl_nodes.specs.Queue.{slots_of, packets_of}
@@ -28,16 +28,16 @@ invariant_of-self g c =
     let refused = c.in_err-bytes.ensures in
     let node = c.in-Some.node.now in
     let there = pipe-there c.self.inside.contents.slots c.args.key c.index_mut.result.now c.in-Some.node.now c.index_mut.ensures.value c.in-Some.ensures.value in
-    refused-sound c.self.inside c.args.key (Pipe node) there c.self.invariant c.pop.new.store (ap (λ (s : Segments). s.held) refused.store_err)
-    (Pipe (record node { queue = c.pop.new.self })) (λ i. Pipe (record node { queue = refused.err i })) (refused.spare c.self.invariant.spare)
+    refused-sound c.self.inside c.args.key (Pipe node) there c.self.invariant c.pop.new.store (ap (λ (s : Segments). s.held) refused.unchanged.1)
+    (Pipe (record node { queue = c.pop.new.self })) (λ i. Pipe (record node { queue = refused.unchanged.0 i })) (subst (λ (s : Segments). s.room ≤ c.self.inside.limits.spare_max) (sym refused.unchanged.1) c.self.invariant.spare)
 
 pub returns-in_err-bytes-clause-files : goal.returns-in_err-bytes-clause-files
 returns-in_err-bytes-clause-files g c =
     let refused = c.in_err-bytes.ensures in
     let node = c.in-Some.node.now in
     let there = pipe-there c.self.inside.contents.slots c.args.key c.index_mut.result.now c.in-Some.node.now c.index_mut.ensures.value c.in-Some.ensures.value in
-    pipe-refused c.self.inside c.args.key node there c.self.invariant c.args.self.now c.self.view_is c.pop.new.store (ap (λ (s : Segments). s.held) refused.store_err)
-    (record node { queue = c.pop.new.self }) (λ i. record node { queue = refused.err i })
+    pipe-refused c.self.inside c.args.key node there c.self.invariant c.args.self.now c.self.view_is c.pop.new.store (ap (λ (s : Segments). s.held) refused.unchanged.1)
+    (record node { queue = c.pop.new.self }) (λ i. record node { queue = refused.unchanged.0 i })
 
 pub returns-in_err-bytes-clause-err : goal.returns-in_err-bytes-clause-err
 returns-in_err-bytes-clause-err g c =
@@ -45,15 +45,15 @@ returns-in_err-bytes-clause-err g c =
     let node = c.in-Some.node.now in
     let there = pipe-there c.self.inside.contents.slots c.args.key c.index_mut.result.now c.in-Some.node.now c.index_mut.ensures.value c.in-Some.ensures.value in
     on_err c.from_residual.result _
-    (refused-seen c.self.inside c.args.key (Pipe node) there c.self.invariant c.pop.new.store (ap (λ (s : Segments). s.held) refused.store_err)
-    (Pipe (record node { queue = c.pop.new.self })) (λ i. Pipe (record node { queue = refused.err i })) ∙ c.self.view_is)
+    (refused-seen c.self.inside c.args.key (Pipe node) there c.self.invariant c.pop.new.store (ap (λ (s : Segments). s.held) refused.unchanged.1)
+    (Pipe (record node { queue = c.pop.new.self })) (λ i. Pipe (record node { queue = refused.unchanged.0 i })) ∙ c.self.view_is)
 
 pub invariant_of-self-2 : goal.invariant_of-self-2
 invariant_of-self-2 g c =
     let node = c.in-Some.node.now in
     let there = pipe-there c.self.inside.contents.slots c.args.key c.index_mut.result.now c.in-Some.node.now c.index_mut.ensures.value c.in-Some.ensures.value in
-    still-sound c.self.inside c.args.key (Pipe node) there c.self.invariant c.pop.new.store (Pipe (record node { queue = c.pop.new.self })) c.in_ok-bytes.ensures.turns
-    (omega (arith, c.slots-slots.ensures.value, c.slots-slots.ensures.few)) (refl, refl) (ap is_some c.in_ok-bytes.ensures.packets ∙ mapped _ (packets_of node.queue)) (c.in_ok-bytes.ensures.spare c.self.invariant.spare)
+    rw (c.trim.ensures) (still-sound c.self.inside c.args.key (Pipe node) there c.self.invariant (trimmed c.self.inside.limits.spare_max c.pop.new.store) (Pipe (record node { queue = c.pop.new.self })) c.in_ok-bytes.ensures.turns
+    (omega (arith, c.slots-slots.ensures.value, c.slots-slots.ensures.few)) (refl, refl) (ap is_some c.in_ok-bytes.ensures.packets ∙ mapped _ (packets_of node.queue)) (omega arith))
 
 pub returns-clause-few : goal.returns-clause-few
 returns-clause-few g c =
@@ -69,11 +69,11 @@ returns-clause-ok g c =
     let done = c.in_ok-bytes.ensures in
     let node = c.in-Some.node.now in
     let there = pipe-there c.self.inside.contents.slots c.args.key c.index_mut.result.now c.in-Some.node.now c.index_mut.ensures.value c.in-Some.ensures.value in
-    pipe-done c.self.inside c.args.key node there c.self.invariant c.args.self.now c.self.view_is c.pop.new.store (record node { queue = c.pop.new.self }) done.turns
-    (λ x. lose (spent x c.args.count) x) (λ i. record { bytes = done.read i; packets = done.packets i; capacity = done.capacity i; hung = node.hung })
+    rw (c.trim.ensures) (pipe-done c.self.inside c.args.key node there c.self.invariant c.args.self.now c.self.view_is (trimmed c.self.inside.limits.spare_max c.pop.new.store) (record node { queue = c.pop.new.self }) done.turns
+    (λ x. lose (spent x c.args.count) x) (λ i. record { bytes = done.read i; packets = done.packets i; capacity = done.capacity i; hung = node.hung }))
 
 pub returns-clause-files : goal.returns-clause-files
 returns-clause-files g c =
     let node = c.in-Some.node.now in
     let there = pipe-there c.self.inside.contents.slots c.args.key c.index_mut.result.now c.in-Some.node.now c.index_mut.ensures.value c.in-Some.ensures.value in
-    pipe-files c.self.inside c.args.key node there c.self.invariant c.args.self.now c.self.view_is c.pop.new.store (record node { queue = c.pop.new.self }) c.in_ok-bytes.ensures.turns
+    rw (c.trim.ensures) (pipe-files c.self.inside c.args.key node there c.self.invariant c.args.self.now c.self.view_is (trimmed c.self.inside.limits.spare_max c.pop.new.store) (record node { queue = c.pop.new.self }) c.in_ok-bytes.ensures.turns)

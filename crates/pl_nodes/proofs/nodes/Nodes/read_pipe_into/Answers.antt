@@ -1,6 +1,7 @@
 use Rattle.std.proofs.Common.{refl, ◌≤◌, ◌∙◌, ap, sym, subst, length, arith}
 use Rattle.std.specs.Prelude.{is_some}
 use Rattle.pl_model.specs.Packets.{front, front_of, spent, lose}
+use Rattle.pl_segments.specs.Segments.{trimmed}
 use Rattle.pl_nodes.specs.declared.content.Content.TheVariants.{Pipe}
 use Rattle.pl_nodes.specs.Queue.{packets_of}
 use Rattle.pl_nodes.proofs.AtKey.{pipe-there, held, still-sound}
@@ -23,22 +24,22 @@ pub invariant_of-self : goal.invariant_of-self
 invariant_of-self g c =
     let node = c.in-Some.node.now in
     let there = pipe-there c.self.inside.contents.slots c.args.key c.index_mut.result.now c.in-Some.node.now c.index_mut.ensures.value c.in-Some.ensures.value in
-    still-sound c.self.inside c.args.key (Pipe node) there c.self.invariant c.pop_into.new.store (Pipe (record node { queue = c.pop_into.new.self })) c.pop_into.ensures.turns
-    (omega (arith, c.slots-slots.ensures.value, c.slots-slots.ensures.few)) (refl, refl) (ap is_some c.pop_into.ensures.packets ∙ mapped _ (packets_of node.queue)) (c.pop_into.ensures.spare c.self.invariant.spare)
+    rw (c.trim.ensures) (still-sound c.self.inside c.args.key (Pipe node) there c.self.invariant (trimmed c.self.inside.limits.spare_max c.pop_into.new.store) (Pipe (record node { queue = c.pop_into.new.self })) c.pop_into.ensures.turns
+    (omega (arith, c.slots-slots.ensures.value, c.slots-slots.ensures.few)) (refl, refl) (ap is_some c.pop_into.ensures.packets ∙ mapped _ (packets_of node.queue)) (omega arith))
 
 pub returns-clause-ok : goal.returns-clause-ok
 returns-clause-ok g c =
     let done = c.pop_into.ensures in
     let node = c.in-Some.node.now in
     let there = pipe-there c.self.inside.contents.slots c.args.key c.index_mut.result.now c.in-Some.node.now c.index_mut.ensures.value c.in-Some.ensures.value in
-    pipe-done c.self.inside c.args.key node there c.self.invariant c.args.self.now c.self.view_is c.pop_into.new.store (record node { queue = c.pop_into.new.self }) done.turns
-    (λ x. lose (spent x (length c.args.into.now)) x) (λ i. record { bytes = done.read i; packets = done.packets i; capacity = done.capacity i; hung = node.hung })
+    rw (c.trim.ensures) (pipe-done c.self.inside c.args.key node there c.self.invariant c.args.self.now c.self.view_is (trimmed c.self.inside.limits.spare_max c.pop_into.new.store) (record node { queue = c.pop_into.new.self }) done.turns
+    (λ x. lose (spent x (length c.args.into.now)) x) (λ i. record { bytes = done.read i; packets = done.packets i; capacity = done.capacity i; hung = node.hung }))
 
 pub returns-clause-files : goal.returns-clause-files
 returns-clause-files g c =
     let node = c.in-Some.node.now in
     let there = pipe-there c.self.inside.contents.slots c.args.key c.index_mut.result.now c.in-Some.node.now c.index_mut.ensures.value c.in-Some.ensures.value in
-    pipe-files c.self.inside c.args.key node there c.self.invariant c.args.self.now c.self.view_is c.pop_into.new.store (record node { queue = c.pop_into.new.self }) c.pop_into.ensures.turns
+    rw (c.trim.ensures) (pipe-files c.self.inside c.args.key node there c.self.invariant c.args.self.now c.self.view_is (trimmed c.self.inside.limits.spare_max c.pop_into.new.store) (record node { queue = c.pop_into.new.self }) c.pop_into.ensures.turns)
 
 pub returns-clause-within : goal.returns-clause-within
 returns-clause-within g c =

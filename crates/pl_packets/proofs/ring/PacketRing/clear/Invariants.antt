@@ -1,5 +1,5 @@
-use Rattle.std.proofs.Common.{◌≡◌, ◌≤◌, length}
-use Rattle.pl_segments.specs.Segments.{most_spare, segment_at}
+use Rattle.std.proofs.Common.{◌≡◌, length}
+use Rattle.pl_segments.specs.Segments.{segment_at}
 use Rattle.pl_segments.specs.Turns.{Turns}
 use Rattle.pl_packets.proofs.ring.PacketRing.clear.Given as goal
 
@@ -8,7 +8,6 @@ abbrev pub invariant-loop-self : goal.invariant-loop-self
 invariant-loop-self g l = record {
   turns : Turns (segment_at l.fn.store) l.fn.self.slots (segment_at l.store) l.self.slots;
   capacity : l.self.capacity ≡ l.fn.self.capacity;
-  spare : l.fn.store.room ≤ most_spare → l.store.room ≤ most_spare;
 }
 
 abbrev pub decreases-loop-self : goal.decreases-loop-self

@@ -10,7 +10,7 @@ use Rattle.pl_packets.proofs.ring.PacketRing.push_packets.Goals as goal
 pub overflow_add-self : goal.overflow_add-self
 overflow_add-self g c =
     let inv = c.self.invariant in
-    let t = total-fit c.self.inside.slots.items inv.fit in
+    let t = total-fit c.self.inside.slots.items inv.packets.fit in
     let h = inv.held in
     let n = ap (λ (r : PacketRing). length r.slots) c.self.view_is in
     let p = ap (λ (r : PacketRing). r.capacity) c.self.view_is in
@@ -26,10 +26,9 @@ invariant_of-self-2 g c =
     let xs = c.self.inside.slots.items in
     let ys = c.push_packets.new.slots.items in
     let lie : AllLie m xs = subst (AllLie m) (sym (ap (λ (r : PacketRing). r.slots) c.self.view_is)) c.requires.held.lie in
-    let t = total-pushed m n xs ys c.args.bytes.now lie e.turns.lie e.read in
+    let t = total-pushed m n xs ys c.args.bytes.now lie e.gains.turns.lie e.gains.read in
     record {
       held = let h = inv.held in omega (arith, h, t);
       range = subst (λ k. IsCapacity (packet_size * k)) (sym e.capacity) inv.range;
-      solid = e.solid;
-      fit = e.fit;
+      packets = e.packets;
     }

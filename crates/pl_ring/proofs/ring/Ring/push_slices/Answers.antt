@@ -2,7 +2,7 @@ use Rattle.std.proofs.Common.{◌≡◌, ◌+◌, ◌++◌, ◌∙◌, ap, sym, 
 use Rattle.pl_segments.specs.Segments.{segment_at}
 use Rattle.pl_segments.specs.Slices.{all_read}
 use Rattle.pl_segments.specs.Turns.{Holds}
-use Rattle.pl_ring.specs.Ring.{Ring, HasPlaces, IsBeside}
+use Rattle.pl_ring.specs.Ring.{Ring, HasPlaces}
 use Rattle.pl_segments.specs.Slots.{total}
 use Rattle.pl_ring.specs.Merging.{IsFront}
 use Rattle.pl_ring.specs.Parts.{fresh}
@@ -22,11 +22,11 @@ invariant_of-self-2 g c =
     let room : k.capacity ≡ c.args.self.now.capacity = ap (λ (r : Ring). r.capacity) c.self.view_is in
     let held : Holds m before = subst (Holds m) (sym slots) c.requires.held in
     let is = c.as_slice.ensures in
-    let done = c.in_ok-bytes.ensures in
-    let sum = done.bytes ∙ ap total is in
-    let read = done.read ∙ ap (λ zs. all_read m before ++ all_read m zs) is in
+    let done = c.in_ok-bytes.ensures.pushed in
+    let sum = c.in_ok-bytes.ensures.bytes ∙ ap total is in
+    let read = done.gains.read ∙ ap (λ zs. all_read m before ++ all_read m zs) is in
     let more : total c.push_slices.new.slots.items ≡ total before + length (all_read m list) =
-    total-pushed m (segment_at c.push_slices.new.store) before c.push_slices.new.slots.items (all_read m list) held.lie done.turns.lie read in
+    total-pushed m (segment_at c.push_slices.new.store) before c.push_slices.new.slots.items (all_read m list) held.lie done.gains.turns.lie read in
     let len : length (all_read m list) ≡ total list = total-read m list c.requires.lie in
     let same = ap total items in
     let was = ap total slots in
@@ -37,25 +37,22 @@ invariant_of-self-2 g c =
       held = omega (arith, more, same, inv.held, sum, len);
       fits = omega (arith, was, same, room, inv.held, c.requires.fits, sum);
       enough = omega (arith, was, same, room, enough, inv.held, c.requires.fits, sum, places);
-      places = subst HasPlaces (sym places) c.in_ok-make_places.ensures.places;
-      beside = subst (λ p. IsBeside p c.make_places.new.few) (sym places) c.in_ok-make_places.ensures.beside;
+      places = subst (λ p. HasPlaces p c.make_places.new.few) (sym places) c.in_ok-make_places.ensures.places;
       range = inv.range;
-      solid = done.solid;
-      merged = done.merged;
+      slots = done.slots;
     }
 
-pub returns-clause-front_in_use : goal.returns-clause-front_in_use
-returns-clause-front_in_use g c = λ front.
-    let most = front-merges c.make_places.new.slots.items c.as_slice.result.now (subst IsFront (sym c.as_slice.ensures) front) in
-    let made = c.in_ok-bytes.ensures.in_use in
-    omega (arith, most, made)
-
-pub returns-clause-front_parts : goal.returns-clause-front_parts
-returns-clause-front_parts g c = λ front.
+pub returns-clause-front : goal.returns-clause-front
+returns-clause-front g c = λ front.
     let slots = c.make_places.ensures.items ∙ ap (λ (r : Ring). r.slots) c.self.view_is in
     let is = c.as_slice.ensures in
-    let most = front-merges c.make_places.new.slots.items c.as_slice.result.now (subst IsFront (sym is) front) in
-    let made = c.in_ok-bytes.ensures.parts in
-    let same : fresh (c.make_places.new.slots.items ++ c.as_slice.result.now) c.push_slices.new.slots.items ≡ fresh (c.args.self.now.slots ++ c.args.slices.now) c.push_slices.new.slots.items =
-    (λ i. fresh (slots i ++ is i) c.push_slices.new.slots.items) in
-    omega (arith, most, made, same)
+    let xs = c.make_places.new.slots.items in
+    let ds = c.as_slice.result.now in
+    let new = c.push_slices.new.slots.items in
+    let most = front-merges xs ds (subst IsFront (sym is) front) in
+    let makes = c.in_ok-bytes.ensures.merges.makes in
+    let same : fresh (xs ++ ds) new ≡ fresh (c.args.self.now.slots ++ c.args.slices.now) new = (λ i. fresh (slots i ++ is i) new) in
+    record {
+      slots = omega (arith, most, makes.slots, same);
+      segments = omega (arith, most, makes.segments);
+    }

@@ -3,9 +3,9 @@ use Rattle.circular_buffer.specs.Buffer.{Buffer, buffer}
 use Rattle.pl_segments.specs.declared.slice.Slice.{Slice}
 use Rattle.pl_segments.specs.Segments.{segment_at}
 use Rattle.pl_segments.specs.Turns.{Turns}
-use Rattle.pl_ring.specs.Ring.{Ring, HasPlaces, IsBeside, few_places}
-use Rattle.pl_segments.specs.Slots.{total, AllSolid, drop_bytes}
-use Rattle.pl_ring.specs.Merging.{lens, AreMerged}
+use Rattle.pl_ring.specs.Pushed.{AreOfRing}
+use Rattle.pl_ring.specs.Ring.{Ring, IsBeside, few_places}
+use Rattle.pl_segments.specs.Slots.{total, drop_bytes}
 use Rattle.pl_segments.proofs.Fronting.{drop-all}
 use Rattle.pl_ring.proofs.ring.Ring.reset.Goals.{in-Some, in_default}
 use Rattle.pl_ring.proofs.ring.Ring.reset.Goals as goal
@@ -27,9 +27,9 @@ invariant_of-self g c =
     let none = gone k.slots.items c.drop_front.new.slots.items k.held c.self.invariant.held c.drop_front.ensures.slots in
     let slots : c.match-take.self-inside.slots ≡ buffer [] few_places =
     elim c.match-take.branch [
-      | in-Some w ↦ (λ i. (w.self-inside-is i).slots) ∙ fresh k.slots.capacity k.few w.in-Some.few c.self.invariant.beside (sym c.take.ensures.value ∙ w.in-Some.is)
+      | in-Some w ↦ (λ i. (w.self-inside-is i).slots) ∙ fresh k.slots.capacity k.few w.in-Some.few c.self.invariant.places.beside (sym c.take.ensures.value ∙ w.in-Some.is)
       | in_default w ↦
-          let places = c.drop_front.ensures.capacity ∙ there k.slots.capacity k.few c.self.invariant.beside (sym c.take.ensures.value ∙ w.in_default.is) in
+          let places = c.drop_front.ensures.capacity ∙ there k.slots.capacity k.few c.self.invariant.places.beside (sym c.take.ensures.value ∙ w.in_default.is) in
           (λ i. (w.self-inside-is i).slots) ∙ (λ i. buffer (none i) (places i))
     ] in
     let new = c.match-take.self-inside in
@@ -44,11 +44,9 @@ invariant_of-self g c =
       held = sym (ap total items);
       fits = omega arith;
       enough = omega arith;
-      places = subst HasPlaces (sym places) (record { even = omega arith; most = omega arith });
-      beside = subst (IsBeside new.slots.capacity) (sym few) places;
+      places = record { even = omega (arith, places); most = omega (arith, places); beside = subst (IsBeside new.slots.capacity) (sym few) places };
       range = record { whole = omega arith; least = omega arith; most = omega arith };
-      solid = subst AllSolid (sym items) tt;
-      merged = subst (λ zs. AreMerged (lens zs)) (sym items) tt;
+      slots = subst AreOfRing (sym items) (record { solid = tt; merged = tt });
     }
 
 pub returns-clause-value : goal.returns-clause-value
@@ -57,9 +55,9 @@ returns-clause-value g c =
     let none = gone k.slots.items c.drop_front.new.slots.items k.held c.self.invariant.held c.drop_front.ensures.slots in
     let slots : c.match-take.self-inside.slots ≡ buffer [] few_places =
     elim c.match-take.branch [
-      | in-Some w ↦ (λ i. (w.self-inside-is i).slots) ∙ fresh k.slots.capacity k.few w.in-Some.few c.self.invariant.beside (sym c.take.ensures.value ∙ w.in-Some.is)
+      | in-Some w ↦ (λ i. (w.self-inside-is i).slots) ∙ fresh k.slots.capacity k.few w.in-Some.few c.self.invariant.places.beside (sym c.take.ensures.value ∙ w.in-Some.is)
       | in_default w ↦
-          let places = c.drop_front.ensures.capacity ∙ there k.slots.capacity k.few c.self.invariant.beside (sym c.take.ensures.value ∙ w.in_default.is) in
+          let places = c.drop_front.ensures.capacity ∙ there k.slots.capacity k.few c.self.invariant.places.beside (sym c.take.ensures.value ∙ w.in_default.is) in
           (λ i. (w.self-inside-is i).slots) ∙ (λ i. buffer (none i) (places i))
     ] in
     (λ i. record { slots = (slots i).items; capacity = 65536 })

@@ -11,5 +11,5 @@ returns-clause-bound g c =
     let room = ap (λ (r : Ring). r.capacity) c.self.view_is in
     let whole = inv.range.whole in
     let is : place_size * (k.capacity / 2048) ≡ k.capacity = omega (arith, whole) in
-    let few = places-enough k.slots.items (k.capacity / 2048) inv.merged inv.solid (omega (arith, whole)) (omega (arith, is, inv.held, inv.fits)) in
+    let few = places-enough k.slots.items (k.capacity / 2048) inv.slots.merged inv.slots.solid (omega (arith, whole)) (omega (arith, is, inv.held, inv.fits)) in
     omega (arith, few, room, whole, c.len.ensures.len)

@@ -10,4 +10,4 @@ push_bytes-requires-clause-held g c =
 pub invariant_of-self-2 : goal.invariant_of-self-2
 invariant_of-self-2 g c =
     let k = c.self.inside in
-    left-turned (segment_at k.store) k.left.slots k.right.slots k.file c.self.invariant (segment_at c.push_bytes.new.store) c.push_bytes.new.self.slots c.in_ok-push_bytes.ensures.turns
+    left-turned (segment_at k.store) k.left.slots k.right.slots k.file c.self.invariant (segment_at c.push_bytes.new.store) c.push_bytes.new.self.slots c.in_ok-push_bytes.ensures.gains.turns

@@ -10,7 +10,7 @@ put_slices_at-requires-clause-held g c =
 pub invariant_of-self-2 : goal.invariant_of-self-2
 invariant_of-self-2 g c =
     let k = c.self.inside in
-    file-turned (segment_at k.store) k.left.slots k.right.slots k.file c.self.invariant (segment_at c.put_slices_at.new.store) c.put_slices_at.new.self c.in_ok-count.ensures.turns
+    file-turned (segment_at k.store) k.left.slots k.right.slots k.file c.self.invariant (segment_at c.put_slices_at.new.store) c.put_slices_at.new.self c.in_ok-count.ensures.becomes.turns
 
 pub put_slices_at-requires-clause-lie : goal.put_slices_at-requires-clause-lie
 put_slices_at-requires-clause-lie g c =

@@ -10,7 +10,7 @@ push_slices-requires-clause-held g c =
 pub invariant_of-self-2 : goal.invariant_of-self-2
 invariant_of-self-2 g c =
     let k = c.self.inside in
-    right-turned (segment_at k.store) k.left.slots k.right.slots k.file c.self.invariant (segment_at c.push_slices.new.store) c.push_slices.new.self.slots c.in_ok-push_slices.ensures.turns
+    right-turned (segment_at k.store) k.left.slots k.right.slots k.file c.self.invariant (segment_at c.push_slices.new.store) c.push_slices.new.self.slots c.in_ok-push_slices.ensures.gains.turns
 
 pub push_slices-requires-clause-lie : goal.push_slices-requires-clause-lie
 push_slices-requires-clause-lie g c =
