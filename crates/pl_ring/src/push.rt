@@ -212,8 +212,8 @@ pub(crate) fn push_slices<A: Allocator + Copy>(
     Ok(plan.bytes)
 }
 
-/// Moves the first bytes of one ring's slots to another's, where they fit, all but the last slot with their holds. `slices` are those of these
-/// bytes. Answers how many bytes were moved. An error leaves all as it was.
+/// Moves the first bytes of the slots of one ring to those of another, where they fit. `slices` are the slices of these bytes. The slots that go
+/// whole keep their holds. An error leaves all as it was.
 pub(crate) fn move_slices<A: Allocator + Copy>(
     store: &mut Store<A>,
     from: &mut HeapCircularBuffer<Slice, A>,
