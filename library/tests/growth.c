@@ -82,6 +82,33 @@ static void a_splice_of_all(void)
     HOLDS(bytes_left == 0);
 }
 
+/* A page that goes from one pipe to another with places for it takes one small block of memory and gives it back, and so does a part of one. Both
+ * pipes keep the order of their bytes. */
+static void splices_of_a_page(void)
+{
+    enum { PAGES = 4, PART = 1000, REST = PAGES * SEGMENT - SEGMENT - PART, SMALL = 48 };
+    static uint8_t bytes[PAGES * SEGMENT], into[PAGES * SEGMENT];
+    for (size_t i = 0; i < sizeof bytes; i++)
+        bytes[i] = (uint8_t)(i % 251);
+    bindingclay clay = kernel_with_process();
+    bindingclay_ends from = NEW_PIPE(clay, 1, false), to = NEW_PIPE(clay, 1, false);
+    DONE(bindingclay_write(clay, 1, from.write_end, bytes, sizeof bytes), sizeof bytes);
+    DONE(put_many(clay, 1, to.write_end, 2 * SEGMENT), 2 * SEGMENT);
+    DONE(take(clay, 1, to.read_end, SEGMENT), SEGMENT);
+    long before = bytes_left;
+    most_bytes = before;
+    DONE(bindingclay_splice(clay, 1, from.read_end, NULL, to.write_end, NULL, SEGMENT, 0), SEGMENT);
+    DONE(bindingclay_splice(clay, 1, from.read_end, NULL, to.write_end, NULL, PART, 0), PART);
+    HOLDS(most_bytes - before <= SMALL);
+    HOLDS(bytes_left == before);
+    DONE(take(clay, 1, to.read_end, SEGMENT), SEGMENT);
+    DONE(bindingclay_read(clay, 1, to.read_end, into, sizeof into), SEGMENT + PART);
+    DONE(bindingclay_read(clay, 1, from.read_end, into + SEGMENT + PART, REST), REST);
+    HOLDS(memcmp(into, bytes, sizeof into) == 0);
+    bindingclay_free(clay);
+    HOLDS(bytes_left == 0);
+}
+
 /* A splice of a file without memory for all of it leaves what it found. */
 static void a_splice_without_memory(long count)
 {
@@ -418,6 +445,7 @@ int main(int words, char **word)
     long count = count_of(words, word);
     a_splice_of_many_slots(count);
     a_splice_of_all();
+    splices_of_a_page();
     a_splice_without_memory(count);
     a_tee_of_a_full_pipe();
     an_emptied_file(count);

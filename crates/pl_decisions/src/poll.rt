@@ -4,7 +4,7 @@ ghost use Rattle.pl_model.specs.Poll.{bits_if, reader_bits, writer_bits, mask_of
 
 use bitflags::Flags;
 use pl_model::numbers::PIPE_BUF;
-use pl_model::{Mode, PollMask, Polled};
+use pl_model::{PollMask, Polled};
 
 // The mask, where the test holds.
 fn mask_if(holds: bool, mask: PollMask) -> PollMask
@@ -46,10 +46,8 @@ pub fn mask_of(polled: Polled, asked: PollMask) -> PollMask
             has_reader,
             hung,
         } => {
-            let reads = matches!(mode, Mode::Read | Mode::Both);
-            let writes = matches!(mode, Mode::Write | Mode::Both);
-            let read = mask_if(reads, reader_mask(held, hung, asked));
-            read.union(mask_if(writes, writer_mask(room, has_reader, asked)))
+            let read = mask_if(mode.reads(), reader_mask(held, hung, asked));
+            read.union(mask_if(mode.writes(), writer_mask(room, has_reader, asked)))
         }
     }
 }

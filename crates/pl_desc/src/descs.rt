@@ -11,12 +11,12 @@ ghost use Rattle.pl_desc.specs.Descs.{ends_on, live_count, HasRoom, IsNoLess, Is
 
 use crate::description::{Description, hold_all};
 use crate::ends::Counts;
-use crate::fault::{NoMemory, OpenFault, StartFault};
+use crate::fault::{OpenFault, StartFault};
 use crate::released::Released;
 use crate::table::Table;
 use crate::tables::{clear_row, put_row, reserve_place};
 use pl_model::numbers::{MAX_DESCRIPTIONS, MAX_PROCESSES};
-use pl_model::{Mode, Node, OpenFlags};
+use pl_model::{Mode, NoMemory, Node, OpenFlags};
 use slab::Slab;
 use std::alloc::{Allocator, Global};
 use std::marker::Model;
@@ -84,7 +84,7 @@ impl<A: Allocator + Copy> Descs<A> {
         ensures rest { self.new ≡ record self.old { tables = self.new.tables } }
         ensures full { (result ≡ Err StartFault.Eagain) ↔ (free_pid self.old.tables ≡ None) }
         ensures tidy { OnOk result (IsTidy self.new) }
-        ensures err { OnErr result (self.new ≡ self.old) }
+        ensures unchanged { OnErr result (self.new ≡ self.old) }
     {
         let Some(pid) = self.free_pid() else {
             return Err(StartFault::Eagain);
@@ -116,7 +116,7 @@ impl<A: Allocator + Copy> Descs<A> {
         ensures rest { self.new ≡ record self.old { tables = self.new.tables } }
         ensures full { (result ≡ Err StartFault.Eagain) ↔ (free_pid self.old.tables ≡ None) }
         ensures tidy { OnOk result (IsTidy self.new) }
-        ensures err { OnErr result (self.new ≡ self.old) }
+        ensures unchanged { OnErr result (self.new ≡ self.old) }
     {
         let Some(other) = self.free_pid() else {
             return Err(StartFault::Eagain);

@@ -3,8 +3,7 @@ ghost use Rattle.std.specs.Prelude.{◌≡◌, ◌+◌, ◌-◌, ◌<◌, ◌≤
 ghost use Rattle.pl_model.specs.Modes.{reads, writes};
 ghost use Rattle.pl_desc.specs.Ends.{ends_in, one_if, raised, lowered};
 
-use crate::fault::NoMemory;
-use pl_model::{Mode, Node};
+use pl_model::{Mode, NoMemory, Node};
 use std::alloc::Allocator;
 
 /// The descriptions on one node that read, and those that write. One that does both is in both counts.
@@ -20,18 +19,6 @@ const NONE: Ends = Ends {
     writers: 0,
 };
 
-fn does_read(mode: Mode) -> bool
-    ensures { result ≡ reads mode }
-{
-    matches!(mode, Mode::Read | Mode::Both)
-}
-
-fn does_write(mode: Mode) -> bool
-    ensures { result ≡ writes mode }
-{
-    matches!(mode, Mode::Write | Mode::Both)
-}
-
 impl Ends {
     /// The counts with a description of the mode more.
     fn raised(self, mode: Mode) -> Ends
@@ -40,8 +27,8 @@ impl Ends {
         ensures { result ≡ raised mode self }
     {
         Ends {
-            readers: self.readers + usize::from(does_read(mode)),
-            writers: self.writers + usize::from(does_write(mode)),
+            readers: self.readers + usize::from(mode.reads()),
+            writers: self.writers + usize::from(mode.writes()),
         }
     }
 
@@ -52,8 +39,8 @@ impl Ends {
         ensures { result ≡ lowered mode self }
     {
         Ends {
-            readers: self.readers - usize::from(does_read(mode)),
-            writers: self.writers - usize::from(does_write(mode)),
+            readers: self.readers - usize::from(mode.reads()),
+            writers: self.writers - usize::from(mode.writes()),
         }
     }
 }

@@ -1,15 +1,4 @@
 //! What is refused, and why.
-use std::alloc::AllocError;
-
-/// There is no memory for what was asked.
-#[derive(Clone, Copy, Debug, PartialEq, Eq)]
-pub struct NoMemory;
-
-impl From<AllocError> for NoMemory {
-    fn from(_error: AllocError) -> NoMemory {
-        NoMemory
-    }
-}
 
 /// Why no process starts (POSIX.1-2017, fork).
 #[derive(Clone, Copy, Debug, PartialEq, Eq)]

@@ -12,6 +12,7 @@ mod table;
 mod tables;
 
 pub use descs::Descs;
-pub use fault::{NoMemory, OpenFault, StartFault};
+pub use fault::{OpenFault, StartFault};
+pub use pl_model::NoMemory;
 pub use released::Released;
 pub use table::Table;

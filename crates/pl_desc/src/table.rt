@@ -4,7 +4,7 @@ ghost use Rattle.pl_model.specs.Numbers.{open_max, first_from};
 ghost use Rattle.pl_desc.specs.Rows.{at, row_in, no_key};
 ghost use Rattle.pl_desc.specs.TableView.{bit_of};
 
-use crate::fault::NoMemory;
+use pl_model::NoMemory;
 use pl_model::numbers::OPEN_MAX;
 use std::alloc::Allocator;
 use std::marker::Model;

@@ -3,8 +3,8 @@ ghost use Rattle.std.specs.Prelude.{◌≡◌, ◌+◌, ◌-◌, ◌<◌, ◌≤
 ghost use Rattle.pl_model.specs.Numbers.{open_max};
 ghost use Rattle.pl_desc.specs.Rows.{no_key, is_pid, rows_of, table_of, with_table, naming};
 
-use crate::fault::NoMemory;
 use crate::table::Table;
+use pl_model::NoMemory;
 use std::alloc::Allocator;
 
 /// Lets a descriptor of a process name a key.
@@ -49,7 +49,7 @@ pub(crate) fn reserve_place<A: Allocator>(
     ensures high { pid ≤ length tables.old.items → length tables.new.items ≡ length tables.old.items }
     ensures rows { table_of tables.new.items ≡ table_of tables.old.items }
     ensures names { naming tables.new.items ≡ naming tables.old.items }
-    ensures err { OnErr result (tables.new.items ≡ tables.old.items) }
+    ensures unchanged { OnErr result (tables.new.items ≡ tables.old.items) }
 {
     if pid as usize <= tables.len() {
         return Ok(());

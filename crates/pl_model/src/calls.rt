@@ -21,6 +21,24 @@ pub enum Mode {
     Both,
 }
 
+impl Mode {
+    ghost use Rattle.pl_model.specs.Modes.{reads, writes};
+
+    /// Whether it allows reading.
+    pub fn reads(self) -> bool
+        ensures { result ≡ reads self }
+    {
+        matches!(self, Mode::Read | Mode::Both)
+    }
+
+    /// Whether it allows writing.
+    pub fn writes(self) -> bool
+        ensures { result ≡ writes self }
+    {
+        matches!(self, Mode::Write | Mode::Both)
+    }
+}
+
 /// Where a new offset is counted from (POSIX.1-2017, lseek).
 #[derive(Clone, Copy, Debug, PartialEq, Eq)]
 pub enum Whence {

@@ -8,6 +8,7 @@
 pub mod bytes;
 pub mod calls;
 pub mod cases;
+mod fault;
 pub mod flags;
 pub mod history;
 pub mod keys;
@@ -23,6 +24,7 @@ pub mod worked;
 pub use bytes::Bytes8;
 pub use calls::{Call, Limits, Mode, Step, Whence};
 pub use cases::{MoveCase, Polled, ReadCase, Source, Target, WriteCase};
+pub use fault::NoMemory;
 pub use flags::{OpenFlags, PollMask, SpliceFlags};
 pub use history::Entry;
 pub use keys::KeyList;

@@ -13,7 +13,7 @@ use Rattle.pl_segments.specs.Slices.{AllLie, all_read}
 use Rattle.pl_segments.specs.Turns.{Turns}
 use Rattle.pl_segments.specs.Slots.{total, drop_bytes, front_of}
 use Rattle.pl_segments.specs.Sharing.{slots_at}
-use Rattle.pl_segments.proofs.Fronting.{front-whole, front-part, front-none, front-lie, front-read}
+use Rattle.pl_segments.proofs.Fronting.{front-whole, front-part, front-none, front-lie, front-read, front-total}
 use Rattle.pl_ring.specs.Parts.{fresh, strange}
 use Rattle.pl_file.proofs.Editing.{lie-drop, drop-read}
 use Rattle.pl_nodes.specs.declared.queue.Queue.{Queue}
@@ -56,6 +56,12 @@ module _ {A : Type 0} (k : Inside A) (sound : IsSound k) (flat : Nodes) (is : vi
 
     pub front-few : total slices ≤ count
     front-few = subst (λ ys. total ys ≤ count) (sym front) (front-most count (slots_of s.queue))
+
+    pub front-exact : IfSome (at flat.pipes from) (λ x. count ≤ length x.bytes) → total slices ≡ count
+    front-exact asked =
+        let told = pipe-told k from s there sound flat is (λ x. count ≤ length x.bytes) asked in
+        let sum = pipe-total k from s there sound flat is in
+        ap total front ∙ front-total (slots_of s.queue) count (omega (arith, told, sum))
 
   -- the bytes of a file from a place on
   module _ (from : ℕ) (f : FileNode A) (there : at k.contents.slots from ≡ Some (File f)) (place count : ℕ) (slices : List Slice) (part : slices ≡ front_of count (drop_bytes place f.file)) where

@@ -1,6 +1,6 @@
 -- A call on the pipe under a key.
 use Rattle.std.proofs.Common.{◌≡◌, ℕ, true, false, Option, Some, None, refl, sym, ◌∙◌, ap, subst, length}
-use Rattle.std.specs.Prelude.{IfSome, is_some, ◌&&◌}
+use Rattle.std.specs.Prelude.{IfSome, IsSome, is_some, option_and_then, ◌&&◌}
 use Rattle.pl_model.specs.Map.{change_at}
 use Rattle.pl_model.specs.State.{Pipe as PipeState}
 use Rattle.pl_segments.specs.Segments.{Map, Segments, segment_at, at}
@@ -12,6 +12,7 @@ use Rattle.pl_nodes.specs.declared.content.PipeNode.{PipeNode}
 use Rattle.pl_nodes.specs.declared.content.Content.{Content}
 use Rattle.pl_nodes.specs.declared.content.Content.TheVariants.{Pipe, File}
 use Rattle.pl_nodes.specs.declared.nodes.Nodes.TheInside.{Inside}
+use Rattle.pl_nodes.specs.Contents.{as_pipe}
 use Rattle.pl_nodes.specs.Nodes.{Nodes, SameFiles}
 use Rattle.pl_nodes.specs.NodesView.{pipe_of, pipe_in, pipe_named, named_packet, view_of, IsSound}
 use Rattle.pl_nodes.specs.Queue.{slots_of, packets_of}
@@ -74,3 +75,14 @@ pub named-plain : {A : Type 0} (k : Inside A) → IsSound k → (flat : Nodes) �
 named-plain k sound flat is key named =
     subst (λ o. IfSome o (λ x. x.packets ≡ None)) (sym (ap (λ (v : Nodes). at v.pipes key) (sym is) ∙ seen-at pipes_seen (segment_at k.store) k.contents.slots key))
     (plain-in (segment_at k.store) (at k.contents.slots key) named (sound.plain key))
+
+-- where contracts see a pipe, one is under the key
+in-content : {A : Type 0} (m : Map) (o : Option (Content A)) → IsSome (pipe_in m o) → IsSome (option_and_then as_pipe o)
+in-content m None some = absurd (let no : IsSome {T = PipeState} None = some in cc)
+in-content m (Some (Pipe p)) some = refl
+in-content m (Some (File f)) some = absurd (let no : IsSome {T = PipeState} None = some in cc)
+
+pub seen-there : {A : Type 0} (k : Inside A) (flat : Nodes) → view_of k ≡ flat → (key : ℕ) → IsSome (at flat.pipes key) → IsSome (option_and_then as_pipe (at k.contents.slots key))
+seen-there k flat is key some =
+    in-content (segment_at k.store) (at k.contents.slots key)
+    (subst (λ o. IsSome o) (ap (λ (v : Nodes). at v.pipes key) (sym is) ∙ seen-at pipes_seen (segment_at k.store) k.contents.slots key) some)

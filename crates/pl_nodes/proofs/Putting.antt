@@ -10,7 +10,6 @@ use Rattle.pl_segments.specs.Slices.{all_read, naming}
 use Rattle.pl_segments.specs.Turns.{Turns}
 use Rattle.pl_segments.specs.Slots.{total, solid_of, drop_bytes, front_of}
 use Rattle.pl_segments.specs.Sharing.{named, AreShared}
-use Rattle.pl_segments.proofs.Fronting.{front-total}
 use Rattle.pl_file.specs.File.{written, fitting}
 use Rattle.pl_file.specs.Joined.{between}
 use Rattle.pl_file.proofs.Joining.{naming-between}
@@ -23,9 +22,8 @@ use Rattle.pl_nodes.specs.NodesView.{lists, view_of, IsSound}
 use Rattle.pl_nodes.specs.Queue.{slots_of}
 use Rattle.pl_nodes.proofs.Slices.{naming-front, naming-solid, naming-drop}
 use Rattle.pl_nodes.proofs.AtKey.{held, with_content}
-use Rattle.pl_nodes.proofs.Pipes.{pipe-total, pipe-told}
 use Rattle.pl_nodes.proofs.Files.{file-total, file-told, file-done}
-use Rattle.pl_nodes.proofs.Lending.{front-bytes, front-few}
+use Rattle.pl_nodes.proofs.Lending.{front-exact, front-bytes, front-few}
 
 -- what a file names once slices stand in it
 naming-put : (file slices : List Slice) (place moved : ℕ) (key : ℕ)
@@ -54,9 +52,7 @@ module _ {A : Type 0} (k : Inside A) (sound : IsSound k) (flat : Nodes) (is : vi
 
   pub put-some : IfSome (at flat.pipes from) (λ x. count ≤ length x.bytes) → 1 ≤ count → (moved : ℕ) → moved ≡ fitting (total slices) place k.limits.file_max → 1 ≤ moved
   put-some asked some moved e =
-      let told = pipe-told k from s source sound flat is (λ x. count ≤ length x.bytes) asked in
-      let sum = pipe-total k from s source sound flat is in
-      let all : total slices ≡ count = ap total front ∙ front-total (slots_of s.queue) count (omega (arith, told, sum)) in
+      let all = front-exact k sound flat is from s source count slices front asked in
       let m = most-is in
       omega (arith, all, m, e, some, fits)
 

@@ -28,7 +28,7 @@ use Rattle.pl_nodes.specs.Nodes.{Nodes, SameFiles}
 use Rattle.pl_nodes.specs.NodesView.{one_if, pipe_of, pipe_in, file_in, slots_in, lists, pipe_named, file_named, named_packet, named_as, AreNamed, view_of, IsSound}
 use Rattle.pl_nodes.specs.Queue.{slots_of, packets_of}
 use Rattle.pl_nodes.specs.Contents.{as_pipe}
-use Rattle.pl_nodes.proofs.AtKey.{pipe-there, slots-flat}
+use Rattle.pl_nodes.proofs.AtKey.{pipe-there}
 use Rattle.pl_nodes.proofs.Keyed.{within, same-list, is_change_at, at-other, change-here}
 use Rattle.pl_nodes.proofs.Lists.{lists-at, lists-length, same-named}
 use Rattle.pl_nodes.proofs.OneChanged.{pipes_seen, files_seen, seen, seen-at, same-pipe, same-file}

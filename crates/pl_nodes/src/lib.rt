@@ -14,5 +14,5 @@ mod upper;
 pub use fault::{MakeFault, NoSuchName};
 pub use nodes::{NodeLimits, Nodes};
 pub use pl_file::WriteFault;
+pub use pl_model::NoMemory;
 pub use pl_ring::CapacityFault;
-pub use pl_segments::NoMemory;

@@ -7,14 +7,15 @@ ghost use Rattle.pl_segments.specs.Slices.{AllLie, all_read};
 ghost use Rattle.pl_segments.specs.Turns.{Holds, Turns};
 ghost use Rattle.pl_segments.specs.Slots.{total, drop_bytes, front_of};
 ghost use Rattle.pl_ring.specs.Merging.{lens, IsFront};
-ghost use Rattle.pl_ring.specs.Pushed.{Gains, Passed, MakesAtMost};
+ghost use Rattle.pl_ring.specs.Pushed.{FrontFits, Gains, Passed, MakesAtMost};
 ghost use Rattle.pl_ring.specs.Ring.{IsCapacity};
 ghost use Rattle.pl_packets.specs.Packets.{first_len};
 ghost use Rattle.pl_nodes.specs.Queue.{slots_of, capacity_of, packets_of, used_by, front_by, spent_by};
 
+use pl_model::NoMemory;
 use pl_packets::PacketRing;
 use pl_ring::{CapacityFault, Ring};
-use pl_segments::{NoMemory, SEGMENT_SIZE, SliceList, Store};
+use pl_segments::{SEGMENT_SIZE, SliceList, Store};
 use std::alloc::Allocator;
 
 /// Bytes in a row (pipe(7)), or packets (pipe(2), `O_DIRECT`).
@@ -186,7 +187,7 @@ impl<A: Allocator + Copy> Queue<A> {
         ensures busy { (result ≡ Err CapacityFault.Busy) ↔ (capacity < used_by self.old) }
         ensures slots { slots_of self.new ≡ slots_of self.old }
         ensures packets { packets_of self.new ≡ packets_of self.old }
-        ensures err { OnErr result (self.new ≡ self.old) }
+        ensures unchanged { OnErr result (self.new ≡ self.old) }
     {
         match self {
             Queue::Bytes(ring) => ring.set_capacity(capacity),
@@ -230,6 +231,29 @@ impl<A: Allocator + Copy> Queue<A> {
             unreachable!()
         };
         ring.push_slices(store, slices)
+    }
+
+    /// Adds the slices of the front of a ring, which have `count` bytes, at the end of a byte queue, where they fit. An error leaves all as it was.
+    pub(crate) fn push_front_slices(
+        &mut self,
+        store: &mut Store<A>,
+        slices: &SliceList<A>,
+        count: usize,
+    ) -> Result<(), NoMemory>
+        requires bytes { packets_of self.old ≡ None }
+        requires held { Holds (segment_at store.old) (slots_of self.old) }
+        requires few { (key : ℕ) → holders (segment_at store.old) key < 2 ^ 100 }
+        requires fits { FrontFits (segment_at store.old) (slots_of self.old) slices.now count (capacity_of self.old) }
+        ensures bytes { packets_of self.new ≡ None }
+        ensures gains { OnOk result (Gains (segment_at store.old) (slots_of self.old) (all_read (segment_at store.old) slices.now) (segment_at store.new) (slots_of self.new)) }
+        ensures makes { OnOk result (MakesAtMost 3 (slots_of self.old ++ slices.now) store.old (slots_of self.new) store.new) }
+        ensures capacity { capacity_of self.new ≡ capacity_of self.old }
+        ensures unchanged { OnErr result ((self.new ≡ self.old) × (store.new ≡ store.old)) }
+    {
+        let Queue::Bytes(ring) = self else {
+            unreachable!()
+        };
+        ring.push_front_slices(store, slices, count)
     }
 
     /// Lets the first bytes of a byte queue go. It takes no memory.

@@ -174,7 +174,7 @@ impl<A: Allocator + Copy> PacketRing<A> {
         requires { IsCapacity capacity }
         ensures ok { OnOk result (self.new ≡ record self.old { capacity = capacity }) }
         ensures busy { (result ≡ Err CapacityFault.Busy) ↔ (capacity < packet_size * length self.old.slots) }
-        ensures err { OnErr result (self.new ≡ self.old) }
+        ensures unchanged { OnErr result (self.new ≡ self.old) }
     {
         let places = capacity / SEGMENT_SIZE;
         if places < self.slots.len() {

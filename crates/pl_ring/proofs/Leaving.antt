@@ -1,14 +1,14 @@
 -- The first slots of a ring leave it with their holds.
-use Rattle.std.proofs.Common.{◌≡◌, ◌≢◌, ℕ, ◌-◌, ◌+◌, ◌<◌, ◌≤◌, List, [], ◌∷◌, ◌++◌, refl, sym, ◌∙◌, ap, subst, inl, inr, nat_eq, length, take, drop, arith}
+use Rattle.std.proofs.Common.{◌≡◌, ℕ, ◌-◌, ◌<◌, ◌≤◌, List, [], ◌∷◌, ◌++◌, refl, sym, ◌∙◌, ap, inl, inr, length, take, drop, arith}
 use Rattle.std.proofs.lemmas.Bool.{cases_lt}
 use Rattle.std.proofs.lemmas.List.{append-nil, append_assoc, take-append-drop, take_at, drop_at}
 use Rattle.pl_segments.specs.declared.slice.Slice.{Slice}
 use Rattle.pl_segments.specs.Segments.{Map}
-use Rattle.pl_segments.specs.Slices.{AllLie, naming, reads, all_read}
+use Rattle.pl_segments.specs.Slices.{AllLie, reads, all_read}
 use Rattle.pl_segments.specs.Turns.{Holds, Turns}
 use Rattle.pl_segments.specs.Slots.{total, cut_front, cut_end, front_of}
 use Rattle.pl_segments.proofs.Changing.{begins-same}
-use Rattle.pl_segments.proofs.Turning.{naming-append, lie-append, lie-left, lie-right, read-append, turns-then, holds-turned, others-read}
+use Rattle.pl_segments.proofs.Turning.{naming-append, lie-append, lie-left, lie-right, read-append, turns-then, others-read}
 use Rattle.pl_segments.proofs.Fronting.{front-whole, front-part, front-none}
 use Rattle.pl_segments.proofs.Pushing.{pushes-turns}
 use Rattle.pl_segments.proofs.SlotLemmas.{lies-cut_front, lies-cut_end, reads-cut_front, reads-cut_end, total-read}

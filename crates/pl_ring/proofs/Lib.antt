@@ -1,5 +1,6 @@
 pub mod Merging
 pub mod Placing
+mod Planning
 pub mod Counting
 pub mod Underway
 pub mod Apart

@@ -137,7 +137,7 @@ short-cut x xs k l = elim (eqb_tells k 0) as (λ _. AreCut (lens (front_of k (x 
 ]
 
 -- the front of slots that stand tight stands so but for its last pair
-cut-front : (xs : List Slice) (k : ℕ) → AreTight (lens xs) → AreCut (lens (front_of k xs))
+pub cut-front : (xs : List Slice) (k : ℕ) → AreTight (lens xs) → AreCut (lens (front_of k xs))
 cut-front [] k t = tt
 cut-front (x ∷ []) k t = elim (cases_lt x.len k) as (λ _. AreCut (lens (front_of k (x ∷ [])))) [
   | inl l ↦ subst (λ ys. AreCut (lens ys)) (sym (front-whole k x [] l)) tt

@@ -1,12 +1,13 @@
 -- What a push makes of slots.
-use Rattle.std.specs.Prelude.{◌≡◌, ◌≤◌, ℕ, ◌+◌, ◌*◌, ◌%◌, Bool, List, [], ◌∷◌, ◌++◌, length, take, drop, count_by}
+use Rattle.std.specs.Prelude.{◌≡◌, ◌<◌, ◌≤◌, ℕ, ◌+◌, ◌*◌, ◌%◌, ◌^◌, Bool, List, [], ◌∷◌, ◌++◌, length, take, drop, count_by}
 use Rattle.circular_buffer.specs.Buffer.{Buffer}
 use Rattle.pl_segments.specs.declared.slice.Slice.{Slice}
 use Rattle.pl_segments.specs.Segments.{Map, Segments, live_count}
-use Rattle.pl_segments.specs.Slices.{all_read}
+use Rattle.pl_segments.specs.Slices.{AllLie, all_read}
 use Rattle.pl_segments.specs.Slots.{total, AllSolid, solid_of, drop_bytes}
 use Rattle.pl_segments.specs.Turns.{Turns}
-use Rattle.pl_ring.specs.Merging.{lens, AreMerged, joining, merges_onto}
+use Rattle.pl_ring.specs.declared.plan.Plan.{Plan}
+use Rattle.pl_ring.specs.Merging.{lens, AreMerged, IsFront, joining, merges_onto}
 use Rattle.pl_ring.specs.Parts.{fresh}
 use Rattle.pl_ring.specs.Ring.{place_size}
 
@@ -20,6 +21,20 @@ pub record CanTake (ring : Buffer Slice) (count : ℕ) : Type 0 where
   pub slots : AreOfRing ring.items
   pub even : ring.capacity % 2 ≡ 0
   pub fits : total ring.items + count ≤ place_size * ring.capacity
+
+-- What a push of slices makes after slots: how many become one with what stands before them, and how many slots there are then.
+pub record IsPlan (old slices : List Slice) (plan : Plan) : Type 0 where
+  pub merges : plan.merges ≡ merges_onto old (lens (solid_of slices))
+  pub slots : plan.slots + plan.merges ≡ length old + length (solid_of slices)
+  pub more : length old ≤ plan.slots
+  pub few : plan.slots < 2 ^ 32
+
+-- Slices are the front of a ring, have so many bytes, and fit after slots.
+pub record FrontFits (m : Map) (old slices : List Slice) (count capacity : ℕ) : Type 0 where
+  pub lie : AllLie m slices
+  pub front : IsFront slices
+  pub bytes : total slices ≡ count
+  pub fits : total old + count ≤ capacity
 
 -- Slots became others, which read these bytes after what those read.
 pub record Gains (m : Map) (old : List Slice) (bytes : List ℕ) (n : Map) (new : List Slice) : Type 0 where

@@ -24,9 +24,9 @@ pub record IsCapacity (capacity : ℕ) : Type 0 where
 abbrev pub few_places : ℕ
 few_places = 2
 
--- a ring with other places keeps so few beside them, with no slots
+-- a ring with more places keeps so few beside them, with no slots
 abbrev pub IsBeside : (places : ℕ) → Option (Buffer Slice) → Type 0
-IsBeside places None = places ≡ few_places
+IsBeside places None = places ≤ few_places
 IsBeside places (Some b) = b ≡ buffer [] few_places
 
 -- The places of a ring: two for each segment, at most as many as the greatest capacity wants, and those that it keeps beside them.

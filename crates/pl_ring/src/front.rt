@@ -1,5 +1,5 @@
 //! Slots at the front.
-ghost use Rattle.std.specs.Prelude.{◌≡◌, ℕ, ◌+◌, ◌-◌, ◌<◌, ◌≤◌, ◌^◌, ◌++◌, length, take, drop, vec_len, vec_capacity, IfOk, OnOk};
+ghost use Rattle.std.specs.Prelude.{◌≡◌, ℕ, ◌+◌, ◌-◌, ◌<◌, ◌≤◌, ◌^◌, [], ◌∷◌, ◌++◌, length, take, drop, vec_len, vec_capacity, IfOk, IfSome, OnOk};
 ghost use Rattle.pl_segments.specs.Segments.{segment_at, holders, live_count};
 ghost use Rattle.pl_segments.specs.Slices.{Lies, AllLie, reads, all_read};
 ghost use Rattle.pl_segments.specs.Turns.{Holds, Turns};
@@ -7,7 +7,8 @@ ghost use Rattle.pl_segments.specs.Slots.{total, AllSolid, drop_bytes, front_of}
 
 use crate::places::{put_first, take_first, take_only, take_whole};
 use circular_buffer::HeapCircularBuffer;
-use pl_segments::{NoMemory, Slice, Store};
+use pl_model::NoMemory;
+use pl_segments::{Slice, Store};
 use std::alloc::Allocator;
 
 /// The bytes of the first slots, copied.
@@ -221,6 +222,38 @@ fn pop_parts<A: Allocator + Copy>(
     drop_front(store, slots, count);
 }
 
+/// All slots.
+pub(crate) fn all_slices<A: Allocator + Copy>(
+    alloc: A,
+    slots: &HeapCircularBuffer<Slice, A>,
+) -> Result<Vec<Slice, A>, NoMemory>
+    ensures { IfOk result (λ list. list.items ≡ slots.now.items) }
+{
+    let (front, back) = slots.as_slices();
+    let mut list = Vec::with_capacity(alloc, slots.len())?;
+    list.extend_from_slice(front)?;
+    list.extend_from_slice(back)?;
+    Ok(list)
+}
+
+/// The slice of the first bytes, if there are some and they stand in one slot.
+pub(crate) fn front_slice<A: Allocator>(
+    slots: &HeapCircularBuffer<Slice, A>,
+    count: usize,
+) -> Option<Slice>
+    ensures { IfSome result (λ slice. front_of count slots.now.items ≡ slice ∷ []) }
+{
+    let first = slots.front()?;
+    if count == 0 || (first.len as usize) < count {
+        return None;
+    }
+    Some(Slice {
+        segment: first.segment,
+        from: first.from,
+        len: count as u32,
+    })
+}
+
 /// The slices of the first bytes.
 pub(crate) fn front_slices<A: Allocator + Copy>(
     alloc: A,
@@ -301,6 +334,7 @@ pub(crate) fn drop_front<A: Allocator + Copy>(
 
 /// Takes the first bytes out of slots that are held, and leaves them held. A slot that goes whole keeps its hold, and one that goes in part gets
 /// another for what is left of it. It takes no memory.
+#[inline(always)]
 pub(crate) fn leave_front<A: Allocator + Copy>(
     store: &mut Store<A>,
     slots: &mut HeapCircularBuffer<Slice, A>,

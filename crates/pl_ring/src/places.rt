@@ -33,7 +33,11 @@ pub(crate) fn put_all<A: Allocator>(slots: &mut HeapCircularBuffer<Slice, A>, mo
     requires { length slots.old.items + length more.now ≤ slots.old.capacity }
     ensures { slots.new ≡ buffer (slots.old.items ++ more.now) slots.old.capacity }
 {
-    slots.extend_from_slice(more);
+    // Most fronts that go are a page, and a list of one slot costs more than the slot.
+    match more {
+        [only] => put_last(slots, *only),
+        _ => slots.extend_from_slice(more),
+    }
 }
 
 /// Adds a slot before the first, where there is a place for it. It takes no memory.

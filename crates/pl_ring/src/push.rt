@@ -6,13 +6,14 @@ ghost use Rattle.pl_segments.specs.Slices.{AllLie, all_read};
 ghost use Rattle.pl_segments.specs.Turns.{Holds, Turns};
 ghost use Rattle.pl_segments.specs.Slots.{total, solid_of, tail_room, ends_in_part, front_of};
 ghost use Rattle.pl_ring.specs.Merging.{lens, merges_onto};
-ghost use Rattle.pl_ring.specs.Pushed.{AreOfRing, CanTake, Pushed, TookIn, Moved, MakesAtMost, MergesOnto};
+ghost use Rattle.pl_ring.specs.Pushed.{AreOfRing, CanTake, IsPlan, Pushed, TookIn, Moved, MakesAtMost, MergesOnto};
 
-use crate::front::leave_front;
-use crate::places::{last_len, push_slot, put_all, put_last, take_last};
-use crate::plan::plan_of;
+use crate::front::{front_slice, front_slices, leave_front};
+use crate::places::{push_slot, put_all, put_last, take_last};
+use crate::plan::{Plan, plan_of_front};
 use circular_buffer::HeapCircularBuffer;
-use pl_segments::{NoMemory, SEGMENT_SIZE, Slice, Store};
+use pl_model::NoMemory;
+use pl_segments::{SEGMENT_SIZE, Slice, Store};
 use std::alloc::Allocator;
 
 /// How many bytes the last slot can be grown by; 0 where there is none.
@@ -186,35 +187,59 @@ fn push_held<A: Allocator + Copy>(
     }
 }
 
-/// Pushes slices whose bytes fit, but those of no bytes. All are held before the first two slots become one: a slot that
-/// goes then may be the last to hold a segment that a slice further on names. Answers how many bytes were pushed. An error leaves
-/// all as it was.
+/// Pushes slices whose bytes fit, but those of no bytes, as it is planned. All are held before the first two slots become one: a slot that
+/// goes then may be the last to hold a segment that a slice further on names. An error leaves all as it was.
 pub(crate) fn push_slices<A: Allocator + Copy>(
     store: &mut Store<A>,
     slots: &mut HeapCircularBuffer<Slice, A>,
     slices: &[Slice],
-) -> Result<usize, NoMemory>
+    plan: Plan,
+) -> Result<(), NoMemory>
     requires lie { AllLie (segment_at store.old) slices.now }
     requires held { Holds (segment_at store.old) slots.old.items }
     requires few { (key : ℕ) → holders (segment_at store.old) key < 2 ^ 100 }
     requires ring { CanTake slots.old (total slices.now) }
-    requires most { slots.old.capacity ≤ 512 }
-    ensures bytes { IfOk result (λ bytes. bytes ≡ total slices.now) }
+    requires plan { IsPlan slots.old.items slices.now plan }
     ensures pushed { OnOk result (Pushed (segment_at store.old) slots.old (all_read (segment_at store.old) slices.now) (segment_at store.new) slots.new) }
     ensures merges { OnOk result (MergesOnto slots.old.items slices.now store.old slots.new.items store.new) }
     ensures unchanged { OnErr result ((slots.new ≡ slots.old) × (store.new ≡ store.old)) }
 {
-    let count = slots.len();
-    let plan = plan_of(count, last_len(slots), slices);
-    store.reserve(plan.merges.min(plan.slots - count + 2))?;
+    store.reserve(plan.merges.min(plan.slots - slots.len() + 2))?;
     hold_all(store, slices);
     push_held(store, slots, slices, plan.slots);
-    Ok(plan.bytes)
+    Ok(())
 }
 
-/// Moves the first bytes of the slots of one ring to those of another, where they fit. `slices` are the slices of these bytes. The slots that go
-/// whole keep their holds. An error leaves all as it was.
-pub(crate) fn move_slices<A: Allocator + Copy>(
+/// Moves the first bytes of the slots of one ring to those of another, where they fit. The slots that go whole keep their holds. An error leaves
+/// all as it was.
+pub(crate) fn move_front<A: Allocator + Copy>(
+    alloc: A,
+    store: &mut Store<A>,
+    from: &mut HeapCircularBuffer<Slice, A>,
+    to: &mut HeapCircularBuffer<Slice, A>,
+    count: usize,
+) -> Result<(), NoMemory>
+    requires held { Holds (segment_at store.old) (to.old.items ++ from.old.items) }
+    requires few { (key : ℕ) → holders (segment_at store.old) key < 2 ^ 100 }
+    requires count { count ≤ total from.old.items }
+    requires source { AreOfRing from.old.items }
+    requires ring { CanTake to.old count }
+    requires most { to.old.capacity ≤ 512 }
+    ensures moved { OnOk result (Moved count (segment_at store.old) from.old to.old (segment_at store.new) from.new to.new) }
+    ensures makes { OnOk result (MakesAtMost 3 (to.old.items ++ front_of count from.old.items) store.old to.new.items store.new) }
+    ensures unchanged { OnErr result ((from.new ≡ from.old) × (to.new ≡ to.old) × (store.new ≡ store.old)) }
+{
+    // A page that goes alone needs no list.
+    if let Some(only) = front_slice(from, count) {
+        return move_slices(store, from, to, &[only], count);
+    }
+    let slices = front_slices(alloc, from, count)?;
+    move_slices(store, from, to, &slices, count)
+}
+
+// Moves the first bytes of the slots of one ring to those of another. `slices` are the slices of these bytes.
+#[inline(always)]
+fn move_slices<A: Allocator + Copy>(
     store: &mut Store<A>,
     from: &mut HeapCircularBuffer<Slice, A>,
     to: &mut HeapCircularBuffer<Slice, A>,
@@ -232,9 +257,8 @@ pub(crate) fn move_slices<A: Allocator + Copy>(
     ensures makes { OnOk result (MakesAtMost 3 (to.old.items ++ front_of count from.old.items) store.old to.new.items store.new) }
     ensures unchanged { OnErr result ((from.new ≡ from.old) × (to.new ≡ to.old) × (store.new ≡ store.old)) }
 {
-    let before = to.len();
-    let plan = plan_of(before, last_len(to), slices);
-    store.reserve(plan.merges.min(plan.slots - before + 2))?;
+    let plan = plan_of_front(to, slices);
+    store.reserve(plan.merges.min(plan.slots - to.len() + 2))?;
     leave_front(store, from, count);
     push_held(store, to, slices, plan.slots);
     Ok(())

@@ -1,21 +1,23 @@
 //! The ring of a pipe.
 ghost use Rattle.std.specs.Prelude.{◌≡◌, ℕ, ◌+◌, ◌-◌, ◌*◌, ◌/◌, ◌<◌, ◌≤◌, ◌^◌, ◌↔◌, [], ◌++◌, length, take, drop, IfOk, IsOk, OnOk, OnErr, Err};
-ghost use Rattle.pl_model.specs.Numbers.{first_capacity};
+ghost use Rattle.pl_model.specs.Numbers.{first_capacity, most_capacity};
 ghost use Rattle.pl_segments.specs.Segments.{segment_size, segment_at, holders, live_count};
 ghost use Rattle.pl_segments.specs.Slices.{AllLie, all_read};
 ghost use Rattle.pl_segments.specs.Turns.{Holds, Turns};
 ghost use Rattle.pl_segments.specs.Slots.{total, AllSolid, drop_bytes, front_of};
 ghost use Rattle.pl_ring.specs.Merging.{lens, AreMerged, IsFront};
-ghost use Rattle.pl_ring.specs.Pushed.{AreOfRing, Gains, Passed, MakesAtMost, MergesOnto};
+ghost use Rattle.pl_ring.specs.Pushed.{AreOfRing, FrontFits, Gains, Passed, MakesAtMost, MergesOnto};
 ghost use Rattle.circular_buffer.specs.Buffer.{buffer};
 ghost use Rattle.pl_ring.specs.Ring.{place_size, few_places, IsCapacity, HasPlaces};
 
 use crate::fault::CapacityFault;
-use crate::front::{copy_front, drop_front, front_slices, pop_into, pop_only};
-use crate::push::{move_slices, push_bytes, push_slices};
+use crate::front::{all_slices, copy_front, drop_front, front_slices, pop_into, pop_only};
+use crate::plan::{plan_of, plan_of_front};
+use crate::push::{move_front, push_bytes, push_slices};
 use circular_buffer::HeapCircularBuffer;
-use pl_model::numbers::FIRST_CAPACITY;
-use pl_segments::{NoMemory, Slice, SliceList, Store};
+use pl_model::NoMemory;
+use pl_model::numbers::{FIRST_CAPACITY, MAX_CAPACITY};
+use pl_segments::{Slice, SliceList, Store, len_of};
 use std::alloc::{Allocator, Global};
 use std::marker::Model;
 use std::mem;
@@ -65,6 +67,13 @@ impl<A: Allocator + Copy> Ring<A> {
             held: 0,
             few: None,
         })
+    }
+
+    /// No slots, and the greatest capacity: a ring to exchange with another for as long as that one stands by itself.
+    pub fn bare(alloc: A) -> Result<Ring<A>, NoMemory>
+        ensures { IfOk result (λ ring. ring ≡ record { slots = []; capacity = most_capacity }) }
+    {
+        Ring::new(alloc, MAX_CAPACITY as usize)
     }
 
     /// How many bytes are held.
@@ -149,8 +158,37 @@ impl<A: Allocator + Copy> Ring<A> {
             self.capacity,
             self.capacity,
         )?;
-        let bytes = push_slices(store, &mut self.slots, slices.as_slice())?;
-        self.held += bytes;
+        let plan = plan_of(&self.slots, slices.as_slice());
+        push_slices(store, &mut self.slots, slices.as_slice(), plan)?;
+        self.held += len_of(slices.as_slice());
+        Ok(())
+    }
+
+    /// Adds the slices of the front of a ring at the end, as `push_slices` does. They have `count` bytes, which fit. An error leaves all as it was.
+    pub fn push_front_slices(
+        &mut self,
+        store: &mut Store<A>,
+        slices: &SliceList<A>,
+        count: usize,
+    ) -> Result<(), NoMemory>
+        requires held { Holds (segment_at store.old) self.old.slots }
+        requires few { (key : ℕ) → holders (segment_at store.old) key < 2 ^ 100 }
+        requires fits { FrontFits (segment_at store.old) self.old.slots slices.now count self.old.capacity }
+        ensures gains { OnOk result (Gains (segment_at store.old) self.old.slots (all_read (segment_at store.old) slices.now) (segment_at store.new) self.new.slots) }
+        ensures makes { OnOk result (MakesAtMost 3 (self.old.slots ++ slices.now) store.old self.new.slots store.new) }
+        ensures capacity { self.new.capacity ≡ self.old.capacity }
+        ensures unchanged { OnErr result ((self.new ≡ self.old) × (store.new ≡ store.old)) }
+    {
+        make_places(
+            self.alloc,
+            &mut self.slots,
+            &mut self.few,
+            self.capacity,
+            self.capacity,
+        )?;
+        let plan = plan_of_front(&self.slots, slices.as_slice());
+        push_slices(store, &mut self.slots, slices.as_slice(), plan)?;
+        self.held += count;
         Ok(())
     }
 
@@ -158,7 +196,11 @@ impl<A: Allocator + Copy> Ring<A> {
     pub fn front_slices(&self, count: usize) -> Result<SliceList<A>, NoMemory>
         ensures { IfOk result (λ list. list ≡ front_of count self.now.slots) }
     {
-        let list = front_slices(self.alloc, &self.slots, count)?;
+        let list = if count == self.held {
+            all_slices(self.alloc, &self.slots)?
+        } else {
+            front_slices(self.alloc, &self.slots, count)?
+        };
         Ok(SliceList::from_vec(list))
     }
 
@@ -186,14 +228,7 @@ impl<A: Allocator + Copy> Ring<A> {
             self.capacity,
             self.held + count,
         )?;
-        let slices = front_slices(self.alloc, &other.slots, count)?;
-        move_slices(
-            store,
-            &mut other.slots,
-            &mut self.slots,
-            slices.as_slice(),
-            count,
-        )?;
+        move_front(self.alloc, store, &mut other.slots, &mut self.slots, count)?;
         self.held += count;
         other.held -= count;
         Ok(())
@@ -288,7 +323,7 @@ impl<A: Allocator + Copy> Ring<A> {
         ensures ok { OnOk result (self.new ≡ record self.old { capacity = capacity }) }
         ensures busy { (result ≡ Err CapacityFault.Busy) ↔ (capacity < total self.old.slots) }
         ensures fits { total self.old.slots ≤ capacity → IsOk result }
-        ensures err { OnErr result (self.new ≡ self.old) }
+        ensures unchanged { OnErr result (self.new ≡ self.old) }
     {
         if capacity < self.held {
             return Err(CapacityFault::Busy);

@@ -3,7 +3,7 @@ ghost use Rattle.std.specs.Prelude.{◌≡◌, ◌+◌, ◌≤◌, ◌++◌, [],
 ghost use Rattle.std.specs.List.{splice};
 ghost use Rattle.pl_segments.specs.Segments.{segment_size};
 
-use crate::fault::NoMemory;
+use pl_model::NoMemory;
 use std::alloc::Allocator;
 use std::marker::Model;
 

@@ -10,7 +10,8 @@ mod slice;
 mod store;
 
 pub use block::SEGMENT_SIZE;
-pub use fault::{AppendFault, NoMemory};
+pub use fault::AppendFault;
+pub use pl_model::NoMemory;
 pub use sharing::lists_over_one_store;
 pub use slice::{Slice, SliceList, len_of};
 pub use store::Store;

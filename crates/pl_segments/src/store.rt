@@ -6,10 +6,11 @@ ghost use Rattle.pl_segments.specs.Slices.{Lies, reads, longer_by, appended, roo
 ghost use Rattle.pl_segments.specs.Turns.{Holds, Turns};
 
 use crate::block::{Block, SEGMENT_SIZE, put};
-use crate::fault::{AppendFault, NoMemory};
+use crate::fault::AppendFault;
 use crate::keys::Keys;
 use crate::segment::Segment;
 use crate::slice::Slice;
+use pl_model::NoMemory;
 use slab::Slab;
 use std::alloc::{Allocator, Global};
 use std::marker::Model;
@@ -98,7 +99,7 @@ impl<A: Allocator + Copy> Store<A> {
     fn add_spare(&mut self) -> Result<(), NoMemory>
         ensures room { OnOk result (self.new.room ≡ self.old.room + 1) }
         ensures kept { self.new ≡ record self.old { room = self.new.room } }
-        ensures err { OnErr result (self.new ≡ self.old) }
+        ensures unchanged { OnErr result (self.new ≡ self.old) }
     {
         // A place for the key of each segment that there is then, so that all can be kept when nobody holds them any more.
         let places = self.in_use().saturating_add(1);
@@ -118,7 +119,7 @@ impl<A: Allocator + Copy> Store<A> {
         ensures most { self.new.room ≤ max count self.old.room }
         ensures kept { self.new ≡ record self.old { room = self.new.room } }
         ensures succeeds { count ≤ self.old.room → IsOk result }
-        ensures err { OnErr result (self.new ≡ self.old) }
+        ensures unchanged { OnErr result (self.new ≡ self.old) }
     {
         let before = self.spare();
         while self.spare() < count {
@@ -139,7 +140,7 @@ impl<A: Allocator + Copy> Store<A> {
         ensures most { self.new.room ≤ max count self.old.room }
         ensures kept { self.new ≡ record self.old { room = self.new.room } }
         ensures succeeds { count ≤ self.old.room → IsOk result }
-        ensures err { OnErr result (self.new ≡ self.old) }
+        ensures unchanged { OnErr result (self.new ≡ self.old) }
     {
         if count <= self.spare.len() {
             return Ok(());
@@ -242,7 +243,7 @@ impl<A: Allocator + Copy> Store<A> {
         ensures room { OnOk result (self.new.room ≡ self.old.room) }
         ensures turns { IfOk result (λ more. Turns (segment_at self.old) (slice ∷ []) (segment_at self.new) (more ∷ [])) }
         ensures reads { IfOk result (λ more. reads (segment_at self.new) more ≡ reads (segment_at self.old) slice ++ bytes.now) }
-        ensures err { OnErr result (self.new ≡ self.old) }
+        ensures unchanged { OnErr result (self.new ≡ self.old) }
     {
         let end = slice.from as usize + slice.len as usize;
         let segment = &mut self.segments[slice.segment];
@@ -337,7 +338,7 @@ impl<A: Allocator + Copy> Store<A> {
         ensures in_use { OnOk result (live_count self.new.held ≡ live_count self.old.held + 1) }
         ensures turns { IfOk result (λ slice. Turns (segment_at self.old) [] (segment_at self.new) (slice ∷ [])) }
         ensures reads { IfOk result (λ slice. reads (segment_at self.new) slice ≡ bytes.now) }
-        ensures err { OnErr result (self.new ≡ self.old) }
+        ensures unchanged { OnErr result (self.new ≡ self.old) }
     {
         self.reserve(1)?;
         Ok(self.make_reserved(bytes))

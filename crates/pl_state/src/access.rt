@@ -17,8 +17,8 @@ impl Access {
         ensures { result ≡ allows self mode }
     {
         match self {
-            Access::Reading => matches!(mode, Mode::Read | Mode::Both),
-            Access::Writing => matches!(mode, Mode::Write | Mode::Both),
+            Access::Reading => mode.reads(),
+            Access::Writing => mode.writes(),
         }
     }
 }

@@ -8,9 +8,9 @@ ghost use Rattle.pl_state.specs.Contents.{IsProcess};
 ghost use Rattle.pl_state.specs.Parking.{with_call};
 ghost use Rattle.pl_state.specs.Sound.{IsWaiting, KeepsNodes, times};
 
-use crate::fault::NoMemory;
 use crate::state::KernelState;
 use pl_desc::Descs;
+use pl_model::NoMemory;
 use pl_parked::ParkedCall;
 use std::alloc::Allocator;
 
@@ -43,7 +43,7 @@ pub fn park<A: Allocator + Copy>(
     requires waits { IsWaiting A call }
     ensures number { IfOk result (λ number. number ≡ kernel.old.calls.next) }
     ensures ok { OnOk result (kernel.new ≡ with_call kernel.old call) }
-    ensures err { OnErr result (kernel.new ≡ kernel.old) }
+    ensures unchanged { OnErr result (kernel.new ≡ kernel.old) }
 {
     let Ok(number) = kernel.parked.park(call) else {
         return Err(NoMemory);

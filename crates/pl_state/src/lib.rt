@@ -7,7 +7,6 @@
 mod access;
 mod answered;
 mod ending;
-mod fault;
 mod holding;
 mod last_hold;
 mod opening;
@@ -17,9 +16,9 @@ mod waits;
 pub use access::{Access, OpenEnd, OpenNode};
 pub use answered::Answered;
 pub use ending::end_call;
-pub use fault::NoMemory;
 pub use holding::{hold_all, park};
 pub use last_hold::{leave_unnamed, release, release_all};
 pub use opening::open_at;
+pub use pl_model::NoMemory;
 pub use state::KernelState;
 pub use waits::{WaitingCall, WaitingMove, waiting_call};

@@ -11,8 +11,8 @@ ghost use Rattle.pl_nodes.specs.Nodes.{SamePipes, Shrinks, memory_of};
 use super::Nodes;
 use crate::content::Content;
 use pl_file::{File, WriteFault};
-use pl_model::Node;
-use pl_segments::{NoMemory, Store};
+use pl_model::{NoMemory, Node};
+use pl_segments::Store;
 use std::alloc::Allocator;
 
 // Lets the slots of a file go that nobody needs any more. It takes no memory.
@@ -80,7 +80,7 @@ impl<A: Allocator + Copy> Nodes<A> {
         ensures big { (result ≡ Err WriteFault.TooBig) ↔ ((1 ≤ length bytes.now) × (self.old.limits.file_max ≤ place)) }
         ensures ok { OnOk result (at self.new.files ≡ change_at key (written place (take (self.old.limits.file_max - place) bytes.now)) (at self.old.files)) }
         ensures pipes { SamePipes self.old self.new }
-        ensures err { OnErr result (self.new ≡ self.old) }
+        ensures unchanged { OnErr result (self.new ≡ self.old) }
     {
         // A proof learns here that there are fewer files and pipes than a segment can have holders.
         let _most = self.contents.capacity();

@@ -13,9 +13,9 @@ ghost use Rattle.pl_nodes.specs.Moving.{IsBytePipe, HoldsBytes, HasRoom, SharesS
 use super::Nodes;
 use crate::content::Content;
 use pl_file::WriteFault;
+use pl_model::NoMemory;
 use pl_model::numbers::MAX_CAPACITY;
 use pl_ring::Ring;
-use pl_segments::NoMemory;
 use std::alloc::Allocator;
 
 impl<A: Allocator + Copy> Nodes<A> {
@@ -29,7 +29,7 @@ impl<A: Allocator + Copy> Nodes<A> {
         ensures ok { OnOk result (at self.new.pipes ≡ change_at to (gain (take count (bytes_of (at self.old.pipes from)))) (at self.old.pipes)) }
         ensures files { SameFiles self.old self.new }
         ensures shares { OnOk result (SharesSlots (memory_of self.old) (memory_of self.new) from to) }
-        ensures err { OnErr result (self.new ≡ self.old) }
+        ensures unchanged { OnErr result (self.new ≡ self.old) }
     {
         // A proof learns here that there are fewer files and pipes than a segment can have holders.
         let _most = self.contents.capacity();
@@ -42,7 +42,9 @@ impl<A: Allocator + Copy> Nodes<A> {
         };
         // And here that the pipe holds no more than its capacity.
         let _held = target.queue.len();
-        target.queue.push_slices(&mut self.store, &slices)?;
+        target
+            .queue
+            .push_front_slices(&mut self.store, &slices, count)?;
         // And here that it has few slots.
         let _slots = target.queue.slots();
         self.store.trim(self.limits.spare_max);
@@ -59,7 +61,7 @@ impl<A: Allocator + Copy> Nodes<A> {
         ensures ok { OnOk result (at self.new.pipes ≡ change_at to (gain (take count (bytes_of (at self.old.pipes from)))) (change_at from (lose count) (at self.old.pipes))) }
         ensures files { SameFiles self.old self.new }
         ensures shares { OnOk result (SharesSlots (memory_of self.old) (memory_of self.new) from to) }
-        ensures err { OnErr result (self.new ≡ self.old) }
+        ensures unchanged { OnErr result (self.new ≡ self.old) }
     {
         if self.held(from) == count && self.slots(to) == 0 {
             return self.hand_over(from, to);
@@ -67,8 +69,8 @@ impl<A: Allocator + Copy> Nodes<A> {
         self.move_front(from, to, count)
     }
 
-    // Moves the first bytes of a pipe to another. Meanwhile the ring of the first one stands by itself, and the pipe has one that is new, since only
-    // one pipe can be borrowed at a time. An error leaves all as it was.
+    // Moves the first bytes of a pipe to another. Meanwhile the ring of the first one stands by itself, and the pipe has a bare one, since only one
+    // pipe can be borrowed at a time. An error leaves all as it was.
     fn move_front(&mut self, from: usize, to: usize, count: usize) -> Result<(), NoMemory>
         requires from { HoldsBytes (at self.old.pipes from) count }
         requires to { HasRoom (at self.old.pipes to) count }
@@ -76,11 +78,11 @@ impl<A: Allocator + Copy> Nodes<A> {
         ensures ok { OnOk result (at self.new.pipes ≡ change_at to (gain (take count (bytes_of (at self.old.pipes from)))) (change_at from (lose count) (at self.old.pipes))) }
         ensures files { SameFiles self.old self.new }
         ensures shares { OnOk result (SharesSlots (memory_of self.old) (memory_of self.new) from to) }
-        ensures err { OnErr result (self.new ≡ self.old) }
+        ensures unchanged { OnErr result (self.new ≡ self.old) }
     {
         // A proof learns here that there are fewer files and pipes than a segment can have holders.
         let _most = self.contents.capacity();
-        let mut ring = Ring::new(self.alloc, MAX_CAPACITY as usize)?;
+        let mut ring = Ring::bare(self.alloc)?;
         let Some(source) = self.contents[from].as_pipe_mut() else {
             unreachable!()
         };
@@ -115,7 +117,7 @@ impl<A: Allocator + Copy> Nodes<A> {
         ensures files { SameFiles self.old self.new }
         ensures segments { self.new.segments ≡ self.old.segments }
         ensures slots { OnOk result (slots_at self.new.slots to ≡ slots_at self.old.slots from) }
-        ensures err { OnErr result (self.new ≡ self.old) }
+        ensures unchanged { OnErr result (self.new ≡ self.old) }
     {
         let mut ring = Ring::new(self.alloc, MAX_CAPACITY as usize)?;
         let Some(source) = self.contents[from].as_pipe_mut() else {
@@ -144,7 +146,7 @@ impl<A: Allocator + Copy> Nodes<A> {
         requires to { HasRoom (at self.old.pipes to) count }
         ensures ok { OnOk result (at self.new.pipes ≡ change_at to (gain (part_of place count (at self.old.files from))) (at self.old.pipes)) }
         ensures files { SameFiles self.old self.new }
-        ensures err { OnErr result (self.new ≡ self.old) }
+        ensures unchanged { OnErr result (self.new ≡ self.old) }
     {
         // A proof learns from these counts what it learns in `copy_pipe_pipe`.
         let _most = self.contents.capacity();
@@ -186,7 +188,7 @@ impl<A: Allocator + Copy> Nodes<A> {
         ensures names { self.new.names ≡ self.old.names }
         ensures limits { self.new.limits ≡ self.old.limits }
         ensures none_added { OnOk result (IfSome (at self.old.files to) (λ bytes. place ≤ length bytes) → AddsNone (memory_of self.old) (memory_of self.new)) }
-        ensures err { OnErr result (self.new ≡ self.old) }
+        ensures unchanged { OnErr result (self.new ≡ self.old) }
     {
         if count == 0 {
             return Ok(0);
@@ -218,7 +220,7 @@ impl<A: Allocator + Copy> Nodes<A> {
         ensures ok { OnOk result (at self.new.files ≡ change_at to (written place (take count (bytes_of (at self.old.pipes from)))) (at self.old.files)) }
         ensures pipes { SamePipes self.old self.new }
         ensures none_added { OnOk result (IfSome (at self.old.files to) (λ bytes. place ≤ length bytes) → AddsNone (memory_of self.old) (memory_of self.new)) }
-        ensures err { OnErr result (self.new ≡ self.old) }
+        ensures unchanged { OnErr result (self.new ≡ self.old) }
     {
         // A proof learns here that there are fewer files and pipes than a segment can have holders.
         let _most = self.contents.capacity();

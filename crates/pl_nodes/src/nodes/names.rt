@@ -32,7 +32,7 @@ impl<A: Allocator + Copy> Nodes<A> {
         ensures slots { (key : ℕ) → slots_at self.new.slots key ≡ slots_at self.old.slots key }
         ensures segments { self.new.segments ≡ self.old.segments }
         ensures limits { self.new.limits ≡ self.old.limits }
-        ensures err { OnErr result (self.new ≡ self.old) }
+        ensures unchanged { OnErr result (self.new ≡ self.old) }
     {
         if self.names.contains_key(&name) {
             return Err(MakeFault::Exists);
@@ -91,7 +91,7 @@ impl<A: Allocator + Copy> Nodes<A> {
         ensures names { self.new.names ≡ without (pointwise nat_eq) self.old.names name.now }
         ensures missing { IsErr result ↔ (get (pointwise nat_eq) self.old.names name.now ≡ None) }
         ensures rest { self.new ≡ record self.old { names = self.new.names } }
-        ensures err { OnErr result (self.new ≡ self.old) }
+        ensures unchanged { OnErr result (self.new ≡ self.old) }
     {
         let Some(node) = self.names.remove(name) else {
             return Err(NoSuchName);

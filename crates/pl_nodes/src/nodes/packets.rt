@@ -12,9 +12,9 @@ ghost use Rattle.pl_nodes.specs.Nodes.{SameFiles};
 use super::Nodes;
 use crate::content::{Content, PipeNode};
 use crate::queue::Queue;
+use pl_model::NoMemory;
 use pl_model::numbers::{FIRST_CAPACITY, PIPE_BUF};
 use pl_packets::PacketRing;
-use pl_segments::NoMemory;
 use std::alloc::Allocator;
 
 impl<A: Allocator + Copy> Nodes<A> {
@@ -29,7 +29,7 @@ impl<A: Allocator + Copy> Nodes<A> {
         ensures limits { self.new.limits ≡ self.old.limits }
         ensures slots { (key : ℕ) → slots_at self.new.slots key ≡ slots_at self.old.slots key }
         ensures segments { self.new.segments ≡ self.old.segments }
-        ensures err { OnErr result (self.new ≡ self.old) }
+        ensures unchanged { OnErr result (self.new ≡ self.old) }
     {
         self.contents.reserve(1)?;
         let ring = PacketRing::new(self.alloc, FIRST_CAPACITY)?;
@@ -54,7 +54,7 @@ impl<A: Allocator + Copy> Nodes<A> {
         ensures limits { self.new.limits ≡ self.old.limits }
         ensures slots { (key : ℕ) → slots_at self.new.slots key ≡ slots_at self.old.slots key }
         ensures segments { self.new.segments ≡ self.old.segments }
-        ensures err { OnErr result (self.new ≡ self.old) }
+        ensures unchanged { OnErr result (self.new ≡ self.old) }
     {
         if packets {
             self.make_packet_pipe()
@@ -91,7 +91,7 @@ impl<A: Allocator + Copy> Nodes<A> {
         requires room { IfSome (at self.old.pipes key) (λ x. length bytes.now ≤ room x) }
         ensures ok { OnOk result (at self.new.pipes ≡ change_at key (gain bytes.now) (at self.old.pipes)) }
         ensures files { SameFiles self.old self.new }
-        ensures err { OnErr result (self.new ≡ self.old) }
+        ensures unchanged { OnErr result (self.new ≡ self.old) }
     {
         self.write_pipe(key, bytes)
     }
@@ -106,7 +106,7 @@ impl<A: Allocator + Copy> Nodes<A> {
         ensures few { IfOk result (λ bytes. length bytes.items ≤ most_capacity) }
         ensures ok { OnOk result (at self.new.pipes ≡ change_at key (λ x. lose (front x) x) (at self.old.pipes)) }
         ensures files { SameFiles self.old self.new }
-        ensures err { OnErr result (self.new ≡ self.old) }
+        ensures unchanged { OnErr result (self.new ≡ self.old) }
     {
         let count = count.min(self.front(key));
         self.read_pipe(key, count)

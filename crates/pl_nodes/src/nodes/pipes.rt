@@ -1,5 +1,5 @@
 //! Pipes.
-ghost use Rattle.std.specs.Prelude.{◌≡◌, ◌↔◌, ◌+◌, ◌-◌, ◌*◌, ◌/◌, ◌<◌, ◌≤◌, ◌++◌, ℕ, false, [], length, take, drop, IfOk, OnErr, OnOk, IsSome, IfSome, Some, None, Err, nat_eq};
+ghost use Rattle.std.specs.Prelude.{◌≡◌, ◌↔◌, ◌+◌, ◌-◌, ◌*◌, ◌/◌, ◌<◌, ◌≤◌, ◌++◌, ℕ, false, [], length, take, drop, IfOk, OnErr, OnOk, IsSome, IfSome, Some, None, Err, nat_eq, option_and_then};
 ghost use Rattle.pl_model.specs.Numbers.{most_capacity};
 ghost use Rattle.pl_model.specs.Capacity.{IsPipeCapacity};
 ghost use Rattle.pl_model.specs.State.{empty_pipe};
@@ -9,16 +9,48 @@ ghost use Rattle.pl_model.specs.Map.{set_at, change_at};
 ghost use Rattle.pl_model.specs.Nodes.{has_name};
 ghost use Rattle.pl_segments.specs.Segments.{segment_size, at};
 ghost use Rattle.pl_segments.specs.Sharing.{slots_at};
+ghost use Rattle.pl_nodes.specs.Contents.{as_pipe};
+ghost use Rattle.pl_nodes.specs.declared.content.Content.TheVariants as content;
 ghost use Rattle.pl_nodes.specs.Nodes.{SameFiles, Shrinks, memory_of};
 
 use super::Nodes;
 use crate::content::{Content, PipeNode};
 use crate::queue::Queue;
-use pl_model::Node;
 use pl_model::numbers::FIRST_CAPACITY;
+use pl_model::{NoMemory, Node};
 use pl_ring::{CapacityFault, Ring};
-use pl_segments::NoMemory;
+use slab::Slab;
 use std::alloc::Allocator;
+
+// The pipe of bytes under a key, if there is one.
+#[inline(always)]
+fn byte_pipe_at<A: Allocator + Copy>(
+    contents: &Slab<Content<A>, A>,
+    key: usize,
+) -> Option<&PipeNode<A>>
+    ensures { IfSome result (λ node. at contents.now.slots key ≡ Some (content.Pipe node.now)) }
+{
+    match contents.get(key) {
+        Some(Content::Pipe(node)) if !node.queue.is_packet() => Some(node),
+        _ => None,
+    }
+}
+
+// The pipe under a key, where there is one.
+#[inline(always)]
+fn pipe_at<A: Allocator + Copy>(contents: &Slab<Content<A>, A>, key: usize) -> &PipeNode<A>
+    requires { IsSome (option_and_then as_pipe (at contents.now.slots key)) }
+    ensures { at contents.now.slots key ≡ Some (content.Pipe result.now) }
+{
+    // Most pipes are of bytes, and one comparison finds them.
+    if let Some(node) = byte_pipe_at(contents, key) {
+        return node;
+    }
+    let Content::Pipe(node) = &contents[key] else {
+        unreachable!()
+    };
+    node
+}
 
 impl<A: Allocator + Copy> Nodes<A> {
     /// Makes an empty pipe of 65,536 bytes of capacity (pipe(7), Pipe capacity), and answers its key. It has no slots, and all others
@@ -32,7 +64,7 @@ impl<A: Allocator + Copy> Nodes<A> {
         ensures limits { self.new.limits ≡ self.old.limits }
         ensures slots { (key : ℕ) → slots_at self.new.slots key ≡ slots_at self.old.slots key }
         ensures segments { self.new.segments ≡ self.old.segments }
-        ensures err { OnErr result (self.new ≡ self.old) }
+        ensures unchanged { OnErr result (self.new ≡ self.old) }
     {
         self.contents.reserve(1)?;
         let ring = Ring::new(self.alloc, FIRST_CAPACITY)?;
@@ -47,15 +79,13 @@ impl<A: Allocator + Copy> Nodes<A> {
     }
 
     /// How many bytes a pipe holds.
+    #[inline(always)]
     pub fn held(&self, key: usize) -> usize
         requires { IsSome (at self.now.pipes key) }
         ensures value { IfSome (at self.now.pipes key) (λ x. result ≡ length x.bytes) }
         ensures few { result ≤ most_capacity }
     {
-        let Content::Pipe(node) = &self.contents[key] else {
-            unreachable!()
-        };
-        node.queue.len()
+        pipe_at(&self.contents, key).queue.len()
     }
 
     /// How many bytes of a pipe the next read can get.
@@ -66,10 +96,7 @@ impl<A: Allocator + Copy> Nodes<A> {
         ensures within { IfSome (at self.now.pipes key) (λ x. result ≤ length x.bytes) }
         ensures few { result ≤ most_capacity }
     {
-        let Content::Pipe(node) = &self.contents[key] else {
-            unreachable!()
-        };
-        node.queue.front()
+        pipe_at(&self.contents, key).queue.front()
     }
 
     /// How many bytes a pipe can hold.
@@ -78,10 +105,7 @@ impl<A: Allocator + Copy> Nodes<A> {
         ensures value { IfSome (at self.now.pipes key) (λ x. result ≡ x.capacity) }
         ensures most { result ≤ most_capacity }
     {
-        let Content::Pipe(node) = &self.contents[key] else {
-            unreachable!()
-        };
-        node.queue.capacity()
+        pipe_at(&self.contents, key).queue.capacity()
     }
 
     /// How much of its capacity a pipe takes: as many bytes as it holds, or 4,096 for each packet.
@@ -90,10 +114,7 @@ impl<A: Allocator + Copy> Nodes<A> {
         ensures value { IfSome (at self.now.pipes key) (λ x. result ≡ used x) }
         ensures few { result ≤ most_capacity }
     {
-        let Content::Pipe(node) = &self.contents[key] else {
-            unreachable!()
-        };
-        node.queue.used()
+        pipe_at(&self.contents, key).queue.used()
     }
 
     /// How many more bytes a pipe can hold.
@@ -103,10 +124,7 @@ impl<A: Allocator + Copy> Nodes<A> {
         ensures value { IfSome (at self.now.pipes key) (λ x. result ≡ room x) }
         ensures few { result ≤ most_capacity }
     {
-        let Content::Pipe(node) = &self.contents[key] else {
-            unreachable!()
-        };
-        node.queue.room()
+        pipe_at(&self.contents, key).queue.room()
     }
 
     /// Whether a pipe is hung.
@@ -123,10 +141,7 @@ impl<A: Allocator + Copy> Nodes<A> {
         ensures value { result ≡ length (slots_at self.now.slots key) }
         ensures bound { IfSome (at self.now.pipes key) (λ x. result ≤ 2 * x.capacity / segment_size) }
     {
-        let Content::Pipe(node) = &self.contents[key] else {
-            unreachable!()
-        };
-        node.queue.slots()
+        pipe_at(&self.contents, key).queue.slots()
     }
 
     /// Takes bytes out of a pipe, of which a read can get so many. An error leaves all as it was.
@@ -138,7 +153,7 @@ impl<A: Allocator + Copy> Nodes<A> {
         ensures few { IfOk result (λ bytes. length bytes.items ≤ most_capacity) }
         ensures ok { OnOk result (at self.new.pipes ≡ change_at key (λ x. lose (spent x count) x) (at self.old.pipes)) }
         ensures files { SameFiles self.old self.new }
-        ensures err { OnErr result (self.new ≡ self.old) }
+        ensures unchanged { OnErr result (self.new ≡ self.old) }
     {
         let Some(node) = self.contents[key].as_pipe_mut() else {
             unreachable!()
@@ -178,7 +193,7 @@ impl<A: Allocator + Copy> Nodes<A> {
         requires room { IfSome (at self.old.pipes key) (λ x. length bytes.now ≤ room x) }
         ensures ok { OnOk result (at self.new.pipes ≡ change_at key (gain bytes.now) (at self.old.pipes)) }
         ensures files { SameFiles self.old self.new }
-        ensures err { OnErr result (self.new ≡ self.old) }
+        ensures unchanged { OnErr result (self.new ≡ self.old) }
     {
         let Some(node) = self.contents[key].as_pipe_mut() else {
             unreachable!()
@@ -204,7 +219,7 @@ impl<A: Allocator + Copy> Nodes<A> {
         ensures busy { (result ≡ Err CapacityFault.Busy) ↔ IfSome (at self.old.pipes key) (λ x. capacity < used x) }
         ensures files { SameFiles self.old self.new }
         ensures memory { memory_of self.new ≡ memory_of self.old }
-        ensures err { OnErr result (self.new ≡ self.old) }
+        ensures unchanged { OnErr result (self.new ≡ self.old) }
     {
         let Some(node) = self.contents[key].as_pipe_mut() else {
             unreachable!()

@@ -32,8 +32,8 @@ invariant_of-kernel g c =
         fork-sound (calls g v) w.in-Ok.child w.in-Ok.ensures.pid c.copy_table.new.self w.in-Ok.ensures.pids w.in-Ok.ensures.rows c.copy_table.ensures.rest w.in-Ok.ensures.tidy,
         fork-held (calls g v) w.in-Ok.child w.in-Ok.ensures.pid c.copy_table.new.self w.in-Ok.ensures.pids w.in-Ok.ensures.rows c.copy_table.ensures.rest w.in-Ok.ensures.tidy,
       )
-      | in-Err-Eagain w ↦ still_sound c.kernel.inside c.kernel.invariant c.copy_table.new.self (sym w.in-Err-Eagain.ensures.err)
-      | in-Err-NoMemory w ↦ still_sound c.kernel.inside c.kernel.invariant c.copy_table.new.self (sym w.in-Err-NoMemory.ensures.err)
+      | in-Err-Eagain w ↦ still_sound c.kernel.inside c.kernel.invariant c.copy_table.new.self (sym w.in-Err-Eagain.ensures.unchanged)
+      | in-Err-NoMemory w ↦ still_sound c.kernel.inside c.kernel.invariant c.copy_table.new.self (sym w.in-Err-NoMemory.ensures.unchanged)
     ]
 
 pub returns-clause-done : goal.returns-clause-done
@@ -42,7 +42,7 @@ returns-clause-done g c =
     let k = c.kernel.inside in
     elim c.match-copy_table.branch [
       | in-Ok w ↦ rw (w.result-is, ← c.kernel.view_is) (fork-forks m w.in-Ok.child w.in-Ok.ensures.pid c.copy_table.new.self w.in-Ok.ensures.pids w.in-Ok.ensures.rows c.copy_table.ensures.rest w.in-Ok.ensures.tidy)
-      | in-Err-Eagain w ↦ rw (w.result-is, ← c.kernel.view_is) (subst (λ (d : Descs). MakesAtKeys (view_of k) (Begin c.args.pid call.Fork) (Fault EAGAIN) (contents d (nodes_of k.nodes) k.parked k.limits)) (sym w.in-Err-Eagain.ensures.err) (fork-full m (c.copy_table.ensures.full.0 (w.in-Err-Eagain.is ∙ ap (λ e. Err e) w.in-Err-Eagain.field-0-is))))
+      | in-Err-Eagain w ↦ rw (w.result-is, ← c.kernel.view_is) (subst (λ (d : Descs). MakesAtKeys (view_of k) (Begin c.args.pid call.Fork) (Fault EAGAIN) (contents d (nodes_of k.nodes) k.parked k.limits)) (sym w.in-Err-Eagain.ensures.unchanged) (fork-full m (c.copy_table.ensures.full.0 (w.in-Err-Eagain.is ∙ ap (λ e. Err e) w.in-Err-Eagain.field-0-is))))
       | in-Err-NoMemory w ↦ rw (w.result-is) tt
     ]
 

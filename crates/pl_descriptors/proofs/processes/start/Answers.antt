@@ -26,8 +26,8 @@ invariant_of-kernel g c =
         start-sound (holds g v) w.in-Ok.pid w.in-Ok.ensures.pid c.start.new.self w.in-Ok.ensures.pids w.in-Ok.ensures.rows c.start.ensures.rest w.in-Ok.ensures.tidy,
         start-held (holds g v) w.in-Ok.pid w.in-Ok.ensures.pid c.start.new.self w.in-Ok.ensures.pids w.in-Ok.ensures.rows c.start.ensures.rest w.in-Ok.ensures.tidy,
       )
-      | in-Err-Eagain w ↦ still_sound c.kernel.inside c.kernel.invariant c.start.new.self (sym w.in-Err-Eagain.ensures.err)
-      | in-Err-NoMemory w ↦ still_sound c.kernel.inside c.kernel.invariant c.start.new.self (sym w.in-Err-NoMemory.ensures.err)
+      | in-Err-Eagain w ↦ still_sound c.kernel.inside c.kernel.invariant c.start.new.self (sym w.in-Err-Eagain.ensures.unchanged)
+      | in-Err-NoMemory w ↦ still_sound c.kernel.inside c.kernel.invariant c.start.new.self (sym w.in-Err-NoMemory.ensures.unchanged)
     ]
 
 pub returns-clause-done : goal.returns-clause-done
@@ -36,7 +36,7 @@ returns-clause-done g c =
     let k = c.kernel.inside in
     elim c.match-start.branch [
       | in-Ok w ↦ rw (w.result-is, ← c.kernel.view_is) (start-starts m w.in-Ok.pid w.in-Ok.ensures.pid c.start.new.self w.in-Ok.ensures.pids w.in-Ok.ensures.rows c.start.ensures.rest w.in-Ok.ensures.tidy)
-      | in-Err-Eagain w ↦ rw (w.result-is, ← c.kernel.view_is) (subst (λ (d : Descs). MakesAtKeys (view_of k) Start (Fault EAGAIN) (contents d (nodes_of k.nodes) k.parked k.limits)) (sym w.in-Err-Eagain.ensures.err) (start-full m (c.start.ensures.full.0 (w.in-Err-Eagain.is ∙ ap (λ e. Err e) w.in-Err-Eagain.field-0-is))))
+      | in-Err-Eagain w ↦ rw (w.result-is, ← c.kernel.view_is) (subst (λ (d : Descs). MakesAtKeys (view_of k) Start (Fault EAGAIN) (contents d (nodes_of k.nodes) k.parked k.limits)) (sym w.in-Err-Eagain.ensures.unchanged) (start-full m (c.start.ensures.full.0 (w.in-Err-Eagain.is ∙ ap (λ e. Err e) w.in-Err-Eagain.field-0-is))))
       | in-Err-NoMemory w ↦ rw (w.result-is) tt
     ]
 

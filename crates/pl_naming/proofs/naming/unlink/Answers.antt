@@ -66,7 +66,7 @@ returns-in_default-unlink g c =
     let w = (goal.at.returns-in_default-unlink g c).After-name_fault in
     let missing : get (pointwise nat_eq) c.kernel.inside.nodes.names c.as_slice-bytes.result.now ≡ None = c.in_default-unlink.ensures.missing.0 refl in
     rw (← c.kernel.view_is) (subst (λ (ns : KeptNodes). MakesAtKeys (view_of c.kernel.inside) (Begin c.args.pid (Call.Unlink c.args.name.now)) (Fault ENOENT) (record (view_of c.kernel.inside) { nodes = nodes_of ns }))
-    (sym c.in_default-unlink.ensures.err) (of_name _ _ _ _ _ _ c.as_slice-bytes.ensures (unlink-missing (calls g w) c.as_slice-bytes.result.now (sym c.name_fault.ensures ∙ c.in_default.is) missing)))
+    (sym c.in_default-unlink.ensures.unchanged) (of_name _ _ _ _ _ _ c.as_slice-bytes.ensures (unlink-missing (calls g w) c.as_slice-bytes.result.now (sym c.name_fault.ensures ∙ c.in_default.is) missing)))
 
 pub leave_unnamed-requires : goal.leave_unnamed-requires
 leave_unnamed-requires g c = is_there g (goal.at.leave_unnamed-requires g c).In-Ok

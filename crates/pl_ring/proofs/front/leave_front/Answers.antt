@@ -1,5 +1,4 @@
-use Rattle.std.proofs.Common.{◌≡◌, ◌∙◌, ◌∷◌, ◌++◌, List, [], ap, sym, subst, refl, arith}
-use Rattle.std.proofs.lemmas.List.{append-nil}
+use Rattle.std.proofs.Common.{◌≡◌, ◌∙◌, ◌∷◌, ◌++◌, List, [], ap, sym, subst, arith}
 use Rattle.pl_segments.specs.Segments.{Map, Segments, segment_at}
 use Rattle.pl_segments.specs.declared.slice.Slice.{Slice as Part}
 use Rattle.pl_segments.specs.Slices.{AllLie, all_read}
@@ -7,7 +6,7 @@ use Rattle.pl_segments.specs.Turns.{Turns, Holds}
 use Rattle.pl_segments.specs.Slots.{total, AllSolid, cut_front, cut_end, drop_bytes, front_of}
 use Rattle.pl_segments.proofs.SlotLemmas.{lies-cut_front}
 use Rattle.pl_segments.proofs.Turning.{turns-same}
-use Rattle.pl_segments.proofs.Fronting.{drop-whole, drop-none, front-none, front-part}
+use Rattle.pl_segments.proofs.Fronting.{drop-whole, drop-none, front-part}
 use Rattle.pl_ring.proofs.Leaving.{left-whole, all-left, cut-turns, cut-read}
 use Rattle.pl_ring.proofs.front.leave_front.Given.{Over}
 use Rattle.pl_ring.proofs.front.leave_front.Goals.{After-put_first}

@@ -2,17 +2,15 @@ use Rattle.std.proofs.Common.{◌≡◌, ◌∙◌, ◌++◌, List, refl, not, a
 use Rattle.std.proofs.lemmas.List.{append_assoc}
 use Rattle.pl_segments.specs.declared.slice.Slice.{Slice}
 use Rattle.pl_segments.specs.Segments.{Map, Segments, segment_at, live_count}
-use Rattle.pl_segments.specs.Slices.{AllLie, all_read}
+use Rattle.pl_segments.specs.Slices.{all_read}
 use Rattle.pl_segments.specs.Turns.{Holds, Turns}
 use Rattle.pl_segments.proofs.Turning.{turns-then, holds-turned, turns-behind, turns-before, naming-append, read-append, lie-left, lie-right, others-read}
 use Rattle.pl_segments.proofs.Together.{holds-left, holds-right}
 use Rattle.pl_segments.proofs.Fronting.{front-solid, front-total}
-use Rattle.pl_segments.specs.Slots.{total, solid_of, front_of, drop_bytes}
-use Rattle.pl_segments.proofs.SlotLemmas.{last-total}
-use Rattle.pl_segments.proofs.LastSlot.{part-most}
-use Rattle.pl_ring.specs.Merging.{lens, merges, merges_onto}
+use Rattle.pl_segments.specs.Slots.{total, solid_of, front_of}
+use Rattle.pl_ring.specs.Merging.{lens, merges_onto}
 use Rattle.pl_ring.specs.Parts.{is_among, fresh}
-use Rattle.pl_ring.specs.Pushed.{CanTake, MakesAtMost, Passed}
+use Rattle.pl_ring.specs.Pushed.{CanTake}
 use Rattle.pl_ring.proofs.Counting.{fresh-first}
 use Rattle.pl_ring.proofs.Leaving.{parts-read}
 use Rattle.pl_ring.proofs.Merging.{solid-same, front-merges}
@@ -20,11 +18,13 @@ use Rattle.pl_ring.proofs.push.move_slices.Given.{Over}
 use Rattle.pl_ring.proofs.push.move_slices.Goals.{After-leave_front}
 use Rattle.pl_ring.proofs.push.move_slices.Goals as goal
 
-pub plan_of-plan-requires : goal.plan_of-plan-requires
-plan_of-plan-requires g c =
-    let last = last-total c.args.to.now.items in
-    let sum = ap total c.requires.front ∙ front-total c.args.from.now.items c.args.count c.requires.count in
-    omega (arith, last, sum, c.len-before.ensures.len, c.len-before.ensures.within.0, c.last_len.ensures, c.requires.ring.fits, c.requires.most)
+pub plan_of_front-plan-requires-clause-ring : goal.plan_of_front-plan-requires-clause-ring
+plan_of_front-plan-requires-clause-ring g c =
+    subst (CanTake c.args.to.now) (sym (ap total c.requires.front ∙ front-total c.args.from.now.items c.args.count c.requires.count)) c.requires.ring
+
+pub plan_of_front-plan-requires-clause-front : goal.plan_of_front-plan-requires-clause-front
+plan_of_front-plan-requires-clause-front g c =
+    record { source = c.args.from.now.items; count = c.args.count; solid = c.requires.source.solid; merged = c.requires.source.merged; is = c.requires.front }
 
 pub leave_front-requires-clause-held : goal.leave_front-requires-clause-held
 leave_front-requires-clause-held g c =

@@ -4,20 +4,13 @@ use Rattle.pl_segments.specs.Slices.{all_read}
 use Rattle.pl_segments.specs.Turns.{Turns}
 use Rattle.pl_segments.proofs.Turning.{turns-then, holds-turned}
 use Rattle.pl_segments.specs.Slots.{solid_of}
-use Rattle.pl_segments.proofs.SlotLemmas.{last-total}
 use Rattle.pl_segments.proofs.LastSlot.{part-most}
 use Rattle.pl_segments.proofs.Pushing.{pushes-turns, pushes-read}
-use Rattle.pl_ring.specs.Merging.{lens, merges, merges_onto}
 use Rattle.pl_ring.specs.Parts.{is_among}
 use Rattle.pl_ring.proofs.Counting.{fresh-first}
 use Rattle.pl_ring.proofs.push.push_slices.Given.{Over}
 use Rattle.pl_ring.proofs.push.push_slices.Goals.{After-hold_all}
 use Rattle.pl_ring.proofs.push.push_slices.Goals as goal
-
-pub plan_of-plan-requires : goal.plan_of-plan-requires
-plan_of-plan-requires g c =
-    let last = last-total c.args.slots.now.items in
-    omega (arith, last, c.len-count.ensures.len, c.len-count.ensures.within.0, c.last_len.ensures, c.requires.ring.fits, c.requires.most)
 
 -- the slices are held beside the slots
 module _ (g : Over) (c : After-hold_all g) where
@@ -55,16 +48,12 @@ returns-clause-pushed g c =
       capacity = took.capacity;
     }
 
--- what was planned
-planned : (g : Over) (c : After-hold_all g) → c.plan_of-plan.result.merges ≡ merges_onto c.args.slots.now.items (lens (solid_of c.args.slices.now))
-planned g c = c.plan_of-plan.ensures.merges ∙ (λ i. merges (c.len-count.ensures.len i) (c.last_len.ensures i) (lens (solid_of c.args.slices.now)))
-
 pub returns-clause-merges : goal.returns-clause-merges
 returns-clause-merges g c =
-    let merged = planned g (goal.at.returns-clause-merges g c).After-hold_all in
+    let plan = c.requires.plan in
     let e = c.push_held.ensures in
     record {
-      count = omega (arith, merged, c.plan_of-plan.ensures.slots, e.count, c.len-count.ensures.len);
+      count = omega (arith, plan.merges, plan.slots, e.count);
       makes = record {
         slots =
             let p = e.parts (λ x. not (is_among (c.args.slots.now.items ++ c.args.slices.now) x)) in
@@ -79,6 +68,5 @@ returns-clause-merges g c =
 pub push_held-requires-clause-room : goal.push_held-requires-clause-room
 push_held-requires-clause-room g c =
     let part = part-most (segment_at c.hold_all.new.store) c.args.slots.now.items in
-    let plan = c.plan_of-plan.ensures in
-    let merged = planned g (goal.at.push_held-requires-clause-room g c).After-hold_all in
-    omega (arith, part, merged, plan.slots, plan.more, c.in_ok-reserve.ensures.room, c.hold_all.ensures.room, c.len-count.ensures.len)
+    let plan = c.requires.plan in
+    omega (arith, part, plan.merges, plan.slots, plan.more, c.in_ok-reserve.ensures.room, c.hold_all.ensures.room, c.len.ensures.len)

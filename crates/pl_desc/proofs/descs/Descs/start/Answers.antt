@@ -62,4 +62,4 @@ pub returns-clause-tidy : goal.returns-clause-tidy
 returns-clause-tidy g c = tidy _ _ _ (invariant_of-self-2 g c) _
 
 pub invariant_of-self : goal.invariant_of-self
-invariant_of-self g c = subst (λ ts. IsSound ts c.self.inside.descriptions.slots (ends_at c.self.inside.counts)) (sym (err_part c.reserve_place.result (sym c.is_err.ensures.value ∙ c.if-is_err.true) c.reserve_place.ensures.err)) c.self.invariant
+invariant_of-self g c = subst (λ ts. IsSound ts c.self.inside.descriptions.slots (ends_at c.self.inside.counts)) (sym (err_part c.reserve_place.result (sym c.is_err.ensures.value ∙ c.if-is_err.true) c.reserve_place.ensures.unchanged)) c.self.invariant

@@ -82,7 +82,7 @@ pub returns-in_err-reserve-2-clause-unchanged : goal.returns-in_err-reserve-2-cl
 returns-in_err-reserve-2-clause-unchanged g c =
     let k = (goal.at.returns-in_err-reserve-2-clause-unchanged g c).After-index_mut-row in
     let same = same_slots g k c.reserve.new.self c.reserve.ensures.slots c.reserve.ensures.base in
-    on_err c.from_residual-in_err-reserve-2.result _ (same, c.in_err-reserve-2.ensures.err)
+    on_err c.from_residual-in_err-reserve-2.result _ (same, c.in_err-reserve-2.ensures.unchanged)
 
 pub push-requires-clause-fits : goal.push-requires-clause-fits
 push-requires-clause-fits g c =

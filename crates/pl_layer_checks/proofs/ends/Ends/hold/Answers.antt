@@ -8,7 +8,7 @@ invariant_of-self g c =
     let k = c.self.inside in
     let new = c.set_capacity.new.self in
     let done = c.set_capacity.ensures in
-    let stays = stays-pipe c.set_capacity.result k.first k.nodes new _ done.ok done.err in (
+    let stays = stays-pipe c.set_capacity.result k.first k.nodes new _ done.ok done.unchanged in (
       stays k.first c.self.invariant.0,
       stays k.second c.self.invariant.1,
       stays-same (at k.nodes.files) (at new.files) (ap at done.files.files) k.file c.self.invariant.2,

@@ -8,7 +8,7 @@ invariant_of-self g c =
     let k = c.self.inside in
     let new = c.make_fifo.new.self in
     let done = c.make_fifo.ensures in
-    let stays = stays-pipe-made c.make_fifo.result k.nodes new empty_pipe done.ok done.err in (
+    let stays = stays-pipe-made c.make_fifo.result k.nodes new empty_pipe done.ok done.unchanged in (
       stays k.first c.self.invariant.0,
       stays k.second c.self.invariant.1,
       stays-same (at k.nodes.files) (at new.files) done.files k.file c.self.invariant.2,

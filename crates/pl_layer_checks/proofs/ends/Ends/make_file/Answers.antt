@@ -11,6 +11,6 @@ invariant_of-self g c =
     let stays = stays-same (at k.nodes.pipes) (at new.pipes) done.pipes in (
       stays k.first c.self.invariant.0,
       stays k.second c.self.invariant.1,
-      stays-file-made c.make_file.result k.nodes new [] done.ok done.err k.file c.self.invariant.2,
+      stays-file-made c.make_file.result k.nodes new [] done.ok done.unchanged k.file c.self.invariant.2,
       c.self.invariant.3,
     )

@@ -8,7 +8,7 @@ invariant_of-self g c =
     let k = c.self.inside in
     let new = c.move_pipe_pipe.new.self in
     let done = c.move_pipe_pipe.ensures in
-    let stays = stays-pipes c.move_pipe_pipe.result k.second k.first k.nodes new _ _ done.ok done.err in (
+    let stays = stays-pipes c.move_pipe_pipe.result k.second k.first k.nodes new _ _ done.ok done.unchanged in (
       stays k.first c.self.invariant.0,
       stays k.second c.self.invariant.1,
       stays-same (at k.nodes.files) (at new.files) (ap at done.files.files) k.file c.self.invariant.2,

@@ -8,7 +8,7 @@ invariant_of-self g c =
     let k = c.self.inside in
     let new = c.write_pipe.new.self in
     let done = c.write_pipe.ensures in
-    let stays = stays-pipe c.write_pipe.result k.first k.nodes new _ done.ok done.err in (
+    let stays = stays-pipe c.write_pipe.result k.first k.nodes new _ done.ok done.unchanged in (
       stays k.first c.self.invariant.0,
       stays k.second c.self.invariant.1,
       stays-same (at k.nodes.files) (at new.files) (ap at done.files.files) k.file c.self.invariant.2,

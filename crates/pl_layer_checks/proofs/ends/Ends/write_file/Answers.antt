@@ -11,6 +11,6 @@ invariant_of-self g c =
     let stays = stays-same (at k.nodes.pipes) (at new.pipes) (ap at done.pipes.pipes) in (
       stays k.first c.self.invariant.0,
       stays k.second c.self.invariant.1,
-      stays-file c.write_file.result k.file k.nodes new _ done.ok done.err k.file c.self.invariant.2,
+      stays-file c.write_file.result k.file k.nodes new _ done.ok done.unchanged k.file c.self.invariant.2,
       c.self.invariant.3,
     )

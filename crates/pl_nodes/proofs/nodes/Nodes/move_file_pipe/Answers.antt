@@ -57,8 +57,8 @@ returns-in_err-push_slices-clause-files g c =
     pipe-refused k c.args.to target there c.self.invariant c.args.self.now c.self.view_is c.push_slices.new.store (ap (λ (s : Segments). s.held) refused.unchanged.1)
     (record target { queue = c.push_slices.new.self }) (λ i. record target { queue = refused.unchanged.0 i })
 
-pub returns-in_err-push_slices-clause-err : goal.returns-in_err-push_slices-clause-err
-returns-in_err-push_slices-clause-err g c =
+pub returns-in_err-push_slices-clause-unchanged : goal.returns-in_err-push_slices-clause-unchanged
+returns-in_err-push_slices-clause-unchanged g c =
     let refused = c.in_err-push_slices.ensures in
     let k = c.self.inside in
     let target = c.in-Some.pipe.now in

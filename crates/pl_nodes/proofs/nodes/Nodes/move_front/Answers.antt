@@ -1,12 +1,11 @@
-use Rattle.std.proofs.Common.{◌≡◌, ◌≤◌, ◌<◌, ℕ, ◌+◌, [], ◌++◌, Option, Some, None, List, OnOk, OnErr, refl, sym, ◌∙◌, ap, subst, length, slice_set, take, drop, arith}
+use Rattle.std.proofs.Common.{◌≡◌, ◌≤◌, [], ◌++◌, Option, Some, None, List, OnOk, OnErr, refl, sym, ◌∙◌, ap, subst, length, slice_set, take, drop, arith}
 use Rattle.std.proofs.Math.Path.{fun_ext}
 use Rattle.std.specs.Prelude.{option_map}
 use Rattle.pl_model.specs.Packets.{lose, gain, without_front, piece_lengths, used_of}
 use Rattle.pl_model.specs.Map.{change_at}
 use Rattle.pl_model.specs.Numbers.{most_file_bytes}
 use Rattle.pl_model.specs.Transfer.{room}
-use Rattle.pl_segments.specs.declared.slice.Slice.{Slice}
-use Rattle.pl_segments.specs.Segments.{Map, Segments, at, segment_at, live_count, holders, trimmed}
+use Rattle.pl_segments.specs.Segments.{Map, Segments, at, segment_at, live_count, trimmed}
 use Rattle.pl_segments.specs.Slices.{all_read}
 use Rattle.pl_segments.specs.Turns.{Holds, Turns}
 use Rattle.pl_segments.specs.Slots.{total, front_of}
@@ -24,7 +23,7 @@ use Rattle.pl_nodes.specs.NodesView.{pipe_of, slots_in, lists, view_of, IsSound}
 use Rattle.pl_nodes.specs.Contents.{as_pipe}
 use Rattle.pl_nodes.specs.Queue.{slots_of, capacity_of, packets_of}
 use Rattle.pl_nodes.proofs.Keyed.{within, on_ok, same-list}
-use Rattle.pl_nodes.proofs.AtKey.{pipe-there, slots-flat, slots-short, few-holders}
+use Rattle.pl_nodes.proofs.AtKey.{pipe-there, slots-flat, few-holders}
 use Rattle.pl_nodes.proofs.Lists.{lists-at, lists-length}
 use Rattle.pl_nodes.proofs.Pipes.{pipe-flat, pipe-told, pipe-total}
 use Rattle.pl_nodes.proofs.Slices.{strange-front}
@@ -291,9 +290,9 @@ returns-clause-ok g c =
     back-ok g k c.in-Some-as_pipe_mut-2.source.now was c.exchange-2.new.self c.exchange-2.ensures.slots c.trim.new.self c.trim.ensures c.exchange-2.ensures.bytes
     (c.exchange-2.ensures.capacity ∙ ap (λ (x : PipeNode g.row.A.Denot). capacity_of x.queue) was ∙ c.exchange.ensures.capacity)
 
-pub returns-clause-err : goal.returns-clause-err
-returns-clause-err g c =
-    let k = (goal.at.returns-clause-err g c).After-take_front-moved in
+pub returns-clause-unchanged : goal.returns-clause-unchanged
+returns-clause-unchanged g c =
+    let k = (goal.at.returns-clause-unchanged g c).After-take_front-moved in
     let was = third g k c.index_mut-3.result.now c.in-Some-as_pipe_mut-2.source.now c.index_mut-3.ensures.value c.in-Some-as_pipe_mut-2.ensures.value in
     back-err g k c.in-Some-as_pipe_mut-2.source.now was c.exchange-2.new.self c.exchange-2.ensures.slots c.trim.new.self c.trim.ensures c.exchange-2.ensures.bytes
     (c.exchange-2.ensures.capacity ∙ ap (λ (x : PipeNode g.row.A.Denot). capacity_of x.queue) was ∙ c.exchange.ensures.capacity)

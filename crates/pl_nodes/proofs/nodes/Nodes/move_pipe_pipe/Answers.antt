@@ -1,12 +1,7 @@
-use Rattle.std.proofs.Common.{◌≤◌, ◌∙◌, sym, ap, subst, take, arith}
-use Rattle.pl_model.specs.Packets.{lose, gain}
-use Rattle.pl_model.specs.Map.{change_at}
-use Rattle.pl_segments.specs.Segments.{at}
-use Rattle.pl_nodes.specs.Nodes.{bytes_of}
-use Rattle.pl_nodes.specs.Moving.{HoldsBytes}
+use Rattle.std.proofs.Common.{◌≤◌, sym, subst, arith}
 use Rattle.pl_segments.specs.Sharing.{slots_at}
 use Rattle.pl_ring.specs.Parts.{strange}
-use Rattle.pl_nodes.proofs.Keyed.{on_ok, changes-swap, other-still}
+use Rattle.pl_nodes.proofs.Keyed.{on_ok}
 use Rattle.pl_nodes.proofs.Slices.{strange-handed}
 use Rattle.pl_nodes.proofs.nodes.Nodes.move_pipe_pipe.Goals as goal
 

@@ -55,8 +55,8 @@ returns-in_default-put_slices_at-clause-pipes g c =
     file-refused k c.args.to target there c.self.invariant c.args.self.now c.self.view_is c.put_slices_at.new.store (ap (λ (s : Segments). s.held) refused.unchanged.1)
     (record target { file = c.put_slices_at.new.self }) (λ i. record target { file = refused.unchanged.0 i })
 
-pub returns-in_default-put_slices_at-clause-err : goal.returns-in_default-put_slices_at-clause-err
-returns-in_default-put_slices_at-clause-err g c =
+pub returns-in_default-put_slices_at-clause-unchanged : goal.returns-in_default-put_slices_at-clause-unchanged
+returns-in_default-put_slices_at-clause-unchanged g c =
     let refused = c.in_default-put_slices_at.ensures in
     let k = c.self.inside in
     let target = c.in-Some.file.now in

@@ -78,11 +78,11 @@ returns-clause-memory g c =
     let node = c.in-Some.node.now in
     still-memory k c.args.key (Pipe node) (there g at_call) c.self.invariant (Pipe (record node { queue = c.set_capacity.new.self })) (same g at_call) c.args.self.now c.self.view_is
 
-pub returns-clause-err : goal.returns-clause-err
-returns-clause-err g c =
-    let at_call = (goal.at.returns-clause-err g c).After-set_capacity in
+pub returns-clause-unchanged : goal.returns-clause-unchanged
+returns-clause-unchanged g c =
+    let at_call = (goal.at.returns-clause-unchanged g c).After-set_capacity in
     let k = c.self.inside in
     let node = c.in-Some.node.now in
     on_err_weaker c.set_capacity.result
     (λ is. refused-seen k c.args.key (Pipe node) (there g at_call) c.self.invariant k.store refl (Pipe (record node { queue = c.set_capacity.new.self })) (λ i. Pipe (record node { queue = is i })) ∙ c.self.view_is)
-    c.set_capacity.ensures.err
+    c.set_capacity.ensures.unchanged

@@ -19,8 +19,8 @@ write_at-requires-clause-held g c =
 pub write_at-requires-clause-few : goal.write_at-requires-clause-few
 write_at-requires-clause-few g c = few-holders c.self.inside c.self.invariant (omega (arith, c.capacity-most.ensures.value, c.capacity-most.ensures.slots))
 
-pub returns-in_err-written-clause-err : goal.returns-in_err-written-clause-err
-returns-in_err-written-clause-err g c =
+pub returns-in_err-written-clause-unchanged : goal.returns-in_err-written-clause-unchanged
+returns-in_err-written-clause-unchanged g c =
     let refused = c.in_err-written.ensures in
     let k = c.self.inside in
     let there = file-there k.contents.slots c.args.key c.index_mut.result.now c.in-Some.node.now c.index_mut.ensures.value c.in-Some.ensures.value in

@@ -38,8 +38,8 @@ returns-in_err-push-clause-files g c =
     pipe-refused c.self.inside c.args.key node there c.self.invariant c.args.self.now c.self.view_is c.push.new.store (ap (λ (s : Segments). s.held) refused.unchanged.1)
     (record node { queue = c.push.new.self }) (λ i. record node { queue = refused.unchanged.0 i })
 
-pub returns-in_err-push-clause-err : goal.returns-in_err-push-clause-err
-returns-in_err-push-clause-err g c =
+pub returns-in_err-push-clause-unchanged : goal.returns-in_err-push-clause-unchanged
+returns-in_err-push-clause-unchanged g c =
     let refused = c.in_err-push.ensures in
     let node = c.in-Some.node.now in
     let there = pipe-there c.self.inside.contents.slots c.args.key c.index_mut.result.now c.in-Some.node.now c.index_mut.ensures.value c.in-Some.ensures.value in

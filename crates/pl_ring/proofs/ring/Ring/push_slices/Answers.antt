@@ -21,9 +21,9 @@ invariant_of-self-2 g c =
     let slots : before ≡ c.args.self.now.slots = items ∙ ap (λ (r : Ring). r.slots) c.self.view_is in
     let room : k.capacity ≡ c.args.self.now.capacity = ap (λ (r : Ring). r.capacity) c.self.view_is in
     let held : Holds m before = subst (Holds m) (sym slots) c.requires.held in
-    let is = c.as_slice.ensures in
-    let done = c.in_ok-bytes.ensures.pushed in
-    let sum = c.in_ok-bytes.ensures.bytes ∙ ap total is in
+    let is = c.as_slice-2.ensures in
+    let done = c.in_ok-push_slices.ensures.pushed in
+    let sum = c.len_of.ensures ∙ ap total c.as_slice-3.ensures in
     let read = done.gains.read ∙ ap (λ zs. all_read m before ++ all_read m zs) is in
     let more : total c.push_slices.new.slots.items ≡ total before + length (all_read m list) =
     total-pushed m (segment_at c.push_slices.new.store) before c.push_slices.new.slots.items (all_read m list) held.lie done.gains.turns.lie read in
@@ -45,12 +45,12 @@ invariant_of-self-2 g c =
 pub returns-clause-front : goal.returns-clause-front
 returns-clause-front g c = λ front.
     let slots = c.make_places.ensures.items ∙ ap (λ (r : Ring). r.slots) c.self.view_is in
-    let is = c.as_slice.ensures in
+    let is = c.as_slice-2.ensures in
     let xs = c.make_places.new.slots.items in
-    let ds = c.as_slice.result.now in
+    let ds = c.as_slice-2.result.now in
     let new = c.push_slices.new.slots.items in
     let most = front-merges xs ds (subst IsFront (sym is) front) in
-    let makes = c.in_ok-bytes.ensures.merges.makes in
+    let makes = c.in_ok-push_slices.ensures.merges.makes in
     let same : fresh (xs ++ ds) new ≡ fresh (c.args.self.now.slots ++ c.args.slices.now) new = (λ i. fresh (slots i ++ is i) new) in
     record {
       slots = omega (arith, most, makes.slots, same);

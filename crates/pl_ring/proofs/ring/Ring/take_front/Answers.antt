@@ -1,4 +1,4 @@
-use Rattle.std.proofs.Common.{◌≡◌, ◌+◌, ◌++◌, ◌∙◌, ap, sym, subst, length, take, arith}
+use Rattle.std.proofs.Common.{◌≡◌, ◌+◌, ◌∙◌, ap, sym, subst, length, take, arith}
 use Rattle.std.proofs.lemmas.List.{length-take}
 use Rattle.pl_segments.specs.Segments.{segment_at}
 use Rattle.pl_segments.specs.Slices.{AllLie, all_read}
@@ -16,17 +16,17 @@ invariant_of-self-2 g c =
     let m = segment_at c.args.store.now in
     let source = c.other.inside.slots.items in
     let before = c.make_places.new.slots.items in
-    let got = c.move_slices.new.to.items in
+    let got = c.move_front.new.to.items in
     let items : before ≡ k.slots.items = c.make_places.ensures.items in
     let slots : before ≡ c.args.self.now.slots = items ∙ ap (λ (r : Ring). r.slots) c.self.view_is in
     let others : source ≡ c.args.other.now.slots = ap (λ (r : Ring). r.slots) c.other.view_is in
     let room : k.capacity ≡ c.args.self.now.capacity = ap (λ (r : Ring). r.capacity) c.self.view_is in
-    let moved = c.in_ok-move_slices.ensures.moved in
+    let moved = c.in_ok-move_front.ensures.moved in
     let lie : AllLie m before = subst (AllLie m) (sym slots) (lie-left m c.args.self.now.slots c.args.other.now.slots c.requires.held.lie) in
     let source_lie : AllLie m source = subst (AllLie m) (sym others) (lie-right m c.args.self.now.slots c.args.other.now.slots c.requires.held.lie) in
     let bytes = take c.args.count (all_read m source) in
     let more : total got ≡ total before + length bytes =
-    total-pushed m (segment_at c.move_slices.new.store) before got bytes lie (lie-left (segment_at c.move_slices.new.store) got c.move_slices.new.from.items moved.passed.turns.lie) moved.passed.read in
+    total-pushed m (segment_at c.move_front.new.store) before got bytes lie (lie-left (segment_at c.move_front.new.store) got c.move_front.new.from.items moved.passed.turns.lie) moved.passed.read in
     let len = length-take c.args.count (all_read m source) in
     let sum = total-read m source source_lie in
     let has = ap total others in
@@ -46,6 +46,6 @@ invariant_of-self-2 g c =
 
 pub invariant_of-other-2 : goal.invariant_of-other-2
 invariant_of-other-2 g c =
-    let moved = c.in_ok-move_slices.ensures.moved in
+    let moved = c.in_ok-move_front.ensures.moved in
     let was = ap (λ (r : Ring). total r.slots) c.other.view_is in
-    dropped c.other.inside c.move_slices.new.from c.args.count c.other.invariant (omega (arith, was, c.requires.count)) moved.passed.slots moved.given
+    dropped c.other.inside c.move_front.new.from c.args.count c.other.invariant (omega (arith, was, c.requires.count)) moved.passed.slots moved.given
