@@ -82,11 +82,11 @@ static void a_splice_of_all(void)
     HOLDS(bytes_left == 0);
 }
 
-/* A page that goes from one pipe to another with places for it takes one small block of memory and gives it back, and so does a part of one. Both
- * pipes keep the order of their bytes. */
+/* A page that goes from one pipe to another with places for it takes at most one block of the least size, which is 24 bytes in glibc, and gives it
+ * back, and so does a part of one. Both pipes keep the order of their bytes. */
 static void splices_of_a_page(void)
 {
-    enum { PAGES = 4, PART = 1000, REST = PAGES * SEGMENT - SEGMENT - PART, SMALL = 48 };
+    enum { PAGES = 4, PART = 1000, REST = PAGES * SEGMENT - SEGMENT - PART, LEAST = 24 };
     static uint8_t bytes[PAGES * SEGMENT], into[PAGES * SEGMENT];
     for (size_t i = 0; i < sizeof bytes; i++)
         bytes[i] = (uint8_t)(i % 251);
@@ -99,7 +99,7 @@ static void splices_of_a_page(void)
     most_bytes = before;
     DONE(bindingclay_splice(clay, 1, from.read_end, NULL, to.write_end, NULL, SEGMENT, 0), SEGMENT);
     DONE(bindingclay_splice(clay, 1, from.read_end, NULL, to.write_end, NULL, PART, 0), PART);
-    HOLDS(most_bytes - before <= SMALL);
+    HOLDS(most_bytes - before <= LEAST);
     HOLDS(bytes_left == before);
     DONE(take(clay, 1, to.read_end, SEGMENT), SEGMENT);
     DONE(bindingclay_read(clay, 1, to.read_end, into, sizeof into), SEGMENT + PART);

@@ -69,11 +69,18 @@ impl<A: Allocator + Copy> Ring<A> {
         })
     }
 
-    /// No slots, and the greatest capacity: a ring to exchange with another for as long as that one stands by itself.
+    /// No slots, no places, and the greatest capacity: a ring to exchange with another for as long as that one stands by itself.
     pub fn bare(alloc: A) -> Result<Ring<A>, NoMemory>
         ensures { IfOk result (λ ring. ring ≡ record { slots = []; capacity = most_capacity }) }
     {
-        Ring::new(alloc, MAX_CAPACITY as usize)
+        let slots = HeapCircularBuffer::with_capacity(alloc, 0)?;
+        Ok(Ring {
+            alloc,
+            slots,
+            capacity: MAX_CAPACITY as usize,
+            held: 0,
+            few: None,
+        })
     }
 
     /// How many bytes are held.
