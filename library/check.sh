@@ -231,7 +231,7 @@ for front in shared shared_helgrind; do
 done
 
 counted=-Wl,--wrap=malloc,--wrap=realloc,--wrap=free
-for name in processes pipes packets packet_waits descriptors files fifos splices polls waiting progress progress_cases facts sizes limits; do
+for name in processes pipes packets packet_waits descriptors files fifos splices polls waiting progress progress_cases facts sizes limits tables; do
     build "$name" && run "$name"
 done
 build memory "$counted" && run memory
@@ -284,11 +284,12 @@ else
 fi
 
 check "the list of scripts" lists_what_is_there
-# the scripts of the list are the arguments from here on
+# the scripts of the list, and those within other limits than the usual ones, are the arguments from here on
 set --
 while IFS= read -r name; do
     set -- "$@" "$examples/$name.script"
 done < "$examples/scripts"
+set -- "$@" "$here"/tests/other_limits/*.script
 if build scripts "$counted"; then
     # each request for memory is refused in turn in scripts that make at most 400, and the first 200 in longer ones: under valgrind, which takes
     # longer, in short ones alone

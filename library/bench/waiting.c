@@ -6,7 +6,7 @@
 #include <sys/epoll.h>
 #include <unistd.h>
 
-/* Further reads wait at the same pipes. A process has at most 256 descriptors, and a kernel 4,096 descriptions. */
+/* Further reads wait at the same pipes. Within the usual limits a process has at most 256 descriptors, and a kernel 4,096 descriptions. */
 enum { MOST_PIPES = 1000, PIPES_OF_ONE = 100, TIMES = 1000, SPARE_DESCRIPTORS = 64 };
 
 /* A pipe on which one read waits by turns. Beside it so many reads wait, and the host watches as many pipes. */

@@ -3,6 +3,7 @@
 #include "bindingclay_shared_inside.h"
 
 #include <errno.h>
+#include <stddef.h>
 
 /* How often a thread yields before it sleeps. */
 enum { YIELDS = 8 };
@@ -35,12 +36,24 @@ static void forget_locks(bc_shared *shared)
     pthread_condattr_destroy(&shared->monotonic);
 }
 
+/* The limit on processes. A struct of an earlier version lacks it. */
+static uint64_t processes_within(const bindingclay_limits *limits)
+{
+    bool has_it = limits->size >= offsetof(bindingclay_limits, processes_max) + sizeof limits->processes_max;
+    return has_it ? limits->processes_max : BINDINGCLAY_USUAL_PROCESSES;
+}
+
 int bc_shared_open(const bindingclay_limits *limits, bc_shared **shared)
 {
     static const bindingclay_limits none = BINDINGCLAY_LIMITS;
-    bc_shared *made = calloc(1, sizeof *made);
+    const bindingclay_limits *within = limits != NULL ? limits : &none;
+    uint64_t processes = processes_within(within);
+    bc_shared *made = NULL;
+    if (processes <= BINDINGCLAY_MOST_PROCESSES)
+        made = calloc(1, sizeof *made + (size_t)(processes + 1) * sizeof *made->of);
     if (made != NULL && made_locks(made)) {
-        if (bindingclay_open_within(limits != NULL ? limits : &none, &made->clay.kernel)) {
+        made->most_pid = (uint32_t)processes;
+        if (bindingclay_open_within(within, &made->clay.kernel)) {
             *shared = made;
             return 0;
         }
@@ -97,7 +110,7 @@ static struct bc_waiter **list_of(bc_shared *shared, uint64_t number)
 static void count_waiter(bc_shared *shared, const struct bc_waiter *waiter, int more)
 {
     shared->waiting += (uint32_t)more;
-    shared->waiting_of[waiter->pid] += (uint32_t)more;
+    shared->of[waiter->pid].waiting += (uint32_t)more;
     if (waiter->room.kind == BC_READS || waiter->room.kind == BC_WRITES) {
         shared->waiting_alike[waiter->room.kind] += (uint32_t)more;
         shared->waiting_at[waiter->room.kind][waiter->group] += (uint32_t)more;
@@ -365,7 +378,7 @@ static bindingclay_answer abandoned(const bc_shared *shared, uint64_t number)
 
 void bc_abandon(bc_shared *shared, uint32_t pid)
 {
-    for (int i = 0; i < BC_LISTS && shared->waiting_of[pid] > 0; i++) {
+    for (int i = 0; i < BC_LISTS && shared->of[pid].waiting > 0; i++) {
         struct bc_waiter *next;
         for (struct bc_waiter *waiter = shared->lists[i]; waiter != NULL; waiter = next) {
             next = waiter->next;
@@ -381,7 +394,7 @@ int bc_interrupt(const bc_process *process)
         return -1;
     bc_shared *shared = process->shared;
     int ended = 0;
-    for (int i = 0; i < BC_LISTS && shared->waiting_of[process->pid] > 0; i++) {
+    for (int i = 0; i < BC_LISTS && shared->of[process->pid].waiting > 0; i++) {
         struct bc_waiter *next;
         for (struct bc_waiter *waiter = shared->lists[i]; waiter != NULL; waiter = next) {
             next = waiter->next;
@@ -414,7 +427,7 @@ int bc_waiting(const bc_process *process)
 {
     if (!bc_in(process))
         return -1;
-    int waiting = (int)process->shared->waiting_of[process->pid];
+    int waiting = (int)process->shared->of[process->pid].waiting;
     bc_out(process->shared);
     return waiting;
 }

@@ -65,7 +65,8 @@ typedef int (*bc_sleep_hook)(void *context, sem_t *answered);
 /* ---- Kernels ---- */
 
 /* Makes a kernel within limits, and writes it to *shared. Null limits are BINDINGCLAY_LIMITS. Returns 0, or -1 with ENOMEM if memory runs out or
- * a limit lets a pipe or a file have more bytes than any may, or a process more descriptors. Close it with bc_shared_close. */
+ * bindingclay_open_within refuses the limits. It takes 16 bytes for each process that there may be, at once. No limit of the kernel counts these.
+ * Close it with bc_shared_close. */
 int bc_shared_open(const bindingclay_limits *limits, bc_shared **shared);
 
 /* Frees a kernel and all that it holds. Nothing may use it from then on. Returns 0, or -1 with EBUSY if a call waits, or a thread hasn't come back
@@ -96,11 +97,12 @@ ssize_t bc_recorded(bc_shared *shared, void *into, size_t size);
 
 /* ---- Processes ---- */
 
-/* Starts a process without descriptors, and writes it to *process. Returns 0, or -1 with EAGAIN if there are 1,024 processes. */
+/* Starts a process without descriptors, and writes it to *process. Returns 0, or -1 with EAGAIN if there are as many processes as the limit
+ * processes_max allows. */
 int bc_start(bc_shared *shared, bc_process *process);
 
 /* Makes a child whose descriptors name what those of the parent name, and writes it to *child (fork). Returns its pid, or -1 with EAGAIN if there
- * are 1,024 processes. No thread is made. The child has no deadline. */
+ * are as many processes as the limit processes_max allows. No thread is made. The child has no deadline. */
 pid_t bc_fork(const bc_process *parent, bc_process *child);
 
 /* Ends a process (_exit). Its descriptors are closed. Its calls that wait fail with ESRCH in their threads. Returns 0, or -1. */
@@ -163,7 +165,8 @@ ssize_t bc_splice(const bc_process *process, int from, off_t *from_offset, int t
 ssize_t bc_tee(const bc_process *process, int from, int to, size_t size, unsigned flags);
 
 /* Tells for each entry which of its events hold (poll), and waits until one does or timeout milliseconds have passed. A timeout below 0 is none.
- * Returns how many entries have a revents that isn't 0, 0 if time is up, or -1. Fails with EINVAL if there are more than 256 entries. */
+ * Returns how many entries have a revents that isn't 0, 0 if time is up, or -1. Fails with EINVAL if there are more entries than the limit
+ * descriptors_max, and more than 256. */
 int bc_poll(const bc_process *process, struct pollfd *entries, nfds_t count, int timeout);
 
 /* ---- Descriptors ---- */

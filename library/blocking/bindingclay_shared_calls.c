@@ -36,7 +36,7 @@ static bindingclay_answer made(bc_shared *shared, bindingclay_answer answer, bc_
 {
     if (answer.kind == BINDINGCLAY_DONE) {
         *process = (bc_process){ .shared = shared, .pid = (uint32_t)answer.value, .birth = ++shared->born };
-        shared->births[process->pid] = process->birth;
+        shared->of[process->pid].birth = process->birth;
     }
     return answer;
 }
@@ -68,7 +68,7 @@ int bc_exit(const bc_process *process)
     bindingclay_answer answer = bindingclay_exit(shared->clay, process->pid);
     if (bc_unrecorded(shared, answer))
         answer = bindingclay_exit(shared->clay, process->pid);
-    shared->births[process->pid] = 0;
+    shared->of[process->pid].birth = 0;
     return (int)bc_done(process, answer);
 }
 

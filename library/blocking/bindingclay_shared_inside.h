@@ -6,8 +6,8 @@
 
 #include <stdatomic.h>
 
-/* The lists in which calls that wait are found by their numbers, and the pids of a kernel (README, "Does it fit?"). */
-enum { BC_LISTS = 256, BC_MOST_PID = 1024 };
+/* The lists in which calls that wait are found by their numbers. */
+enum { BC_LISTS = 256 };
 
 /* A build for helgrind goes without what it doesn't know: atomics, sem_trywait, and that sem_post looks at nothing behind its increment. */
 #ifdef BC_FOR_HELGRIND
@@ -76,6 +76,12 @@ struct bc_lock {
     char behind[64];
 };
 
+/* What is kept of a pid: which of the processes that were made has it, or 0 if none does, and how many of its calls wait. */
+struct bc_of_pid {
+    uint64_t birth;
+    uint32_t waiting;
+};
+
 struct bc_shared {
     bindingclay clay;
     struct bc_lock lock;
@@ -84,10 +90,9 @@ struct bc_shared {
     _Atomic uint64_t steps;
     /* From when on threads yield before they sleep, in nanoseconds of CLOCK_MONOTONIC. */
     _Atomic int64_t yields_from;
-    /* The calls that wait, by number, and how many there are: in all, of each process, and of reads and writes. */
+    /* The calls that wait, by number, and how many there are: in all, and of reads and writes. */
     struct bc_waiter *lists[BC_LISTS];
     uint32_t waiting;
-    uint32_t waiting_of[BC_MOST_PID + 1];
     uint32_t waiting_alike[BC_KINDS];
     /* The reads and writes that wait, by the groups of their pipes. */
     uint32_t waiting_at[BC_KINDS][BC_LISTS];
@@ -99,13 +104,15 @@ struct bc_shared {
     struct bc_pieces *pieces;
     /* How many times a thread looks at the kernel again after it gave the lock back, as it sleeps, runs a hook or leaves the queue. */
     atomic_uint inside;
-    /* How many processes were made, and which of them has each pid; 0 is none. */
+    /* How many processes were made. */
     uint64_t born;
-    uint64_t births[BC_MOST_PID + 1];
     bc_sigpipe_hook hook;
     void *context;
     bc_sleep_hook sleep_hook;
     void *sleep_context;
+    /* The greatest pid, which is the limit processes_max, and what is kept of each pid from 0 on. */
+    uint32_t most_pid;
+    struct bc_of_pid of[];
 };
 
 /* ---- The lock ---- */
@@ -201,7 +208,7 @@ static inline bool bc_in(const bc_process *process)
 {
     bc_shared *shared = process->shared;
     bc_lock(shared);
-    if (process->birth != 0 && process->pid <= BC_MOST_PID && shared->births[process->pid] == process->birth)
+    if (process->birth != 0 && process->pid <= shared->most_pid && shared->of[process->pid].birth == process->birth)
         return true;
     return bc_out_of_none(shared);
 }

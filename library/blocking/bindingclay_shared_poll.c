@@ -10,8 +10,6 @@ _Static_assert(sizeof(struct pollfd) == sizeof(bindingclay_pollfd), "an entry ha
 _Static_assert(offsetof(struct pollfd, events) == offsetof(bindingclay_pollfd, events), "events are at one place");
 _Static_assert(offsetof(struct pollfd, revents) == offsetof(bindingclay_pollfd, revents), "revents are at one place");
 
-enum { MOST_ENTRIES = 256 };
-
 static struct timespec after(int milliseconds)
 {
     struct timespec time;
@@ -33,7 +31,7 @@ static bool is_before(const struct timespec *one, const struct timespec *other)
 int bc_poll(const bc_process *process, struct pollfd *entries, nfds_t count, int timeout)
 {
     static bindingclay_pollfd nothing;
-    if (count > MOST_ENTRIES) {
+    if (!bindingclay_c_is_size(count)) {
         errno = EINVAL;
         return -1;
     }

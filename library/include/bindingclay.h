@@ -81,8 +81,17 @@ extern "C" {
 /* The most bytes that a pipe can be made to hold. bindingclay_open_within may limit it further. */
 #define BINDINGCLAY_MOST_CAPACITY 1048576
 
-/* The most descriptors of a process. bindingclay_open_within may limit it further. */
-#define BINDINGCLAY_MOST_DESCRIPTORS 256
+/* How many descriptors a process may have, if nobody sets another limit, and the greatest limit that bindingclay_open_within takes. */
+#define BINDINGCLAY_USUAL_DESCRIPTORS 256
+#define BINDINGCLAY_MOST_DESCRIPTORS 65536
+
+/* The same of the open file descriptions of a kernel. */
+#define BINDINGCLAY_USUAL_DESCRIPTIONS 4096
+#define BINDINGCLAY_MOST_DESCRIPTIONS 1048576
+
+/* The same of the processes of a kernel. */
+#define BINDINGCLAY_USUAL_PROCESSES 1024
+#define BINDINGCLAY_MOST_PROCESSES 65536
 
 /* The most bytes of one read or write. A larger one is cut to this many of its bytes, the first ones, and counts only these. */
 #define BINDINGCLAY_MOST_BYTES 16777216
@@ -162,7 +171,7 @@ typedef struct {
     int16_t revents;
 } bindingclay_pollfd;
 
-/* What a kernel may take. Begin with BINDINGCLAY_LIMITS, and change what should be less. Then a later version may add fields at the end. */
+/* What a kernel may take. Begin with BINDINGCLAY_LIMITS, and change what should be otherwise. Then a later version may add fields at the end. */
 typedef struct {
     /* The bytes of the struct. If it is a smaller one, the fields that it lacks are those of BINDINGCLAY_LIMITS. */
     uint64_t size;
@@ -182,17 +191,23 @@ typedef struct {
     /* The most bytes of a regular file. At most BINDINGCLAY_MOST_FILE_BYTES. */
     uint32_t file_max;
     /* The most descriptors of a process, numbered from 0 (getrlimit, RLIMIT_NOFILE). None from this number on is free: a call that would
-     * give one fails with EMFILE. At most BINDINGCLAY_MOST_DESCRIPTORS. A poll takes up to 256 entries all the same. */
+     * give one fails with EMFILE. At most BINDINGCLAY_MOST_DESCRIPTORS. A poll takes as many entries, and 256 if this is less. Each process
+     * takes 8 bytes of memory for each descriptor that it may have, from its start on. */
     uint64_t descriptors_max;
     /* The most bytes of memory that the kernel keeps for further bytes when no pipe or file holds them any more, in segments of 4,096. They
      * count as held. UINT64_MAX: 16,777,216, but at most a sixteenth of memory. */
     uint64_t spare_max;
+    /* The most open file descriptions of the kernel at one time. A call that would make one more fails with ENFILE. At most
+     * BINDINGCLAY_MOST_DESCRIPTIONS. */
+    uint64_t descriptions_max;
+    /* The most processes at one time, with pids from 1 to this number. One more fails with EAGAIN. At most BINDINGCLAY_MOST_PROCESSES. */
+    uint64_t processes_max;
 } bindingclay_limits;
 
 /* The limits if nobody sets any: bindingclay_limits limits = BINDINGCLAY_LIMITS; */
 #define BINDINGCLAY_LIMITS \
     { sizeof(bindingclay_limits), 1, UINT64_MAX, UINT64_MAX, UINT64_MAX, BINDINGCLAY_MOST_CAPACITY, BINDINGCLAY_MOST_FILE_BYTES, \
-        BINDINGCLAY_MOST_DESCRIPTORS, UINT64_MAX }
+        BINDINGCLAY_USUAL_DESCRIPTORS, UINT64_MAX, BINDINGCLAY_USUAL_DESCRIPTIONS, BINDINGCLAY_USUAL_PROCESSES }
 
 /* How much memory a kernel takes, in bytes as they were asked of malloc and realloc. The block that holds the kernel itself and the block
  * that holds this count, about a kilobyte together, are no part of it. */
@@ -219,8 +234,8 @@ void bindingclay_end(bindingclay clay, void **budget);
 void bindingclay_tell_memory(bindingclay clay, bindingclay_memory_use *memory);
 
 /* Makes a kernel without processes, within limits, and writes its pointer to *kernel. Returns false, and writes nothing, if memory runs
- * out. It does the same if a limit lets a pipe or a file have more bytes than any may, or a process more descriptors. So it does if size
- * isn't the size of such a struct. The kernel is yours: free it with bindingclay_free. */
+ * out. It does the same if a limit is above its greatest: capacity, file_max, descriptors_max, descriptions_max and processes_max have one. So
+ * it does if size isn't the size of such a struct. The kernel is yours: free it with bindingclay_free. */
 static inline bool bindingclay_open_within(const bindingclay_limits *limits, void **kernel)
 {
     void *budget = NULL;
@@ -271,12 +286,12 @@ uint32_t bindingclay_version(void);
 
 /* ---- Processes ---- */
 
-/* Starts a process without descriptors. Value: its pid, the least one that is free, from 1 on. Fails with EAGAIN if there are 1,024
- * processes (fork). */
+/* Starts a process without descriptors. Value: its pid, the least one that is free, from 1 on. Fails with EAGAIN if there are as many
+ * processes as the limit processes_max allows (fork). */
 bindingclay_answer bindingclay_start(bindingclay clay);
 
 /* Starts a process whose descriptors name what those of process pid name (fork). Value: its pid, the least one that is free. Calls that
- * wait stay the parent's. Fails with EAGAIN if there are 1,024 processes. */
+ * wait stay the parent's. Fails with EAGAIN if there are as many processes as the limit processes_max allows. */
 bindingclay_answer bindingclay_fork(bindingclay clay, uint32_t pid);
 
 /* Ends a process (_exit). Its descriptors are closed, its calls that wait are gone without an answer, and its pid is free. Asks for no
@@ -331,15 +346,15 @@ bindingclay_answer bindingclay_owner(bindingclay clay, uint64_t number);
 /* ---- Pipes and names ---- */
 
 /* Makes a pipe (pipe; pipe2(2)) on the two least free descriptors, with O_NONBLOCK on both if nonblock is true. If it is done, they are
- * written to *ends. Fails with EMFILE if fewer than two descriptors are free, and with ENFILE if there are more than 4,094 open file
- * descriptions. */
+ * written to *ends. Fails with EMFILE if fewer than two descriptors are free, and with ENFILE if the limit descriptions_max allows fewer
+ * than two more open file descriptions. */
 bindingclay_answer bindingclay_pipe(bindingclay clay, uint32_t pid, bool nonblock, bindingclay_ends *ends);
 
 /* Does what bindingclay_pipe does, with O_NONBLOCK of fcntl.h and BINDINGCLAY_O_DIRECT as flags (pipe2(2)). O_NONBLOCK is set on both ends.
  * BINDINGCLAY_O_DIRECT makes a packet pipe. If it is done, the ends are written to *ends. Errors:
  * - EINVAL, before all else, and before BINDINGCLAY_NO_PROCESS: flags has another flag.
  * - EMFILE: fewer than two descriptors are free.
- * - ENFILE: there are more than 4,094 open file descriptions.
+ * - ENFILE: the limit descriptions_max allows fewer than two more open file descriptions.
  *
  * Packet pipes (pipe(2), O_DIRECT). A packet pipe holds packets of 1 to 4,096 bytes, and no two of them become one.
  *
@@ -375,7 +390,7 @@ bindingclay_answer bindingclay_mkfifo(bindingclay clay, uint32_t pid, const uint
  * - EEXIST: the name is taken, and flags has O_CREAT and O_EXCL.
  * - ENOENT: the name is free, and flags lacks O_CREAT.
  * - EMFILE: no descriptor is free.
- * - ENFILE: there are 4,096 open file descriptions.
+ * - ENFILE: there are as many open file descriptions as the limit descriptions_max allows.
  * - ENOSPC: a file would be made, and there are as many names as the limits allow.
  * - ENXIO: the name is that of a FIFO without a reader, and flags has O_WRONLY and O_NONBLOCK.
  *
@@ -479,7 +494,7 @@ bindingclay_answer bindingclay_tee(
 /* Tells for each entry which of its events hold of its descriptor, of POLLIN and POLLOUT of poll.h (poll). It tells POLLERR, POLLHUP and
  * POLLNVAL unasked. Value: how many entries have a revents that isn't 0. If the poll is done, it writes all revents, and otherwise none. An
  * entry with a negative fd is passed over. If wait is true and nothing is found, it waits, and only then asks for memory. Fails with EINVAL
- * if there are more than 256 entries. */
+ * if there are more entries than the limit descriptors_max, and more than 256. */
 bindingclay_answer bindingclay_poll(
     bindingclay clay, uint32_t pid, bindingclay_pollfd *entries, size_t count, bool wait);
 

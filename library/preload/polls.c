@@ -10,7 +10,7 @@
 #pragma GCC diagnostic ignored "-Wmaybe-uninitialized"
 #endif
 
-enum { MOST_ENTRIES = FD_SETSIZE, LAYERS_ENTRIES = 256, LEAST_EVENT = 512 };
+enum { MOST_ENTRIES = FD_SETSIZE, LAYERS_ENTRIES = BINDINGCLAY_USUAL_DESCRIPTORS, LEAST_EVENT = 512 };
 
 /* What Linux tells beside POLLIN and POLLOUT of a pipe. */
 static const short events_of[2][2] = { { POLLIN, POLLRDNORM }, { POLLOUT, POLLWRNORM } };

@@ -14,6 +14,7 @@ const EBADF: i32 = 9;
 const EAGAIN: i32 = 11;
 const EBUSY: i32 = 16;
 const EINVAL: i32 = 22;
+const ENFILE: i32 = 23;
 const EMFILE: i32 = 24;
 const ENOSPC: i32 = 28;
 const EPIPE: i32 = 32;
@@ -493,14 +494,23 @@ fn limits(checks: &mut Checks) {
         .is_none(),
         true,
     );
-    checks.is(
-        Clay::open_within(&Limits {
+    let too_great = [
+        Limits {
             descriptors_max: MOST_DESCRIPTORS + 1,
             ..default
-        })
-        .is_none(),
-        true,
-    );
+        },
+        Limits {
+            descriptions_max: MOST_DESCRIPTIONS + 1,
+            ..default
+        },
+        Limits {
+            processes_max: MOST_PROCESSES + 1,
+            ..default
+        },
+    ];
+    for limits in too_great {
+        checks.is(Clay::open_within(&limits).is_none(), true);
+    }
     let few = Limits {
         first_call: 7,
         names: 1,
@@ -508,10 +518,13 @@ fn limits(checks: &mut Checks) {
         capacity: 65_536,
         file_max: 3,
         descriptors_max: 4,
+        processes_max: 1,
         ..default
     };
     let mut clay = Clay::open_within(&few).expect("memory for a kernel");
     checks.is(clay.start(), Ok(1));
+    checks.is(clay.start(), Err(NotDone::Fault(EAGAIN)));
+    checks.is(clay.fork(1), Err(NotDone::Fault(EAGAIN)));
     checks.is(clay.open_name(1, b"f", O_RDWR | O_CREAT), done(0));
     checks.is(clay.mkfifo(1, b"q"), Err(NotDone::Fault(ENOSPC)));
     checks.is(clay.write(1, 0, b"hello"), done(3));
@@ -529,6 +542,24 @@ fn limits(checks: &mut Checks) {
     checks.is(clay.dup2(1, 0, 4), Err(NotDone::Fault(EBADF)));
     checks.is(clay.dup_fd(1, 0, 4), Err(NotDone::Fault(EINVAL)));
     checks.is(clay.dup(1, 0), Ok(3));
+
+    let mut clay = Clay::open_within(&Limits {
+        descriptors_max: 1_000,
+        descriptions_max: 3,
+        ..default
+    })
+    .expect("memory for a kernel");
+    checks.is(clay.start(), Ok(1));
+    checks.is(clay.pipe(1, false).map(|ends| ends.write_end), Ok(1));
+    checks.is(clay.pipe(1, false), Err(NotDone::Fault(ENFILE)));
+    checks.is(clay.dup_fd(1, 0, 999), Ok(999));
+    checks.is(clay.dup_fd(1, 0, 1_000), Err(NotDone::Fault(EINVAL)));
+    let mut entries = [PollEntry::new(1, POLLOUT); 1_001];
+    checks.is(clay.poll(1, &mut entries[..1_000], false), done(1_000));
+    checks.is(
+        clay.poll(1, &mut entries, false),
+        Err(NotDone::Fault(EINVAL)),
+    );
 
     let mut clay = Clay::open_within(&Limits {
         memory: 65_536,

@@ -12,9 +12,10 @@ static_assert(offsetof(bindingclay_answer, error) == 8 && offsetof(bindingclay_a
 static_assert(sizeof(bindingclay) == sizeof(void *), "a kernel");
 static_assert(sizeof(bindingclay_pollfd) == sizeof(pollfd) && offsetof(bindingclay_pollfd, events) == offsetof(pollfd, events)
         && offsetof(bindingclay_pollfd, revents) == offsetof(pollfd, revents), "an entry of a poll");
-static_assert(sizeof(bindingclay_limits) == 64 && offsetof(bindingclay_limits, waiting_calls) == 32
+static_assert(sizeof(bindingclay_limits) == 80 && offsetof(bindingclay_limits, waiting_calls) == 32
         && offsetof(bindingclay_limits, capacity) == 40 && offsetof(bindingclay_limits, file_max) == 44
-        && offsetof(bindingclay_limits, descriptors_max) == 48 && offsetof(bindingclay_limits, spare_max) == 56, "limits");
+        && offsetof(bindingclay_limits, descriptors_max) == 48 && offsetof(bindingclay_limits, spare_max) == 56
+        && offsetof(bindingclay_limits, descriptions_max) == 64 && offsetof(bindingclay_limits, processes_max) == 72, "limits");
 static_assert(sizeof(bindingclay_node_facts) == 24 && offsetof(bindingclay_node_facts, size) == 8
         && offsetof(bindingclay_node_facts, kind) == 16, "facts of a pipe or a file");
 static_assert(sizeof(bindingclay_waiting_facts) == 16 && offsetof(bindingclay_waiting_facts, pid) == 4

@@ -1,4 +1,4 @@
-/* Limits that a host sets: each at its edge, and one above it, in each call that it can refuse. */
+/* Limits that a host sets: each at its edge, and one above it, in each call that it can refuse. tables.c has those on tables. */
 #include "check.h"
 
 #include <fcntl.h>
@@ -34,9 +34,9 @@ static uint64_t spare_within(const bindingclay_limits *limits)
 /* An earlier version's struct: what it doesn't have is as if nobody had set it. */
 static void structs_that_are_smaller(void)
 {
-    HOLDS(sizeof(bindingclay_limits) == 64);
+    HOLDS(sizeof(bindingclay_limits) == 80);
     bindingclay_limits limits = { .size = 16, .first_call = 7, .memory = 0, .names = 0, .waiting_calls = 0, .capacity = 0, .file_max = 0,
-        .descriptors_max = 0, .spare_max = 0 };
+        .descriptors_max = 0, .spare_max = 0, .descriptions_max = 0, .processes_max = 0 };
     bindingclay clay = kernel_within(&limits);
     DONE(mkfifo_text(clay, 1, "a"), 0);
     bindingclay_ends ends = NEW_PIPE(clay, 1, false);
@@ -66,15 +66,31 @@ static void structs_that_are_smaller(void)
     limits.descriptors_max = 3;
     clay = kernel_within(&limits);
     FAULT(mkfifo_text(clay, 1, "a"), ENOSPC);
-    for (int i = 0; i < BINDINGCLAY_MOST_DESCRIPTORS / 2; i++)
+    for (int i = 0; i < BINDINGCLAY_USUAL_DESCRIPTORS / 2; i++)
         NEW_PIPE(clay, 1, false);
     FAULT(bindingclay_dup(clay, 1, 0), EMFILE);
     bindingclay_free(clay);
 
-    /* all but the last field, as 0.8.0 had them: memory is kept as if nobody had said how much */
+    /* those that 0.8.0 had: memory is kept as if nobody had said how much */
     limits.size = 56;
     limits.spare_max = 0;
     HOLDS(spare_within(&limits) >= BINDINGCLAY_MOST_CAPACITY);
+
+    /* without the last two: there are descriptions and processes as if nobody had said how many */
+    limits.size = 64;
+    limits.descriptors_max = 3;
+    limits.descriptions_max = limits.processes_max = 0;
+    clay = kernel_within(&limits);
+    NEW_PIPE(clay, 1, false);
+    for (uint64_t pid = 2; pid <= BINDINGCLAY_USUAL_PROCESSES; pid++)
+        DONE(bindingclay_start(clay), pid);
+    FAULT(bindingclay_start(clay), EAGAIN);
+    bindingclay_free(clay);
+    limits.size = 72;
+    clay = kernel_within(&limits);
+    FAULT(open_text(clay, 1, "f", O_RDONLY | O_CREAT), ENFILE);
+    DONE(bindingclay_fork(clay, 1), 2);
+    bindingclay_free(clay);
 }
 
 static void structs_of_no_version(void)
@@ -86,11 +102,30 @@ static void structs_of_no_version(void)
     longer.limits.size = sizeof longer;
     HOLDS(is_refused(&longer.limits));
     bindingclay_limits limits = BINDINGCLAY_LIMITS;
-    for (uint64_t size = 0; size < 80; size++)
+    for (uint64_t size = 0; size < sizeof longer + 8; size++)
         if (size % 8 != 0 || size == 0 || size > sizeof limits) {
             longer.limits.size = size;
             HOLDS(is_refused(&longer.limits));
         }
+}
+
+/* Whether a limit is taken at its greatest value, and refused above it. */
+static bool ends_at(size_t field, uint64_t greatest)
+{
+    bindingclay_limits limits = BINDINGCLAY_LIMITS;
+    uint64_t *limit = (uint64_t *)(void *)((char *)&limits + field);
+    *limit = greatest;
+    void *kernel = NULL;
+    if (!bindingclay_open_within(&limits, &kernel))
+        return false;
+    bindingclay_free((bindingclay){ kernel });
+    *limit = greatest + 1;
+    bool ends = is_refused(&limits);
+    /* no bit of the word is lost */
+    *limit = ((uint64_t)1 << 32) + 3;
+    ends = ends && is_refused(&limits);
+    *limit = UINT64_MAX;
+    return ends && is_refused(&limits);
 }
 
 static void fields_that_are_too_great(void)
@@ -104,14 +139,9 @@ static void fields_that_are_too_great(void)
     limits.capacity = UINT32_MAX;
     limits.file_max = UINT32_MAX;
     HOLDS(is_refused(&limits));
-    limits = (bindingclay_limits)BINDINGCLAY_LIMITS;
-    limits.descriptors_max = BINDINGCLAY_MOST_DESCRIPTORS + 1;
-    HOLDS(is_refused(&limits));
-    /* no bit of the word is lost */
-    limits.descriptors_max = ((uint64_t)1 << 32) + 3;
-    HOLDS(is_refused(&limits));
-    limits.descriptors_max = UINT64_MAX;
-    HOLDS(is_refused(&limits));
+    HOLDS(ends_at(offsetof(bindingclay_limits, descriptors_max), BINDINGCLAY_MOST_DESCRIPTORS));
+    HOLDS(ends_at(offsetof(bindingclay_limits, descriptions_max), BINDINGCLAY_MOST_DESCRIPTIONS));
+    HOLDS(ends_at(offsetof(bindingclay_limits, processes_max), BINDINGCLAY_MOST_PROCESSES));
     void *kernel = &kernel;
     HOLDS(!bindingclay_open(1, BINDINGCLAY_MOST_FILE_BYTES + 1, &kernel) && kernel == &kernel);
 }
@@ -318,96 +348,6 @@ static void capacities(void)
     bindingclay_free(clay);
 }
 
-/* ---- Descriptors ---- */
-
-/* Three descriptors: no fourth one is given, and none from 3 on is one (getrlimit, RLIMIT_NOFILE). */
-static void descriptors(void)
-{
-    bindingclay_limits limits = BINDINGCLAY_LIMITS;
-    limits.descriptors_max = 3;
-    bindingclay clay = kernel_within(&limits);
-    bindingclay_ends ends = NEW_PIPE(clay, 1, false), none = { UNTOUCHED, UNTOUCHED };
-    HOLDS(ends.read_end == 0 && ends.write_end == 1);
-    /* a pipe wants two, and takes none where there is one */
-    FAULT(bindingclay_pipe(clay, 1, false, &none), EMFILE);
-    FAULT(bindingclay_pipe2(clay, 1, BINDINGCLAY_O_DIRECT, &none), EMFILE);
-    HOLDS(none.read_end == UNTOUCHED && none.write_end == UNTOUCHED);
-    DONE(bindingclay_dup_fd(clay, 1, 0, 2), 2);
-    FAULT(bindingclay_dup_fd(clay, 1, 0, 2), EMFILE);
-    FAULT(bindingclay_dup_fd(clay, 1, 0, 0), EMFILE);
-    FAULT(bindingclay_dup_fd(clay, 1, 0, 3), EINVAL);
-    FAULT(bindingclay_dup_fd(clay, 1, 0, 255), EINVAL);
-    FAULT(bindingclay_dup_fd(clay, 1, 0, -1), EINVAL);
-    FAULT(bindingclay_dup_fd(clay, 1, 3, 3), EBADF);
-    FAULT(bindingclay_dup(clay, 1, 0), EMFILE);
-    FAULT(bindingclay_dup(clay, 1, 3), EBADF);
-    FAULT(bindingclay_dup2(clay, 1, 0, 3), EBADF);
-    FAULT(bindingclay_dup2(clay, 1, 0, 255), EBADF);
-    FAULT(bindingclay_dup2(clay, 1, 0, -1), EBADF);
-    DONE(bindingclay_dup2(clay, 1, 1, 2), 2);
-    /* an open makes no file, and empties none */
-    FAULT(open_text(clay, 1, "f", O_RDWR | O_CREAT), EMFILE);
-    FAULT(open_text(clay, 1, "f", O_RDWR), ENOENT);
-    DONE(bindingclay_close(clay, 1, 0), 0);
-    DONE(open_text(clay, 1, "f", O_RDWR | O_CREAT), 0);
-    DONE(put(clay, 1, 0, "hello"), 5);
-    FAULT(open_text(clay, 1, "f", O_RDWR | O_TRUNC), EMFILE);
-    HAS_FILE(clay, "f", "hello");
-    /* a child has as many, and no more */
-    DONE(bindingclay_fork(clay, 1), 2);
-    FAULT(bindingclay_dup(clay, 2, 0), EMFILE);
-    DONE(bindingclay_close(clay, 2, 1), 0);
-    DONE(bindingclay_dup(clay, 2, 0), 1);
-    FAULT(bindingclay_dup2(clay, 2, 0, 3), EBADF);
-    bindingclay_free(clay);
-}
-
-/* A poll takes 256 entries, whatever the limit, and tells of those from the limit on that they aren't open. */
-static void polls_within_few_descriptors(void)
-{
-    enum { ENTRIES = 256 };
-    bindingclay_limits limits = BINDINGCLAY_LIMITS;
-    limits.descriptors_max = 3;
-    bindingclay clay = kernel_within(&limits);
-    NEW_PIPE(clay, 1, false);
-    bindingclay_pollfd entries[ENTRIES + 1];
-    for (int32_t fd = 0; fd <= ENTRIES; fd++)
-        entries[fd] = (bindingclay_pollfd){ fd, POLLOUT, 0 };
-    DONE(bindingclay_poll(clay, 1, entries, ENTRIES, true), ENTRIES - 1);
-    HOLDS(entries[0].revents == 0 && entries[1].revents == POLLOUT);
-    for (int32_t fd = 2; fd < ENTRIES; fd++)
-        HOLDS(entries[fd].revents == POLLNVAL);
-    FAULT(bindingclay_poll(clay, 1, entries, ENTRIES + 1, true), EINVAL);
-    bindingclay_free(clay);
-}
-
-/* An open of a FIFO that waits keeps no descriptor: it may find none once it has met the other end. */
-static void an_open_that_meets_at_the_limit(void)
-{
-    bindingclay_limits limits = BINDINGCLAY_LIMITS;
-    limits.descriptors_max = 2;
-    bindingclay clay = kernel_within(&limits);
-    DONE(mkfifo_text(clay, 1, "q"), 0);
-    PARKED(open_text(clay, 1, "q", O_RDONLY), 1);
-    DONE(open_text(clay, 1, "q", O_WRONLY), 0);
-    DONE(bindingclay_dup(clay, 1, 0), 1);
-    FAULT(again(clay, 1), EMFILE);
-    bindingclay_free(clay);
-}
-
-static void no_descriptors(void)
-{
-    bindingclay_limits limits = BINDINGCLAY_LIMITS;
-    limits.descriptors_max = 0;
-    bindingclay clay = kernel_within(&limits);
-    bindingclay_ends ends;
-    FAULT(bindingclay_pipe(clay, 1, false, &ends), EMFILE);
-    FAULT(open_text(clay, 1, "f", O_RDWR | O_CREAT), EMFILE);
-    FAULT(bindingclay_dup2(clay, 1, 0, 0), EBADF);
-    DONE(mkfifo_text(clay, 1, "q"), 0);
-    bindingclay_free(clay);
-}
-
 /* ---- Files, numbers ---- */
 
 static void files(void)
@@ -552,10 +492,6 @@ int main(void)
     the_last_that_may_wait();
     none_may_wait();
     capacities();
-    descriptors();
-    polls_within_few_descriptors();
-    an_open_that_meets_at_the_limit();
-    no_descriptors();
     files();
     numbers();
     memory();

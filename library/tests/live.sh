@@ -129,6 +129,7 @@ try_live() {
     check "a live run of 256 MiB in bounded memory" live_in_bounded_memory 268435456
     check "a live run on too long a line" live_on_too_long_a_line
     check "a live run on a line above its budget" live_on_a_line_above_its_budget
+    check "live runs within other limits" piperun_within_other_limits --live
     check "records with changed digits" record_with_changed_digits
     check "records that are cut" record_that_is_cut
 }

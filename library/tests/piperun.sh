@@ -396,12 +396,37 @@ piperun_keeps_within_limits() {
 
 # Whether piperun refuses limits that are out of their range.
 piperun_refuses_limits() {
-    for limit in --file-max=16777217 --capacity-max=1048577 --descriptors-max=257 --names-max=18446744073709551616 --spare-max=18446744073709551616 --waiting-max=-1 \
-        --waiting-max=two; do
+    for limit in --file-max=16777217 --capacity-max=1048577 --descriptors-max=65537 --descriptions-max=1048577 --processes-max=65537 \
+        --names-max=18446744073709551616 --spare-max=18446744073709551616 --waiting-max=-1 --waiting-max=two --processes-max=two; do
         piperun_answers 2 /dev/null 'piperun: bad command line' "$limit" "$examples/session.script" || return 1
     done
-    piperun_answers 0 "$examples/session.out" '' --file-max 16777216 --capacity-max=1048576 --descriptors-max=256 \
-        --names-max 18446744073709551615 "$examples/session.script"
+    piperun_answers 0 "$examples/session.out" '' --file-max 16777216 --capacity-max=1048576 --descriptors-max=65536 \
+        --descriptions-max 1048576 --processes-max=65536 --names-max 18446744073709551615 "$examples/session.script"
+}
+
+# piperun_within_other_limits OPTION..: whether piperun prints of each script of tests/other_limits what stands beside it, by the options of
+# NAME.args and these.
+piperun_within_other_limits() {
+    for script in "$here"/tests/other_limits/*.script; do
+        named=${script%.script}
+        # shellcheck disable=SC2046 # a word a line
+        piperun_answers 0 "$named.out" '' "$@" $(cat "$named.args") "$script" || { echo "that was: $named"; return 1; }
+    done
+}
+
+# Whether a record's header names these limits too, whether those of the words count if it names none, and whether it is bad if one is too great.
+piperun_checks_within_limits_of_tables() {
+    printf 'start\n# => pid 1\nstart\n# => EAGAIN\n1 open f rw creat\n# => fd 0\n1 open f r\n# => ENFILE\n1 dupfd 0 300\n# => fd 300\n' > "$work/tables.record"
+    set -- --descriptors-max 301 --descriptions-max 1 --processes-max 1
+    echo '5 replies as recorded' > "$work/as_recorded"
+    piperun_answers 0 "$work/as_recorded" '' --check "$@" "$work/tables.record" || return 1
+    { echo "# piperun $*"; cat "$work/tables.record"; } > "$work/named.record"
+    piperun_answers 0 "$work/as_recorded" '' --check "$work/named.record" || return 1
+    piperun_answers 0 "$work/as_recorded" '' --check --descriptors-max 9 --descriptions-max 9 --processes-max 9 "$work/named.record" || return 1
+    for limit in '--descriptors-max 65537' '--descriptions-max 1048577' '--processes-max 65537' '--processes-max'; do
+        { echo "# piperun $limit"; cat "$work/tables.record"; } > "$work/named.record"
+        piperun_answers 3 /dev/null 'piperun: line 1: not a command' --check "$work/named.record" || return 1
+    done
 }
 
 # Whether piperun tells its version, which is that of the library's header, and reads no script.
@@ -519,6 +544,8 @@ try_piperun() {
     check "piperun on records with a header" piperun_checks_within_a_header
     check "piperun within limits" piperun_keeps_within_limits
     check "piperun with limits out of range" piperun_refuses_limits
+    check "piperun within other limits" piperun_within_other_limits
+    check "piperun on records within other limits" piperun_checks_within_limits_of_tables
     check "the version of piperun" piperun_tells_its_version
     check "piperun that is to tell all of no record" piperun_answers 2 /dev/null 'piperun: bad command line' --all "$examples/session.script"
     check "piperun on a live run" piperun_runs_live

@@ -301,6 +301,52 @@ static void limits_are_told(void)
     end_record(clay, "limits");
 }
 
+/* Of descriptions and processes a header tells the limits that aren't the usual ones. */
+static void limits_that_are_not_the_usual_ones(void)
+{
+    static const struct {
+        uint64_t descriptors, descriptions, processes;
+        const char *told;
+    } ROWS[] = {
+        { 1000, BINDINGCLAY_USUAL_DESCRIPTIONS, BINDINGCLAY_USUAL_PROCESSES, "1000" },
+        { BINDINGCLAY_USUAL_DESCRIPTORS, 3, BINDINGCLAY_USUAL_PROCESSES, "256 --descriptions-max 3" },
+        { BINDINGCLAY_USUAL_DESCRIPTORS, BINDINGCLAY_USUAL_DESCRIPTIONS, 2, "256 --processes-max 2" },
+        { BINDINGCLAY_MOST_DESCRIPTORS, BINDINGCLAY_MOST_DESCRIPTIONS, BINDINGCLAY_MOST_PROCESSES,
+            "65536 --descriptions-max 1048576 --processes-max 65536" },
+        { 2, 3, 2, "2 --descriptions-max 3 --processes-max 2" },
+    };
+    bindingclay_limits limits = BINDINGCLAY_LIMITS;
+    bindingclay clay = { NULL };
+    for (size_t i = 0; i < sizeof ROWS / sizeof *ROWS; i++) {
+        char line[300];
+        limits.descriptors_max = ROWS[i].descriptors;
+        limits.descriptions_max = ROWS[i].descriptions;
+        limits.processes_max = ROWS[i].processes;
+        HOLDS(bindingclay_open_within(&limits, &clay.kernel));
+        begin_record();
+        DONE(bindingclay_record(clay, true), 0);
+        snprintf(line, sizeof line, "piperun 2\n# piperun --first-call 1 --file-max 16777216 --names-max 18446744073709551615 --waiting-max "
+                 "18446744073709551615 --capacity-max 1048576 --descriptors-max %s\n", ROWS[i].told);
+        TELLS(line);
+        if (i + 1 < sizeof ROWS / sizeof *ROWS)
+            bindingclay_free(clay);
+    }
+    DONE(bindingclay_start(clay), 1);
+    NEW_PIPE(clay, 1, false);
+    FAULT(bindingclay_dup(clay, 1, 0), EMFILE);
+    DONE(bindingclay_close(clay, 1, 0), 0);
+    DONE(open_text(clay, 1, "f", O_RDWR | O_CREAT), 0);
+    DONE(bindingclay_fork(clay, 1), 2);
+    DONE(bindingclay_close(clay, 2, 0), 0);
+    DONE(open_text(clay, 2, "f", O_RDWR), 0);
+    DONE(bindingclay_close(clay, 2, 1), 0);
+    FAULT(open_text(clay, 2, "f", O_RDWR), ENFILE);
+    FAULT(bindingclay_start(clay), EAGAIN);
+    TELLS("start\n# => pid 1\n1 pipe\n# => fds 0 1\n1 dup 0\n# => EMFILE\n1 close 0\n# => ok\n1 open f rw creat\n# => fd 0\n1 fork\n# => pid 2\n"
+          "2 close 0\n# => ok\n2 open f rw\n# => fd 0\n2 close 1\n# => ok\n2 open f rw\n# => ENFILE\nstart\n# => EAGAIN\n");
+    end_record(clay, "tables");
+}
+
 /* Of more than 16,777,216 bytes one call takes as many, and of a name it looks at 256. */
 static void calls_that_are_cut(void)
 {
@@ -390,6 +436,7 @@ int main(int argc, char **argv)
     folder = argv[1];
     each_call();
     limits_are_told();
+    limits_that_are_not_the_usual_ones();
     calls_that_are_cut();
     when_it_begins();
     pieces_are_the_same();

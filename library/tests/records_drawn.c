@@ -289,7 +289,9 @@ static bindingclay drawn_kernel(void)
     limits.waiting_calls = one_in(3) ? drawn(4) : UINT64_MAX;
     limits.capacity = one_in(3) ? 65536 : BINDINGCLAY_MOST_CAPACITY;
     limits.file_max = one_in(3) ? 5000 : BINDINGCLAY_MOST_FILE_BYTES;
-    limits.descriptors_max = one_in(3) ? 3 + drawn(4) : BINDINGCLAY_MOST_DESCRIPTORS;
+    limits.descriptors_max = one_in(3) ? 3 + drawn(4) : BINDINGCLAY_USUAL_DESCRIPTORS;
+    limits.descriptions_max = one_in(3) ? 5 + drawn(4) : BINDINGCLAY_USUAL_DESCRIPTIONS;
+    limits.processes_max = one_in(3) ? 1 + drawn(3) : BINDINGCLAY_USUAL_PROCESSES;
     /* a recording takes 8,192 bytes as it begins */
     limits.memory = one_in(4) ? 10000 + drawn(60000) : UINT64_MAX;
     HOLDS(bindingclay_open_within(&limits, &opened.kernel));

@@ -1,11 +1,11 @@
-/* The files of a script: NAME.script, what it prints, NAME.out, and NAME.args where its calls aren't numbered from 1. A file that isn't
+/* The files of a script: NAME.script, what it prints, NAME.out, and NAME.args where its limits aren't the usual ones. A file that isn't
  * there, or isn't as it should be, ends the program. */
 #ifndef SCRIPT_FILES_H
 #define SCRIPT_FILES_H
 
 #include "check.h"
 
-enum { MOST_WORDS = 300, MOST_PIECE_BYTES = BINDINGCLAY_MOST_FILE_BYTES };
+enum { MOST_WORDS = 400, MOST_PIECE_BYTES = BINDINGCLAY_MOST_FILE_BYTES };
 
 /* A line of a script that isn't blank and no comment, in words. */
 struct line {
@@ -16,7 +16,8 @@ struct line {
 
 struct script {
     char *path;
-    uint64_t first_call;
+    /* Those within which it is run, with the number of its first call that waits. */
+    bindingclay_limits limits;
     /* Whether it is of version 2. Its first line says so, and asks nothing. */
     bool shows_runs;
     struct line *lines;
@@ -211,21 +212,41 @@ static void take_wanted(struct script *script, const char *path)
         script->wanted[script->wanted_count++] = line;
 }
 
-/* ---- NAME.args: --first-call and a number, a word a line ---- */
+/* ---- NAME.args: options of piperun and their numbers, a word a line ---- */
 
-static void take_first_call(struct script *script, const char *path)
+static const struct {
+    const char *option;
+    size_t field;
+} LIMITS[] = { { "--first-call", offsetof(bindingclay_limits, first_call) },
+    { "--descriptors-max", offsetof(bindingclay_limits, descriptors_max) },
+    { "--descriptions-max", offsetof(bindingclay_limits, descriptions_max) },
+    { "--processes-max", offsetof(bindingclay_limits, processes_max) } };
+
+/* The limit that an option sets, or null. */
+static uint64_t *limit_of(bindingclay_limits *limits, const char *option)
+{
+    for (size_t i = 0; i < sizeof LIMITS / sizeof *LIMITS; i++)
+        if (strcmp(LIMITS[i].option, option) == 0)
+            return (uint64_t *)(void *)((char *)limits + LIMITS[i].field);
+    return NULL;
+}
+
+static void take_limits(struct script *script, const char *path)
 {
     char *text = file_text(path), *rest = text;
-    script->first_call = 1;
+    script->limits = (bindingclay_limits)BINDINGCLAY_LIMITS;
     if (text == NULL)
         return;
-    const char *option = next_line(&rest), *number = option == NULL ? NULL : next_line(&rest);
-    if (number == NULL || strcmp(option, "--first-call") != 0 || *rest != '\0')
-        give_up(path, "not --first-call and a number");
-    errno = 0;
-    script->first_call = strtoull(number, NULL, 10);
-    if (errno != 0 || *number == '\0' || number[strspn(number, "0123456789")] != '\0')
-        give_up(path, "not a number of 64 bits");
+    for (const char *option; (option = next_line(&rest)) != NULL;) {
+        uint64_t *limit = limit_of(&script->limits, option);
+        const char *number = next_line(&rest);
+        if (limit == NULL || number == NULL)
+            give_up(path, "not options that this test knows, each with a number");
+        errno = 0;
+        *limit = strtoull(number, NULL, 10);
+        if (errno != 0 || *number == '\0' || number[strspn(number, "0123456789")] != '\0')
+            give_up(path, "not a number of 64 bits");
+    }
     free(text);
 }
 
@@ -246,7 +267,7 @@ static inline struct script read_script(const char *path)
     strcpy(beside + length - 7, ".out");
     take_wanted(&script, beside);
     strcpy(beside + length - 7, ".args");
-    take_first_call(&script, beside);
+    take_limits(&script, beside);
     free(beside);
     return script;
 }

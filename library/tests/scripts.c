@@ -16,7 +16,7 @@
 
 #include <limits.h>
 
-enum { MOST_PARKED = 20000, MOST_KEPT_ENTRIES = 65536, MOST_NAMES = 20000, MOST_PROCESSES = 1024 };
+enum { MOST_PARKED = 20000, MOST_KEPT_ENTRIES = 65536, MOST_NAMES = 20000 };
 
 /* ---- What is known of a run ---- */
 
@@ -69,7 +69,7 @@ static void keep(enum told told)
 /* The number that the kernel gave a call by that which the script gives it. */
 static uint64_t in_kernel(const struct script *script, const char *word)
 {
-    return strtoull(word, NULL, 10) - script->first_call + first_number;
+    return strtoull(word, NULL, 10) - script->limits.first_call + first_number;
 }
 
 /* How often a call that waited was tried again after it was told that it can make progress, and after it was told that it can't: in all runs. */
@@ -265,7 +265,7 @@ static void run(const struct script *script)
         enum told told = NOTHING;
         is_known = make_at_last(script, line, &told);
         if (is_known)
-            say_answer(told, answer.value - first_number + script->first_call);
+            say_answer(told, answer.value - first_number + script->limits.first_call);
         else
             sprintf(text, "piperun: line %d: not a command", line->number);
         steps += is_known && strcmp(line->words[0], "file") != 0;
@@ -276,12 +276,14 @@ static void run(const struct script *script)
 }
 
 /* Ends all processes, and takes away each name that a run made. No call waits then. */
-static void leave(void)
+static void leave(const struct script *script)
 {
-    for (uint32_t pid = 1; pid <= MOST_PROCESSES; pid++) {
+    for (uint32_t pid = 1; pid <= script->limits.processes_max; pid++) {
         answer = bindingclay_exit(clay, pid);
         HOLDS(answer.kind == BINDINGCLAY_DONE || answer.kind == BINDINGCLAY_NO_PROCESS);
     }
+    if (script->limits.processes_max == 0)
+        return;
     DONE(bindingclay_start(clay), 1);
     for (size_t i = 0; i < name_count; i++) {
         take_name(names[i]);
@@ -294,13 +296,11 @@ static void leave(void)
         OTHER(bindingclay_interrupt(clay, first_number + i), BINDINGCLAY_NO_CALL);
 }
 
-/* Opens a kernel that keeps no memory for further bytes. A kernel gives such memory back before it says that there is none, so with it fewer
- * blocks would be left after a run in which a request is refused. */
-static bool open_sparing(void)
+/* Opens a kernel within the limits of a script, that keeps no memory for further bytes. A kernel gives such memory back before it says that there
+ * is none, so with it fewer blocks would be left after a run in which a request is refused. */
+static bool open_sparing(const struct script *script)
 {
-    bindingclay_limits limits = BINDINGCLAY_LIMITS;
-    limits.first_call = first_number;
-    limits.file_max = MOST_FILE;
+    bindingclay_limits limits = script->limits;
     limits.spare_max = 0;
     return bindingclay_open_within(&limits, &clay.kernel);
 }
@@ -309,12 +309,12 @@ static bool open_sparing(void)
  * refused one. */
 static long run_with(const struct script *script, long granted)
 {
-    first_number = script->first_call;
+    first_number = script->limits.first_call;
     told_no_memory = waits_without_places = 0;
     refuse(granted, 1);
-    if (!open_sparing()) {
+    if (!open_sparing(script)) {
         told_no_memory++;
-        if (!open_sparing()) {
+        if (!open_sparing(script)) {
             printf("bindingclay_open_within: false\n");
             exit(1);
         }
@@ -323,18 +323,18 @@ static long run_with(const struct script *script, long granted)
     long requests = granted - granted_before;
     refuse_none();
     HOLDS(told_no_memory + waits_without_places == refused);
-    leave();
+    leave(script);
     return requests;
 }
 
 /* Runs a script once more on the kernel of the last run, where enough numbers are left for its calls. */
 static void run_again(const struct script *script)
 {
-    if (parked_count > (UINT64_MAX - script->first_call) / 2)
+    if (parked_count > (UINT64_MAX - script->limits.first_call) / 2)
         return;
     first_number += parked_count;
     run(script);
-    leave();
+    leave(script);
 }
 
 /* The numbers of the command line. */
@@ -392,7 +392,8 @@ static int record_scripts(const char *folder, char **paths, int count)
         struct script script = read_script(paths[i]);
         char name[32];
         snprintf(name, sizeof name, "script%d", i);
-        clay = new_kernel(first_number = script.first_call, MOST_FILE);
+        first_number = script.limits.first_call;
+        HOLDS(bindingclay_open_within(&script.limits, &clay.kernel));
         record.length = 0;
         DONE(bindingclay_record(clay, true), 0);
         run(&script);

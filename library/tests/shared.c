@@ -3,6 +3,7 @@
 #include "shared.h"
 
 #include <limits.h>
+#include <stddef.h>
 
 static bc_shared *shared;
 static int sigpipes;
@@ -242,6 +243,49 @@ static void limits(void)
     FAILS(bc_shared_open(&few, &bounded), ENOMEM);
 }
 
+/* More processes, descriptors and entries than usual, and fewer descriptions: a pid above 1,024 is one as any other. */
+static void limits_of_tables(void)
+{
+    enum { PROCESSES = 1500, ENTRIES = 300 };
+    static bc_process made[PROCESSES];
+    bindingclay_limits limits = BINDINGCLAY_LIMITS;
+    bc_shared *bounded = NULL;
+    bc_process *last = &made[PROCESSES - 1], other;
+    limits.processes_max = PROCESSES;
+    limits.descriptors_max = ENTRIES;
+    limits.descriptions_max = 3;
+    need(bc_shared_open(&limits, &bounded) == 0, "bc_shared_open");
+    for (uint32_t i = 0; i < PROCESSES; i++)
+        HOLDS(bc_start(bounded, &made[i]) == 0 && made[i].pid == i + 1);
+    FAILS(bc_start(bounded, &other), EAGAIN);
+    FAILS(bc_fork(last, &other), EAGAIN);
+    int ends[2];
+    HOLDS(bc_pipe2(last, ends, 0) == 0);
+    FAILS(bc_pipe2(last, ends, 0), ENFILE);
+    HOLDS(bc_fcntl(last, 0, F_DUPFD, ENTRIES - 1) == ENTRIES - 1);
+    FAILS(bc_fcntl(last, 0, F_DUPFD, ENTRIES), EINVAL);
+    struct pollfd many[ENTRIES + 1];
+    for (int i = 0; i <= ENTRIES; i++)
+        many[i] = (struct pollfd){ .fd = 0, .events = POLLIN, .revents = 77 };
+    FAILS(bc_poll(last, many, ENTRIES + 1, 1), EINVAL);
+    HOLDS(many[0].revents == 77 && bc_poll(last, many, ENTRIES, 1) == 0 && many[ENTRIES - 1].revents == 0);
+    HOLDS(bc_write(last, 1, "a", 1) == 1 && bc_poll(last, many, ENTRIES, -1) == ENTRIES && many[ENTRIES - 1].revents == POLLIN);
+    HOLDS(bc_waiting(last) == 0 && bc_exit(last) == 0);
+    FAILS(bc_waiting(last), ESRCH);
+    HOLDS(bc_start(bounded, &other) == 0 && other.pid == PROCESSES);
+    FAILS(bc_waiting(last), ESRCH);
+    HOLDS(bc_shared_close(bounded) == 0);
+
+    limits.processes_max = BINDINGCLAY_MOST_PROCESSES + 1;
+    FAILS(bc_shared_open(&limits, &bounded), ENOMEM);
+    limits.processes_max = UINT64_MAX;
+    FAILS(bc_shared_open(&limits, &bounded), ENOMEM);
+    /* a struct of an earlier version doesn't have it */
+    limits.size = offsetof(bindingclay_limits, processes_max);
+    need(bc_shared_open(&limits, &bounded) == 0, "bc_shared_open");
+    HOLDS(bc_start(bounded, &other) == 0 && bc_shared_close(bounded) == 0);
+}
+
 int main(void)
 {
     shared = new_shared();
@@ -255,6 +299,7 @@ int main(void)
     polls();
     processes();
     limits();
+    limits_of_tables();
     HOLDS(bc_shared_close(shared) == 0);
     return end();
 }

@@ -52,6 +52,7 @@ pub const PLACES: &[Place] = &[
     Place::new(Part::Library, "pl_parked", "parts/parked"),
     Place::new(Part::Library, "pl_least", "parts/least"),
     Place::new(Part::Library, "pl_waiters", "parts/waiters"),
+    Place::new(Part::Library, "pl_masks", "parts/masks"),
     Place::new(Part::Library, "pl_desc", "parts/desc"),
     Place::new(Part::Library, "pl_nodes", "parts/nodes"),
     Place::new(Part::Library, "pl_decisions", "parts/decisions"),

@@ -92,6 +92,8 @@ impl Clay {
             waiting_max: limits.waiting_calls,
             capacity_max: limits.capacity,
             descriptors_max: limits.descriptors_max,
+            descriptions_max: limits.descriptions_max,
+            processes_max: limits.processes_max,
             spare_max: match limits.spare_max {
                 u64::MAX => Limits::usual_spare(limits.memory),
                 spare_max => spare_max,

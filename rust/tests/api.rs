@@ -58,6 +58,61 @@ fn with_pipe_that(nonblock: bool) -> Kernel {
     kernel
 }
 
+fn kernel_within(limits: Limits) -> Kernel {
+    let mut kernel = Kernel::new(Global, limits).expect("a file of few bytes");
+    assert_eq!(kernel.step(Step::Start), Ok(Reply::Pid(1)));
+    kernel
+}
+
+#[test]
+fn a_greater_limit_on_a_table_counts_as_the_greatest() {
+    let mut kernel = kernel_within(Limits {
+        descriptors_max: u32::MAX,
+        descriptions_max: u32::MAX,
+        ..Limits::DEFAULT
+    });
+    let pipe = || {
+        let direct = false;
+        let nonblock = true;
+        Step::Begin(1, Call::Pipe { nonblock, direct })
+    };
+    // more than 4,096 descriptions
+    for fd in (0..5_000).step_by(2) {
+        assert_eq!(kernel.step(pipe()), Ok(Reply::Fds(fd, fd + 1)));
+    }
+    let last = numbers::MAX_DESCRIPTORS as i32 - 1;
+    let least = last;
+    let mut duplicate = |least| kernel.step(Step::Begin(1, Call::DupFd { fd: 0, least }));
+    assert_eq!(duplicate(least), Ok(Reply::Fd(last)));
+    assert_eq!(duplicate(least), Ok(Reply::Fault(Errno::EMFILE)));
+    assert_eq!(duplicate(least + 1), Ok(Reply::Fault(Errno::EINVAL)));
+    let mut entries = vec![poll(last)[0]; numbers::MAX_DESCRIPTORS + 1];
+    let most = &mut entries[..numbers::MAX_DESCRIPTORS];
+    assert_eq!(kernel.poll_into(1, most, false), Ok(Answer::Done(0)));
+    let refused = Err(NotDone::Fault(Errno::EINVAL));
+    assert_eq!(kernel.poll_into(1, &mut entries, false), refused);
+
+    let mut kernel = kernel_within(Limits {
+        descriptors_max: 1,
+        processes_max: u32::MAX,
+        ..Limits::DEFAULT
+    });
+    for pid in 2..=numbers::MAX_PROCESSES as u32 {
+        assert_eq!(kernel.step(Step::Start), Ok(Reply::Pid(pid)));
+    }
+    let full = Ok(Reply::Fault(Errno::EAGAIN));
+    assert_eq!(kernel.step(Step::Start), full);
+    assert_eq!(
+        kernel.step(Step::Begin(40_000, Call::Exit)),
+        Ok(Reply::Unit)
+    );
+    assert_eq!(
+        kernel.step(Step::Begin(1, Call::Fork)),
+        Ok(Reply::Pid(40_000))
+    );
+    assert_eq!(kernel.step(Step::Begin(1, Call::Fork)), full);
+}
+
 #[test]
 fn the_greatest_limit_is_the_last_that_is_taken() {
     let of = |file_max| {

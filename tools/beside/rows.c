@@ -233,7 +233,7 @@ static const struct {
     bool (*holds)(const struct known *known);
     const char *row;
 } ROWS[] = {
-    { of_numbers, "pids, `EAGAIN` at 1,024 processes, `ENFILE`, and the numbers of parked calls" },
+    { of_numbers, "pids, `EAGAIN` at the limit on processes, `ENFILE`, and the numbers of parked calls" },
     { of_descriptions, "open file descriptions" },
     { of_taken_descriptor, "An open that waits takes its descriptor when it is answered." },
     { of_full_table, "An open checks the name before the table." },

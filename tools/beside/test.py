@@ -159,8 +159,8 @@ class Tests:
 
     def differences(self) -> None:
         """No script of the documents, of the examples and of those that are drawn has a difference that no row explains."""
-        scripts = [*scripts_of_rules(), *((name, drawn.script, drawn.first_call) for name, drawn in examples())]
-        scripts += [(f"seed {seed}", draw(seed).script, draw(seed).first_call) for seed in range(1, DRAWN + 1)]
+        scripts = [*scripts_of_rules(), *((name, drawn.script, drawn.limits.first_call) for name, drawn in examples())]
+        scripts += [(f"seed {seed}", draw(seed).script, draw(seed).limits.first_call) for seed in range(1, DRAWN + 1)]
         for called, script, first_call in scripts:
             found = self.run(["--diff", "--first-call", str(first_call)], script)
             told = [line for line in found.lines if "no row" in line] + ([found.complaint] if found.status not in (0, 3) else [])

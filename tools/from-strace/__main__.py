@@ -17,6 +17,9 @@ A call that blocked is one that waits in the script, and is resumed where it ret
 which they returned, unless their replies tell another one. What no line says, and what the trace doesn't tell, stands in the script as a
 comment and on standard error.
 
+If a process has a descriptor above 255, or a poll more than 256 entries, the script has a header `# piperun --descriptors-max N`, where N is
+the least power of two that is enough. A check heeds it. To run the script, give piperun this option.
+
 A trace that is cut or damaged becomes a script as far as what is left says so, or is refused: a line on standard error has the number of the
 line of the trace and what is wrong, and nothing is printed.
 

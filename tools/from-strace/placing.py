@@ -10,7 +10,7 @@ from dataclasses import dataclass
 from typing import Dict, Iterator, List, Optional, Tuple
 
 from script import Version, parse_line, reply_text
-from state import Pipe
+from state import Limits, Pipe
 from streams import filled, moved, read_through
 from tables import Line, Node, Process
 from turning import Operation
@@ -41,9 +41,9 @@ Action = Tuple[Operation, Optional[int]]
 class State:
     """The layer at a moment, by the model, with what the script has until then. A journal takes it back to a moment before."""
 
-    def __init__(self, streams: Dict[Node, bytes]) -> None:
+    def __init__(self, streams: Dict[Node, bytes], limits: Limits) -> None:
         self.journal = Journal()
-        self.machine = Layer(self.journal)
+        self.machine = Layer(self.journal, limits)
         self.pids: Dict[Process, int] = Table(self.journal)
         self.parked: Dict[Operation, int] = Table(self.journal)
         self.done: Dict[Operation, bool] = Table(self.journal)
@@ -182,7 +182,7 @@ class Reached:
 class Placer:
     """Places the operations of a trace, one line of the trace after another."""
 
-    def __init__(self, operations: List[Operation]) -> None:
+    def __init__(self, operations: List[Operation], limits: Limits) -> None:
         self.events: List[Event] = []
         self.differences: List[Tuple[Operation, str]] = []
         for operation in operations:
@@ -191,7 +191,7 @@ class Placer:
             if operation.last is not None:
                 self.events.append((operation.last, 1, operation))
         self.streams = read_through(operations)
-        self.state = State(self.streams)
+        self.state = State(self.streams, limits)
         # a process is there before its first call
         self.events.sort(key=lambda event: (event[0], -1 if event[2].child is not None else event[1]))
         self.flying = list(self._in_flight())

@@ -8,6 +8,7 @@ from arguments import OF_THE_PROCESS, Descriptor, Result, Text
 from reading import Call, Unreadable
 from replies import Errno
 from script import by_runs
+from state import GREATEST_DESCRIPTORS
 from tables import SYSTEM, Line, Names, Node, Process, Unsayable
 
 MODES = {"O_RDONLY": "r", "O_WRONLY": "w", "O_RDWR": "rw"}
@@ -362,6 +363,7 @@ class Says:
         if not kept:
             raise Left
         when = "wait" if limit == "-1" and all(number < 0 or number in process.followed for number, _ in entries) else "now"
+        self._have_entries(process, len(kept), result)
         reply = failure(result)
         if reply is None and result.value is not None:
             pairs = re.findall(r"fd=(\d+)(?:<[^>]*>)?, revents=([A-Z|]+)", result.behind)
@@ -371,6 +373,14 @@ class Says:
         return [self._poll_line(call, when, kept, reply)]
 
     ppoll = poll
+
+    @staticmethod
+    def _have_entries(process: Process, count: int, result: Result) -> None:
+        """A poll that wasn't refused has so many entries, and a kernel takes as many as a process may have descriptors."""
+        if count > GREATEST_DESCRIPTORS:
+            raise Unsayable(f"it has {count} entries, and a poll of a script {GREATEST_DESCRIPTORS} at most")
+        if not result.error:
+            process.needs.have(count)
 
     @staticmethod
     def _poll_line(call: Call, when: str, kept: List[Tuple[int, List[str]]], reply: Optional[str]) -> Line:
@@ -387,6 +397,7 @@ class Says:
         if not kept:
             raise Left
         when = "wait" if given[4] == "NULL" and len(kept) == len(asked) else "now"
+        self._have_entries(process, len(kept), result)
         line = self._poll_line(call, when, kept, failure(result))
         if line.reply is None and result.value is not None:
             found = [re.search(rf"\b{word} \[([0-9 ]*)\]", result.behind) for word in ("in", "out")]

@@ -3,11 +3,12 @@ from __future__ import annotations
 
 import posixpath
 from dataclasses import dataclass, field
-from typing import Callable, Dict, Iterator, List, Optional, Tuple, Union
+from typing import Callable, Dict, List, Optional, Tuple, Union
+
+from state import GREATEST_DESCRIPTORS, USUAL
 
 # the name of the file that keeps a number
 HOLDER = "placeholder"
-MOST_DESCRIPTORS = 256
 # below these nothing is a file that the script could have
 SYSTEM = (b"/dev/", b"/proc/", b"/sys/")
 
@@ -47,11 +48,24 @@ class Line:
     agrees: Optional[Callable[[str], bool]] = None
 
 
+class Needs:
+    """The limit on descriptors that a script needs: above each number that a process has, and no less than the entries of a poll."""
+
+    def __init__(self) -> None:
+        self.descriptors = USUAL.descriptors
+
+    def have(self, count: int) -> None:
+        """The limit has to be this at least. It is a power of two, so that traces which differ little have the same."""
+        while self.descriptors < count:
+            self.descriptors *= 2
+
+
 @dataclass(eq=False)
 class Process:
     """A process of the host: its threads, its descriptors that the script follows, and what the script has under each number."""
 
     pid: int
+    needs: Needs
     program: str = "?"
     threads: List[int] = field(default_factory=list)
     folder: Optional[bytes] = None
@@ -61,11 +75,11 @@ class Process:
     def fork(self, pid: int) -> "Process":
         """A child, with the same descriptors."""
         copies = {number: Open(entry.node, entry.closes_on_exec) for number, entry in self.followed.items()}
-        return Process(pid, self.program, [pid], self.folder, copies, dict(self.here))
+        return Process(pid, self.needs, self.program, [pid], self.folder, copies, dict(self.here))
 
-    def holders(self) -> Iterator[int]:
-        """The numbers that a placeholder keeps, the least first."""
-        return iter(sorted(number for number, thing in self.here.items() if thing == HOLDER))
+    def holder(self) -> Optional[int]:
+        """The least number that a placeholder keeps, if there is one."""
+        return min((number for number, thing in self.here.items() if thing == HOLDER), default=None)
 
     def follow(self, number: int, node: Node, closes_on_exec: bool = False) -> None:
         """From now on the descriptor stands for this, on the host and in the script."""
@@ -78,26 +92,26 @@ class Process:
         del self.here[number]
         return [Line(f"close {number}", "ok")]
 
-    def keep(self, number: int, free: Tuple[int, ...] = ()) -> List[Line]:
-        """Lines that put a placeholder under a number. Those of `free` have to be free afterwards."""
-        holder = next(self.holders(), None)
+    def keep(self, number: int, holder: Optional[int], free: Tuple[int, ...] = ()) -> List[Line]:
+        """Lines that put a placeholder under a number, by one that there is, if any. Those of `free` have to be free afterwards."""
         if holder is not None:
             self.here[number] = HOLDER
             return [Line(f"dup2 {holder} {number}", f"fd {number}")]
-        least = next(at for at in range(MOST_DESCRIPTORS) if at not in self.here)
+        least = next(at for at in range(GREATEST_DESCRIPTORS) if at not in self.here)
         lines = [Line(f"open {HOLDER} r creat", f"fd {least}")]
         self.here[least] = HOLDER
         if least != number:
-            lines += self.keep(number)
+            lines += self.keep(number, least)
         if least in free:
             del self.here[least]
             lines.append(Line(f"close {least}", "ok"))
         return lines
 
     def make_sayable(self, number: int) -> None:
-        """A descriptor has to be one that the layer has."""
-        if number >= MOST_DESCRIPTORS:
-            raise OutOfTable(f"process {self.pid} has descriptor {number}: a script has none above {MOST_DESCRIPTORS - 1}")
+        """A descriptor has to be one that the layer may have."""
+        if number >= GREATEST_DESCRIPTORS:
+            raise OutOfTable(f"process {self.pid} has descriptor {number}: a script has none above {GREATEST_DESCRIPTORS - 1}")
+        self.needs.have(number + 1)
 
     def make_least(self, numbers: Tuple[int, ...], least: int = 0) -> List[Line]:
         """Lines behind which these numbers are the least free ones from `least` on, as they were on the host."""
@@ -108,9 +122,12 @@ class Process:
                 self.followed.pop(number, None)
                 del self.here[number]
                 lines.append(Line(f"close {number}", "ok"))
+        # it is looked for once, as there may be many numbers to keep
+        holder = self.holder()
         for number in range(least, max(numbers)):
             if number not in self.here and number not in numbers:
-                lines += self.keep(number, numbers)
+                lines += self.keep(number, holder, numbers)
+                holder = self.holder() if holder is None else min(holder, number)
         return lines
 
 

@@ -111,6 +111,38 @@ class Calls(unittest.TestCase):
     def test_what_is_not_followed_takes_the_place(self) -> None:
         self.check([f"10 dup2(2</dev/pts/0>, 3{A}) = 3</dev/pts/0>"], "1 close 3 => ok")
 
+    def check_with_header(self, header: str, trace: List[str], *wanted: str) -> None:
+        """The same of a script that has this header, or none."""
+        self.check(trace, *wanted)
+        script, _ = script_and_notes("\n".join([PIPE, *trace]) + "\n")
+        head = ["piperun 2", header] if header else ["piperun 2"]
+        lines = script.split("\n")
+        self.assertEqual(lines[: len(head)], head)
+        self.assertTrue(lines[len(head)].startswith("# Made by "))
+
+    def test_great_numbers(self) -> None:
+        """A header names the least power of two that is above all numbers, if one is above 255 (RULES, Records)."""
+        for number, most in ((255, 0), (256, 512), (300, 512), (511, 512), (512, 1024), (65535, 65536)):
+            header = f"# piperun --descriptors-max {most}" if most else ""
+            with self.subTest(number):
+                self.check_with_header(header, [f"10 dup2(4{A}, {number}) = {number}{A}", f'10 write({number}{A}, "a", 1) = 1'],
+                                       f"1 dup2 4 {number} => fd {number}", f"1 write {number} 61 => count 1")
+                self.check_with_header(header, [f"10 fcntl(3{A}, F_DUPFD, {number}) = {number}{A}"], f"1 dupfd 3 {number} => fd {number}")
+        # what the host refused needs none
+        self.check_with_header("", [f"10 dup2(4{A}, 4096) = -1 EBADF (Bad file descriptor)", f"10 close(4{A}) = 0"], "1 dup2 4 4096 => EBADF", "1 close 4 => ok")
+        self.check_with_header("", [f"10 fcntl(3{A}, F_DUPFD, 4096) = -1 EINVAL (Invalid argument)"], "1 dupfd 3 4096 => EINVAL")
+
+    def test_many_entries(self) -> None:
+        """A poll takes as many entries as there may be descriptors, and 256 at least (RULES, Limits)."""
+        for count, most in ((256, 0), (257, 512), (600, 1024)):
+            header = f"# piperun --descriptors-max {most}" if most else ""
+            entries, told = ", ".join([f"{{fd=4{A}, events=POLLOUT}}"] * count), ", ".join(["{fd=4, revents=POLLOUT}"] * count)
+            with self.subTest(count):
+                self.check_with_header(header, [f"10 poll([{entries}], {count}, 0) = {count} ([{told}])"],
+                                       f"1 poll now{' 4:out' * count} => masks {count}{' out' * count}")
+        entries = ", ".join([f"{{fd=4{A}, events=POLLOUT}}"] * 257)
+        self.check_with_header("", [f"10 poll([{entries}], 257, 0) = -1 EINVAL (Invalid argument)"], f"1 poll now{' 4:out' * 257} => EINVAL")
+
     def test_flags_and_sizes(self) -> None:
         self.check(
             [f"10 fcntl(3{A}, F_GETFL) = 0 (flags O_RDONLY)", f"10 fcntl(3{A}, F_SETFL, O_RDONLY|O_NONBLOCK) = 0",
@@ -213,8 +245,8 @@ class Calls(unittest.TestCase):
             turned("10 pipe2([3, 4], 0) = 0")
         with self.assertRaisesRegex(Unreadable, r"line 2 .* descriptor 1 is pipe:\[7\], by a call that the trace doesn't show"):
             turned(PIPE, f'10 write(1{A}, "a", 1) = 1')
-        with self.assertRaisesRegex(Unreadable, "none above 255"):
-            turned(PIPE, f"10 dup2(4{A}, 300) = 300{A}")
+        with self.assertRaisesRegex(Unreadable, "none above 65535"):
+            turned(PIPE, f"10 dup2(4{A}, 65536) = 65536{A}")
         self.assertEqual(told(PIPE, '10 read(0<pipe:[99]>, "a", 1) = 1'), ["2: descriptor 0 is a pipe from before the trace: the script doesn't follow it"])
         self.assertEqual(len(told('10 openat(AT_FDCWD</tmp>, "log", O_WRONLY|O_CREAT|O_APPEND, 0600) = 3</tmp/log>')), 1)
 

@@ -135,7 +135,7 @@ class Faults(unittest.TestCase):
         self.refused("^line 1 of the trace makes process 10, which was there at line 1", FORK.replace("= 11", "= 10"))
 
     def test_descriptor_above_all(self) -> None:
-        self.refused("^line 2 of the trace: process 10 has descriptor 300", PIPE, f"10 dup2(4{A}, 300) = 300{A}")
+        self.refused("^line 2 of the trace: process 10 has descriptor 65536", PIPE, f"10 dup2(4{A}, 65536) = 65536{A}")
 
     def test_numbers_that_no_script_has(self) -> None:
         """A length of 33 bits has no line, and no number of 5,000 digits is read."""

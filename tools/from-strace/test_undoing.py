@@ -63,9 +63,9 @@ class Undoing(unittest.TestCase):
         """Between two steps others of the script are made and taken back. The replies and the state are those of a machine that makes none."""
         kinds: Set[str] = set()
         for seed in range(SCRIPTS):
-            requests, chance = requests_of(draw(seed).script), random.Random(seed)
-            journal = Journal()
-            layer, machine = Layer(journal), Machine()
+            drawn, chance = draw(seed), random.Random(seed)
+            requests, journal = requests_of(drawn.script), Journal()
+            layer, machine = Layer(journal, drawn.limits), Machine(drawn.limits)
             for place, request in enumerate(requests):
                 if place % 3 == 0:
                     mark = journal.mark

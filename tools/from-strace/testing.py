@@ -10,6 +10,7 @@ sys.path[:0] = [str(HERE), str(HERE.parent / "model")]
 sys.dont_write_bytecode = True
 
 from script import run  # noqa: E402
+from state import Limits, limits_of  # noqa: E402
 from writing import script_and_notes  # noqa: E402
 
 START = ["start => pid 1", "1 open placeholder r creat => fd 0", "1 dup2 0 1 => fd 1", "1 dup2 0 2 => fd 2"]
@@ -36,9 +37,15 @@ def told(*trace: str) -> List[str]:
     return [f"{line}: {what}" for line, what in script_and_notes("\n".join(trace) + "\n")[1]]
 
 
+def header_of(script: str) -> Limits:
+    """The limits that the header of a script of version 2 names."""
+    words = script.split("\n")[1].split()
+    return limits_of(words[2:]) if words[:2] == ["#", "piperun"] else Limits()
+
+
 def compared(script: str) -> List[str]:
     """The replies of a script that the model gives otherwise, by docs/RULES.md, Records. The first says how many there are."""
-    answers = {answer.line: answer.text for answer in run(script.encode("latin-1")).answers}
+    answers = {answer.line: answer.text for answer in run(script.encode("latin-1"), header_of(script)).answers}
     found, last, count = [], "", 0
     for number, line in enumerate(script.split("\n"), 1):
         last = answers.get(number, last)

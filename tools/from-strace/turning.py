@@ -11,7 +11,7 @@ from arguments import Descriptor, Malformed, Result, Text, parsed
 from reading import Call, End, Trace, Unreadable
 from saying import Left, Says
 from script import BadLine, Version, content_of_pieces, parse_line
-from tables import Line, Names, Node, OutOfTable, Process, Unsayable
+from tables import Line, Names, Needs, Node, OutOfTable, Process, Unsayable
 
 FORKS = ("fork", "vfork", "clone", "clone3")
 EXECS = ("execve", "execveat")
@@ -90,6 +90,7 @@ class Turner:
         self.names = Names()
         self.told: List[Tuple[int, str]] = []
         self.says = Says(self.names, self.tell)
+        self.needs = Needs()
         self.processes: Dict[int, Process] = {}
         self.operations: List[Operation] = []
         # what the name of an open stood for as it began
@@ -155,11 +156,11 @@ class Turner:
 
     def _start(self, pid: int) -> None:
         """A process that the trace begins with."""
-        process = self.processes[pid] = Process(pid, threads=[pid])
+        process = self.processes[pid] = Process(pid, self.needs, threads=[pid])
         if len(self.processes) > 1:
             self.tell(self.trace.first_of[pid], f"nothing tells what made process {pid}: it begins with nothing of the others")
         lines = [Line("start", None, lambda text: text.startswith("pid "))]
-        lines += [line for number in FIRST_NUMBERS for line in process.keep(number)]
+        lines += [line for number in FIRST_NUMBERS for line in process.keep(number, process.holder())]
         at = self.trace.first_of[pid]
         self.operations.append(Operation(process, "start", at, at, lines, child=process))
 

@@ -10,7 +10,7 @@ from typing import Any, Callable, Dict, ItemsView, List, Set, TypeVar, ValuesVie
 from machine import Machine
 from replies import Reply
 from script import Request
-from state import Description, File, Pipe, Process
+from state import USUAL, Description, File, Limits, Pipe, Process
 from waiting import Call
 
 Key = TypeVar("Key")
@@ -161,8 +161,8 @@ class Table(Dict[Key, Value]):
 class Layer(Machine):
     """A machine whose steps a journal notes."""
 
-    def __init__(self, journal: Journal) -> None:
-        super().__init__()
+    def __init__(self, journal: Journal, limits: Limits = USUAL) -> None:
+        super().__init__(limits)
         self._journal = journal
         self.processes, self.names, self.waiting = Table(journal), Table(journal), Table(journal)
 

@@ -5,27 +5,28 @@ from typing import Dict, List, Set, Tuple
 
 from placing import Placer, Said, State
 from reading import read_trace
+from state import Limits
 from tables import HOLDER
 from turning import Operation, Turner
 
-HEAD = [
-    "piperun 2",
-    "# Made by tools/from-strace. Behind `# =>` stands what the host answered. The numbers of comments are lines of the trace.",
-]
+VERSION = "piperun 2"
+MADE = "# Made by tools/from-strace. Behind `# =>` stands what the host answered. The numbers of comments are lines of the trace."
 KEPT = f"# A number that stands for something else on the host is kept by the file {HOLDER}."
 
 
 def script_and_notes(trace: str) -> Tuple[str, List[Tuple[int, str]]]:
     """The script of a trace, and what has to be told of it, each with a line of the trace."""
     turner = Turner(read_trace(trace))
-    placer = Placer(turner.turn())
+    operations = turner.turn()
+    limits = Limits(descriptors=turner.needs.descriptors)
+    placer = Placer(operations, limits)
     last = placer.place()
     told = list(turner.told)
     told += [(operation.last or operation.first, what) for operation, what in placer.differences]
     for operation, other in placer.unordered():
         what = f"{operation.name} overlaps that of line {other.first}, and nothing but bytes tells which came first"
         told.append((operation.last or operation.first, what))
-    return script_of(last, told), sorted(told)
+    return script_of(last, told, limits), sorted(told)
 
 
 def listed(last: State) -> List[Said]:
@@ -38,13 +39,19 @@ def listed(last: State) -> List[Said]:
     return found[::-1]
 
 
-def script_of(last: State, told: List[Tuple[int, str]]) -> str:
+def head_of(limits: Limits) -> List[str]:
+    """The first lines. Limits that aren't the usual ones stand in a header, as docs/RULES.md has it in "Records"."""
+    header = [" ".join(["# piperun", *limits.words])] if limits.words else []
+    return [VERSION, *header, MADE]
+
+
+def script_of(last: State, told: List[Tuple[int, str]], limits: Limits) -> str:
     """The script of the last state, with what has to be told at the calls that it is told of."""
     notes: Dict[int, List[str]] = {}
     for line, what in told:
         notes.setdefault(line, []).append(what)
     entries = listed(last)
-    lines = list(HEAD)
+    lines = head_of(limits)
     if any(f" open {HOLDER} r creat" in said.words for said in entries):
         lines.append(KEPT)
     seen: Set[Operation] = set()

@@ -7,9 +7,12 @@ from typing import IO, Iterator, List, NamedTuple, Optional, Tuple
 
 from draw import Drawn
 from script import Run, lines_of
+from state import Limits, limits_of
 
 ROOT = pathlib.Path(__file__).resolve().parent.parent.parent
 EXAMPLES = ROOT / "crates" / "pl_examples" / "data"
+# scripts within other limits than the usual ones
+WITHIN = ROOT / "library" / "tests" / "other_limits"
 # an answer is told as far as this
 MOST_TOLD = 80
 
@@ -54,19 +57,23 @@ def behind_answers(run_of: Ended) -> str:
     return f"status {run_of.status} and {shortened(run_of.complaint)} behind {count} answers"
 
 
-def first_call_of(example: pathlib.Path) -> int:
-    """The number of the first call of an example. It stands in a file of arguments beside the script, if there is one."""
-    arguments = example.with_suffix(".args")
-    words = arguments.read_text(encoding="ascii").split() if arguments.exists() else []
-    if not words:
-        return 1
-    option, number = words
-    if option != "--first-call":
-        raise ValueError(f"{arguments}: {option} is an option that the model doesn't have")
-    return int(number)
+def limits_beside(script: pathlib.Path) -> Limits:
+    """The limits within which a script is run. They stand in a file of arguments beside it, if there is one."""
+    arguments = script.with_suffix(".args")
+    return limits_of(arguments.read_text(encoding="ascii").split()) if arguments.exists() else Limits()
+
+
+def scripts_below(folder: pathlib.Path) -> Iterator[Tuple[str, Drawn]]:
+    """The scripts of a folder, each with its name."""
+    for script in sorted(folder.rglob("*.script")):
+        yield str(script.relative_to(folder)), Drawn(script.read_bytes(), limits_beside(script))
 
 
 def examples() -> Iterator[Tuple[str, Drawn]]:
-    """The scripts of the examples, each with its name."""
-    for example in sorted(EXAMPLES.rglob("*.script")):
-        yield str(example.relative_to(EXAMPLES)), Drawn(example.read_bytes(), first_call_of(example))
+    """The scripts of the examples."""
+    return scripts_below(EXAMPLES)
+
+
+def within_other_limits() -> Iterator[Tuple[str, Drawn]]:
+    """The scripts that are run within other limits than the usual ones."""
+    return scripts_below(WITHIN)

@@ -1,6 +1,6 @@
 """Draws scripts by a seed. The same seed draws the same script.
 
-  python3 tools/model/draw.py SEED    prints the script, and to standard error the option that tells piperun its first call
+  python3 tools/model/draw.py SEED    prints the script, and to standard error the options that tell piperun its limits
 
 A script is drawn beside the machine that runs it, so that most lines name processes, descriptors and waiting calls that are there.
 Each third seed draws a script of version 2. Behind that some words are spelled otherwise, or a few bytes are changed, so that bad lines come.
@@ -21,16 +21,21 @@ from state import (
     GREATEST_CAPACITY,
     GREATEST_OFFSET,
     MOST_FILE_BYTES,
-    MOST_PROCESSES,
     NEVER_A_CALL,
     PIPE_BUF,
+    USUAL,
+    USUAL_PROCESSES,
     Description,
     File,
+    Limits,
     Mode,
     Pipe,
 )
 
 FIRST_CALLS = (1, 1, 1, 0, 5, NEVER_A_CALL, NEVER_A_CALL - 1, NEVER_A_CALL - 3)
+# Limits that aren't the usual ones. Each is drawn of this part of the scripts.
+OTHER_LIMITS: Dict[str, Tuple[int, ...]] = {"descriptors": (3, 5, 8, 300), "descriptions": (3, 5, 8, 12), "processes": (1, 2, 3)}
+PART_OTHER = 0.1
 LENGTHS = (30, 100, 250)
 SIZES = (0, 1, 2, 10, PIPE_BUF - 1, PIPE_BUF, PIPE_BUF, PIPE_BUF, PIPE_BUF + 1, 5000, FIRST_CAPACITY - 1, FIRST_CAPACITY, 70000)
 CAPACITIES = (0, 1, 4096, 4097, 8192, 65536, 65537, GREATEST_CAPACITY, GREATEST_CAPACITY + 1, 2**32 - 1)
@@ -54,7 +59,7 @@ TIMES = (0, 1, 2, 3, 3, 4, 4, 5, 8, 17)
 # What now and then comes behind them. A process has few free descriptors, few descriptions are left, or few pids are.
 FULL_TABLE = ("1 pipe",) * 126
 ALL_DESCRIPTIONS = tuple(line for pid in range(2, 22) for line in ("start", *(f"{pid} pipe",) * 102))
-ALL_PIDS = ("start",) * (MOST_PROCESSES - 3)
+ALL_PIDS = ("start",) * (USUAL_PROCESSES - 3)
 CROWDS = (FULL_TABLE, ALL_DESCRIPTIONS, ALL_PIDS)
 CHANGED_BYTES = b"0123456789 \t\r\n-,:*%#+abcdefrw\x00\x80\x0b\x7f"
 PART_CHANGED = 0.15
@@ -76,20 +81,20 @@ LAST_LINES = 20
 
 @dataclass(frozen=True)
 class Drawn:
-    """A script, and the number of its first call."""
+    """A script, and the limits within which it is run."""
 
     script: bytes
-    first_call: int
+    limits: Limits = USUAL
 
 
 class Scene:
     """A script that is being drawn: its version, its lines behind a first one that tells that, and the machine that ran them."""
 
-    def __init__(self, chance: random.Random, version: Version) -> None:
+    def __init__(self, chance: random.Random, version: Version, others: Dict[str, int]) -> None:
         self.chance = chance
         self.version = version
-        self.first_call = chance.choice(FIRST_CALLS)
-        self.machine = Machine(self.first_call)
+        self.limits = Limits(chance.choice(FIRST_CALLS), **others)
+        self.machine = Machine(self.limits)
         self.lines: List[str] = []
         self.pid = 1
 
@@ -182,7 +187,7 @@ class Scene:
         waiting = self.machine.waiting
         if waiting and not self.happens(0.05):
             return self.chance.choice(list(waiting))
-        return (self.first_call + self.chance.randrange(20)) % 2**64
+        return (self.limits.first_call + self.chance.randrange(20)) % 2**64
 
     # The lines, each by the word that it has
 
@@ -361,9 +366,14 @@ def as_written(scene: Scene, line: str) -> str:
     return scene.chance.choice((f"  {line}", line.replace(" ", "\t"), f"{line} ", f"{line}\r", other_number))
 
 
-def scene_of(chance: random.Random, version: Version) -> Scene:
-    """Draws the lines of a script of this version."""
-    scene = Scene(chance, version)
+def other_limits(chance: random.Random) -> Dict[str, int]:
+    """Draws the limits that aren't the usual ones."""
+    return {name: chance.choice(numbers) for name, numbers in OTHER_LIMITS.items() if chance.random() < PART_OTHER}
+
+
+def scene_of(chance: random.Random, version: Version, others: Dict[str, int]) -> Scene:
+    """Draws the lines of a script of this version, within these limits."""
+    scene = Scene(chance, version, others)
     weights = {**CALLS, **WITHOUT_PROCESS, **chance.choice(EMPHASES)}
     lines = list(weights)
     begin(scene)
@@ -426,22 +436,24 @@ def change(chance: random.Random, script: bytes) -> bytes:
 def draw(seed: int) -> Drawn:
     """Draws a script by a seed."""
     chance = random.Random(seed)
-    scene = scene_of(chance, Version.TWO if seed % 3 == 0 else Version.ONE)
+    # they are drawn apart, so that a script within the usual limits is the same whatever other ones there are
+    others = other_limits(random.Random(f"limits of {seed}"))
+    scene = scene_of(chance, Version.TWO if seed % 3 == 0 else Version.ONE, others)
     if scene.happens(PART_RESPELLED):
         respell_some(scene)
     script = "".join(line + "\n" for line in headed(scene)).encode("ascii")
     if scene.happens(PART_CHANGED):
         script = change(chance, script)
-    return Drawn(script, scene.first_call)
+    return Drawn(script, scene.limits)
 
 
 def main(words: List[str]) -> Optional[str]:
-    """Prints the script of a seed, and the number of its first call."""
+    """Prints the script of a seed, and its limits."""
     if len(words) != 1:
         return "usage: draw.py SEED"
     drawn = draw(int(words[0]))
     sys.stdout.buffer.write(drawn.script)
-    print(f"--first-call {drawn.first_call}", file=sys.stderr)
+    print(*drawn.limits.words, file=sys.stderr)
     return None
 
 

@@ -1,12 +1,13 @@
 """The machine: what every step of the layer answers, and what it changes, after the pages that the docstrings name.
 
-It follows docs/RULES.md, but it shares nothing with the definitions that the proofs speak of, and nothing with the program. It has the
-limits that a run of a script has. It always finds memory.
+It follows docs/RULES.md, but it shares nothing with the definitions that the proofs speak of, and nothing with the program. Of the limits of
+a kernel it knows those that `Limits` has; the others are those of a run of a script. It always finds memory.
 """
 from __future__ import annotations
 
 import enum
-from typing import Callable, Dict, FrozenSet, Optional, Sequence, Tuple
+import itertools
+from typing import Callable, Dict, FrozenSet, Iterator, Optional, Sequence, Tuple
 
 from replies import (
     Capacity,
@@ -30,14 +31,13 @@ from state import (
     FIRST_CAPACITY,
     GREATEST_CAPACITY,
     GREATEST_OFFSET,
-    MOST_DESCRIPTIONS,
-    MOST_PROCESSES,
     NAME_MAX,
     NEVER_A_CALL,
-    OPEN_MAX,
     PIPE_BUF,
+    USUAL,
     Description,
     File,
+    Limits,
     Mode,
     Node,
     PacketPipe,
@@ -92,11 +92,12 @@ class Machine:
     `start`, `resume`, `interrupt` and `begin` are the steps. `begin` makes a call of a process, which is one of the methods behind it.
     """
 
-    def __init__(self, first_call: int = 1) -> None:
+    def __init__(self, limits: Limits = USUAL) -> None:
+        self.limits = limits
         self.processes: Dict[int, Process] = {}
         self.names: Dict[bytes, Node] = {}
         self.waiting: Dict[int, Call] = {}
-        self.next_call = first_call
+        self.next_call = limits.first_call
         self.live_descriptions = 0
         # pipes of which a description came or went in this step, and whether they had a writer or were hung before it
         self._touched: Dict[Pipe, bool] = {}
@@ -179,9 +180,13 @@ class Machine:
         if description.holders == 0:
             self._count(description, -1)
 
+    def _free_descriptors(self, process: Process, least: int = 0) -> Iterator[int]:
+        """The free descriptors of a process. None from the limit on is free (POSIX.1-2017, getrlimit, RLIMIT_NOFILE)."""
+        return process.free_descriptors(least, self.limits.descriptors)
+
     def _install(self, process: Process, description: Description, least: int = 0) -> Reply:
         """Names a description by the least free descriptor from `least` on (POSIX.1-2017, File Descriptor Allocation)."""
-        descriptor = next(process.free_descriptors(least), None)
+        descriptor = next(self._free_descriptors(process, least), None)
         if descriptor is None:
             raise Refused(Errno.EMFILE)
         process.descriptors[descriptor] = description
@@ -259,9 +264,9 @@ class Machine:
 
     def _new_process(self) -> Reply:
         """Makes a process under the least free pid (POSIX.1-2017, fork, EAGAIN)."""
-        if len(self.processes) >= MOST_PROCESSES:
+        if len(self.processes) >= self.limits.processes:
             raise Refused(Errno.EAGAIN)
-        pid = next(pid for pid in range(1, MOST_PROCESSES + 1) if pid not in self.processes)
+        pid = next(pid for pid in range(1, self.limits.processes + 1) if pid not in self.processes)
         self.processes[pid] = Process(pid)
         return NewProcess(pid)
 
@@ -291,10 +296,10 @@ class Machine:
 
         With `direct` it is a packet pipe (pipe(2), O_DIRECT). Its write end alone has the flag (our own). Only scripts of version 2 ask for it.
         """
-        free = list(process.free_descriptors())[:2]
+        free = list(itertools.islice(self._free_descriptors(process), 2))
         if len(free) < 2:
             raise Refused(Errno.EMFILE)
-        if self.live_descriptions > MOST_DESCRIPTIONS - 2:
+        if self.live_descriptions + 2 > self.limits.descriptions:
             raise Refused(Errno.ENFILE)
         pipe = PacketPipe() if direct else Pipe()
         for mode in Mode.READ, Mode.WRITE:
@@ -335,9 +340,9 @@ class Machine:
             raise Refused(Errno.EEXIST)
         if node is None and OpenFlag.CREAT not in flags:
             raise Refused(Errno.ENOENT)
-        if next(process.free_descriptors(), None) is None:
+        if next(self._free_descriptors(process), None) is None:
             raise Refused(Errno.EMFILE)
-        if self.live_descriptions >= MOST_DESCRIPTIONS:
+        if self.live_descriptions >= self.limits.descriptions:
             raise Refused(Errno.ENFILE)
         if node is None:
             node = self.names[name] = File()
@@ -442,7 +447,7 @@ class Machine:
 
     def poll(self, process: Process, wait: bool, asked: Sequence[Tuple[int, Mask]]) -> Reply:
         """Tells what is found of descriptors, or waits until something is (POSIX.1-2017, poll)."""
-        if len(asked) > OPEN_MAX:
+        if len(asked) > self.limits.entries:
             raise Refused(Errno.EINVAL)
         entries = [(descriptor, mask, process.descriptors.get(descriptor)) for descriptor, mask in asked]
         return self._try(Poll(process, entries, wait))
@@ -470,14 +475,14 @@ class Machine:
     def dupfd(self, process: Process, descriptor: int, least: int) -> Reply:
         """Names what a descriptor names by the least free one from `least` on (POSIX.1-2017, fcntl, F_DUPFD)."""
         description = self._find(process, descriptor)
-        if not 0 <= least < OPEN_MAX:
+        if not 0 <= least < self.limits.descriptors:
             raise Refused(Errno.EINVAL)
         return self._install(process, description, least)
 
     def dup2(self, process: Process, descriptor: int, target: int) -> Reply:
         """Names what a descriptor names by the target, which is closed first (POSIX.1-2017, dup2)."""
         description = self._find(process, descriptor)
-        if not 0 <= target < OPEN_MAX:
+        if not 0 <= target < self.limits.descriptors:
             raise Refused(Errno.EBADF)
         # held before the target is closed, as the target may be its last holder
         self._hold(description)

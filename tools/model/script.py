@@ -10,7 +10,7 @@ from typing import Any, Callable, Dict, FrozenSet, Iterator, List, Optional, Pat
 import replies
 from machine import Machine, OpenFlag, PipeFlag, PipeFlags, SpliceFlag, Whence
 from replies import Event, Mask, Reply
-from state import Mode, Process
+from state import USUAL, Limits, Mode, Process
 
 MOST_SCRIPT_BYTES = 16777216
 MOST_WRITTEN = 16777216
@@ -423,11 +423,11 @@ def answer(machine: Machine, request: Request) -> Reply:
     return request.step(machine)
 
 
-def run(script: bytes, first_call: int = 1, answering: Callable[[Machine, Request], Reply] = answer) -> Run:
+def run(script: bytes, limits: Limits = USUAL, answering: Callable[[Machine, Request], Reply] = answer) -> Run:
     """Runs a script until its end, or until its first bad line. A first line that tells the version asks nothing."""
     if len(script) > MOST_SCRIPT_BYTES:
         return Run([], f"piperun: script longer than {MOST_SCRIPT_BYTES} bytes", 3)
-    machine = Machine(first_call)
+    machine = Machine(limits)
     answers: List[Answer] = []
     lines = lines_of(script)
     version = version_of(lines)

@@ -2,8 +2,9 @@
 from __future__ import annotations
 
 import enum
+import itertools
 from dataclasses import dataclass, field
-from typing import Dict, Iterator, List, Union
+from typing import Dict, Iterator, List, NamedTuple, Union
 
 # POSIX.1-2017, limits.h; pipe(7), PIPE_BUF
 PIPE_BUF = 4096
@@ -11,17 +12,69 @@ PIPE_BUF = 4096
 FIRST_CAPACITY = 65536
 # fcntl(2), F_SETPIPE_SZ
 GREATEST_CAPACITY = 1048576
-# POSIX.1-2017, limits.h: OPEN_MAX and NAME_MAX
+# POSIX.1-2017, limits.h: OPEN_MAX, if no limit on descriptors is set, and NAME_MAX
 OPEN_MAX = 256
 NAME_MAX = 255
 # POSIX.1-2017, lseek, EOVERFLOW
 GREATEST_OFFSET = 2**63 - 1
-# limits that the layer chose for itself
-MOST_DESCRIPTIONS = 4096
-MOST_PROCESSES = 1024
+# numbers that the layer chose for itself: how many descriptions and processes there may be, if no limit is set, and the greatest limits
+USUAL_DESCRIPTIONS = 4096
+USUAL_PROCESSES = 1024
+GREATEST_DESCRIPTORS = 65536
+GREATEST_DESCRIPTIONS = 1048576
+GREATEST_PROCESSES = 65536
 MOST_FILE_BYTES = 16777216
 # a number that no waiting call gets
 NEVER_A_CALL = 2**64 - 1
+
+
+@dataclass(frozen=True)
+class Limits:
+    """What a host sets of a kernel, as far as the model knows it: the number of the first call that waits, and how many there may be."""
+
+    first_call: int = 1
+    descriptors: int = OPEN_MAX
+    descriptions: int = USUAL_DESCRIPTIONS
+    processes: int = USUAL_PROCESSES
+
+    @property
+    def entries(self) -> int:
+        """How many entries a poll may have (POSIX.1-2017, poll, EINVAL; which number: our own)."""
+        return max(self.descriptors, OPEN_MAX)
+
+    @property
+    def words(self) -> List[str]:
+        """The options that tell piperun of those that aren't the usual ones."""
+        changed = [name for name in OPTIONS if getattr(self, name) != getattr(USUAL, name)]
+        return [word for name in changed for word in (OPTIONS[name].word, str(getattr(self, name)))]
+
+
+class Option(NamedTuple):
+    """An option of piperun, and its greatest number."""
+
+    word: str
+    greatest: int
+
+
+# the options of the fields
+OPTIONS: Dict[str, Option] = {
+    "first_call": Option("--first-call", NEVER_A_CALL),
+    "descriptors": Option("--descriptors-max", GREATEST_DESCRIPTORS),
+    "descriptions": Option("--descriptions-max", GREATEST_DESCRIPTIONS),
+    "processes": Option("--processes-max", GREATEST_PROCESSES),
+}
+USUAL = Limits()
+
+
+def limits_of(words: List[str]) -> Limits:
+    """The limits that options and their numbers give. Others raise ValueError."""
+    names = {option.word: name for name, option in OPTIONS.items()}
+    given: Dict[str, int] = {}
+    for word, text in itertools.zip_longest(words[::2], words[1::2], fillvalue=""):
+        if word not in names or not text.isdecimal() or int(text) > OPTIONS[names[word]].greatest:
+            raise ValueError(f"{word} {text}")
+        given[names[word]] = int(text)
+    return Limits(**given)
 
 
 class Mode(enum.Enum):
@@ -162,6 +215,6 @@ class Process:
     pid: int
     descriptors: Dict[int, Description] = field(default_factory=dict)
 
-    def free_descriptors(self, least: int = 0) -> Iterator[int]:
-        """The descriptors that are free, from `least` on, the least first (POSIX.1-2017, File Descriptor Allocation)."""
-        return (descriptor for descriptor in range(least, OPEN_MAX) if descriptor not in self.descriptors)
+    def free_descriptors(self, least: int, most: int) -> Iterator[int]:
+        """The descriptors that are free, from `least` on, the least first, of so many (POSIX.1-2017, File Descriptor Allocation)."""
+        return (descriptor for descriptor in range(least, most) if descriptor not in self.descriptors)

@@ -1,5 +1,6 @@
 pub mod First
-pub mod Masks
+pub mod Vacant
+pub mod TableLemmas
 pub mod RowLemmas
 pub mod SlotLemmas
 pub mod Sound

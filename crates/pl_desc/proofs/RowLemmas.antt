@@ -1,15 +1,18 @@
 -- The tables of processes, before and after a change, and how many rows name a key.
 use Rattle.std.proofs.Common.{◌≡◌, ◌≢◌, ℕ, zero, suc, ◌+◌, ◌-◌, ◌*◌, ◌<◌, ◌≤◌, Bool, true, false, cond, List, [], ◌∷◌, ◌++◌, Option, Some, None, refl, sym, ◌∙◌, ap, subst, inl, inr, nat_eq, nat_lt, length, replicate, arith, ℤ, pos, negsuc, ⊎_elim}
-use Rattle.std.specs.Prelude.{if◌then◌else◌, ◌&&◌, not, is_some, slice_set, slice_index_or, count_by, IfSome, IfNone}
+use Rattle.std.specs.Prelude.{if◌then◌else◌, ◌&&◌, not, is_some, option_map, option_and_then, slice_set, slice_index_or, count_by, IfSome, IfNone}
 use Rattle.std.specs.List.{sum_by, All}
 use Rattle.std.proofs.Math.Path.{fun_ext}
 use Rattle.std.proofs.lemmas.List.{get_or-set_same, get_or-set_other, get_or_default, get_or_past}
 use Rattle.std.proofs.lemmas.List.Sums.{sum_by-set, sum_by_push, sum_by-le, get_or-le-sum_by, count_by-le-length}
-use Rattle.std.proofs.lemmas.Bool.{eq-eqb, ne_eqb, lt-ltb, cases_lt}
+use Rattle.std.proofs.lemmas.Bool.{eq-eqb, ne_eqb, lt-ltb, cases_lt, false≢true}
+use Rattle.std.proofs.lemmas.Option.{same_Some}
 use Rattle.std.proofs.lemmas.Bool.Decides.{eqb_tells, nat_tests}
 use Rattle.pl_model.specs.Map.{set_at}
-use Rattle.pl_model.specs.Numbers.{most_processes, open_max}
-use Rattle.pl_desc.specs.Rows.{at, Tables, table_of, is_pid, rows_in, rows_of, row_at, row_of, first_open, free_pid, with_row, with_table, names, named_in, naming}
+use Rattle.pl_model.specs.Numbers.{most_processes, most_descriptors}
+use Rattle.pl_desc.specs.Rows.{at, Tables, table_of, is_pid, rows_in, rows_of, row_at, row_of, open_from, next_open, free_pid, with_row, with_table, names, named_in, naming}
+use Rattle.pl_desc.specs.declared.limits.DescLimits.{DescLimits}
+use Rattle.pl_desc.specs.Descs.{AreLimits}
 use Rattle.pl_desc.specs.Ends.{one_if}
 use Rattle.pl_desc.proofs.First.{first_is, first_none, first_found, first_fails}
 use lib.IntN.{nat_abs}
@@ -95,10 +98,10 @@ module _ (tables : Tables) (pid : ℕ) (table : Option (List (Option ℕ))) (low
       ap (λ o. sum_by (named_in key) changed + named_in key o) (table_at tables pid low)
       ∙ sum_by-set (named_in key) tables (pid - 1) table None (omega arith)
 
-  pub wide-set : IfSome table (λ t. length t ≡ open_max) → ((place : ℕ) → IfSome (at tables place) (λ t. length t ≡ open_max)) → (place : ℕ) → IfSome (at changed place) (λ t. length t ≡ open_max)
-  wide-set one wide place = elim (eqb_tells place (pid - 1)) as (λ _. IfSome (at changed place) (λ t. length t ≡ open_max)) [
-    | inl e ↦ subst (λ o. IfSome o (λ t. length t ≡ open_max)) (sym (ap (at changed) e.1 ∙ get_or-set_same tables (pid - 1) table None (omega arith))) one
-    | inr e ↦ subst (λ o. IfSome o (λ t. length t ≡ open_max)) (sym (get_or-set_other tables (pid - 1) place table None e.1)) (wide place)
+  pub wide-set : (width : ℕ) → IfSome table (λ t. length t ≡ width) → ((place : ℕ) → IfSome (at tables place) (λ t. length t ≡ width)) → (place : ℕ) → IfSome (at changed place) (λ t. length t ≡ width)
+  wide-set width one wide place = elim (eqb_tells place (pid - 1)) as (λ _. IfSome (at changed place) (λ t. length t ≡ width)) [
+    | inl e ↦ subst (λ o. IfSome o (λ t. length t ≡ width)) (sym (ap (at changed) e.1 ∙ get_or-set_same tables (pid - 1) table None (omega arith))) one
+    | inr e ↦ subst (λ o. IfSome o (λ t. length t ≡ width)) (sym (get_or-set_other tables (pid - 1) place table None e.1)) (wide place)
   ]
 
 -- one row is changed
@@ -164,10 +167,10 @@ table-push tables = fun_ext (λ pid. ap (λ o. if nat_lt 0 pid then o else None)
     by (t ∷ ts) zero = refl
     by (t ∷ ts) (suc k) = by ts k
 
-pub rows-length : (tables : Tables) (pid : ℕ) → is_pid tables pid ≡ true → ((place : ℕ) → IfSome (at tables place) (λ t. length t ≡ open_max)) → length (rows_of tables pid) ≡ open_max
-rows-length tables pid process wide = by (table_of tables pid) process (subst (λ o. IfSome o (λ t. length t ≡ open_max)) (sym (table_at tables pid (pid_in tables pid process).0)) (wide (pid - 1)))
+pub rows-length : {width : ℕ} (tables : Tables) (pid : ℕ) → is_pid tables pid ≡ true → ((place : ℕ) → IfSome (at tables place) (λ t. length t ≡ width)) → length (rows_of tables pid) ≡ width
+rows-length {width} tables pid process wide = by (table_of tables pid) process (subst (λ o. IfSome o (λ t. length t ≡ width)) (sym (table_at tables pid (pid_in tables pid process).0)) (wide (pid - 1)))
   where
-    by : (o : Option (List (Option ℕ))) → is_some o ≡ true → IfSome o (λ t. length t ≡ open_max) → length (rows_in o) ≡ open_max
+    by : (o : Option (List (Option ℕ))) → is_some o ≡ true → IfSome o (λ t. length t ≡ width) → length (rows_in o) ≡ width
     by None s h = absurd (cc)
     by (Some t) s h = h
 
@@ -190,58 +193,54 @@ row-names tables pid fd key h =
     omega (arith, one, is_one, all, same)
 
 -- the rows are few
-pub naming-few : (tables : Tables) (key : ℕ) → length tables ≤ most_processes → ((place : ℕ) → IfSome (at tables place) (λ t. length t ≡ open_max)) → naming tables key ≤ most_processes * open_max
+pub naming-few : {limits : DescLimits} (tables : Tables) (key : ℕ) → AreLimits limits → length tables ≤ limits.processes → ((place : ℕ) → IfSome (at tables place) (λ t. length t ≡ limits.descriptors)) → naming tables key ≤ most_processes * most_descriptors
 unfolding naming
-naming-few tables key few wide =
-    let all : sum_by (named_in key) tables ≤ length tables * open_max = sum_by-le (named_in key) open_max tables each in
-    omega (arith, all)
+naming-few {limits} tables key limited few wide =
+    let all : sum_by (named_in key) tables ≤ length tables * most_descriptors = sum_by-le (named_in key) most_descriptors tables each in
+    omega (arith, all, few, limited.processes)
   where
-    by : (o : Option (List (Option ℕ))) → IfSome o (λ t. length t ≡ open_max) → named_in key o ≤ open_max
+    by : (o : Option (List (Option ℕ))) → IfSome o (λ t. length t ≡ limits.descriptors) → named_in key o ≤ most_descriptors
     by None h = omega arith
-    by (Some t) h = let l = count_by-le-length (names key) t in omega (arith, l, h)
+    by (Some t) h = let l = count_by-le-length (names key) t in omega (arith, l, h, limited.descriptors)
 
-    each : All (λ o. named_in key o ≤ open_max) tables
-    each k d l = by (slice_index_or tables k d) (subst (λ o. IfSome o (λ t. length t ≡ open_max)) (get_or_default tables k None d l) (wide k))
+    each : All (λ o. named_in key o ≤ most_descriptors) tables
+    each k d l = by (slice_index_or tables k d) (subst (λ o. IfSome o (λ t. length t ≡ limits.descriptors)) (get_or_default tables k None d l) (wide k))
 
 -- the least free pid
 pid_taken : (tables : Tables) (place : ℕ) → ((q : ℕ) → q < place → is_some (at tables q) ≡ true) → (y : ℕ) → 1 ≤ y → y < place + 1 → not (is_pid tables y) ≡ false
 pid_taken tables place taken y low high = ap (λ o. not (is_some o)) (table_at tables y (omega arith)) ∙ ap not (taken (y - 1) (omega arith))
 
-pub pid-first : (tables : Tables) (place : ℕ) → place < most_processes → at tables place ≡ None → ((q : ℕ) → q < place → is_some (at tables q) ≡ true) → free_pid tables ≡ Some (place + 1)
-pid-first tables place few free taken =
+pub pid-first : (tables : Tables) (most place : ℕ) → place < most → at tables place ≡ None → ((q : ℕ) → q < place → is_some (at tables q) ≡ true) → free_pid tables most ≡ Some (place + 1)
+pid-first tables most place few free taken =
     let low : 1 ≤ place + 1 = omega arith in
     let e : (place + 1) - 1 ≡ place = omega arith in
-    first_is (λ pid. not (is_pid tables pid)) most_processes 1 (place + 1) low (omega arith)
+    first_is (λ pid. not (is_pid tables pid)) most 1 (place + 1) low (omega arith)
     (ap (λ o. not (is_some o)) (table_at tables (place + 1) (omega arith) ∙ ap (at tables) e ∙ free))
     (λ y l m. pid_taken tables place taken y l m)
 
-pub pid-none : (tables : Tables) → ((q : ℕ) → q < most_processes → is_some (at tables q) ≡ true) → free_pid tables ≡ None
-pid-none tables taken = first_none (λ pid. not (is_pid tables pid)) most_processes 1 (λ y l m. pid_taken tables most_processes taken y l (omega arith))
+pub pid-none : (tables : Tables) (most : ℕ) → ((q : ℕ) → q < most → is_some (at tables q) ≡ true) → free_pid tables most ≡ None
+pid-none tables most taken = first_none (λ pid. not (is_pid tables pid)) most 1 (λ y l m. pid_taken tables most taken y l (omega arith))
 
 pub no_table : (o : Option (List (Option ℕ))) → not (is_some o) ≡ true → o ≡ None
 no_table None h = refl
 no_table (Some t) h = absurd (cc)
 
-pub pid-found : (tables : Tables) (pid : ℕ) → free_pid tables ≡ Some pid → (table_of tables pid ≡ None) × (1 ≤ pid) × (pid ≤ most_processes)
-pid-found tables pid h =
-    let f = first_found (λ pid. not (is_pid tables pid)) most_processes 1 pid h in
+pub pid-found : (tables : Tables) (most pid : ℕ) → free_pid tables most ≡ Some pid → (table_of tables pid ≡ None) × (1 ≤ pid) × (pid ≤ most)
+pid-found tables most pid h =
+    let f = first_found (λ pid. not (is_pid tables pid)) most 1 pid h in
     (no_table (table_of tables pid) f.0, f.1, omega (arith, f.2))
 
-below_open_max : (n : ℕ) → nat_lt n open_max ≡ true → n < open_max
+below_open_max : (n : ℕ) → nat_lt n most_descriptors ≡ true → n < most_descriptors
 below_open_max n h = grind (arith, nat_tests)
 
 -- a row of any whole number
-pub row_of-some : (tables : Tables) (pid key : ℕ) (z : ℤ) → row_of tables pid z ≡ Some key → (nat_abs z < open_max) × (row_at tables pid (nat_abs z) ≡ Some key) × (z ≡ pos (nat_abs z)) × (is_pid tables pid ≡ true)
+pub row_of-some : (tables : Tables) (pid key : ℕ) (z : ℤ) → row_of tables pid z ≡ Some key → (nat_abs z < most_descriptors) × (row_at tables pid (nat_abs z) ≡ Some key) × (z ≡ pos (nat_abs z)) × (is_pid tables pid ≡ true)
 row_of-some tables pid key (negsuc n) h = absurd (cc)
-row_of-some tables pid key (pos n) h = by (nat_lt n open_max) refl h
+row_of-some tables pid key (pos n) h = by (nat_lt n most_descriptors) refl h
   where
-    by : (b : Bool) → nat_lt n open_max ≡ b → (if b then row_at tables pid n else None) ≡ Some key → (n < open_max) × (row_at tables pid n ≡ Some key) × (pos n ≡ pos n) × (is_pid tables pid ≡ true)
+    by : (b : Bool) → nat_lt n most_descriptors ≡ b → (if b then row_at tables pid n else None) ≡ Some key → (n < most_descriptors) × (row_at tables pid n ≡ Some key) × (pos n ≡ pos n) × (is_pid tables pid ≡ true)
     by true e h = (below_open_max n e, h, refl, has_table (table_of tables pid) n (ap is_some h))
     by false e h = absurd (cc)
-
--- the first open descriptor
-pub open-found : (tables : Tables) (pid fd : ℕ) → first_open tables pid ≡ Some fd → (is_some (row_at tables pid fd) ≡ true) × (fd < open_max)
-open-found tables pid fd h = let f = first_found (λ fd. is_some (row_at tables pid fd)) open_max 0 fd h in (f.0, omega (arith, f.2))
 
 -- what is there is not none
 pub no_none : (P : Type 0) (o : Option ℕ) (x : ℕ) → o ≡ Some x → IfNone o P
@@ -256,9 +255,47 @@ pub is_some_value : (o : Option ℕ) → is_some o ≡ true → (x : ℕ) × (o 
 is_some_value None h = absurd (cc)
 is_some_value (Some x) h = (x, refl)
 
--- where there is none, no row names anything
-pub open-none : (tables : Tables) (pid : ℕ) → is_pid tables pid ≡ true → ((place : ℕ) → IfSome (at tables place) (λ t. length t ≡ open_max)) → first_open tables pid ≡ None → (fd : ℕ) → row_at tables pid fd ≡ None
-open-none tables pid process wide none fd = ⊎_elim
-    (λ l. isnt_some (row_at tables pid fd) (first_fails (λ fd. is_some (row_at tables pid fd)) open_max 0 none fd (omega arith) (omega arith)))
-    (λ l. let size = rows-length tables pid process wide in get_or_past (rows_of tables pid) fd None (omega arith))
-    (cases_lt fd open_max)
+-- the first open descriptor from one on, where there is one
+pub open-found : (table : List (Option ℕ)) (least fd key : ℕ) → next_open table least ≡ Some (fd, key) → (at table fd ≡ Some key) × (least ≤ fd) × (fd < length table) × ((k : ℕ) → least ≤ k → k < fd → at table k ≡ None)
+open-found table least fd key h = by (open_from table least) refl h
+  where
+    named : (f : ℕ) (o : Option ℕ) → option_map {U = ℕ × ℕ} (λ k. (f, k)) o ≡ Some (fd, key) → (f ≡ fd) × (o ≡ Some key)
+    named f None e = absurd (cc)
+    named f (Some k) e = let one : (f, k) ≡ (fd, key) = same_Some (f, k) (fd, key) e in (ap (λ t. t.0) one, ap (λ t. Some t.1) one)
+
+    by : (o : Option ℕ) → open_from table least ≡ o → option_and_then (λ f. option_map {U = ℕ × ℕ} (λ k. (f, k)) (at table f)) o ≡ Some (fd, key) → (at table fd ≡ Some key) × (least ≤ fd) × (fd < length table) × ((k : ℕ) → least ≤ k → k < fd → at table k ≡ None)
+    by None e n = absurd (cc)
+    by (Some f) e n =
+        let is = named f (at table f) n in
+        let same : f ≡ fd = is.0 in
+        let first = first_found (λ k. is_some (at table k)) (length table - least) least fd (e ∙ ap (λ k. Some k) same) in
+        (ap (at table) (sym same) ∙ is.1, first.1, within table fd first.0, λ k low high. isnt_some (at table k) (first.3 k low high))
+
+-- and where there is none
+pub open-none : (table : List (Option ℕ)) (least : ℕ) → next_open table least ≡ None → (fd : ℕ) → least ≤ fd → at table fd ≡ None
+open-none table least h = by (open_from table least) refl h
+  where
+    unnamed : (f : ℕ) (o : Option ℕ) → option_map {U = ℕ × ℕ} (λ k. (f, k)) o ≡ None → is_some o ≡ false
+    unnamed f None e = refl
+    unnamed f (Some k) e = absurd (cc)
+
+    by : (o : Option ℕ) → open_from table least ≡ o → option_and_then (λ f. option_map {U = ℕ × ℕ} (λ k. (f, k)) (at table f)) o ≡ None → (fd : ℕ) → least ≤ fd → at table fd ≡ None
+    by None e n fd low = ⊎_elim
+        (λ l. isnt_some (at table fd) (first_fails (λ k. is_some (at table k)) (length table - least) least e fd low (omega arith)))
+        (λ l. get_or_past table fd None l)
+        (cases_lt fd (length table))
+    by (Some f) e n fd low = absurd (false≢true (sym (unnamed f (at table f) n) ∙ (first_found (λ k. is_some (at table k)) (length table - least) least f e).0))
+
+-- the place of the first that is open, and none where none is
+pub open-is : (table : List (Option ℕ)) (least fd key : ℕ) → least ≤ fd → at table fd ≡ Some key → ((k : ℕ) → least ≤ k → k < fd → at table k ≡ None) → next_open table least ≡ Some (fd, key)
+open-is table least fd key low is none =
+    let some : is_some (at table fd) ≡ true = ap is_some is in
+    let inside = within table fd some in
+    let first : open_from table least ≡ Some fd =
+    first_is (λ k. is_some (at table k)) (length table - least) least fd low (omega (arith, inside, low)) some (λ k l m. ap is_some (none k l m)) in
+    ap (option_and_then (λ f. option_map {U = ℕ × ℕ} (λ k. (f, k)) (at table f))) first ∙ ap (option_map {U = ℕ × ℕ} (λ k. (fd, k))) is
+
+pub open-isnt : (table : List (Option ℕ)) (least : ℕ) → ((k : ℕ) → least ≤ k → k < length table → at table k ≡ None) → next_open table least ≡ None
+open-isnt table least none =
+    ap (option_and_then (λ f. option_map {U = ℕ × ℕ} (λ k. (f, k)) (at table f)))
+    (first_none (λ k. is_some (at table k)) (length table - least) least (λ k l m. ap is_some (none k l (omega arith))))

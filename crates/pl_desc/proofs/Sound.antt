@@ -1,12 +1,11 @@
 -- What holds of the fields, part by part, through each change.
 use Rattle.std.proofs.Common.{◌≡◌, ◌≢◌, ℕ, ◌+◌, ◌-◌, ◌<◌, ◌≤◌, Bool, true, false, cond, List, [], ◌∷◌, Option, Some, None, refl, sym, ◌∙◌, ap, subst, inl, inr, length, arith, ⊎_elim}
 use Rattle.std.specs.Prelude.{if◌then◌else◌, ◌&&◌, is_some, count_by, IfSome, option_map}
-use Rattle.std.proofs.lemmas.Bool.{eq-eqb, cases_lt}
+use Rattle.std.proofs.lemmas.Bool.{cases_lt}
 use Rattle.std.proofs.lemmas.Bool.Decides.{eqb_tells}
 use Rattle.std.proofs.lemmas.List.Sums.{sum_by-cons, get_or-le-sum_by, sum_by-le-sum_by}
 use Rattle.std.proofs.lemmas.List.{get_or_past}
 use Rattle.slab.specs.Slab.{Slab, Updates}
-use Rattle.pl_model.specs.Numbers.{most_descriptions, most_processes, open_max}
 use Rattle.pl_model.specs.declared.calls.Mode.{Mode}
 use Rattle.pl_model.specs.declared.calls.Mode.TheVariants as mode
 use Rattle.pl_model.specs.declared.node.Node.{Node}
@@ -16,9 +15,10 @@ use Rattle.pl_model.specs.Nodes.{same_node}
 use Rattle.pl_model.proofs.Nodes.{same_node-refl}
 use Rattle.pl_desc.specs.declared.description.Description.{Description}
 use Rattle.pl_desc.specs.declared.ends.Ends.{Ends}
+use Rattle.pl_desc.specs.declared.limits.DescLimits.{DescLimits}
 use Rattle.pl_desc.specs.declared.ends.Counts.{Counts}
 use Rattle.pl_desc.specs.Rows.{at, Tables, row_at, naming, count_at}
-use Rattle.pl_desc.specs.Descs.{Opened, Room, IsTidy, is_end_on, ends_on, live_count}
+use Rattle.pl_desc.specs.Descs.{Opened, Room, AreLimits, IsTidy, is_end_on, ends_on, live_count}
 use Rattle.pl_desc.specs.Ends.{one_if, raised, lowered, change_ends, counted, ends_at, ends_in, no_ends, HasCounts}
 use Rattle.pl_desc.specs.Slots.{opened_of, opened_in, holders_of, loose_from, IsSound}
 use Rattle.pl_desc.proofs.RowLemmas.{within, row-names}
@@ -44,7 +44,7 @@ module _ (key : ℕ) (xs ys : List (Option Opened)) (others : (q : ℕ) → q �
   unfolding ends_on
   ends-change test node = tally-change (is_end_on test node) refl key xs ys others
 
-module _ (tables : Tables) (slots : List (Option Description)) (ends : Node → Ends) (sound : IsSound tables slots ends) where
+module _ {limits : DescLimits} (tables : Tables) (slots : List (Option Description)) (ends : Node → Ends) (sound : IsSound limits tables slots ends) where
   -- all holders of a key
   pub holders-are : (key : ℕ) → naming tables key + count_at (loose_from 0 tables slots) key ≡ holders_of (at slots key)
   holders-are key = let a = loose-at tables slots key in let b = sound.held key in (let c : naming tables key + count_at (loose_from 0 tables slots) key ≡ holders_of (at slots key) = omega (arith, a, b) in c)
@@ -68,8 +68,9 @@ module _ (tables : Tables) (slots : List (Option Description)) (ends : Node → 
   pub is_named : (pid fd key : ℕ) → row_at tables pid fd ≡ Some key → is_some (at (opened_in slots) key) ≡ true
   is_named pid fd key h = is_open key (let a = row-names tables pid fd key h in let b = sound.held key in (let c : 0 < holders_of (at slots key) = omega (arith, a, b) in c))
 
-  pub tidy : (room : Room) → IsTidy (record { tables = tables; opened = opened_in slots; loose = loose_from 0 tables slots; room = room })
+  pub tidy : (room : Room) → IsTidy (record { tables = tables; opened = opened_in slots; loose = loose_from 0 tables slots; room = room; limits = limits })
   tidy room = record {
+    limited = sound.limited;
     few = sound.few;
     wide = sound.wide;
     named = is_named;
@@ -79,8 +80,9 @@ module _ (tables : Tables) (slots : List (Option Description)) (ends : Node → 
   }
 
   -- the tables change
-  pub sound-tables : (other : Tables) → length other ≤ most_processes → ((place : ℕ) → IfSome (at other place) (λ t. length t ≡ open_max)) → ((key : ℕ) → naming other key ≤ holders_of (at slots key)) → IsSound other slots ends
+  pub sound-tables : (other : Tables) → length other ≤ limits.processes → ((place : ℕ) → IfSome (at other place) (λ t. length t ≡ limits.descriptors)) → ((key : ℕ) → naming other key ≤ holders_of (at slots key)) → IsSound limits other slots ends
   sound-tables other few wide held = record {
+    limited = sound.limited;
     few = few;
     wide = wide;
     held = held;
@@ -90,17 +92,18 @@ module _ (tables : Tables) (slots : List (Option Description)) (ends : Node → 
   }
 
   -- the counts change, and tell the same
-  pub sound-ends : (other : Node → Ends) → other ≡ ends → IsSound tables slots other
-  sound-ends other e = subst (IsSound tables slots) (sym e) sound
+  pub sound-ends : (other : Node → Ends) → other ≡ ends → IsSound limits tables slots other
+  sound-ends other e = subst (IsSound limits tables slots) (sym e) sound
 
   -- the holders change
-  pub sound-slots : (after : List (Option Description)) → opened_in after ≡ opened_in slots → ((key : ℕ) → naming tables key ≤ holders_of (at after key)) → ((key : ℕ) → IfSome (at after key) (λ d. 1 ≤ d.holders)) → IsSound tables after ends
+  pub sound-slots : (after : List (Option Description)) → opened_in after ≡ opened_in slots → ((key : ℕ) → naming tables key ≤ holders_of (at after key)) → ((key : ℕ) → IfSome (at after key) (λ d. 1 ≤ d.holders)) → IsSound limits tables after ends
   sound-slots after same held alive = record {
+    limited = sound.limited;
     few = sound.few;
     wide = sound.wide;
     held = held;
     alive = alive;
-    most = subst (λ os. live_count os ≤ most_descriptions) (sym same) sound.most;
+    most = subst (λ os. live_count os ≤ limits.descriptions) (sym same) sound.most;
     counted = λ node. sound.counted node ∙ ap (λ os. counted os node) (sym same);
   }
 
@@ -120,8 +123,8 @@ counts-less false mode e = (
     λ i. record { readers = r i; writers = w i })
 
 -- a description is opened
-module _ (tables : Tables) (old new : Slab Description) (ends other : Node → Ends) (key : ℕ) (d : Description)
-    (sound : IsSound tables old.slots ends) (updates : Updates old new key (Some d)) (vacant : at old.slots key ≡ None) (one : d.holders ≡ 1) where
+module _ {limits : DescLimits} (tables : Tables) (old new : Slab Description) (ends other : Node → Ends) (key : ℕ) (d : Description)
+    (sound : IsSound limits tables old.slots ends) (updates : Updates old new key (Some d)) (vacant : at old.slots key ≡ None) (one : d.holders ≡ 1) where
   abbrev before : List (Option Opened)
   before = opened_in old.slots
 
@@ -151,8 +154,9 @@ module _ (tables : Tables) (old new : Slab Description) (ends other : Node → E
       let a : one_if (is_end_on test node (at after key)) ≡ one_if (same_node d.node node && test d.mode) = ap (λ o. one_if (is_end_on test node o)) here_after in
       (let r : ends_on test after node ≡ ends_on test before node + one_if (same_node d.node node && test d.mode) = omega (arith, a, b, c) in r)
 
-  pub sound-opened : live_count before < most_descriptions → other ≡ change_ends d.node (raised d.mode) ends → IsSound tables new.slots other
+  pub sound-opened : live_count before < limits.descriptions → other ≡ change_ends d.node (raised d.mode) ends → IsSound limits tables new.slots other
   sound-opened room e = record {
+    limited = sound.limited;
     few = sound.few;
     wide = sound.wide;
     held = held;
@@ -178,8 +182,8 @@ module _ (tables : Tables) (old new : Slab Description) (ends other : Node → E
       ]
 
 -- a description is gone
-module _ (tables : Tables) (old new : Slab Description) (ends other : Node → Ends) (key : ℕ) (d : Description)
-    (sound : IsSound tables old.slots ends) (updates : Updates old new key None) (was : at old.slots key ≡ Some d) (bare : naming tables key ≡ 0) where
+module _ {limits : DescLimits} (tables : Tables) (old new : Slab Description) (ends other : Node → Ends) (key : ℕ) (d : Description)
+    (sound : IsSound limits tables old.slots ends) (updates : Updates old new key None) (was : at old.slots key ≡ Some d) (bare : naming tables key ≡ 0) where
   abbrev start : List (Option Opened)
   start = opened_in old.slots
 
@@ -212,8 +216,9 @@ module _ (tables : Tables) (old new : Slab Description) (ends other : Node → E
   ends-left : (test : Mode → Bool) (node : Node) → ends_on test start node - one_if (same_node d.node node && test d.mode) ≡ ends_on test left node
   ends-left test node = let e = ends-less test node in (let r : ends_on test start node - one_if (same_node d.node node && test d.mode) ≡ ends_on test left node = omega (arith, e) in r)
 
-  pub sound-gone : other ≡ change_ends d.node (lowered d.mode) ends → IsSound tables new.slots other
+  pub sound-gone : other ≡ change_ends d.node (lowered d.mode) ends → IsSound limits tables new.slots other
   sound-gone e = record {
+    limited = sound.limited;
     few = sound.few;
     wide = sound.wide;
     held = held;
@@ -284,8 +289,9 @@ ends_on-none : (test : Mode → Bool) (node : Node) → ends_on test [] node ≡
 unfolding ends_on
 ends_on-none test node = refl
 
-pub sound-none : (ends : Node → Ends) → ((node : Node) → ends node ≡ no_ends) → IsSound [] [] ends
-sound-none ends none = record {
+pub sound-none : {limits : DescLimits} → AreLimits limits → (ends : Node → Ends) → ((node : Node) → ends node ≡ no_ends) → IsSound limits [] [] ends
+sound-none limited ends none = record {
+  limited = limited;
   few = omega arith;
   wide = λ place. tt;
   held = λ key. omega (arith, naming-none key);

@@ -1,11 +1,10 @@
 -- What each change leaves, on the fields.
-use Rattle.std.proofs.Common.{◌≡◌, ◌≢◌, ℕ, zero, suc, ◌+◌, ◌-◌, ◌^◌, ◌<◌, ◌≤◌, Bool, true, false, List, Option, Some, None, refl, sym, ◌∙◌, ap, subst, inl, inr, nat_eq, length, arith, replicate}
+use Rattle.std.proofs.Common.{◌≡◌, ◌≢◌, ℕ, ◌+◌, ◌-◌, ◌^◌, ◌<◌, ◌≤◌, Bool, true, false, List, Option, Some, None, refl, sym, ◌∙◌, ap, subst, inl, inr, nat_eq, length, arith, replicate}
 use Rattle.std.specs.Prelude.{if◌then◌else◌, ◌&&◌, is_some, slice_set, count_by, IfSome, option_map, Result, Ok, Err, is_err, OnOk, OnErr}
 use Rattle.std.proofs.Math.Path.{fun_ext}
 use Rattle.std.proofs.lemmas.Bool.{eq-eqb, ne_eqb, false≢true}
 use Rattle.std.proofs.lemmas.Bool.Decides.{eqb_tells}
 use Rattle.std.proofs.lemmas.List.{length-set}
-use Rattle.pl_model.specs.Numbers.{most_descriptions, most_processes, open_max}
 use Rattle.pl_model.specs.declared.calls.Mode.{Mode}
 use Rattle.pl_model.specs.declared.node.Node.{Node}
 use Rattle.pl_model.specs.Map.{set_at}
@@ -13,17 +12,19 @@ use Rattle.pl_model.specs.Modes.{reads, writes}
 use Rattle.pl_model.specs.Nodes.{same_node}
 use Rattle.pl_desc.specs.declared.description.Description.{Description}
 use Rattle.pl_desc.specs.declared.ends.Ends.{Ends}
+use Rattle.pl_desc.specs.declared.limits.DescLimits.{DescLimits}
 use Rattle.pl_desc.specs.Rows.{at, Tables, table_of, is_pid, rows_in, rows_of, row_at, with_row, with_rows_of, with_table, names, named_in, naming, count_at, change_count, one_more, one_less}
 use Rattle.pl_desc.specs.Descs.{Room, last_hold, is_end_on, ends_on, live_count}
 use Rattle.pl_desc.specs.Ends.{one_if}
 use Rattle.pl_desc.specs.Slots.{opened_of, opened_in, holders_of, loose_from, held_all, IsSound}
 use Rattle.pl_desc.proofs.Known.{Known, Starts}
+use Rattle.pl_desc.proofs.TableLemmas.{at-free}
 use Rattle.pl_desc.proofs.RowLemmas.{within, pid_in, table_at, pids-set, rows-set, rows-same, naming-set, wide-set, row-naming, row-pids, row-rows, named_in-none, named_in-closed, rows-length, naming-few, pid-found}
 use Rattle.pl_desc.proofs.SlotLemmas.{slot_of, kept-some, at-opened, at-lent, at-lent_other, opened-lent, loose-at, loose-same, loose-change, all-opened, all-holders, all-length}
 use Rattle.pl_desc.proofs.Sound.{live-change, ends-change, sound-tables, sound-slots, is_named, holders-are}
 
 module _ (m : Known) where
-  open m use {tables, slots, ends, sound}
+  open m use {limits, tables, slots, ends, sound}
 
   abbrev loose : ℕ → ℕ
   loose = count_at (loose_from 0 tables slots)
@@ -51,7 +52,7 @@ module _ (m : Known) where
     holders_is = ap holders_of (at-lent slots key x y was)
 
     -- whether it has one holder
-    pub last-is : (room : Room) → last_hold (record { tables = tables; opened = opened_in slots; loose = loose_from 0 tables slots; room = room }) key ≡ nat_eq x.holders 1
+    pub last-is : (room : Room) → last_hold (record { tables = tables; opened = opened_in slots; loose = loose_from 0 tables slots; room = room; limits = limits }) key ≡ nat_eq x.holders 1
     last-is room = ap (λ n. nat_eq n 1) (holders-are tables slots ends sound key ∙ holders_was)
 
     -- the last hold, where that is a loose one
@@ -64,11 +65,11 @@ module _ (m : Known) where
     pub fits-lent : loose key < 2 ^ 100 → x.holders + 1 < 2 ^ 128
     fits-lent l =
         let a = loose-at tables slots key in
-        let b = naming-few tables key sound.few sound.wide in
+        let b = naming-few tables key sound.limited sound.few sound.wide in
         let c = holders_was in
         omega arith
 
-    pub sound-lent : opened_of y ≡ opened_of x → naming tables key ≤ y.holders → 1 ≤ y.holders → IsSound tables lent ends
+    pub sound-lent : opened_of y ≡ opened_of x → naming tables key ≤ y.holders → 1 ≤ y.holders → IsSound limits tables lent ends
     sound-lent same held alive = sound-slots tables slots ends sound lent (opened-lent slots key x y was same) (λ q. all_held q) (λ q. all_alive q)
       where
         all_held : (q : ℕ) → naming tables q ≤ holders_of (at lent q)
@@ -89,7 +90,7 @@ module _ (m : Known) where
         (λ q n. ap (λ o. holders_of o - naming tables q) (at-lent_other slots key x y was q n))
 
     -- one more hold, and one less
-    pub sound-more : opened_of y ≡ opened_of x → y.holders ≡ x.holders + 1 → IsSound tables lent ends
+    pub sound-more : opened_of y ≡ opened_of x → y.holders ≡ x.holders + 1 → IsSound limits tables lent ends
     sound-more same e = (
         let a = sound.held key in
         let b = holders_was in
@@ -101,7 +102,7 @@ module _ (m : Known) where
         let b = holders_was in
         (let r : y.holders - naming tables key ≡ (x.holders - naming tables key) + 1 = omega (arith, a, b, e) in r))
 
-    pub sound-less : opened_of y ≡ opened_of x → 0 < loose key → y.holders ≡ x.holders - 1 → 1 < x.holders → IsSound tables lent ends
+    pub sound-less : opened_of y ≡ opened_of x → 0 < loose key → y.holders ≡ x.holders - 1 → 1 < x.holders → IsSound limits tables lent ends
     sound-less same l e more = (
         let a = loose-at tables slots key in
         let b = holders_was in
@@ -146,13 +147,14 @@ module _ (m : Known) where
             | inr e ↦ ap (λ o. holders_of o - naming tables q) (at-lent_other slots key x y was q e.1)
           ]
 
-      pub sound-said : IsSound tables lent ends
+      pub sound-said : IsSound limits tables lent ends
       sound-said = record {
+        limited = sound.limited;
         few = sound.few;
         wide = sound.wide;
         held = λ q. held q;
         alive = λ q. alive q;
-        most = subst (λ n. n ≤ most_descriptions) (sym said-live) sound.most;
+        most = subst (λ n. n ≤ limits.descriptions) (sym said-live) sound.most;
         counted = λ n. sound.counted n ∙ (λ i. record { readers = sym (said-ends reads) i n; writers = sym (said-ends writes) i n });
       }
         where
@@ -169,7 +171,7 @@ module _ (m : Known) where
           ]
 
   -- a row of a process
-  module _ (pid fd : ℕ) (process : is_pid tables pid ≡ true) (place : fd < open_max) where
+  module _ (pid fd : ℕ) (process : is_pid tables pid ≡ true) (place : fd < limits.descriptors) where
     pub in_rows : fd < length (rows_of tables pid)
     in_rows = omega (arith, place, rows-length tables pid process sound.wide)
 
@@ -178,10 +180,10 @@ module _ (m : Known) where
       abbrev put : Tables
       put = with_table tables pid (Some (slice_set (rows_of tables pid) fd d))
 
-      pub sound-put : ((key : ℕ) → naming put key ≤ holders_of (at slots key)) → IsSound put slots ends
+      pub sound-put : ((key : ℕ) → naming put key ≤ holders_of (at slots key)) → IsSound limits put slots ends
       sound-put held = sound-tables tables slots ends sound put
           (omega (arith, sound.few, length-set tables (pid - 1) (Some (slice_set (rows_of tables pid) fd d))))
-          (let r = pid_in tables pid process in wide-set tables pid (Some (slice_set (rows_of tables pid) fd d)) r.0 r.1 (length-set (rows_of tables pid) fd d ∙ rows-length tables pid process sound.wide) sound.wide)
+          (let r = pid_in tables pid process in wide-set tables pid (Some (slice_set (rows_of tables pid) fd d)) r.0 r.1 limits.descriptors (length-set (rows_of tables pid) fd d ∙ rows-length tables pid process sound.wide) sound.wide)
           held
 
       pub pids-put : is_pid put ≡ is_pid tables
@@ -204,7 +206,7 @@ module _ (m : Known) where
       named_there : (q : ℕ) → q ≢ key → naming (put (Some key)) q ≡ naming tables q
       named_there q n = named_more q ∙ ap (λ b. naming tables q + one_if b) (ne_eqb key q (λ h. n (sym h))) ∙ (let r : naming tables q + 0 ≡ naming tables q = omega arith in r)
 
-      pub sound-installed : 0 < loose key → IsSound (put (Some key)) slots ends
+      pub sound-installed : 0 < loose key → IsSound limits (put (Some key)) slots ends
       sound-installed l = sound-put (Some key) held
         where
           held : (q : ℕ) → naming (put (Some key)) q ≤ holders_of (at slots q)
@@ -232,7 +234,7 @@ module _ (m : Known) where
       left_there : (q : ℕ) → q ≢ key → naming (put None) q ≡ naming tables q
       left_there q n = (let r : naming (put None) q ≡ naming (put None) q + 0 = omega arith in r) ∙ ap (λ b. naming (put None) q + one_if b) (sym (ne_eqb key q (λ h. n (sym h)))) ∙ named_less q
 
-      pub sound-closed : IsSound (put None) slots ends
+      pub sound-closed : IsSound limits (put None) slots ends
       sound-closed = sound-put None (λ q. let a = named_less q in let b = sound.held q in omega arith)
 
       pub loose-closed : count_at (loose_from 0 (put None) slots) ≡ change_count key one_more loose
@@ -253,10 +255,10 @@ module _ (m : Known) where
         let c : named_in key None ≡ 0 = refl in
         (let r : naming ended key ≡ naming tables key = omega (arith, a, b, c) in r)
 
-    pub sound-ended : IsSound ended slots ends
+    pub sound-ended : IsSound limits ended slots ends
     sound-ended = sound-tables tables slots ends sound ended
         (omega (arith, sound.few, length-set tables (pid - 1) None))
-        (let r = pid_in tables pid process in wide-set tables pid None r.0 r.1 tt sound.wide)
+        (let r = pid_in tables pid process in wide-set tables pid None r.0 r.1 limits.descriptors tt sound.wide)
         (λ q. let a = naming-ended q in let b = sound.held q in omega arith)
 
     pub loose-ended : loose_from 0 ended slots ≡ loose_from 0 tables slots
@@ -267,12 +269,6 @@ module _ (m : Known) where
 
     pub rows-ended : row_at ended ≡ row_at tables
     rows-ended = let r = pid_in tables pid process in rows-same tables pid None r.0 r.1 (λ k. sym (closed k))
-
--- a table without keys
-pub at-free : (n k : ℕ) → ◌≡◌ {A = Option ℕ} (at (replicate n None) k) None
-at-free zero k = refl
-at-free (suc n) zero = refl
-at-free (suc n) (suc k) = at-free n k
 
 -- what holds where a call didn't fail
 pub ok_part : {T E P : Type 0} (r : Result T E) → is_err r ≡ false → OnOk r P → P
@@ -286,17 +282,17 @@ err_part (Err e) h p = p
 
 -- a process starts
 module _ (m : Known) (s : Starts m) where
-  open m use {tables, slots, ends, sound}
+  open m use {limits, tables, slots, ends, sound}
   open s use {pid, free, places, same, names_same, few, high, table, wide}
 
   abbrev started : Tables
   started = with_table places pid (Some table)
 
   low : 0 < pid
-  low = let f = pid-found tables pid free in omega (arith, f.1)
+  low = let f = pid-found tables limits.processes pid free in omega (arith, f.1)
 
   vacant : table_of places pid ≡ None
-  vacant = ap (λ m. m pid) same ∙ (pid-found tables pid free).0
+  vacant = ap (λ m. m pid) same ∙ (pid-found tables limits.processes pid free).0
 
   pub naming-started : (key : ℕ) → naming started key ≡ naming tables key + count_by (names key) table
   naming-started key =
@@ -305,7 +301,7 @@ module _ (m : Known) (s : Starts m) where
       let e : naming places key ≡ naming tables key = ap (λ m. m key) names_same in
       (let r : naming started key ≡ naming tables key + count_by (names key) table = omega (arith, n, z, e) in r)
 
-  few_started : length started ≤ most_processes
+  few_started : length started ≤ limits.processes
   few_started = omega (arith, few, length-set places (pid - 1) (Some table))
 
   place_same : (q : ℕ) → at places q ≡ at tables q
@@ -314,8 +310,8 @@ module _ (m : Known) (s : Starts m) where
       let e : (q + 1) - 1 ≡ q = omega arith in
       ap (at places) (sym e) ∙ sym (table_at places (q + 1) l) ∙ ap (λ m. m (q + 1)) same ∙ table_at tables (q + 1) l ∙ ap (at tables) e
 
-  wide_started : (place : ℕ) → IfSome (at started place) (λ t. length t ≡ open_max)
-  wide_started = wide-set places pid (Some table) low high wide (λ q. subst (λ o. IfSome o (λ t. length t ≡ open_max)) (sym (place_same q)) (sound.wide q))
+  wide_started : (place : ℕ) → IfSome (at started place) (λ t. length t ≡ limits.descriptors)
+  wide_started = wide-set places pid (Some table) low high limits.descriptors wide (λ q. subst (λ o. IfSome o (λ t. length t ≡ limits.descriptors)) (sym (place_same q)) (sound.wide q))
 
   pub pids-started : is_pid started ≡ set_at nat_eq (is_pid tables) pid true
   pids-started = pids-set places pid (Some table) low high ∙ ap (λ (m : ℕ → Option (List (Option ℕ))). set_at nat_eq (λ q. is_some (m q)) pid true) same
@@ -324,18 +320,18 @@ module _ (m : Known) (s : Starts m) where
   rows-started = rows-set places pid (Some table) low high ∙ ap (λ (m : ℕ → Option (List (Option ℕ))). λ q k. if nat_eq q pid then at table k else at (rows_in (m q)) k) same
 
   -- with no open descriptor
-  module _ (empty : table ≡ replicate open_max None) where
+  module _ (empty : table ≡ replicate limits.descriptors None) where
     naming_same : (key : ℕ) → naming started key ≡ naming tables key
     naming_same key =
         let n = naming-started key in
-        let z : count_by (names key) table ≡ 0 = ap (count_by (names key)) empty ∙ named_in-none open_max key in
+        let z : count_by (names key) table ≡ 0 = ap (count_by (names key)) empty ∙ named_in-none limits.descriptors key in
         (let r : naming started key ≡ naming tables key = omega (arith, n, z) in r)
 
-    pub sound-empty : IsSound started slots ends
+    pub sound-empty : IsSound limits started slots ends
     sound-empty = sound-tables tables slots ends sound started few_started wide_started (λ key. let a = naming_same key in let b = sound.held key in omega arith)
 
     pub rows-empty : row_at started ≡ row_at tables
-    rows-empty = rows-same places pid (Some table) low high (λ k. ap (λ t. at t k) empty ∙ at-free open_max k ∙ sym (ap (λ o. at (rows_in o) k) vacant)) ∙ ap (λ (m : ℕ → Option (List (Option ℕ))). λ q k. at (rows_in (m q)) k) same
+    rows-empty = rows-same places pid (Some table) low high (λ k. ap (λ t. at t k) empty ∙ at-free limits.descriptors k ∙ sym (ap (λ o. at (rows_in o) k) vacant)) ∙ ap (λ (m : ℕ → Option (List (Option ℕ))). λ q k. at (rows_in (m q)) k) same
 
     pub loose-empty : loose_from 0 started slots ≡ loose_from 0 tables slots
     loose-empty = loose-same tables started slots slots refl (λ q. ap (λ n. holders_of (at slots q) - n) (naming_same q))
@@ -366,7 +362,7 @@ module _ (m : Known) (s : Starts m) where
             let d_holds : holders_of (at after key) ≡ d.holders = ap holders_of e in
             omega (arith, was, h, d_holds)
 
-    pub sound-copied : IsSound started after ends
+    pub sound-copied : IsSound limits started after ends
     sound-copied = sound-tables tables after ends
         (sound-slots tables slots ends sound after (all-opened table slots) (λ key. let a = held_after key in let b = sound.held key in omega arith) alive_after)
         started few_started wide_started (λ key. let a = held_after key in let b = sound.held key in let n = naming-started key in omega arith)
@@ -381,8 +377,8 @@ module _ (m : Known) (s : Starts m) where
     rows-copied = rows-started ∙ ap (λ (t : List (Option ℕ)). λ q k. if nat_eq q pid then at t k else row_at tables q k) copied
 
 -- no count is near the end of its numbers
-pub holders-few : (tables : Tables) (slots : List (Option Description)) (ends : Node → Ends) → IsSound tables slots ends → (key : ℕ) → count_at (loose_from 0 tables slots) key < 2 ^ 100 → holders_of (at slots key) < 2 ^ 127
+pub holders-few : {limits : DescLimits} (tables : Tables) (slots : List (Option Description)) (ends : Node → Ends) → IsSound limits tables slots ends → (key : ℕ) → count_at (loose_from 0 tables slots) key < 2 ^ 100 → holders_of (at slots key) < 2 ^ 127
 holders-few tables slots ends sound key l =
     let a = loose-at tables slots key in
-    let b = naming-few tables key sound.few sound.wide in
+    let b = naming-few tables key sound.limited sound.few sound.wide in
     omega arith

@@ -4,9 +4,10 @@ use Rattle.pl_model.specs.declared.calls.Mode.{Mode}
 use Rattle.pl_model.specs.declared.flags.OpenFlags.{OpenFlags}
 use Rattle.pl_model.specs.declared.node.Node.{Node}
 use Rattle.pl_model.specs.declared.node.Node.TheVariants.{Pipe, File}
-use Rattle.pl_model.specs.Numbers.{open_max, most_processes, most_descriptions}
+use Rattle.pl_model.specs.Numbers.{most_descriptors, most_processes, most_descriptions}
 use Rattle.pl_model.specs.Modes.{reads, writes}
 use Rattle.pl_model.specs.Nodes.{same_node}
+use Rattle.pl_desc.specs.declared.limits.DescLimits.{DescLimits}
 use Rattle.pl_desc.specs.declared.released.Released.{Released}
 use Rattle.pl_desc.specs.declared.released.Released.TheVariants.{Still, Gone}
 use Rattle.pl_desc.specs.Rows.{at, Tables, row_at, naming, count_at}
@@ -25,12 +26,19 @@ pub record Room : Type 0 where
   pub files : ℕ
 
 -- The tables of the processes, the descriptions by key, how many loose holds each has (its holders but the rows that name
--- it), and the room for more.
+-- it), the room for more, and the limits.
 pub record Descs : Type 0 where
   pub tables : Tables
   pub opened : List (Option Opened)
   pub loose : List ℕ
   pub room : Room
+  pub limits : DescLimits
+
+-- no limit is above the greatest one
+pub record AreLimits (limits : DescLimits) : Type 0 where
+  pub descriptors : limits.descriptors ≤ most_descriptors
+  pub descriptions : limits.descriptions ≤ most_descriptions
+  pub processes : limits.processes ≤ most_processes
 
 -- a description on the node, whose mode passes the test
 abbrev pub is_end_on : (Mode → Bool) → Node → Option Opened → Bool
@@ -67,12 +75,13 @@ pub record IsNoLess (old new : Room) (count : ℕ) : Type 0 where
 
 -- What holds of all of it.
 pub record IsTidy (d : Descs) : Type 0 where
-  pub few : length d.tables ≤ most_processes
-  pub wide : (place : ℕ) → IfSome (at d.tables place) (λ table. length table ≡ open_max)
+  pub limited : AreLimits d.limits
+  pub few : length d.tables ≤ d.limits.processes
+  pub wide : (place : ℕ) → IfSome (at d.tables place) (λ table. length table ≡ d.limits.descriptors)
   pub named : (pid fd key : ℕ) → row_at d.tables pid fd ≡ Some key → IsSome (at d.opened key)
   pub held : (key : ℕ) → IsSome (at d.opened key) → 0 < holders d key
   pub bare : (key : ℕ) → at d.opened key ≡ None → holders d key ≡ 0
-  pub most : live_count d.opened ≤ most_descriptions
+  pub most : live_count d.opened ≤ d.limits.descriptions
 
 -- a new description
 abbrev pub fresh : Node → Mode → OpenFlags → Opened

@@ -5,17 +5,18 @@ use Rattle.pl_desc.specs.declared.descs.Descs.TheInside.{Inside}
 use Rattle.pl_desc.specs.Descs.{Descs}
 use Rattle.pl_desc.specs.Slots.{opened_in, loose_from}
 
--- the tables, what is open, what is held loosely, and the room for more
+-- the tables, what is open, what is held loosely, the room for more, and the limits
 abbrev pub view_of : {A : Type 0} → Inside A → Descs
 view_of k =
     record {
-      tables = k.tables.items;
+      tables = k.tables;
       opened = opened_in k.descriptions.slots;
-      loose = loose_from 0 k.tables.items k.descriptions.slots;
+      loose = loose_from 0 k.tables k.descriptions.slots;
       room =
           record {
             descriptions = k.descriptions.capacity - slab_len k.descriptions;
             pipes = length k.counts.pipes.items;
             files = length k.counts.files.items;
           };
+      limits = k.limits;
     }

@@ -1,7 +1,7 @@
 -- What tables and lists by key have at a place.
-use Rattle.std.specs.Prelude.{ℕ, ℤ, pos, negsuc, ◌+◌, ◌-◌, min, nat_lt, nat_eq, Bool, false, not, ◌&&◌, List, [], Option, None, Some, is_none, is_some, if◌then◌else◌, slice_index_or, slice_set, count_by}
+use Rattle.std.specs.Prelude.{ℕ, ℤ, pos, negsuc, ◌+◌, ◌-◌, nat_lt, nat_eq, Bool, false, not, ◌&&◌, List, [], length, Option, None, Some, option_map, option_and_then, is_none, is_some, if◌then◌else◌, slice_index_or, slice_set, count_by}
 use Rattle.std.specs.List.{sum_by}
-use Rattle.pl_model.specs.Numbers.{open_max, most_processes, first_from}
+use Rattle.pl_model.specs.Numbers.{most_descriptors, first_from}
 
 -- the greatest number of a machine word, which is no key of a list that a machine holds
 abbrev pub no_key : ℕ
@@ -37,9 +37,9 @@ rows_of tables pid = rows_in (table_of tables pid)
 abbrev pub row_at : Tables → ℕ → ℕ → Option ℕ
 row_at tables pid fd = at (rows_of tables pid) fd
 
--- the key that a table has under any whole number; one outside 0 to 255 has none
+-- the key that a table has under any whole number; one below 0, or past the greatest limit, has none
 abbrev pub row_in : List (Option ℕ) → ℤ → Option ℕ
-row_in table (pos fd) = if nat_lt fd open_max then at table fd else None
+row_in table (pos fd) = if nat_lt fd most_descriptors then at table fd else None
 row_in table (negsuc n) = None
 
 -- that of the table of a process
@@ -48,15 +48,19 @@ row_of tables pid fd = row_in (rows_of tables pid) fd
 
 -- POSIX.1-2017, File Descriptor Allocation: the least free descriptor of a process, from `least` on, which may have so many
 abbrev pub lowest_of : Tables → (most pid least : ℕ) → Option ℕ
-lowest_of tables most pid least = first_from (λ fd. is_none (row_at tables pid fd)) (min most open_max - least) least
+lowest_of tables most pid least = first_from (λ fd. is_none (row_at tables pid fd)) (most - least) least
 
--- the least open descriptor of a process
-abbrev pub first_open : Tables → ℕ → Option ℕ
-first_open tables pid = first_from (λ fd. is_some (row_at tables pid fd)) open_max 0
+-- the least open descriptor of a table, from `least` on
+abbrev pub open_from : List (Option ℕ) → (least : ℕ) → Option ℕ
+open_from table least = first_from (λ fd. is_some (at table fd)) (length table - least) least
 
--- the least free pid
-abbrev pub free_pid : Tables → Option ℕ
-free_pid tables = first_from (λ pid. not (is_pid tables pid)) most_processes 1
+-- the same with the key that it names
+abbrev pub next_open : List (Option ℕ) → (least : ℕ) → Option (ℕ × ℕ)
+next_open table least = option_and_then (λ fd. option_map (λ key. (fd, key)) (at table fd)) (open_from table least)
+
+-- the least free pid, where there may be so many processes
+abbrev pub free_pid : Tables → (most : ℕ) → Option ℕ
+free_pid tables most = first_from (λ pid. not (is_pid tables pid)) most 1
 
 -- the rows with this at a descriptor of a process
 abbrev pub with_row : (ℕ → ℕ → Option ℕ) → ℕ → ℕ → Option ℕ → ℕ → ℕ → Option ℕ
@@ -67,10 +71,10 @@ abbrev pub without_row : (ℕ → ℕ → Option ℕ) → ℕ → ℤ → ℕ �
 without_row rows pid (pos fd) = with_row rows pid fd None
 without_row rows pid (negsuc n) = rows
 
--- the rows with nothing at a descriptor, if there is one
-abbrev pub without_first : (ℕ → ℕ → Option ℕ) → ℕ → Option ℕ → ℕ → ℕ → Option ℕ
-without_first rows pid None = rows
-without_first rows pid (Some fd) = with_row rows pid fd None
+-- the rows without one that was taken, if one was
+abbrev pub without_taken : (ℕ → ℕ → Option ℕ) → ℕ → Option (ℕ × ℕ) → ℕ → ℕ → Option ℕ
+without_taken rows pid None = rows
+without_taken rows pid (Some taken) = with_row rows pid taken.0 None
 
 -- the rows with those of one process under another pid
 abbrev pub with_rows_of : (ℕ → ℕ → Option ℕ) → ℕ → ℕ → ℕ → ℕ → Option ℕ

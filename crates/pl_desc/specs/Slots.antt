@@ -1,11 +1,11 @@
 -- Descriptions with the counts of their holders, as what is open and what is held.
 use Rattle.std.specs.Prelude.{◌≡◌, ◌≤◌, ℕ, ◌+◌, ◌-◌, List, [], ◌∷◌, map, length, Option, None, Some, IfSome, option_map, slice_set}
-use Rattle.pl_model.specs.Numbers.{open_max, most_processes, most_descriptions}
 use Rattle.pl_model.specs.declared.node.Node.{Node}
 use Rattle.pl_desc.specs.declared.description.Description.{Description}
 use Rattle.pl_desc.specs.declared.ends.Ends.{Ends}
+use Rattle.pl_desc.specs.declared.limits.DescLimits.{DescLimits}
 use Rattle.pl_desc.specs.Rows.{at, Tables, naming}
-use Rattle.pl_desc.specs.Descs.{Opened, live_count}
+use Rattle.pl_desc.specs.Descs.{Opened, AreLimits, live_count}
 use Rattle.pl_desc.specs.Ends.{counted}
 
 -- a description as contracts see it, without its holders
@@ -42,10 +42,11 @@ held_all (Some key ∷ rows) slots = held_all rows (held_once key slots)
 
 -- What holds of the fields: no description has fewer holders than rows that name it, each has a holder, and the counts
 -- of a node are those of the descriptions on it.
-pub record IsSound (tables : Tables) (slots : List (Option Description)) (ends : Node → Ends) : Type 0 where
-  pub few : length tables ≤ most_processes
-  pub wide : (place : ℕ) → IfSome (at tables place) (λ table. length table ≡ open_max)
+pub record IsSound (limits : DescLimits) (tables : Tables) (slots : List (Option Description)) (ends : Node → Ends) : Type 0 where
+  pub limited : AreLimits limits
+  pub few : length tables ≤ limits.processes
+  pub wide : (place : ℕ) → IfSome (at tables place) (λ table. length table ≡ limits.descriptors)
   pub held : (key : ℕ) → naming tables key ≤ holders_of (at slots key)
   pub alive : (key : ℕ) → IfSome (at slots key) (λ d. 1 ≤ d.holders)
-  pub most : live_count (opened_in slots) ≤ most_descriptions
+  pub most : live_count (opened_in slots) ≤ limits.descriptions
   pub counted : (node : Node) → ends node ≡ counted (opened_in slots) node

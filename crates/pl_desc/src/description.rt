@@ -1,6 +1,6 @@
 //! Descriptions with the counts of their holders.
-ghost use Rattle.std.specs.Prelude.{◌≡◌, ℕ, ◌<◌, ◌^◌, length, IsSome, Some};
-ghost use Rattle.pl_model.specs.Numbers.{open_max};
+ghost use Rattle.std.specs.Prelude.{◌≡◌, ℕ, ◌<◌, ◌≤◌, ◌^◌, length, IsSome, Some};
+ghost use Rattle.pl_model.specs.Numbers.{most_descriptors};
 ghost use Rattle.pl_desc.specs.Rows.{at};
 ghost use Rattle.pl_desc.specs.Slots.{holders_of, held_all};
 
@@ -22,14 +22,13 @@ pub(crate) struct Description {
 
 /// Adds a holder to each description, for each descriptor of the table that names it. It takes no memory.
 pub(crate) fn hold_all<A: Allocator>(descriptions: &mut Slab<Description, A>, table: &Table<A>)
-    requires wide { length table.now ≡ open_max }
+    requires wide { length table.now ≤ most_descriptors }
     requires here { (fd key : ℕ) → at table.now fd ≡ Some key → IsSome (at descriptions.old.slots key) }
     requires few { (key : ℕ) → holders_of (at descriptions.old.slots key) < 2 ^ 127 }
     ensures { descriptions.new ≡ record descriptions.old { slots = held_all table.now descriptions.old.slots } }
 {
     let mut from = 0;
-    while let Some(fd) = table.next_open(from) {
-        let key = table.get(fd).unwrap();
+    while let Some((fd, key)) = table.next_open(from) {
         let held = &mut descriptions[key];
         held.holders += 1;
         from = fd + 1;

@@ -3,19 +3,18 @@ mod described;
 
 ghost use Rattle.std.specs.Prelude.{◌≡◌, ℕ, ◌+◌, ◌-◌, ◌<◌, ◌≤◌, ◌^◌, ◌↔◌, [], length, IsTrue, IsOk, IfOk, OnErr, OnOk, IsSome, IfSome, OnSome, IfNone, Some, None, true, false, nat_eq, option_map, option_and_then, if◌then◌else◌};
 ghost use Rattle.std.specs.Option.{option_copied};
-ghost use Rattle.pl_model.specs.Numbers.{open_max, most_processes, most_descriptions};
 ghost use Rattle.pl_model.specs.Map.{set_at};
 ghost use Rattle.pl_model.specs.Modes.{reads, writes};
-ghost use Rattle.pl_desc.specs.Rows.{at, table_of, rows_of, is_pid, row_at, row_of, lowest_of, first_open, free_pid, with_row, without_row, without_first, with_rows_of, count_at, change_count, one_more, one_less, more_if};
-ghost use Rattle.pl_desc.specs.Descs.{ends_on, live_count, HasRoom, IsNoLess, IsTidy, holders, last_hold, fresh, released};
+ghost use Rattle.pl_desc.specs.Rows.{at, table_of, rows_of, is_pid, row_at, row_of, lowest_of, next_open, free_pid, with_row, without_row, without_taken, with_rows_of, count_at, change_count, one_more, one_less, more_if};
+ghost use Rattle.pl_desc.specs.Descs.{ends_on, live_count, AreLimits, HasRoom, IsNoLess, IsTidy, holders, last_hold, fresh, released};
 
 use crate::description::{Description, hold_all};
 use crate::ends::Counts;
 use crate::fault::{OpenFault, StartFault};
+use crate::limits::DescLimits;
 use crate::released::Released;
 use crate::table::Table;
-use crate::tables::{clear_row, put_row, reserve_place};
-use pl_model::numbers::{MAX_DESCRIPTIONS, MAX_PROCESSES};
+use crate::tables::ProcessTables;
 use pl_model::{Mode, NoMemory, Node, OpenFlags};
 use slab::Slab;
 use std::alloc::{Allocator, Global};
@@ -27,7 +26,8 @@ use std::marker::Model;
 #[derive(Drop)]
 pub struct Descs<A: Allocator = Global> {
     alloc: A,
-    tables: Vec<Option<Table<A>>, A>,
+    limits: DescLimits,
+    tables: ProcessTables<A>,
     descriptions: Slab<Description, A>,
     counts: Counts<A>,
 }
@@ -43,18 +43,20 @@ impl<A: Allocator> Model for Descs<A> {
 
     ghost view = { view_of };
 
-    ghost invariant = { λ k. IsSound k.tables.items k.descriptions.slots (ends_at k.counts) };
+    ghost invariant = { λ k. IsSound k.limits k.tables k.descriptions.slots (ends_at k.counts) };
 }
 
 impl<A: Allocator + Copy> Descs<A> {
     /// No processes, and nothing open. It takes no memory.
-    pub fn new(alloc: A) -> Descs<A>
-        ensures value { result ≡ record { tables = []; opened = []; loose = []; room = record { descriptions = 0; pipes = 0; files = 0 } } }
+    pub fn new(alloc: A, limits: DescLimits) -> Descs<A>
+        requires { AreLimits limits }
+        ensures value { result ≡ record { tables = []; opened = []; loose = []; room = record { descriptions = 0; pipes = 0; files = 0 }; limits = limits } }
         ensures tidy { IsTidy result }
     {
         Descs {
             alloc,
-            tables: Vec::new(alloc),
+            limits,
+            tables: ProcessTables::new(alloc),
             descriptions: Slab::new(alloc),
             counts: Counts::new(alloc),
         }
@@ -70,65 +72,64 @@ impl<A: Allocator + Copy> Descs<A> {
         self.table(pid).is_some()
     }
 
-    /// Starts a process with no open descriptor, under the least free pid of 1 to 1,024, and answers the pid. An error
-    /// leaves all as it was.
+    /// Starts a process with no open descriptor, under the least free pid, and answers the pid. An error leaves all as it was.
     ///
     /// # Errors
     ///
-    /// - `Eagain` exactly where no pid is free, since there are 1,024 processes (POSIX.1-2017, fork). It takes no memory.
+    /// - `Eagain` exactly where no pid is free, since there are as many processes as there may be (POSIX.1-2017, fork). It takes no memory.
     /// - `NoMemory` where a pid is free, and there is no memory for one process more.
     pub fn start(&mut self) -> Result<u32, StartFault>
-        ensures pid { IfOk result (λ pid. free_pid self.old.tables ≡ Some pid) }
+        ensures pid { IfOk result (λ pid. free_pid self.old.tables self.old.limits.processes ≡ Some pid) }
         ensures pids { IfOk result (λ pid. is_pid self.new.tables ≡ set_at nat_eq (is_pid self.old.tables) pid true) }
         ensures rows { OnOk result (row_at self.new.tables ≡ row_at self.old.tables) }
         ensures rest { self.new ≡ record self.old { tables = self.new.tables } }
-        ensures full { (result ≡ Err StartFault.Eagain) ↔ (free_pid self.old.tables ≡ None) }
+        ensures full { (result ≡ Err StartFault.Eagain) ↔ (free_pid self.old.tables self.old.limits.processes ≡ None) }
         ensures tidy { OnOk result (IsTidy self.new) }
         ensures unchanged { OnErr result (self.new ≡ self.old) }
     {
-        let Some(pid) = self.free_pid() else {
+        let Some(pid) = self.tables.free_pid(self.limits.processes) else {
             return Err(StartFault::Eagain);
         };
-        let Ok(table) = Table::new(self.alloc) else {
+        let Ok(table) = Table::new(self.alloc, self.limits.descriptors) else {
             return Err(StartFault::NoMemory);
         };
-        if reserve_place(&mut self.tables, pid).is_err() {
+        if self.tables.reserve(pid).is_err() {
             return Err(StartFault::NoMemory);
         }
-        self.tables[pid as usize - 1] = Some(table);
+        self.tables.add(pid, table);
         Ok(pid)
     }
 
     /// Starts a process whose descriptors name the same descriptions as those of a process that is there (POSIX.1-2017,
-    /// fork), under the least free pid of 1 to 1,024, and answers the pid. Each description has fewer than 2^100 loose holds.
+    /// fork), under the least free pid, and answers the pid. Each description has fewer than 2^100 loose holds.
     /// An error leaves all as it was.
     ///
     /// # Errors
     ///
-    /// - `Eagain` exactly where no pid is free, since there are 1,024 processes. It takes no memory.
+    /// - `Eagain` exactly where no pid is free, since there are as many processes as there may be. It takes no memory.
     /// - `NoMemory` where a pid is free, and there is no memory for one process more.
     pub fn copy_table(&mut self, pid: u32) -> Result<u32, StartFault>
         requires process { IsTrue (is_pid self.old.tables pid) }
         requires few { (key : ℕ) → count_at self.old.loose key < 2 ^ 100 }
-        ensures pid { IfOk result (λ other. free_pid self.old.tables ≡ Some other) }
+        ensures pid { IfOk result (λ other. free_pid self.old.tables self.old.limits.processes ≡ Some other) }
         ensures pids { IfOk result (λ other. is_pid self.new.tables ≡ set_at nat_eq (is_pid self.old.tables) other true) }
         ensures rows { IfOk result (λ other. row_at self.new.tables ≡ with_rows_of (row_at self.old.tables) pid other) }
         ensures rest { self.new ≡ record self.old { tables = self.new.tables } }
-        ensures full { (result ≡ Err StartFault.Eagain) ↔ (free_pid self.old.tables ≡ None) }
+        ensures full { (result ≡ Err StartFault.Eagain) ↔ (free_pid self.old.tables self.old.limits.processes ≡ None) }
         ensures tidy { OnOk result (IsTidy self.new) }
         ensures unchanged { OnErr result (self.new ≡ self.old) }
     {
-        let Some(other) = self.free_pid() else {
+        let Some(other) = self.tables.free_pid(self.limits.processes) else {
             return Err(StartFault::Eagain);
         };
         let Ok(table) = self.copied(pid) else {
             return Err(StartFault::NoMemory);
         };
-        if reserve_place(&mut self.tables, other).is_err() {
+        if self.tables.reserve(other).is_err() {
             return Err(StartFault::NoMemory);
         }
         hold_all(&mut self.descriptions, &table);
-        self.tables[other as usize - 1] = Some(table);
+        self.tables.add(other, table);
         Ok(other)
     }
 
@@ -141,60 +142,68 @@ impl<A: Allocator + Copy> Descs<A> {
         ensures rest { self.new ≡ record self.old { tables = self.new.tables } }
         ensures tidy { IsTidy self.new }
     {
-        self.tables[pid as usize - 1] = None;
+        self.tables.remove(pid);
     }
 
-    /// Closes the least open descriptor of a process, and answers the key that it named, of which the caller has a loose
-    /// hold. `None` says that no descriptor is open, and changes nothing. It takes no memory.
-    pub fn take_fd(&mut self, pid: u32) -> Option<usize>
+    /// Closes the least open descriptor of a process, from `least` on, and answers it with the key that it named, of which the caller has a
+    /// loose hold. `None` says that none is open there, and changes nothing. It takes no memory.
+    pub fn take_fd(&mut self, pid: u32, least: usize) -> Option<(usize, usize)>
         requires { IsTrue (is_pid self.old.tables pid) }
-        ensures key { result ≡ option_and_then (row_at self.old.tables pid) (first_open self.old.tables pid) }
-        ensures rows { row_at self.new.tables ≡ without_first (row_at self.old.tables) pid (first_open self.old.tables pid) }
+        ensures taken { result ≡ next_open (rows_of self.old.tables pid) least }
+        ensures rows { row_at self.new.tables ≡ without_taken (row_at self.old.tables) pid result }
         ensures pids { is_pid self.new.tables ≡ is_pid self.old.tables }
-        ensures loose { count_at self.new.loose ≡ more_if result (count_at self.old.loose) }
+        ensures loose { count_at self.new.loose ≡ more_if (option_map (λ t. t.1) result) (count_at self.old.loose) }
         ensures holders { holders self.new ≡ holders self.old }
         ensures rest { self.new ≡ record self.old { tables = self.new.tables; loose = self.new.loose } }
         ensures tidy { IsTidy self.new }
-        ensures closed { IfNone result ((fd : ℕ) → row_at self.old.tables pid fd ≡ None) }
+        ensures closed { IfNone result ((fd : ℕ) → least ≤ fd → row_at self.old.tables pid fd ≡ None) }
         ensures none { IfNone result (self.new ≡ self.old) }
     {
-        let fd = self.first_open(pid)?;
-        let key = self.row(pid, fd);
-        clear_row(&mut self.tables, pid, fd);
-        key
+        let (fd, key) = self.next_open(pid, least)?;
+        self.tables.clear(pid, fd);
+        Some((fd, key))
+    }
+
+    /// The least open descriptor of a process, from `least` on, with the key that it names.
+    pub fn next_open(&self, pid: u32, least: usize) -> Option<(usize, usize)>
+        ensures { result ≡ next_open (rows_of self.now.tables pid) least }
+    {
+        self.table(pid)?.next_open(least)
     }
 
     /// The table of descriptors of a process, for a caller that looks several up.
+    #[inline(always)]
     pub fn table(&self, pid: u32) -> Option<&Table<A>>
         ensures { option_copied result ≡ table_of self.now.tables pid }
     {
-        // That of pid 0 has no place, nor any as far behind.
-        self.tables.get((pid as usize).wrapping_sub(1))?.as_ref()
+        self.tables.get(pid)
     }
 
     /// The key that a descriptor of a process names, if it is open (POSIX.1-2017, File Descriptor). Where there is none, a
     /// call on the descriptor is `EBADF`.
+    #[inline(always)]
     pub fn find(&self, pid: u32, fd: i32) -> Option<usize>
         ensures { result ≡ row_of self.now.tables pid fd }
     {
         self.table(pid)?.find(fd)
     }
 
-    /// The least free descriptor of a process, from `least` (0 to 256) on, where it may have `most` of them (POSIX.1-2017, File
-    /// Descriptor Allocation; getrlimit, RLIMIT_NOFILE). Where there is none, a call that opens one is `EMFILE`.
-    pub fn lowest(&self, pid: u32, least: usize, most: u32) -> Option<usize>
-        requires process { IsTrue (is_pid self.now.tables pid) }
-        requires least { least ≤ open_max }
-        ensures { result ≡ lowest_of self.now.tables most pid least }
+    /// The least free descriptor of a process, from `least` on, within the limit (POSIX.1-2017, File Descriptor Allocation; getrlimit,
+    /// RLIMIT_NOFILE). Where there is none, a call that opens one is `EMFILE`.
+    #[inline(always)]
+    pub fn lowest(&self, pid: u32, least: usize) -> Option<usize>
+        requires { IsTrue (is_pid self.now.tables pid) }
+        ensures { result ≡ lowest_of self.now.tables self.now.limits.descriptors pid least }
     {
-        self.table(pid)?.lowest(least, most)
+        self.tables.get(pid)?.lowest(least)
     }
 
-    /// Lets a free descriptor (0 to 255) of a process name a description, by a loose hold that the caller gives up. It
+    /// Lets a free descriptor of a process, which is within the limit, name a description, by a loose hold that the caller gives up. It
     /// takes no memory.
+    #[inline(always)]
     pub fn install(&mut self, pid: u32, fd: usize, key: usize)
         requires process { IsTrue (is_pid self.old.tables pid) }
-        requires place { fd < open_max }
+        requires place { fd < self.old.limits.descriptors }
         requires free { row_at self.old.tables pid fd ≡ None }
         requires held { 0 < count_at self.old.loose key }
         ensures rows { row_at self.new.tables ≡ with_row (row_at self.old.tables) pid fd (Some key) }
@@ -207,11 +216,12 @@ impl<A: Allocator + Copy> Descs<A> {
         // A key has a slot, so it isn't the number that stands at a free place.
         let capacity = self.descriptions.capacity();
         prove!(key < capacity);
-        put_row(&mut self.tables, pid, fd, key);
+        self.tables.put(pid, fd, key);
     }
 
     /// Closes a descriptor of a process (POSIX.1-2017, close), and answers the key that it named, of which the caller has a
     /// loose hold. `None` is `EBADF`, and changes nothing. It takes no memory.
+    #[inline(always)]
     pub fn remove(&mut self, pid: u32, fd: i32) -> Option<usize>
         ensures key { result ≡ row_of self.old.tables pid fd }
         ensures rows { OnSome result (row_at self.new.tables ≡ without_row (row_at self.old.tables) pid fd) }
@@ -223,7 +233,7 @@ impl<A: Allocator + Copy> Descs<A> {
         ensures none { IfNone result (self.new ≡ self.old) }
     {
         let key = self.find(pid, fd)?;
-        clear_row(&mut self.tables, pid, fd as usize);
+        self.tables.clear(pid, fd as usize);
         Some(key)
     }
 
@@ -248,7 +258,7 @@ impl<A: Allocator + Copy> Descs<A> {
     ///
     /// # Errors
     ///
-    /// - `Enfile` exactly where there are 4,096 descriptions. It takes no memory.
+    /// - `Enfile` exactly where there are as many descriptions as there may be. It takes no memory.
     /// - `NoMemory` where there are fewer, and there is neither room nor memory for one more.
     #[inline(always)]
     pub fn open_desc(
@@ -261,14 +271,14 @@ impl<A: Allocator + Copy> Descs<A> {
         ensures opened { IfOk result (λ key. at self.new.opened ≡ set_at nat_eq (at self.old.opened) key (Some (fresh node mode flags))) }
         ensures loose { IfOk result (λ key. count_at self.new.loose ≡ change_count key one_more (count_at self.old.loose)) }
         ensures live { OnOk result (live_count self.new.opened ≡ live_count self.old.opened + 1) }
-        ensures tables { self.new.tables ≡ self.old.tables }
+        ensures rest { self.new ≡ record self.old { opened = self.new.opened; loose = self.new.loose; room = self.new.room } }
         ensures room { IsNoLess self.old.room self.new.room 1 }
-        ensures full { (result ≡ Err OpenFault.Enfile) ↔ (live_count self.old.opened ≡ most_descriptions) }
-        ensures succeeds { HasRoom self.old.room node 1 → live_count self.old.opened < most_descriptions → IsOk result }
+        ensures full { (result ≡ Err OpenFault.Enfile) ↔ (live_count self.old.opened ≡ self.old.limits.descriptions) }
+        ensures succeeds { HasRoom self.old.room node 1 → live_count self.old.opened < self.old.limits.descriptions → IsOk result }
         ensures tidy { OnOk result (IsTidy self.new) }
         ensures err { OnErr result (self.new ≡ record self.old { room = self.new.room }) }
     {
-        if self.live() == MAX_DESCRIPTIONS {
+        if self.is_full() {
             return Err(OpenFault::Enfile);
         }
         if self.reserve(node, 1).is_err() {
@@ -305,7 +315,7 @@ impl<A: Allocator + Copy> Descs<A> {
         ensures opened { at self.new.opened ≡ (if last_hold self.old key then set_at nat_eq (at self.old.opened) key None else at self.old.opened) }
         ensures loose { count_at self.new.loose ≡ change_count key one_less (count_at self.old.loose) }
         ensures live { live_count self.new.opened + (if last_hold self.old key then 1 else 0) ≡ live_count self.old.opened }
-        ensures tables { self.new.tables ≡ self.old.tables }
+        ensures rest { self.new ≡ record self.old { opened = self.new.opened; loose = self.new.loose; room = self.new.room } }
         ensures room { IsNoLess self.old.room self.new.room 0 }
         ensures tidy { IsTidy self.new }
     {
@@ -348,48 +358,22 @@ impl<A: Allocator + Copy> Descs<A> {
         self.counts.at(node).writers
     }
 
+    // Whether there are as many descriptions as there may be.
+    fn is_full(&self) -> bool
+        ensures value { result ≡ nat_eq (live_count self.now.opened) self.now.limits.descriptions }
+        ensures tidy { IsTidy self.now }
+    {
+        self.live() == self.limits.descriptions
+    }
+
     // A table whose descriptors name the same keys as those of a process.
     fn copied(&self, pid: u32) -> Result<Table<A>, NoMemory>
         requires { IsTrue (is_pid self.now.tables pid) }
         ensures { IfOk result (λ table. table ≡ rows_of self.now.tables pid) }
     {
-        match self.table(pid) {
-            Some(table) => table.copy(self.alloc),
-            None => Table::new(self.alloc),
-        }
-    }
-
-    // The least open descriptor of a process.
-    fn first_open(&self, pid: u32) -> Option<usize>
-        requires { IsTrue (is_pid self.now.tables pid) }
-        ensures { result ≡ first_open self.now.tables pid }
-    {
-        self.table(pid)?.next_open(0)
-    }
-
-    // The key that a descriptor of a process names.
-    fn row(&self, pid: u32, fd: usize) -> Option<usize>
-        requires { fd < open_max }
-        ensures { result ≡ row_at self.now.tables pid fd }
-    {
-        self.table(pid)?.get(fd)
-    }
-
-    // The least free pid. Where there is one, its table has a place, or the next one.
-    fn free_pid(&self) -> Option<u32>
-        ensures value { result ≡ free_pid self.now.tables }
-        ensures next { IfSome result (λ pid. (0 < pid) × (pid ≤ length self.now.tables + 1) × (pid ≤ most_processes)) }
-    {
-        let processes = self.tables.len();
-        for place in 0..processes {
-            if self.tables[place].is_none() {
-                return Some(place as u32 + 1);
-            }
-        }
-        if processes < MAX_PROCESSES {
-            Some(processes as u32 + 1)
-        } else {
-            None
-        }
+        let Some(table) = self.table(pid) else {
+            unreachable!()
+        };
+        table.copy(self.alloc)
     }
 }

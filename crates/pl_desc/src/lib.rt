@@ -7,12 +7,14 @@ mod description;
 mod descs;
 mod ends;
 mod fault;
+mod limits;
 mod released;
 mod table;
 mod tables;
 
 pub use descs::Descs;
 pub use fault::{OpenFault, StartFault};
+pub use limits::DescLimits;
 pub use pl_model::NoMemory;
 pub use released::Released;
 pub use table::Table;

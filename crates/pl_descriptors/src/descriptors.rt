@@ -1,16 +1,14 @@
 //! Calls on descriptors that take no memory.
-ghost use Rattle.std.specs.Prelude.{◌≡◌, ◌<◌, ◌≤◌, None, IsSome};
+ghost use Rattle.std.specs.Prelude.{◌≡◌, ◌<◌, None, IsSome};
 ghost use Rattle.pl_model.specs.Begin.{natural};
-ghost use Rattle.pl_model.specs.Numbers.{open_max};
 ghost use Rattle.pl_model.specs.Settle.{settle};
-ghost use Rattle.pl_model.specs.Tables.{close_row, install};
+ghost use Rattle.pl_model.specs.Tables.{close_row, install, descriptor_limit};
 ghost use Rattle.pl_desc.specs.Rows.{at, row_at, row_of, lowest_of};
 ghost use Rattle.pl_state.specs.Contents.{IsProcess, core_of};
 ghost use Rattle.pl_descriptors.specs.Duplicates.{Duplicates};
 ghost use Rattle.pl_state.specs.Makes.{MakesAtKeys};
 
 use bitflags::Flags;
-use pl_model::numbers::OPEN_MAX;
 use pl_model::{Call, Errno, OpenFlags, Reply, Step};
 use pl_state::{KernelState, release};
 use std::alloc::Allocator;
@@ -18,6 +16,7 @@ use std::alloc::Allocator;
 /// Closes a descriptor of a process that is there (POSIX.1-2017, close). It takes no memory.
 ///
 /// The reply is `Unit`, or `EBADF` where the descriptor isn't open, which leaves all as it was.
+#[inline(always)]
 pub fn close<A: Allocator + Copy>(kernel: &mut KernelState<A>, pid: u32, fd: i32) -> Reply<A>
     requires { IsProcess kernel.old pid }
     ensures { MakesAtKeys kernel.old (Step.Begin pid (Call.Close fd)) result kernel.new }
@@ -32,6 +31,7 @@ pub fn close<A: Allocator + Copy>(kernel: &mut KernelState<A>, pid: u32, fd: i32
 /// Names what a descriptor names by the least free one too (POSIX.1-2017, dup). It takes no memory.
 ///
 /// The reply is the new descriptor, or `EBADF` where `fd` isn't open, or `EMFILE` where none is free; these leave all as it was.
+#[inline(always)]
 pub fn dup<A: Allocator + Copy>(kernel: &mut KernelState<A>, pid: u32, fd: i32) -> Reply<A>
     requires { IsProcess kernel.old pid }
     ensures { MakesAtKeys kernel.old (Step.Begin pid (Call.Dup fd)) result kernel.new }
@@ -54,7 +54,7 @@ pub fn dup2<A: Allocator + Copy>(
     requires { IsProcess kernel.old pid }
     ensures { MakesAtKeys kernel.old (Step.Begin pid (Call.Dup2 fd target)) result kernel.new }
 {
-    let most = OPEN_MAX.min(kernel.limits.descriptors_max as usize);
+    let most = kernel.limits.descriptors();
     let Some(key) = kernel.descs.find(pid, fd) else {
         return Reply::Fault(Errno::EBADF);
     };
@@ -84,7 +84,7 @@ pub fn dup_fd<A: Allocator + Copy>(
     requires { IsProcess kernel.old pid }
     ensures { MakesAtKeys kernel.old (Step.Begin pid (Call.DupFd fd least)) result kernel.new }
 {
-    let most = OPEN_MAX.min(kernel.limits.descriptors_max as usize);
+    let most = kernel.limits.descriptors();
     let Some(key) = kernel.descs.find(pid, fd) else {
         return Reply::Fault(Errno::EBADF);
     };
@@ -144,9 +144,10 @@ pub(crate) fn close_open<A: Allocator + Copy>(kernel: &mut KernelState<A>, pid: 
 }
 
 // Lets a free descriptor name a description that is open.
+#[inline(always)]
 fn assign<A: Allocator + Copy>(kernel: &mut KernelState<A>, pid: u32, fd: usize, key: usize)
     requires process { IsProcess kernel.old pid }
-    requires place { fd < open_max }
+    requires place { fd < descriptor_limit kernel.old.limits }
     requires free { row_at kernel.old.tables pid fd ≡ None }
     requires here { IsSome (at kernel.old.opened key) }
     ensures named { core_of kernel.new ≡ install (core_of kernel.old) pid fd key }
@@ -157,6 +158,7 @@ fn assign<A: Allocator + Copy>(kernel: &mut KernelState<A>, pid: u32, fd: usize,
 }
 
 // Lets the least free descriptor from `least` on name a description that is open.
+#[inline(always)]
 fn duplicate<A: Allocator + Copy>(
     kernel: &mut KernelState<A>,
     pid: u32,
@@ -164,12 +166,10 @@ fn duplicate<A: Allocator + Copy>(
     least: usize,
 ) -> Reply<A>
     requires process { IsProcess kernel.old pid }
-    requires least { least ≤ open_max }
     requires here { IsSome (at kernel.old.opened key) }
-    ensures { Duplicates kernel.old pid key (lowest_of kernel.old.tables kernel.old.limits.descriptors_max pid least) result kernel.new }
+    ensures { Duplicates kernel.old pid key (lowest_of kernel.old.tables (descriptor_limit kernel.old.limits) pid least) result kernel.new }
 {
-    let most = kernel.limits.descriptors_max;
-    let Some(free) = kernel.descs.lowest(pid, least, most) else {
+    let Some(free) = kernel.descs.lowest(pid, least) else {
         return Reply::Fault(Errno::EMFILE);
     };
     assign(kernel, pid, free, key);

@@ -10,7 +10,7 @@ use std::alloc::Allocator;
 
 /// Starts a process without descriptors, under the least free pid.
 ///
-/// The reply is its pid, or `EAGAIN` where 1,024 processes are there. The only error is want of memory; neither changes anything.
+/// The reply is its pid, or `EAGAIN` where as many processes are there as may be. The only error is want of memory; neither changes anything.
 pub fn start<A: Allocator + Copy>(kernel: &mut KernelState<A>) -> Result<Reply<A>, NoMemory>
     ensures done { IfOk result (λ reply. MakesAtKeys kernel.old Step.Start reply kernel.new) }
     ensures undone { OnErr result (kernel.new ≡ kernel.old) }
@@ -25,7 +25,7 @@ pub fn start<A: Allocator + Copy>(kernel: &mut KernelState<A>) -> Result<Reply<A
 
 /// Starts a process whose descriptors name what those of a process name, which is there (POSIX.1-2017, fork).
 ///
-/// The reply is its pid, or `EAGAIN` where 1,024 processes are there. The only error is want of memory; neither changes anything.
+/// The reply is its pid, or `EAGAIN` where as many processes are there as may be. The only error is want of memory; neither changes anything.
 pub fn fork<A: Allocator + Copy>(
     kernel: &mut KernelState<A>,
     pid: u32,
@@ -50,8 +50,10 @@ pub fn exit<A: Allocator + Copy>(kernel: &mut KernelState<A>, pid: u32) -> Reply
 {
     // A proof learns here that nothing is left to settle at first.
     let _ = &kernel.descs;
-    while let Some(key) = kernel.descs.take_fd(pid) {
+    let mut least = 0;
+    while let Some((fd, key)) = kernel.descs.take_fd(pid, least) {
         release(&mut kernel.descs, &mut kernel.nodes, key);
+        least = fd + 1;
     }
     let mut from = 0;
     while let Some(number) = kernel.parked.next_of_process(pid, from) {

@@ -17,7 +17,7 @@ use Rattle.pl_model.specs.declared.flags.OpenFlags.{OpenFlags}
 use Rattle.pl_model.specs.declared.flags.PollMask.{PollMask}
 use Rattle.pl_model.specs.declared.replies.Reply.TheVariants.{Bytes, Fault, NoProcess, CallsSpent, Parked}
 use Rattle.pl_model.specs.declared.replies.Errno.TheVariants.{EBADF, EINTR, EINVAL}
-use Rattle.pl_model.specs.Numbers.{last_call, open_max}
+use Rattle.pl_model.specs.Numbers.{last_call}
 use Rattle.pl_model.specs.Map.{get}
 use Rattle.pl_model.specs.Memory.{is_frugal, is_frugal_call}
 use Rattle.pl_model.specs.Modes.{reads}
@@ -27,7 +27,7 @@ use Rattle.pl_model.specs.Trial.{Trial, Done, Wait, still, flowed, pipe_at, Begu
 use Rattle.pl_model.specs.Transfer.{count, file_at, read_row, write_row, write_case, read_pipe, write_pipe, read_file, write_file, read_node, write_node}
 use Rattle.pl_model.specs.Splice.{Side, is_packet_pipe, move_case, move_row, source_of, target_of, try_move}
 use Rattle.pl_model.specs.Poll.{masks, masks_reply, is_ready, try_poll}
-use Rattle.pl_model.specs.Tables.{lowest, lowest_pid}
+use Rattle.pl_model.specs.Tables.{lowest, lowest_pid, entry_limit}
 use Rattle.pl_model.specs.Begin.{open_fd, open_for, allowed, named_by, may_block, open_named, begin_pipe, begin_mkfifo, begin_open_name, begin_read, begin_write, begin_splice, begin_tee, begin_dup, begin_dup2, begin_dup_fd, begin_close, begin_lseek, begin_get_fl, begin_set_fl, begin_get_pipe_sz, begin_set_pipe_sz, begin_unlink, begin_fork}
 use Rattle.pl_model.specs.Step.{Stepped, with_kept, kept_at, opened_by, try, try_open, begin, begun, happen, core_step, ended, first_tried, interrupted, parked, resumed, started, stepped, tried_again, waiting}
 use Rattle.pl_model.proofs.by_call.Ways.{LeadsTo, Refusable, ways}
@@ -282,9 +282,9 @@ module _ {A : Type 0} {K : Keys} where
   -- a poll that begins
   begin_poll-sizes : (new : NewKeys K) (s : Core A K) (pid : ℕ) (entries : List (ℤ × PollMask)) (wait : Bool) → s.processes pid ≡ true →
       sizes_of (drawn new (core_step s (Begin pid (Call.Poll entries wait)))).reply ≡ only_masks (masks_begun s pid entries wait)
-  begin_poll-sizes new s pid entries wait process = over (nat_lt open_max (length entries)) refl
+  begin_poll-sizes new s pid entries wait process = over (nat_lt (entry_limit s.limits) (length entries)) refl
     where
-      ready : (b may : Bool) → wait ≡ may → nat_lt open_max (length entries) ≡ false → list_any is_ready (found_now s pid entries) ≡ b →
+      ready : (b may : Bool) → wait ≡ may → nat_lt (entry_limit s.limits) (length entries) ≡ false → list_any is_ready (found_now s pid entries) ≡ b →
           sizes_of (drawn new (core_step s (Begin pid (Call.Poll entries wait)))).reply ≡ only_masks (cond (b || not may) (length entries) 0)
       ready true may w few e =
           ap (λ z. sizes_of (drawn {X = Stepped A K} new z).reply) (poll-answered s pid entries wait process few (ap (λ b. b || not wait) e))
@@ -296,7 +296,7 @@ module _ {A : Type 0} {K : Keys} where
           ap (λ z. sizes_of (drawn {X = Stepped A K} new z).reply) (poll-waits s pid entries wait process few e w)
           ∙ first-sizes s (waiting pid (Call.Poll entries wait) (kept_now s pid entries) false) (can_wait s) (Wait s still 0)
 
-      over : (b : Bool) → nat_lt open_max (length entries) ≡ b →
+      over : (b : Bool) → nat_lt (entry_limit s.limits) (length entries) ≡ b →
           sizes_of (drawn new (core_step s (Begin pid (Call.Poll entries wait)))).reply ≡ only_masks (cond b 0 (masks_if_ready (masks s entries (named_by s pid entries)) wait (length entries)))
       over true e = ap (λ z. sizes_of (drawn {X = Stepped A K} new z).reply) (poll-refused s pid entries wait process e)
       over false e = ready (list_any is_ready (found_now s pid entries)) wait refl e refl

@@ -6,7 +6,7 @@ use Rattle.pl_model.specs.declared.node.Node.{Node}
 use Rattle.pl_model.specs.Keys.{PipeNode, FileNode}
 use Rattle.pl_model.specs.Keys.{Node as KeyNode}
 use Rattle.pl_model.specs.Map.{Map, get}
-use Rattle.pl_model.specs.Numbers.{open_max}
+use Rattle.pl_model.specs.Numbers.{most_descriptors}
 use Rattle.pl_model.specs.Numbered.{numbers, State}
 use Rattle.pl_model.specs.Renaming.{Renamings, rename, rename_node, rename_description}
 use Rattle.pl_model.specs.State.{Core, Pipe, Open, Description, described, empty_pipe}
@@ -61,7 +61,7 @@ module _ (r : Renamings) where
         by (Some x) = refl
 
     open-renamed : (pid : ℕ) (fd : ℤ) → node_in (open_fd (rename r c) pid fd) ≡ option_map (rename_node r) (node_in (open_fd c pid fd))
-    open-renamed pid (pos n) = by (nat_lt n open_max)
+    open-renamed pid (pos n) = by (nat_lt n most_descriptors)
       where
         by : (b : Bool) → node_in (option_and_then (described (rename r c)) (cond b (option_map r.description.to (c.rows pid n)) None))
             ≡ option_map (rename_node r) (node_in (option_and_then (described c) (cond b (c.rows pid n) None)))
@@ -176,7 +176,7 @@ row-process tables pid fd key row = by (table_of tables pid) row
     nothing false n is = cc
 
     empty : (z : ℤ) → row_in [] z ≡ Some key → ⊥
-    empty (pos n) is = nothing (nat_lt n open_max) n is
+    empty (pos n) is = nothing (nat_lt n most_descriptors) n is
     empty (negsuc n) is = cc
 
     by : (o : Option (List (Option ℕ))) → row_in (rows_in o) fd ≡ Some key → is_some o ≡ true

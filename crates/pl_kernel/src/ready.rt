@@ -7,7 +7,6 @@ ghost use Rattle.pl_kernel.specs.Index.{Knows};
 
 use crate::asking::{ask_all, first_ready, first_ready_from, settle};
 use crate::placing::look_at_new;
-use pl_model::numbers::OPEN_MAX;
 use pl_state::KernelState;
 use pl_waiters::Waiters;
 use std::alloc::Allocator;
@@ -15,15 +14,14 @@ use std::alloc::Allocator;
 /// Where no more calls wait, asking each costs no more than the index.
 pub(crate) const FEW: usize = 4;
 
-/// Twice the places that so few calls can have: where the index holds more, most are of calls that ended.
-const MOST_OF_FEW: usize = 2 * FEW * OPEN_MAX;
-
 // The index begins anew where few calls wait, and most that it holds are of calls that ended.
 fn renew<A: Allocator + Copy>(state: &KernelState<A>, waiters: &mut Waiters<A>)
     requires { Knows (core_of {A = A} state.now) waiters.old }
     ensures { Knows (core_of {A = A} state.now) waiters.new }
 {
-    let is_worn = state.parked.len() <= FEW && waiters.len() > MOST_OF_FEW;
+    // Twice the places that so few calls can have: where the index holds more, most are of calls that ended.
+    let most = 2 * FEW * state.limits.poll_entries();
+    let is_worn = state.parked.len() <= FEW && waiters.len() > most;
     if is_worn {
         *waiters = Waiters::new(state.alloc);
     }

@@ -18,7 +18,6 @@ ghost use Rattle.pl_kernel.specs.ToldNodes.{key_of};
 ghost use Rattle.pl_kernel.specs.Index.{IsNoLess, IsTouched, IsTouchedAt, TouchesAll, Touches};
 
 use crate::told_nodes::{node_of_fd, node_of_name};
-use pl_model::numbers::OPEN_MAX;
 use pl_model::{Call, Node, Step};
 use pl_state::KernelState;
 use pl_transfers::ReadAgain;
@@ -134,7 +133,7 @@ fn touch_process<A: Allocator + Copy>(state: &KernelState<A>, waiters: &mut Wait
     ensures no_less { IsNoLess waiters.old waiters.new }
     ensures touched { TouchesAll waiters.old waiters.new (λ node. has_at (core_of {A = A} state.now) node pid) }
 {
-    for fd in 0..OPEN_MAX {
+    for fd in 0..state.limits.descriptors() {
         touch_fd(state, waiters, pid, fd as i32);
     }
     let mut from = 0;

@@ -3,12 +3,19 @@ ghost use Rattle.std.specs.Prelude.{◌≡◌, ◌<◌, ◌^◌, [], ℕ, IsTrue
 ghost use Rattle.pl_desc.specs.Rows.{is_pid, count_at};
 
 use crate::equal::is;
-use pl_desc::{Descs, NoMemory, OpenFault, Released, StartFault};
+use pl_desc::{DescLimits, Descs, NoMemory, OpenFault, Released, StartFault};
 use pl_model::{Mode, Node, OpenFlags};
 use pl_refusing::{MOST_REQUESTS, Refusing, all_were_refused};
 use std::alloc::{Allocator, Global};
 use std::process::Abort;
 use std::test::Fail;
+
+/// The limits that a kernel usually has.
+const USUAL: DescLimits = DescLimits {
+    descriptors: 256,
+    descriptions: 4_096,
+    processes: 1_024,
+};
 
 fn start_in_order<A: Allocator + Copy>(rt: &impl Abort, descs: &mut Descs<A>) {
     for pid in 1..1_025 {
@@ -74,13 +81,13 @@ fn fork_with_one<A: Allocator + Copy>(
     node: Node,
     n: u64,
 ) -> Result<usize, Fail>
-    requires { descs.old ≡ record { tables = []; opened = []; loose = []; room = record { descriptions = 0; pipes = 0; files = 0 } } }
+    requires { descs.old ≡ record { tables = []; opened = []; loose = []; room = record { descriptions = 0; pipes = 0; files = 0 }; limits = record { descriptors = 256; descriptions = 4096; processes = 1024 } } }
 {
     let parent = descs.start()?;
     is(rt, "the parent", parent, 1);
     let key = descs.open_desc(node, Mode::Read, OpenFlags::NONBLOCK)?;
     is(rt, "readers", descs.readers(node), 1);
-    is(rt, "the lowest", descs.lowest(parent, 0, 256), Some(0));
+    is(rt, "the lowest", descs.lowest(parent, 0), Some(0));
     descs.install(parent, 0, key);
     heap.refuse(n);
     let child = copy_at_last(rt, heap, descs, parent, node)?;
@@ -100,7 +107,7 @@ fn close_twice<A: Allocator + Copy>(
     descs: &mut Descs<A>,
     n: u64,
 ) -> Result<(), Fail>
-    requires { descs.old ≡ record { tables = []; opened = []; loose = []; room = record { descriptions = 0; pipes = 0; files = 0 } } }
+    requires { descs.old ≡ record { tables = []; opened = []; loose = []; room = record { descriptions = 0; pipes = 0; files = 0 }; limits = record { descriptors = 256; descriptions = 4096; processes = 1024 } } }
 {
     let node = Node::Pipe(7);
     let key = fork_with_one(rt, heap, descs, node, n)?;
@@ -115,20 +122,24 @@ fn close_twice<A: Allocator + Copy>(
     Ok(())
 }
 
-/// Each of the two requests for memory of a start is refused, and then of an open, which leave nothing behind.
+/// Each request for memory of a start is refused, until it makes none more, and then the two of an open. They leave no process and nothing open.
 fn refuse_each<A: Allocator + Copy>(
     rt: &impl Abort,
     heap: &Refusing<Global>,
     descs: &mut Descs<A>,
 ) {
-    for request in 1..3u64 {
+    for request in 1..MOST_REQUESTS {
         heap.refuse(request);
-        is(rt, "started", descs.start(), Err(StartFault::NoMemory));
-        is(rt, "a start is refused", heap.refused(), true);
+        let started = descs.start();
+        if !heap.refused() {
+            is(rt, "started", started, Ok(1));
+            break;
+        }
+        is(rt, "a start is refused", started, Err(StartFault::NoMemory));
         is(rt, "a process", descs.has(1), false);
     }
     heap.refuse(0);
-    is(rt, "started", descs.start(), Ok(1));
+    is(rt, "the process", descs.has(1), true);
     let node = Node::Pipe(0);
     for request in 1..3u64 {
         heap.refuse(request);
@@ -175,7 +186,7 @@ fn on_new<A: Allocator + Copy>(
     alloc: A,
     trial: Trial,
 ) -> Result<(), Fail> {
-    let mut descs = Descs::new(alloc);
+    let mut descs = Descs::new(alloc, USUAL);
     match trial {
         Trial::StartInOrder => start_in_order(rt, &mut descs),
         Trial::OpenTheMost => open_the_most(rt, &mut descs),

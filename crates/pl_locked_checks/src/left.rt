@@ -3,7 +3,7 @@ use crate::asked::{Ask, step_of};
 use crate::came::Came;
 use pl_kernel::Kernel;
 use pl_locked::Journal;
-use pl_model::numbers::MAX_PROCESSES;
+use pl_model::numbers::USUAL_PROCESSES;
 use pl_testing::LIMITS;
 use std::alloc::Allocator;
 
@@ -74,7 +74,7 @@ fn answer<A: Allocator + Copy>(alloc: A, kernel: &mut Kernel<A>, ask: Ask) -> Ca
 /// Whether no bytes are kept once the FIFO has no name, and every process has ended.
 fn keeps_nothing<A: Allocator + Copy>(alloc: A, kernel: &mut Kernel<A>) -> bool {
     let is_unlinked = answer(alloc, kernel, Ask::Unlink) == Came::Unit;
-    for pid in 1..=MAX_PROCESSES as u32 {
+    for pid in 1..=USUAL_PROCESSES as u32 {
         answer(alloc, kernel, Ask::Exit(pid));
     }
     is_unlinked && kernel.stats().segments == 0

@@ -1,5 +1,5 @@
 -- How each call begins: its checks in order, and then its answer or its first try.
-use Rattle.std.specs.Prelude.{ℕ, ℤ, pos, negsuc, ◌+◌, ◌-◌, ◌+ℤ◌, Bool, true, false, not, ◌==◌, ◌&&◌, ◌||◌, nat_lt, nat_le, List, [], ◌∷◌, length, map, Option, option_and_then, option_map, is_none, is_some, if◌then◌else◌}
+use Rattle.std.specs.Prelude.{ℕ, ℤ, pos, negsuc, ◌+◌, ◌+ℤ◌, Bool, true, false, not, ◌==◌, ◌&&◌, ◌||◌, nat_lt, nat_le, List, [], ◌∷◌, length, map, Option, option_and_then, option_map, is_none, is_some, if◌then◌else◌}
 use Rattle.std.specs.List.{list_any, filter, filter_map}
 use Rattle.std.specs.declared.option.Option.TheVariants.{None, Some}
 use Rattle.pl_model.specs.declared.calls.Limits.{Limits}
@@ -11,7 +11,7 @@ use Rattle.pl_model.specs.declared.flags.SpliceFlags.{SpliceFlags}
 use Rattle.pl_model.specs.declared.flags.PollMask.{PollMask}
 use Rattle.pl_model.specs.declared.replies.Reply.TheVariants.{Pid, Fd, Fds, Bytes, Offset, Flags, Size, Unit}
 use Rattle.pl_model.specs.declared.replies.Errno.TheVariants.{EAGAIN, EBADF, EBUSY, EEXIST, EINVAL, EMFILE, ENAMETOOLONG, ENFILE, ENOENT, ENOSPC, ENXIO, EOVERFLOW, EPERM, ESPIPE}
-use Rattle.pl_model.specs.Numbers.{last_call, open_max, most_descriptions, most_name_bytes, most_capacity, greatest_offset}
+use Rattle.pl_model.specs.Numbers.{last_call, most_name_bytes, most_capacity, greatest_offset}
 use Rattle.pl_model.specs.Modes.{reads, writes, for_reading, for_writing}
 use Rattle.pl_model.specs.Flags.{has, creat, excl, trunc, append, nonblock, splice_nonblock, nonblock_if, write_end_flags, status_flags, flags_set}
 use Rattle.pl_model.specs.Keys.{Keys, Node, NewKeys, Draws, PipeNode, FileNode}
@@ -22,7 +22,7 @@ use Rattle.pl_model.specs.Trial.{Begins, Begun, Answered, Tried, pipe_at, answer
 use Rattle.pl_model.specs.Transfer.{count, file_at, moved_to}
 use Rattle.pl_model.specs.Capacity.{rounded_capacity, pipe_of, set_capacity}
 use Rattle.pl_model.specs.Poll.{masks, masks_reply}
-use Rattle.pl_model.specs.Tables.{descriptor_limit, lowest, lowest_pid, install, close_row, describe, create_file, forget_name, fork}
+use Rattle.pl_model.specs.Tables.{descriptor_limit, entry_limit, description_limit, lowest, lowest_pid, install, close_row, describe, create_file, forget_name, fork}
 use Rattle.pl_model.specs.Fifo.{create_fifo, can_open, meet}
 
 -- the place of an open descriptor in its table
@@ -110,7 +110,7 @@ module _ {A : Type 0} {K : Keys} where
   begin_pipe s pid nonblocking packets =
       found (lowest s pid 0) EMFILE (λ first.
       found (lowest s pid (first + 1)) EMFILE (λ second.
-      refuse_if (nat_lt (most_descriptions - 2) (live_count s)) ENFILE
+      refuse_if (nat_lt (description_limit s.limits) (live_count s + 2)) ENFILE
       (Draws (λ new. Answered (make_pipe s new pid first second packets (nonblock_if nonblocking) (write_end_flags nonblocking packets)) (Fds (pos first) (pos second))))))
 
   -- POSIX.1-2017, open and unlink: ENOENT of an empty name, ENAMETOOLONG. That a slash or a NUL is EINVAL is our own choice.
@@ -166,7 +166,7 @@ module _ {A : Type 0} {K : Keys} where
       (refuse_if (is_some node && (has flags.0 creat && has flags.0 excl)) EEXIST
       (refuse_if (is_none node && not (has flags.0 creat)) ENOENT
       (found (lowest s pid 0) EMFILE (λ fd.
-      refuse_if (nat_le most_descriptions (live_count s)) ENFILE
+      refuse_if (nat_le (description_limit s.limits) (live_count s)) ENFILE
       (open_named s pid fd name node mode flags)))))
 
   -- POSIX.1-2017, read: EBADF. That a read of 0 bytes has no other effect is our own choice.
@@ -216,12 +216,12 @@ module _ {A : Type 0} {K : Keys} where
   abbrev pub named_by : Core A K → ℕ → List (ℤ × PollMask) → List (Option (Open K))
   named_by s pid entries = map (λ e. open_fd s pid e.0) (filter (λ e. not (is_negative e.0)) entries)
 
-  -- POSIX.1-2017, poll: EINVAL of more than OPEN_MAX entries. Where a descriptor isn't open, the poll is answered at once, as it has
+  -- POSIX.1-2017, poll: EINVAL of more entries than a poll may have. Where a descriptor isn't open, the poll is answered at once, as it has
   -- found that.
   unfoldable pub begin_poll : Core A K → ℕ → List (ℤ × PollMask) → (wait : Bool) → Begins A K
   begin_poll s pid entries wait =
       let opens = named_by s pid entries in
-      refuse_if (nat_lt open_max (length entries)) EINVAL
+      refuse_if (nat_lt (entry_limit s.limits) (length entries)) EINVAL
       (if list_any is_none opens then answered s (masks_reply (masks s entries opens))
       else tried s (keys_of opens) false wait)
 

@@ -4,10 +4,11 @@ use Rattle.std.specs.declared.option.Option.TheVariants.{None, Some}
 use Rattle.std.specs.List.{list_any, filter, filter_map, flat_map}
 use Rattle.std.specs.Set.{is_member, distinct_count}
 use Rattle.pl_model.specs.declared.calls.Mode.{Mode}
-use Rattle.pl_model.specs.Numbers.{open_max, most_processes, numbers_from}
+use Rattle.pl_model.specs.Numbers.{numbers_from}
 use Rattle.pl_model.specs.Modes.{reads, writes, any_mode}
 use Rattle.pl_model.specs.Keys.{Keys, Node, PipeNode, same_node}
 use Rattle.pl_model.specs.State.{Core, Description, Waiting}
+use Rattle.pl_model.specs.Tables.{descriptor_limit, process_limit}
 
 module _ {K : Keys} where
   -- a description on the node, whose mode passes the test
@@ -18,11 +19,11 @@ module _ {K : Keys} where
 module _ {A : Type 0} {K : Keys} where
   -- the pids, in order
   unfoldable pub pids : Core A K → List ℕ
-  pids s = filter s.processes (numbers_from most_processes 1)
+  pids s = filter s.processes (numbers_from (process_limit s.limits) 1)
 
   -- the descriptions that rows name, and that parked calls name, each as often as it is named
   unfoldable pub in_rows : Core A K → List K.Description
-  in_rows s = flat_map (λ pid. filter_map (s.rows pid) (numbers_from open_max 0)) (pids s)
+  in_rows s = flat_map (λ pid. filter_map (s.rows pid) (numbers_from (descriptor_limit s.limits) 0)) (pids s)
 
   unfoldable pub in_parked : Core A K → List K.Description
   in_parked s = flat_map (λ (c : ℕ × Waiting A K). c.1.kept) s.parked

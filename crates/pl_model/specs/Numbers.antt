@@ -18,17 +18,29 @@ least_capacity = 4096
 abbrev pub most_capacity : ℕ
 most_capacity = 1048576
 
--- POSIX.1-2017, limits.h, OPEN_MAX: the descriptors of a process, numbered from 0.
+-- POSIX.1-2017, limits.h, OPEN_MAX: the descriptors of a process, numbered from 0, if no limit is chosen.
 abbrev pub open_max : ℕ
 open_max = 256
 
--- Our own: the descriptions that are live at one time.
-abbrev pub most_descriptions : ℕ
-most_descriptions = 4096
+-- Our own: the greatest limit on the descriptors of a process.
+abbrev pub most_descriptors : ℕ
+most_descriptors = 65536
 
--- Our own: the processes at one time, with pids from 1 on.
+-- Our own: the descriptions that are live at one time, if no limit is chosen.
+abbrev pub usual_descriptions : ℕ
+usual_descriptions = 4096
+
+-- Our own: the greatest limit on them.
+abbrev pub most_descriptions : ℕ
+most_descriptions = 1048576
+
+-- Our own: the processes at one time, with pids from 1 on, if no limit is chosen.
+abbrev pub usual_processes : ℕ
+usual_processes = 1024
+
+-- Our own: the greatest limit on them.
 abbrev pub most_processes : ℕ
-most_processes = 1024
+most_processes = 65536
 
 -- Our own: the bytes of one write.
 abbrev pub most_bytes : ℕ

@@ -6,7 +6,7 @@ use Rattle.pl_model.specs.declared.calls.Mode.{Mode}
 use Rattle.pl_model.specs.declared.calls.Call.{Call}
 use Rattle.pl_model.specs.declared.calls.Limits.{Limits}
 use Rattle.pl_model.specs.declared.flags.OpenFlags.{OpenFlags}
-use Rattle.pl_model.specs.Numbers.{first_capacity, open_max}
+use Rattle.pl_model.specs.Numbers.{first_capacity, most_descriptors}
 use Rattle.pl_model.specs.Keys.{Keys, Node, PipeNode, FileNode}
 use Rattle.pl_model.specs.Map.{Map, get, set_at}
 
@@ -80,9 +80,9 @@ module _ {A : Type 0} {K : Keys} where
         limits = limits;
       }
 
-  -- POSIX.1-2017, File Descriptor: what a descriptor names. One outside 0 to 255 names nothing.
+  -- POSIX.1-2017, File Descriptor: what a descriptor names. One below 0, or past the greatest limit, names nothing.
   abbrev pub row : Core A K → ℕ → ℤ → Option K.Description
-  row s pid (pos fd) = if nat_lt fd open_max then s.rows pid fd else None
+  row s pid (pos fd) = if nat_lt fd most_descriptors then s.rows pid fd else None
   row s pid (negsuc n) = None
 
   -- the description under a key

@@ -1,5 +1,5 @@
 -- The tables of descriptors, the names, and the processes.
-use Rattle.std.specs.Prelude.{ℕ, List, [], ◌-◌, min, true, false, not, nat_eq, Option, is_none}
+use Rattle.std.specs.Prelude.{ℕ, List, [], ◌-◌, min, max, true, false, not, nat_eq, Option, is_none}
 use Rattle.std.specs.declared.option.Option.TheVariants.{None, Some}
 use Rattle.std.specs.List.{filter}
 use Rattle.std.specs.Ordering.{nat_cmp}
@@ -7,15 +7,28 @@ use Rattle.std.specs.Cmp.Lexicographic.{slice_cmp, pointwise}
 use Rattle.pl_model.specs.declared.calls.Limits.{Limits}
 use Rattle.pl_model.specs.declared.calls.Mode.{Mode}
 use Rattle.pl_model.specs.declared.flags.OpenFlags.{OpenFlags}
-use Rattle.pl_model.specs.Numbers.{open_max, most_processes, first_from}
+use Rattle.pl_model.specs.Numbers.{open_max, most_descriptors, most_descriptions, most_processes, first_from}
 use Rattle.pl_model.specs.Map.{set_at, put_in_order, without}
 use Rattle.pl_model.specs.Keys.{Keys, Node, FileNode}
 use Rattle.pl_model.specs.State.{Core, set_row, set_file, set_description}
 
--- POSIX.1-2017, getrlimit, RLIMIT_NOFILE: how many descriptors a process may have, numbered from 0. That a greater limit counts as
--- OPEN_MAX is our own choice.
+-- POSIX.1-2017, getrlimit, RLIMIT_NOFILE: how many descriptors a process may have, numbered from 0. That a limit counts as the
+-- greatest one where it is above that is our own choice.
 abbrev pub descriptor_limit : Limits → ℕ
-descriptor_limit limits = min limits.descriptors_max open_max
+descriptor_limit limits = min limits.descriptors_max most_descriptors
+
+-- POSIX.1-2017, poll, EINVAL: how many entries a poll may have. That they are as many as a process may have descriptors, and OPEN_MAX where
+-- those are fewer, is our own choice.
+abbrev pub entry_limit : Limits → ℕ
+entry_limit limits = max (descriptor_limit limits) open_max
+
+-- Our own: how many descriptions may be live. A greater limit counts as the greatest one.
+abbrev pub description_limit : Limits → ℕ
+description_limit limits = min limits.descriptions_max most_descriptions
+
+-- Our own: how many processes there may be, with pids from 1 on. A greater limit counts as the greatest one.
+abbrev pub process_limit : Limits → ℕ
+process_limit limits = min limits.processes_max most_processes
 
 module _ {A : Type 0} {K : Keys} where
   -- POSIX.1-2017, File Descriptor Allocation: the least free descriptor of the process, from `least` on, within the limit.
@@ -24,7 +37,7 @@ module _ {A : Type 0} {K : Keys} where
 
   -- Our own: the least free pid.
   unfoldable pub lowest_pid : Core A K → Option ℕ
-  lowest_pid s = first_from (λ pid. not (s.processes pid)) most_processes 1
+  lowest_pid s = first_from (λ pid. not (s.processes pid)) (process_limit s.limits) 1
 
   -- the descriptor names the description
   abbrev pub install : Core A K → ℕ → ℕ → K.Description → Core A K

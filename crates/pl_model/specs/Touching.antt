@@ -5,12 +5,13 @@ use Rattle.std.specs.List.{list_any}
 use Rattle.pl_model.specs.declared.calls.Call.{Call}
 use Rattle.pl_model.specs.declared.calls.Step.{Step}
 use Rattle.pl_model.specs.declared.calls.Step.TheVariants.{Start, Begin, Resume, Interrupt}
-use Rattle.pl_model.specs.Numbers.{open_max, numbers_from}
+use Rattle.pl_model.specs.Numbers.{numbers_from}
 use Rattle.pl_model.specs.Map.{get}
 use Rattle.pl_model.specs.Modes.{any_mode}
 use Rattle.pl_model.specs.Keys.{Keys, Node, same_node}
 use Rattle.pl_model.specs.State.{Core, Waiting, row, named}
 use Rattle.pl_model.specs.Live.{is_end}
+use Rattle.pl_model.specs.Tables.{descriptor_limit}
 
 module _ {K : Keys} where
   -- the name stands for the node
@@ -39,7 +40,7 @@ module _ {A : Type 0} {K : Keys} where
 
   -- a descriptor of the process, or a call of it that waits, is at the node
   abbrev pub has_at : Core A K → Node K → (pid : ℕ) → Bool
-  has_at s node pid = list_any (λ fd. is_at s node (s.rows pid fd)) (numbers_from open_max 0) || list_any (λ e. nat_eq e.1.pid pid && keeps_at s node e.1) s.parked
+  has_at s node pid = list_any (λ fd. is_at s node (s.rows pid fd)) (numbers_from (descriptor_limit s.limits) 0) || list_any (λ e. nat_eq e.1.pid pid && keeps_at s node e.1) s.parked
 
   -- A call of a process touches what its descriptors name, or its name stands for, where it may change what somebody sees of
   -- it. A dup, a poll and a fork add descriptors or holds to what is held already; mkfifo, unlink and pipe change no node on which a

@@ -10,7 +10,7 @@ use Rattle.pl_model.specs.declared.cases.WriteCase.{WriteCase}
 use Rattle.pl_model.specs.declared.replies.Reply.{Reply}
 use Rattle.pl_model.specs.declared.replies.Reply.TheVariants.{Pid, Fd, Fds, Count, Bytes, Flags, Unit, Fault, Parked, NoProcess, NoCall, CallsSpent}
 use Rattle.pl_model.specs.declared.replies.Errno.TheVariants.{EAGAIN, EBADF, EINTR, EINVAL, EMFILE, EPIPE}
-use Rattle.pl_model.specs.Numbers.{most_capacity, most_file_bytes, no_limit, open_max, numbers_from}
+use Rattle.pl_model.specs.Numbers.{most_capacity, most_file_bytes, no_limit, open_max, usual_descriptions, usual_processes, numbers_from}
 use Rattle.pl_model.specs.Flags.{append, nonblock, trunc, no_flags}
 use Rattle.pl_model.specs.Transfer.{write_case}
 use Rattle.pl_model.specs.Numbered.{opening}
@@ -68,6 +68,8 @@ usual first_call file_max = record {
   waiting_max = no_limit;
   capacity_max = most_capacity;
   descriptors_max = open_max;
+  descriptions_max = usual_descriptions;
+  processes_max = usual_processes;
   spare_max = most_file_bytes;
 }
 

@@ -6,12 +6,12 @@ use Rattle.pl_model.specs.declared.calls.Step.{Step}
 use Rattle.pl_model.specs.declared.calls.Step.TheVariants.{Start, Resume, Interrupt}
 use Rattle.pl_model.specs.declared.replies.Reply.{Reply}
 use Rattle.pl_model.specs.declared.replies.Reply.TheVariants.{Pid, Fd, Fds, Count, Bytes, Size, Unit, Fault, Parked}
-use Rattle.pl_model.specs.declared.replies.Errno.TheVariants.{EAGAIN, EBADF, EEXIST, EINTR, EINVAL, EMFILE, ENOENT, ENOSPC, ENXIO, EPERM}
+use Rattle.pl_model.specs.declared.replies.Errno.TheVariants.{EAGAIN, EBADF, EEXIST, EINTR, EINVAL, EMFILE, ENFILE, ENOENT, ENOSPC, ENXIO, EPERM}
 use Rattle.pl_model.specs.Numbers.{last_call}
 use Rattle.pl_model.specs.Flags.{creat, nonblock, poll_in, poll_nval}
 use Rattle.pl_model.specs.Numbered.{opening}
 use Rattle.pl_model.specs.Run.{replies}
-use Rattle.pl_model.specs.Worked.{usual, pipe, read, write, close, dup, dup2, dup_fd}
+use Rattle.pl_model.specs.Worked.{usual, pipe, read, write, close, dup, dup2, dup_fd, fork, exit}
 use Rattle.pl_model.specs.WorkedFiles.{open_name, unlink}
 use Rattle.pl_model.specs.WorkedCapacity.{set_pipe_sz}
 use Rattle.pl_model.specs.WorkedFifo.{mkfifo}
@@ -76,9 +76,42 @@ DescriptorsUpToTheLimit A =
     (Fds (pos 0) (pos 1) ∷ Fault EMFILE ∷ Fd (pos 2) ∷ Fault EMFILE ∷ Fault EMFILE ∷ Fault EMFILE ∷ Fault EINVAL ∷ Fault EBADF ∷ Fd (pos 2) ∷ Unit ∷ Fault EMFILE
     ∷ Fd (pos 1) ∷ masks 2 (0 ∷ poll_nval ∷ poll_in ∷ 0 ∷ []) ∷ [])
 
--- a limit of 0 gives none, and one above 256 gives 256
+-- a limit of 0 gives none, and one above 65,536 gives 65,536
 abbrev pub DescriptorsAtTheEnds : Type 0 → Type 0
 DescriptorsAtTheEnds A =
     (first_call file_max : ℕ) →
     AnswersUnder A (record (usual first_call file_max) { descriptors_max = 0 }) (pipe ∷ open_name (codes "f") Mode.Both creat ∷ []) (Fault EMFILE ∷ Fault EMFILE ∷ [])
-    × AnswersUnder A (record (usual first_call file_max) { descriptors_max = 1000 }) (pipe ∷ dup_fd 0 255 ∷ dup_fd 0 255 ∷ dup2 0 256 ∷ []) (Fds (pos 0) (pos 1) ∷ Fd (pos 255) ∷ Fault EMFILE ∷ Fault EBADF ∷ [])
+    × AnswersUnder A (record (usual first_call file_max) { descriptors_max = 100000 }) (pipe ∷ dup_fd 0 65535 ∷ dup_fd 0 65535 ∷ dup2 0 65536 ∷ []) (Fds (pos 0) (pos 1) ∷ Fd (pos 65535) ∷ Fault EMFILE ∷ Fault EBADF ∷ [])
+
+-- where three descriptions may be live, a fourth one is refused, and one may come where one went
+abbrev pub DescriptionsUpToTheLimit : Type 0 → Type 0
+DescriptionsUpToTheLimit A =
+    (first_call file_max : ℕ) →
+    AnswersUnder A
+    (record (usual first_call file_max) { descriptions_max = 3 })
+    (pipe ∷ pipe ∷ open_name (codes "f") Mode.Both creat ∷ open_name (codes "f") Mode.Read 0 ∷ dup 0 ∷ close 0 ∷ open_name (codes "f") Mode.Read 0
+    ∷ close 3 ∷ open_name (codes "f") Mode.Read 0 ∷ [])
+    (Fds (pos 0) (pos 1) ∷ Fault ENFILE ∷ Fd (pos 2) ∷ Fault ENFILE ∷ Fd (pos 3) ∷ Unit ∷ Fault ENFILE
+    ∷ Unit ∷ Fd (pos 0) ∷ [])
+
+-- where there may be two processes, a third one is refused, and one may come where one ended
+abbrev pub ProcessesUpToTheLimit : Type 0 → Type 0
+ProcessesUpToTheLimit A =
+    (first_call file_max : ℕ) →
+    AnswersUnder A
+    (record (usual first_call file_max) { processes_max = 2 })
+    (Start ∷ Start ∷ fork ∷ exit 2 ∷ fork ∷ Start ∷ [])
+    (Pid 2 ∷ Fault EAGAIN ∷ Fault EAGAIN ∷ Unit ∷ Pid 2 ∷ Fault EAGAIN ∷ [])
+
+-- a poll has as many entries as a process may have descriptors, and 256 where those are fewer
+abbrev pub EntriesUpToTheLimit : Type 0 → Type 0
+EntriesUpToTheLimit A =
+    (first_call file_max : ℕ) →
+    AnswersUnder A
+    (record (usual first_call file_max) { descriptors_max = 300 })
+    (pipe ∷ poll_now (replicate 300 (pos 0, poll_in)) ∷ poll_now (replicate 301 (pos 0, poll_in)) ∷ [])
+    (Fds (pos 0) (pos 1) ∷ masks 0 (replicate 300 0) ∷ Fault EINVAL ∷ [])
+    × AnswersUnder A
+    (record (usual first_call file_max) { descriptors_max = 2 })
+    (pipe ∷ poll_now (replicate 256 (pos 0, poll_in)) ∷ poll_now (replicate 257 (pos 0, poll_in)) ∷ [])
+    (Fds (pos 0) (pos 1) ∷ masks 0 (replicate 256 0) ∷ Fault EINVAL ∷ [])

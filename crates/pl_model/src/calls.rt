@@ -2,11 +2,15 @@
 ghost use Rattle.std.specs.Prelude.{◌≡◌, IfOk};
 ghost use Rattle.pl_model.specs.Carried.{IsSpliceOrTee};
 ghost use Rattle.pl_model.specs.Numbers.{usual_spare};
+ghost use Rattle.pl_model.specs.Tables.{descriptor_limit, entry_limit, description_limit, process_limit};
 
 use crate::bytes::Bytes8;
 use crate::flags::{OpenFlags, SpliceFlags};
 use crate::name::Name;
-use crate::numbers::{MAX_CAPACITY, MAX_FILE_BYTES, NO_LIMIT, OPEN_MAX};
+use crate::numbers::{
+    MAX_CAPACITY, MAX_DESCRIPTIONS, MAX_DESCRIPTORS, MAX_FILE_BYTES, MAX_PROCESSES, NO_LIMIT,
+    OPEN_MAX, USUAL_DESCRIPTIONS, USUAL_PROCESSES,
+};
 use crate::polls::PollList;
 use std::alloc::{AllocError, Allocator, Global};
 
@@ -67,17 +71,24 @@ pub struct Limits {
     /// The most bytes that a pipe can be made to hold, at most 1,048,576 (fcntl(2), F_SETPIPE_SZ, EPERM). A new pipe can hold
     /// 65,536, whatever this is.
     pub capacity_max: u32,
-    /// The most descriptors of a process, which are numbered from 0; above 256 it counts as 256 (POSIX.1-2017, getrlimit,
-    /// RLIMIT_NOFILE).
+    /// The most descriptors of a process, which are numbered from 0; above 65,536 it counts as 65,536 (POSIX.1-2017, getrlimit,
+    /// RLIMIT_NOFILE). A poll has at most as many entries, and at most 256 where this is less (POSIX.1-2017, poll, EINVAL).
     pub descriptors_max: u32,
+    /// The most open file descriptions that are live at one time; above 1,048,576 it counts as 1,048,576. A description more is refused
+    /// (POSIX.1-2017, open and pipe, ENFILE).
+    pub descriptions_max: u32,
+    /// The most processes at one time, with pids from 1 on; above 65,536 it counts as 65,536. A process more is refused (POSIX.1-2017, fork,
+    /// EAGAIN).
+    pub processes_max: u32,
     /// The most bytes of memory that are kept for further bytes when no pipe or file holds them any more, in whole segments of
     /// 4,096 bytes. No reply depends on it.
     pub spare_max: u64,
 }
 
 impl Limits {
-    /// Calls are numbered from 1, a file has at most 16,777,216 bytes, a pipe at most 1,048,576, a process at most 256 descriptors;
-    /// names and waiting calls have no limit but memory. As much memory is kept for further bytes as the longest file takes.
+    /// Calls are numbered from 1, a file has at most 16,777,216 bytes, a pipe at most 1,048,576, a process at most 256 descriptors. At one
+    /// time there are at most 4,096 descriptions and 1,024 processes; names and waiting calls have no limit but memory. As much memory is
+    /// kept for further bytes as the longest file takes.
     pub const DEFAULT: Limits = Limits {
         first_call: 1,
         file_max: MAX_FILE_BYTES,
@@ -85,6 +96,8 @@ impl Limits {
         waiting_max: NO_LIMIT,
         capacity_max: MAX_CAPACITY,
         descriptors_max: OPEN_MAX as u32,
+        descriptions_max: USUAL_DESCRIPTIONS as u32,
+        processes_max: USUAL_PROCESSES as u32,
         spare_max: MAX_FILE_BYTES as u64,
     };
 
@@ -95,9 +108,37 @@ impl Limits {
     {
         (memory / SPARE_PART).min(u64::from(MAX_FILE_BYTES))
     }
+
+    /// How many descriptors a process may have.
+    pub fn descriptors(&self) -> usize
+        ensures { result ≡ descriptor_limit self.now }
+    {
+        MAX_DESCRIPTORS.min(self.descriptors_max as usize)
+    }
+
+    /// How many open file descriptions may be live.
+    pub fn descriptions(&self) -> usize
+        ensures { result ≡ description_limit self.now }
+    {
+        MAX_DESCRIPTIONS.min(self.descriptions_max as usize)
+    }
+
+    /// How many processes there may be.
+    pub fn processes(&self) -> usize
+        ensures { result ≡ process_limit self.now }
+    {
+        MAX_PROCESSES.min(self.processes_max as usize)
+    }
+
+    /// How many entries a poll may have.
+    pub fn poll_entries(&self) -> usize
+        ensures { result ≡ entry_limit self.now }
+    {
+        OPEN_MAX.max(self.descriptors())
+    }
 }
 
-/// A call of a process. A descriptor is any `i32`; one outside 0 to 255 isn't open.
+/// A call of a process. A descriptor is any `i32`; one that isn't below the limit `descriptors_max` isn't open.
 #[derive(Drop, Debug, PartialEq)]
 pub enum Call<A: Allocator = Global> {
     /// Makes a pipe, its read end and its write end (POSIX.1-2017, pipe). With `nonblock` both ends have `NONBLOCK`, as by Linux's

@@ -1,6 +1,6 @@
 //! The numbers of the layer, for code. Contracts cite those of the definitions (`specs/Numbers.antt`), which these are.
 ghost use Rattle.std.specs.Prelude.{◌≡◌};
-ghost use Rattle.pl_model.specs.Numbers.{pipe_buf, first_capacity, least_capacity, most_capacity, open_max, most_descriptions, most_processes, most_bytes, most_file_bytes, most_name_bytes, greatest_offset, most_script_bytes, most_reads, last_call, no_limit};
+ghost use Rattle.pl_model.specs.Numbers.{pipe_buf, first_capacity, least_capacity, most_capacity, open_max, most_descriptors, usual_descriptions, most_descriptions, usual_processes, most_processes, most_bytes, most_file_bytes, most_name_bytes, greatest_offset, most_script_bytes, most_reads, last_call, no_limit};
 
 /// The most bytes of a write that goes in whole or not at all (POSIX.1-2017, limits.h; pipe(7), PIPE_BUF).
 pub const PIPE_BUF: usize = 4_096;
@@ -14,14 +14,23 @@ pub const MIN_CAPACITY: u32 = 4_096;
 /// The most bytes that a pipe can be made to hold (pipe(7), /proc/sys/fs/pipe-max-size).
 pub const MAX_CAPACITY: u32 = 1_048_576;
 
-/// The descriptors of a process, numbered from 0 (POSIX.1-2017, limits.h, OPEN_MAX).
+/// The descriptors of a process, numbered from 0, if no limit is chosen (POSIX.1-2017, limits.h, OPEN_MAX).
 pub const OPEN_MAX: usize = 256;
 
-/// The open file descriptions that may be live at one time.
-pub const MAX_DESCRIPTIONS: usize = 4_096;
+/// The greatest limit on the descriptors of a process.
+pub const MAX_DESCRIPTORS: usize = 65_536;
 
-/// The processes at one time, with pids from 1 on.
-pub const MAX_PROCESSES: usize = 1_024;
+/// The open file descriptions that may be live at one time, if no limit is chosen.
+pub const USUAL_DESCRIPTIONS: usize = 4_096;
+
+/// The greatest limit on the open file descriptions.
+pub const MAX_DESCRIPTIONS: usize = 1_048_576;
+
+/// The processes at one time, with pids from 1 on, if no limit is chosen.
+pub const USUAL_PROCESSES: usize = 1_024;
+
+/// The greatest limit on the processes.
+pub const MAX_PROCESSES: usize = 65_536;
 
 /// The most bytes of one write.
 pub const MAX_BYTES: usize = 16_777_216;
@@ -54,7 +63,10 @@ pub fn are_those_of_the_definitions()
     ensures least_capacity { MIN_CAPACITY ≡ least_capacity }
     ensures most_capacity { MAX_CAPACITY ≡ most_capacity }
     ensures open_max { OPEN_MAX ≡ open_max }
+    ensures most_descriptors { MAX_DESCRIPTORS ≡ most_descriptors }
+    ensures usual_descriptions { USUAL_DESCRIPTIONS ≡ usual_descriptions }
     ensures most_descriptions { MAX_DESCRIPTIONS ≡ most_descriptions }
+    ensures usual_processes { USUAL_PROCESSES ≡ usual_processes }
     ensures most_processes { MAX_PROCESSES ≡ most_processes }
     ensures most_bytes { MAX_BYTES ≡ most_bytes }
     ensures most_file_bytes { MAX_FILE_BYTES ≡ most_file_bytes }

@@ -3,7 +3,7 @@ ghost use Rattle.pl_model.specs.Worked.{BytesBeforeEndOfFile, PartialAndWholeNot
 ghost use Rattle.pl_model.specs.WorkedFiles.{EndOfAFile, BadNames, RefusalsOfAnOpen, FlagsOfAnOpen, AppendingAndSeeking, UnlinkedFileLivesOn, NamesKeepTheirFiles, PipesHaveNoOffset, ScriptOfFiles, NamesInWords};
 ghost use Rattle.pl_model.specs.WorkedCapacity.{SizesAreRoundedUp, OnlyPipesHaveACapacity, CapacityIsRoom, WaitingWriteGetsRoom, ScriptOfCapacities, LinesOfCapacities};
 ghost use Rattle.pl_model.specs.WorkedFifo.{UnusedFifoForgets, OpensWithoutTheOtherEnd, ReadersWaitForAWriter, InterruptedOpen, MetThoughClosed, LastOpenThatWaits, LinesOfFifos};
-ghost use Rattle.pl_model.specs.WorkedLimits.{NamesUpToTheLimit, WaitingCallsUpToTheLimit, NoCallMayWait, CapacitiesUpToTheLimit, DescriptorsUpToTheLimit, DescriptorsAtTheEnds};
+ghost use Rattle.pl_model.specs.WorkedLimits.{NamesUpToTheLimit, WaitingCallsUpToTheLimit, NoCallMayWait, CapacitiesUpToTheLimit, DescriptorsUpToTheLimit, DescriptorsAtTheEnds, DescriptionsUpToTheLimit, ProcessesUpToTheLimit, EntriesUpToTheLimit};
 ghost use Rattle.pl_model.specs.WorkedPacketPipes.{SmallWritesStayApart, LongWriteIsCut, ReadDropsTheRest};
 ghost use Rattle.pl_model.specs.WorkedPackets.{PacketsAreReadOneByOne, PacketPipeAtItsLimits, NoPacketIsEmpty, EndsOfAPacketPipe, InterruptedWriteOfPackets, OnlyPipeMakesPackets, PacketPipesAreNotSpliced, StatusFlagsInWords, LinesWithoutPackets};
 ghost use Rattle.pl_model.specs.WorkedPoll.{PollsOfAPipe, EndsThatLeave, HangingUpAFifo, FilesAndBothEnds, PollsThatDontWait, PollsKeepTheirEnds, PollWithoutANumber, ScriptOfPolls, LinesOfPolls};
@@ -140,6 +140,9 @@ pub fn limits<A: Allocator>()
     ensures capacities_up_to_the_limit { CapacitiesUpToTheLimit A }
     ensures descriptors_up_to_the_limit { DescriptorsUpToTheLimit A }
     ensures descriptors_at_the_ends { DescriptorsAtTheEnds A }
+    ensures descriptions_up_to_the_limit { DescriptionsUpToTheLimit A }
+    ensures processes_up_to_the_limit { ProcessesUpToTheLimit A }
+    ensures entries_up_to_the_limit { EntriesUpToTheLimit A }
 {}
 
 /// The pieces in which the bytes of small runs go through a pipe, and what becomes of a write.

@@ -3,7 +3,7 @@ ghost use Rattle.std.specs.Prelude.{◌≡◌, ◌<◌, false, IfOk, OnErr, IsSo
 ghost use Rattle.pl_model.specs.Flags.{status_flags};
 ghost use Rattle.pl_model.specs.Fifo.{can_open as machine_can_open};
 ghost use Rattle.pl_model.specs.Map.{change_at};
-ghost use Rattle.pl_model.specs.Numbers.{last_call, most_descriptions};
+ghost use Rattle.pl_model.specs.Numbers.{last_call};
 ghost use Rattle.pl_numbered.specs.Rising.{Rise};
 ghost use Rattle.pl_desc.specs.Rows.{at};
 ghost use Rattle.pl_desc.specs.Descs.{fresh, live_count};
@@ -109,7 +109,7 @@ fn park_open<A: Allocator + Copy>(
 ) -> Result<usize, NoMemory>
     requires left { ¬ (parked.old.next ≡ last_call) }
     requires rise { Rise 0 parked.old.next parked.old.calls }
-    requires few { live_count descs.old.opened < most_descriptions }
+    requires few { live_count descs.old.opened < descs.old.limits.descriptions }
     ensures ok { IfOk result (λ key. Awaits descs.old parked.old descs.new parked.new key (open_on key pid end.pipe call) (fresh (Node.Pipe end.pipe) end.mode (status_flags end.flags))) }
     ensures err { OnErr result ((descs.new ≡ record descs.old { room = descs.new.room }) × (parked.new ≡ parked.old)) }
 {

@@ -4,7 +4,7 @@ ghost use Rattle.pl_model.specs.Map.{change_at};
 ghost use Rattle.pl_nodes.specs.Nodes.{SamePipes};
 ghost use Rattle.pl_model.specs.Flags.{has, trunc, status_flags};
 ghost use Rattle.pl_model.specs.Modes.{writes};
-ghost use Rattle.pl_model.specs.Numbers.{most_descriptions};
+ghost use Rattle.pl_model.specs.Tables.{descriptor_limit, description_limit};
 ghost use Rattle.pl_desc.specs.Rows.{at, lowest_of};
 ghost use Rattle.pl_desc.specs.Descs.{live_count};
 ghost use Rattle.pl_state.specs.Contents.{IsProcess};
@@ -14,7 +14,6 @@ ghost use Rattle.pl_naming.specs.Openings.{IsRefused, MayOpen};
 use crate::fifos::open_fifo;
 use bitflags::Flags;
 use pl_decisions::{name_fault, open_fault};
-use pl_model::numbers::MAX_DESCRIPTIONS;
 use pl_model::{Bytes8, Call, Errno, Mode, Name, Node, OpenFlags, Reply, Step};
 use pl_nodes::Nodes;
 use pl_state::{Access, KernelState, NoMemory, leave_unnamed, open_at};
@@ -51,8 +50,8 @@ fn empty_if<A: Allocator + Copy>(nodes: &mut Nodes<A>, file: usize, is_emptied: 
 ///
 /// The reply is the least free descriptor, or, in this order: `ENOENT` of an empty name, `ENAMETOOLONG` of one above 255 bytes, `EINVAL` of
 /// one with a slash or a NUL; `EEXIST` under `CREAT` and `EXCL` where the name stands for something; `ENOENT` without `CREAT` where it
-/// stands for nothing; `EMFILE` where no descriptor is free; `ENFILE` at 4,096 descriptions; `ENOSPC` of a file that is to be made, where
-/// there are as many names as may be. A FIFO without the other end that this open needs is waited for, and the reply is `Parked`; but
+/// stands for nothing; `EMFILE` where no descriptor is free; `ENFILE` where no description more may be; `ENOSPC` of a file that is to be
+/// made, where there are as many names as may be. A FIFO without the other end that this open needs is waited for, and the reply is `Parked`; but
 /// `ENXIO` of an open for writing with `NONBLOCK`, `EAGAIN` where as many calls wait as may, and `CallsSpent` where no number is left for
 /// a call that waits (fifo(7)). The only error is want of memory. But for `Parked`, all of these leave all as it was.
 pub fn open_name<A: Allocator + Copy>(
@@ -102,10 +101,10 @@ fn checked_open<A: Allocator + Copy>(
     if let Some(errno) = open_fault(found.is_some(), creates, is_exclusive) {
         return Err(errno);
     }
-    let Some(fd) = kernel.descs.lowest(pid, 0, kernel.limits.descriptors_max) else {
+    let Some(fd) = kernel.descs.lowest(pid, 0) else {
         return Err(Errno::EMFILE);
     };
-    if MAX_DESCRIPTIONS <= kernel.descs.live() {
+    if kernel.limits.descriptions() <= kernel.descs.live() {
         return Err(Errno::ENFILE);
     }
     Ok((fd, found))
@@ -121,8 +120,8 @@ fn open_file<A: Allocator + Copy>(
     flags: OpenFlags,
 ) -> Result<Reply<A>, NoMemory>
     requires process { IsProcess kernel.old pid }
-    requires lowest { lowest_of kernel.old.tables kernel.old.limits.descriptors_max pid 0 ≡ Some fd }
-    requires few { live_count kernel.old.opened < most_descriptions }
+    requires lowest { lowest_of kernel.old.tables (descriptor_limit kernel.old.limits) pid 0 ≡ Some fd }
+    requires few { live_count kernel.old.opened < description_limit kernel.old.limits }
     requires there { IsSome (at kernel.old.nodes.files file) }
     ensures done { IfOk result (λ reply. (name : List ℕ) → MayOpen kernel.old pid name mode flags fd (Some (Node.File file)) → MakesAtKeys kernel.old (Step.Begin pid (Call.OpenName name mode flags)) reply kernel.new) }
     ensures undone { OnErr result (kernel.new ≡ kernel.old) }

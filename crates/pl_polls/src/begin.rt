@@ -1,6 +1,6 @@
 //! How a poll begins.
 ghost use Rattle.std.specs.Prelude.{◌≡◌, ◌≤◌, true, false, length, IfOk, OnOk, OnErr};
-ghost use Rattle.pl_model.specs.Numbers.{last_call, open_max};
+ghost use Rattle.pl_model.specs.Numbers.{last_call, most_descriptors};
 ghost use Rattle.pl_state.specs.Contents.{IsProcess};
 ghost use Rattle.pl_state.specs.Parking.{with_call};
 ghost use Rattle.pl_state.specs.Makes.{MakesAtKeys, MayWantAtKeys};
@@ -9,7 +9,6 @@ ghost use Rattle.pl_polls.specs.Waiting.{keys_named, poll_of};
 
 use crate::masks::{Descriptions, is_ready, masks_reply};
 use pl_desc::Descs;
-use pl_model::numbers::OPEN_MAX;
 use pl_model::{Call, Errno, KeyList, PollList, PollMask, Reply, Step};
 use pl_parked::ParkedCall;
 use pl_state::{KernelState, NoMemory, park};
@@ -40,7 +39,7 @@ pub(crate) fn park_poll<A: Allocator + Copy>(
     entries: PollList<A>,
 ) -> Result<u64, NoMemory>
     requires process { IsProcess kernel.old pid }
-    requires few { length entries ≤ open_max }
+    requires few { length entries ≤ most_descriptors }
     requires left { ¬ (kernel.old.calls.next ≡ last_call) }
     ensures number { IfOk result (λ number. number ≡ kernel.old.calls.next) }
     ensures ok { OnOk result (kernel.new ≡ with_call kernel.old (poll_of kernel.old.tables pid entries)) }
@@ -85,7 +84,7 @@ pub fn poll<A: Allocator + Copy>(
     // A proof learns here what holds of the kernel.
     let _ = &kernel.descs;
     let asked = entries.as_slice();
-    if asked.len() > OPEN_MAX {
+    if asked.len() > kernel.limits.poll_entries() {
         return Ok(Reply::Fault(Errno::EINVAL));
     }
     let named = Descriptions::Named {

@@ -5,7 +5,6 @@ ghost use Rattle.pl_state.specs.Contents.{core_of};
 ghost use Rattle.pl_polls.specs.Counts.{masks_begun, masks_again};
 
 use crate::masks::{Descriptions, is_ready};
-use pl_model::numbers::OPEN_MAX;
 use pl_model::{Call, PollMask};
 use pl_state::KernelState;
 use std::alloc::Allocator;
@@ -19,7 +18,7 @@ pub fn masks_to_begin<A: Allocator + Copy>(
 ) -> usize
     ensures { result ≡ masks_begun (core_of {A = A} kernel.now) pid entries.now wait }
 {
-    if entries.len() > OPEN_MAX {
+    if entries.len() > kernel.limits.poll_entries() {
         return 0;
     }
     let named = Descriptions::Named {

@@ -1,7 +1,7 @@
 //! How a poll of the caller's entries begins.
 ghost use Rattle.std.specs.Prelude.{◌≡◌, ◌≤◌, length, count_by, IfOk, OnErr};
 ghost use Rattle.std.specs.List.{list_any};
-ghost use Rattle.pl_model.specs.Numbers.{open_max};
+ghost use Rattle.pl_model.specs.Numbers.{most_descriptors};
 ghost use Rattle.pl_model.specs.Poll.{is_ready as is_mask_ready};
 ghost use Rattle.pl_state.specs.Contents.{IsProcess};
 ghost use Rattle.pl_state.specs.Makes.{MakesAtKeys, ParksAtKeys};
@@ -13,7 +13,6 @@ use crate::begin::park_poll;
 use crate::entries::{PollEntry, asked_of, mask_of_events};
 use crate::masks::{Descriptions, next_mask};
 use bitflags::Flags;
-use pl_model::numbers::OPEN_MAX;
 use pl_model::{Call, Errno, Step};
 use pl_state::{Answered, KernelState, NoMemory};
 use std::alloc::Allocator;
@@ -25,7 +24,7 @@ fn is_any_ready<A: Allocator + Copy>(
     entries: &[PollEntry],
 ) -> bool
     requires current { AreCurrent kernel.now descriptions }
-    requires few { length entries.now ≤ open_max }
+    requires few { length entries.now ≤ most_descriptors }
     ensures { result ≡ list_any is_mask_ready (masks_of {A = A} kernel.now descriptions.entry (asked entries.now)) }
 {
     let mut before = 0;
@@ -45,7 +44,7 @@ fn note_masks<A: Allocator + Copy>(
     entries: &mut [PollEntry],
 ) -> u32
     requires current { AreCurrent kernel.now descriptions }
-    requires few { length entries.old ≤ open_max }
+    requires few { length entries.old ≤ most_descriptors }
     ensures noted { entries.new ≡ marked entries.old (masks_of {A = A} kernel.now descriptions.entry (asked entries.old)) }
     ensures ready { result ≡ count_by is_mask_ready (masks_of {A = A} kernel.now descriptions.entry (asked entries.old)) }
 {
@@ -81,7 +80,7 @@ pub fn poll_into<A: Allocator + Copy>(
 {
     // A proof learns here what holds of the kernel.
     let _ = &kernel.descs;
-    if entries.len() > OPEN_MAX {
+    if entries.len() > kernel.limits.poll_entries() {
         return Ok(Answered::Fault(Errno::EINVAL));
     }
     let named = Descriptions::Named {

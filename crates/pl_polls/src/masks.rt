@@ -2,7 +2,7 @@
 ghost use Rattle.std.specs.Prelude.{◌≡◌, ◌∷◌, ◌+◌, ◌<◌, ◌≤◌, ℤ, List, length, IfOk, IfSome, IsSome, option_and_then};
 ghost use Rattle.std.specs.List.{list_any};
 ghost use Rattle.pl_model.specs.declared.flags.PollMask.{PollMask as Mask};
-ghost use Rattle.pl_model.specs.Numbers.{open_max};
+ghost use Rattle.pl_model.specs.Numbers.{most_descriptors};
 ghost use Rattle.pl_model.specs.State.{described};
 ghost use Rattle.pl_model.specs.Poll.{mask_of as machine_mask, polled as machine_polled, mask_at as machine_mask_at, is_ready as is_mask_ready, masks_reply as machine_reply};
 ghost use Rattle.std.specs.Option.{option_copied};
@@ -111,7 +111,7 @@ pub(crate) fn next_mask<A: Allocator + Copy>(
     before: &mut usize,
 ) -> PollMask
     requires current { AreCurrent kernel.now descriptions }
-    requires few { before.old < open_max }
+    requires few { before.old < most_descriptors }
     ensures mask { (entries : List (ℤ × Mask)) → masks_from {A = A} kernel.now descriptions.entry before.old ((fd, asked) ∷ entries) ≡ result ∷ masks_from {A = A} kernel.now descriptions.entry before.new entries }
     ensures one { before.new ≤ before.old + 1 }
 {
@@ -136,7 +136,7 @@ pub(crate) fn is_ready<A: Allocator + Copy>(
     entries: &[(i32, PollMask)],
 ) -> bool
     requires current { AreCurrent kernel.now descriptions }
-    requires few { length entries.now ≤ open_max }
+    requires few { length entries.now ≤ most_descriptors }
     ensures { result ≡ list_any is_mask_ready (masks_of {A = A} kernel.now descriptions.entry entries.now) }
 {
     let mut before = 0;
@@ -155,9 +155,9 @@ fn masks<A: Allocator + Copy>(
     entries: &[(i32, PollMask)],
 ) -> Result<Vec<PollMask, A>, NoMemory>
     requires current { AreCurrent kernel.now descriptions }
-    requires few { length entries.now ≤ open_max }
+    requires few { length entries.now ≤ most_descriptors }
     ensures ok { IfOk result (λ found. found.items ≡ masks_of {A = A} kernel.now descriptions.entry entries.now) }
-    ensures few { IfOk result (λ found. length found.items ≤ open_max) }
+    ensures few { IfOk result (λ found. length found.items ≤ most_descriptors) }
 {
     let mut found = Vec::with_capacity(kernel.alloc, entries.len())?;
     let mut before = 0;
@@ -177,7 +177,7 @@ pub(crate) fn masks_reply<A: Allocator + Copy>(
     entries: &[(i32, PollMask)],
 ) -> Result<Reply<A>, NoMemory>
     requires current { AreCurrent kernel.now descriptions }
-    requires few { length entries.now ≤ open_max }
+    requires few { length entries.now ≤ most_descriptors }
     ensures { IfOk result (λ reply. reply ≡ machine_reply (masks_of {A = A} kernel.now descriptions.entry entries.now)) }
 {
     let masks = masks(kernel, descriptions, entries)?;

@@ -16,7 +16,8 @@ use Rattle.pl_model.specs.declared.replies.Reply.TheVariants.{Pid, Fd, Fds, Coun
 use Rattle.pl_model.specs.declared.script.Version.TheVariants.{Two}
 use Rattle.pl_model.specs.Flags.{has, status_names, mask_names}
 use Rattle.pl_model.specs.Shown.{lower_digits, hex_text, Piece, Digits, Times, runs, run_pieces, piece_text, pieces_text, bytes_text, errno_text, mode_text, names_text, names_within, flags_text, mask_text, reply_text}
-use Rattle.pl_recording.specs.Record.{limits_text}
+use Rattle.pl_model.specs.Numbers.{usual_descriptions, usual_processes}
+use Rattle.pl_recording.specs.Record.{told_unless, limits_text}
 
 -- no line feed
 abbrev pub NoFeed : ℕ → Type 0
@@ -200,6 +201,9 @@ module _ {A : Type 0} where
 behind : (first : List ℕ) (n : ℕ) (rest : List ℕ) → All NoFeed first → All NoFeed rest → All NoFeed (first ++ (decimal n ++ rest))
 behind first n rest p q = both first (decimal n ++ rest) p (both (decimal n) rest (number_line n) q)
 
+unless_line : (usual n : ℕ) (name : List ℕ) → All NoFeed name → All NoFeed (told_unless usual n name)
+unless_line usual n name p = either (n == usual) [] (name ++ decimal n) (All-nil NoFeed) (both name (decimal n) p (number_line n))
+
 pub limits_line : (limits : Limits) → All NoFeed (limits_text limits)
 limits_line limits =
     behind (codes "# piperun --first-call ") limits.first_call _ (literal (codes "# piperun --first-call ") refl)
@@ -207,4 +211,7 @@ limits_line limits =
     (behind (codes " --names-max ") limits.names_max _ (literal (codes " --names-max ") refl)
     (behind (codes " --waiting-max ") limits.waiting_max _ (literal (codes " --waiting-max ") refl)
     (behind (codes " --capacity-max ") limits.capacity_max _ (literal (codes " --capacity-max ") refl)
-    (both (codes " --descriptors-max ") (decimal limits.descriptors_max) (literal (codes " --descriptors-max ") refl) (number_line limits.descriptors_max))))))
+    (behind (codes " --descriptors-max ") limits.descriptors_max _ (literal (codes " --descriptors-max ") refl)
+    (both (told_unless usual_descriptions limits.descriptions_max (codes " --descriptions-max ")) (told_unless usual_processes limits.processes_max (codes " --processes-max "))
+    (unless_line usual_descriptions limits.descriptions_max (codes " --descriptions-max ") (literal (codes " --descriptions-max ") refl))
+    (unless_line usual_processes limits.processes_max (codes " --processes-max ") (literal (codes " --processes-max ") refl))))))))

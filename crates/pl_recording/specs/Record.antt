@@ -1,5 +1,5 @@
 -- A record (our own): a script of version 2 that asks for each step that was made, and tells the reply of each in a comment behind it.
-use Rattle.std.specs.Prelude.{ℕ, List, [], ◌∷◌, ◌++◌, map, codes}
+use Rattle.std.specs.Prelude.{ℕ, List, [], ◌∷◌, ◌++◌, map, codes, ◌==◌, if◌then◌else◌}
 use Rattle.std.specs.List.{flat_map}
 use Rattle.std.specs.Fmt.{decimal}
 use Rattle.pl_model.specs.declared.calls.Limits.{Limits}
@@ -8,11 +8,16 @@ use Rattle.pl_model.specs.declared.history.Entry.{Entry}
 use Rattle.pl_model.specs.declared.replies.Reply.{Reply}
 use Rattle.pl_model.specs.declared.script.Version.TheVariants.{Two}
 use Rattle.pl_model.specs.Shown.{reply_text}
+use Rattle.pl_model.specs.Numbers.{usual_descriptions, usual_processes}
 use Rattle.pl_model.specs.Said.{said_step}
 
 -- a line and its line feed
 abbrev pub ended : List ℕ → List ℕ
 ended text = text ++ 10 ∷ []
+
+-- a limit behind its name, and nothing where it is the usual one
+abbrev pub told_unless : (usual n : ℕ) → (name : List ℕ) → List ℕ
+told_unless usual n name = if n == usual then [] else name ++ decimal n
 
 -- the comment that tells the limits within which the steps were made, as options of the program
 abbrev pub limits_text : Limits → List ℕ
@@ -22,7 +27,9 @@ limits_text limits =
     ++ (codes " --names-max " ++ (decimal limits.names_max
     ++ (codes " --waiting-max " ++ (decimal limits.waiting_max
     ++ (codes " --capacity-max " ++ (decimal limits.capacity_max
-    ++ (codes " --descriptors-max " ++ decimal limits.descriptors_max))))))))))
+    ++ (codes " --descriptors-max " ++ (decimal limits.descriptors_max
+    ++ (told_unless usual_descriptions limits.descriptions_max (codes " --descriptions-max ")
+    ++ told_unless usual_processes limits.processes_max (codes " --processes-max ")))))))))))))
 
 -- the lines in front of all steps
 abbrev pub header : Limits → List ℕ

@@ -8,10 +8,11 @@
 ghost use Rattle.std.specs.Prelude.{◌≡◌, ◌++◌, OnOk, OnErr, string_bytes};
 ghost use Rattle.std.specs.List.{flat_map};
 ghost use Rattle.pl_lines.specs.Pushed.{Pushes};
-ghost use Rattle.pl_recording.specs.Record.{ended, limits_text, header, comment_text, entry_text, made_in, recorded};
+ghost use Rattle.pl_recording.specs.Record.{ended, told_unless, limits_text, header, comment_text, entry_text, made_in, recorded};
 ghost use Rattle.pl_recording.specs.Replay.{RecordsReplay, JournalsReplay};
 
 use pl_lines::{keep_if_pushed, push_number, push_reply_2, push_step};
+use pl_model::numbers::{USUAL_DESCRIPTIONS, USUAL_PROCESSES};
 use pl_model::{Entry, Limits, Reply, Step};
 use std::alloc::{AllocError, Allocator};
 
@@ -25,7 +26,22 @@ pub fn journals<A: Allocator>()
     ensures { JournalsReplay A }
 {}
 
-/// Adds the comment that tells the limits.
+/// Adds a limit behind its name, or nothing where it is the usual one.
+fn push_unless<A: Allocator + Copy>(
+    text: &mut String<A>,
+    name: &str,
+    usual: usize,
+    limit: u32,
+) -> Result<(), AllocError>
+    ensures { Pushes result (string_bytes text.old) (string_bytes text.new) (told_unless usual limit name.now) }
+{
+    if limit as usize == usual {
+        return Ok(());
+    }
+    push_number(text, name, limit)
+}
+
+/// Adds the comment that tells the limits, of descriptions and of processes where it isn't the usual one.
 fn push_limits<A: Allocator + Copy>(text: &mut String<A>, limits: Limits) -> Result<(), AllocError>
     ensures { Pushes result (string_bytes text.old) (string_bytes text.new) (limits_text limits) }
 {
@@ -34,7 +50,19 @@ fn push_limits<A: Allocator + Copy>(text: &mut String<A>, limits: Limits) -> Res
     push_number(text, " --names-max ", limits.names_max)?;
     push_number(text, " --waiting-max ", limits.waiting_max)?;
     push_number(text, " --capacity-max ", limits.capacity_max)?;
-    push_number(text, " --descriptors-max ", limits.descriptors_max)
+    push_number(text, " --descriptors-max ", limits.descriptors_max)?;
+    push_unless(
+        text,
+        " --descriptions-max ",
+        USUAL_DESCRIPTIONS,
+        limits.descriptions_max,
+    )?;
+    push_unless(
+        text,
+        " --processes-max ",
+        USUAL_PROCESSES,
+        limits.processes_max,
+    )
 }
 
 /// Adds the lines in front of a record, or a front of them where there is no memory for them.

@@ -7,7 +7,7 @@ use Rattle.clap.specs.declared.builder.action.ArgAction.TheVariants.{SetTrue}
 use Rattle.clap.specs.declared.error.kind.ErrorKind.{ErrorKind}
 use Rattle.clap.specs.declared.error.kind.ErrorKind.TheVariants.{DisplayHelp, DisplayVersion, OutOfMemory}
 use Rattle.pl_model.specs.declared.calls.Limits.{Limits}
-use Rattle.pl_model.specs.Numbers.{most_file_bytes, most_capacity, no_limit, open_max, usual_spare}
+use Rattle.pl_model.specs.Numbers.{most_file_bytes, most_capacity, no_limit, open_max, most_descriptors, usual_descriptions, most_descriptions, usual_processes, most_processes, usual_spare}
 use Rattle.pl_run.specs.declared.choice.Choice.{Choice}
 use Rattle.pl_run.specs.declared.choice.Choice.TheVariants.{Run, Check, Live, Help, Version}
 use Rattle.pl_run.specs.declared.fault.Fault.{Fault}
@@ -25,11 +25,16 @@ flag_rule name = record (new_rule name) { long = Some name; action = Some SetTru
 abbrev pub with_numbers : App
 with_numbers = with_rule (with_rule (on_top (λ s. record s { no_binary_name = true; has_version = true }) (new_app (codes "piperun"))) (valued_rule (codes "first-call"))) (valued_rule (codes "memory"))
 
--- `--file-max N`, `--names-max N`, `--waiting-max N`, `--capacity-max N`, `--descriptors-max N` and `--spare-max BYTES`
+-- `--descriptors-max N`, `--descriptions-max N` and `--processes-max N`
+abbrev pub with_table_limits : App → App
+with_table_limits app =
+    with_rule (with_rule (with_rule app (valued_rule (codes "descriptors-max"))) (valued_rule (codes "descriptions-max"))) (valued_rule (codes "processes-max"))
+
+-- `--file-max N`, `--names-max N`, `--waiting-max N` and `--capacity-max N`, these, and `--spare-max BYTES`
 abbrev pub with_limits : App → App
 with_limits app =
-    with_rule (with_rule (with_rule (with_rule (with_rule (with_rule app (valued_rule (codes "file-max"))) (valued_rule (codes "names-max"))) (valued_rule (codes "waiting-max")))
-    (valued_rule (codes "capacity-max"))) (valued_rule (codes "descriptors-max"))) (valued_rule (codes "spare-max"))
+    with_rule (with_table_limits (with_rule (with_rule (with_rule (with_rule app (valued_rule (codes "file-max"))) (valued_rule (codes "names-max"))) (valued_rule (codes "waiting-max")))
+    (valued_rule (codes "capacity-max")))) (valued_rule (codes "spare-max"))
 
 -- `--check` and `--all`
 abbrev pub with_flags : App → App
@@ -60,6 +65,8 @@ pub record Told : Type 0 where
   pub waiting_max : Option Text
   pub capacity_max : Option Text
   pub descriptors_max : Option Text
+  pub descriptions_max : Option Text
+  pub processes_max : Option Text
   pub spare_max : Option Text
   pub memory : Option Text
   pub file : Option Text
@@ -78,6 +85,8 @@ told_of value first = record {
   waiting_max = value (codes "waiting-max");
   capacity_max = value (codes "capacity-max");
   descriptors_max = value (codes "descriptors-max");
+  descriptions_max = value (codes "descriptions-max");
+  processes_max = value (codes "processes-max");
   spare_max = value (codes "spare-max");
   memory = value (codes "memory");
   file = first (codes "file");
@@ -106,18 +115,27 @@ abbrev pub most_held : Option Text → ℕ
 most_held None = no_limit
 most_held (Some text) = value_of text
 
--- the limits that the options give: calls are numbered from 1, and nothing has a limit of its own, where no option says otherwise
+-- the limits that the options give on what tables hold: the descriptors of a process, the descriptions and the processes
+abbrev pub AreTableLimits : Told → Limits → Type 0
+AreTableLimits told limits = IsLimit most_descriptors open_max told.descriptors_max limits.descriptors_max
+    × IsLimit most_descriptions usual_descriptions told.descriptions_max limits.descriptions_max
+    × IsLimit most_processes usual_processes told.processes_max limits.processes_max
+
+-- one of these options gives none
+abbrev pub AreNoTableLimits : Told → Type 0
+AreNoTableLimits told = IsNoLimit most_descriptors told.descriptors_max ⊎ (IsNoLimit most_descriptions told.descriptions_max ⊎ IsNoLimit most_processes told.processes_max)
+
+-- the limits that the options give: calls are numbered from 1, and each limit is the usual one, where no option says otherwise
 abbrev pub AreLimits : Told → Limits → Type 0
 AreLimits told limits = IsLimit no_limit 1 told.first_call limits.first_call × IsLimit most_file_bytes most_file_bytes told.file_max limits.file_max
     × IsLimit no_limit no_limit told.names_max limits.names_max × IsLimit no_limit no_limit told.waiting_max limits.waiting_max
-    × IsLimit most_capacity most_capacity told.capacity_max limits.capacity_max × IsLimit open_max open_max told.descriptors_max limits.descriptors_max
+    × IsLimit most_capacity most_capacity told.capacity_max limits.capacity_max × AreTableLimits told limits
     × IsLimit no_limit (usual_spare (most_held told.memory)) told.spare_max limits.spare_max
 
 -- one of the options gives none
 abbrev pub AreNoLimits : Told → Type 0
 AreNoLimits told = IsNoLimit no_limit told.first_call ⊎ (IsNoLimit most_file_bytes told.file_max ⊎ (IsNoLimit no_limit told.names_max
-    ⊎ (IsNoLimit no_limit told.waiting_max ⊎ (IsNoLimit most_capacity told.capacity_max ⊎ (IsNoLimit open_max told.descriptors_max
-    ⊎ IsNoLimit no_limit told.spare_max)))))
+    ⊎ (IsNoLimit no_limit told.waiting_max ⊎ (IsNoLimit most_capacity told.capacity_max ⊎ (AreNoTableLimits told ⊎ IsNoLimit no_limit told.spare_max)))))
 
 -- the limit that a value of `--memory` gives, and none where there is no value
 abbrev pub IsMemory : Option Text → Option ℕ → Type 0

@@ -3,7 +3,7 @@ ghost use Rattle.std.specs.Prelude.{◌≡◌, Ok, Err, if◌then◌else◌, IfO
 ghost use Rattle.clap.specs.Words.{with_rule, app_of, found_of, first_value, one_text, kind_of};
 ghost use Rattle.pl_run.specs.declared.choice.Choice.TheVariants.{Run, Check, Live};
 ghost use Rattle.pl_run.specs.declared.fault.Fault.TheVariants.{CommandLine, NoMemory};
-ghost use Rattle.pl_run.specs.Words.{with_flags, with_limits, with_live_flags, with_explain, with_numbers, valued_rule, piperun, are_at_odds, told_of, HoldsMatches, Refuses, Chooses};
+ghost use Rattle.pl_run.specs.Words.{with_flags, with_table_limits, with_limits, with_live_flags, with_explain, with_numbers, valued_rule, piperun, are_at_odds, told_of, HoldsMatches, Refuses, Chooses};
 
 use crate::fault::Fault;
 use crate::limits::{limits_of, memory_of};
@@ -122,7 +122,16 @@ fn with_option<'a>(
     command.arg(Arg::new(alloc, name).long(name))
 }
 
-/// The command with the options `--file-max N`, `--names-max N`, `--waiting-max N`, `--capacity-max N`, `--descriptors-max N` and
+/// The command with the options `--descriptors-max N`, `--descriptions-max N` and `--processes-max N`.
+fn with_table_limits<'a>(alloc: Global, command: Command<'a>) -> Result<Command<'a>, AllocError>
+    ensures { IfOk result (λ made. app_of made ≡ with_table_limits (app_of command.entry)) }
+{
+    let command = with_option(alloc, command, "descriptors-max")?;
+    let command = with_option(alloc, command, "descriptions-max")?;
+    with_option(alloc, command, "processes-max")
+}
+
+/// The command with the options `--file-max N`, `--names-max N`, `--waiting-max N` and `--capacity-max N`, these, and
 /// `--spare-max BYTES`.
 fn with_limits<'a>(alloc: Global, command: Command<'a>) -> Result<Command<'a>, AllocError>
     ensures { IfOk result (λ made. app_of made ≡ with_limits (app_of command.entry)) }
@@ -131,7 +140,7 @@ fn with_limits<'a>(alloc: Global, command: Command<'a>) -> Result<Command<'a>, A
     let command = with_option(alloc, command, "names-max")?;
     let command = with_option(alloc, command, "waiting-max")?;
     let command = with_option(alloc, command, "capacity-max")?;
-    let command = with_option(alloc, command, "descriptors-max")?;
+    let command = with_table_limits(alloc, command)?;
     with_option(alloc, command, "spare-max")
 }
 
@@ -228,13 +237,14 @@ fn refusal(error: &Error) -> Result<Choice, Fault>
 /// What the words of the command line ask for, without the program's own name: `--help` or `-h` for the help text, `--version` or
 /// `-V` for the version, else each option at most once, and at most one FILE. The options are `--check`, `--all` beside it, `--live`,
 /// `--strict` beside that, `--explain`, and, each with a number below 2^64, `--first-call`, `--file-max`, `--names-max`, `--waiting-max`,
-/// `--capacity-max`, `--descriptors-max`, `--spare-max` and `--memory`. What stands behind `--` is FILE, whatever it looks like.
+/// `--capacity-max`, `--descriptors-max`, `--descriptions-max`, `--processes-max`, `--spare-max` and `--memory`. What stands behind `--` is
+/// FILE, whatever it looks like.
 ///
 /// # Errors
 ///
 /// `CommandLine` where the command doesn't take the words, `--all` stands without `--check`, `--strict` without `--live`, both `--check`
-/// and `--live` are there, or an option's value isn't a number, or above 16,777,216 of `--file-max`, 1,048,576 of `--capacity-max` or 256 of
-/// `--descriptors-max`;
+/// and `--live` are there, or an option's value isn't a number, or above 16,777,216 of `--file-max`, 1,048,576 of `--capacity-max` or
+/// `--descriptions-max`, or 65,536 of `--descriptors-max` or `--processes-max`;
 /// `NoMemory` where there was none to read them.
 pub fn words(alloc: Global, words: &[String]) -> Result<Choice, Fault>
     ensures { Chooses (map string_bytes words.now) result }

@@ -17,8 +17,13 @@ FILE, or standard input where there is none. LIMIT is one of these:
                       the most bytes that setsz gives a pipe; else it is
                       1048576, the most
       --descriptors-max N
-                      the most descriptors of a process; else it is 256, the
-                      most
+                      the most descriptors of a process; else it is 256; at
+                      most 65536
+      --descriptions-max N
+                      the most open file descriptions; else it is 4096; at
+                      most 1048576
+      --processes-max N
+                      the most processes; else it is 1024; at most 65536
       --memory BYTES  the most bytes that the script, what it makes and its
                       output may take at once; a call that finds none prints
                       `nomem`, and changes nothing
@@ -76,8 +81,10 @@ Each line of a script is one call, a question or a comment:
   # piperun --first-call N             of a record, as its first line: names
                                        its limits, also --file-max N,
                                        --names-max N, --waiting-max N,
-                                       --capacity-max N and
-                                       --descriptors-max N
+                                       --capacity-max N,
+                                       --descriptors-max N,
+                                       --descriptions-max N and
+                                       --processes-max N
 
 BYTES is an even number of hexadecimal digits, N*hh for N times the byte hh, or
 - for none. NAME is printable, with %hh for any other byte and for %, or - for

@@ -18,6 +18,5 @@ pub use program::{end, live_from, run, run_program};
 pub use terminal::Terminal;
 pub use version::VERSION;
 
-/// The limits of a run: calls are numbered from 1, unless the command line says otherwise, a file has at most 16,777,216 bytes, and
-/// nothing else has a limit of its own.
+/// The limits of a run, unless the command line names others: calls are numbered from 1, and each limit is the usual one.
 pub const LIMITS: Limits = Limits::DEFAULT;

@@ -2,13 +2,13 @@
 ghost use Rattle.std.specs.Prelude.{◌≡◌, ◌≤◌, ◌^◌, ◌<◌, IfOk, MatchResult, codes};
 ghost use Rattle.clap.specs.Words.{found_of, first_value, one_text};
 ghost use Rattle.pl_run.specs.declared.fault.Fault.TheVariants.{CommandLine};
-ghost use Rattle.pl_run.specs.Words.{IsLimit, IsNoLimit, AreLimits, AreNoLimits, IsMemory, IsNoNumber, told_of};
+ghost use Rattle.pl_run.specs.Words.{IsLimit, IsNoLimit, AreTableLimits, AreNoTableLimits, AreLimits, AreNoLimits, IsMemory, IsNoNumber, told_of};
 
 use crate::LIMITS;
 use crate::fault::Fault;
 use clap::ArgMatches;
 use pl_model::Limits;
-use pl_model::numbers::NO_LIMIT;
+use pl_model::numbers::{MAX_DESCRIPTIONS, MAX_DESCRIPTORS, MAX_PROCESSES, NO_LIMIT};
 
 /// The number that the option of this name gives, at most `most`, and `none` where the option isn't given.
 fn limit_of(matches: &ArgMatches, name: &str, most: u64, none: u64) -> Result<u64, Fault>
@@ -24,6 +24,37 @@ fn limit_of(matches: &ArgMatches, name: &str, most: u64, none: u64) -> Result<u6
     }
 }
 
+/// The usual limits, with those on descriptors, descriptions and processes that the words give.
+fn table_limits_of(matches: &ArgMatches) -> Result<Limits, Fault>
+    ensures { MatchResult result (AreTableLimits (told_of (one_text (found_of matches.now)) (first_value (found_of matches.now))))
+        (λ fault. (fault ≡ CommandLine) × AreNoTableLimits (told_of (one_text (found_of matches.now)) (first_value (found_of matches.now)))) }
+{
+    let descriptors_max = limit_of(
+        matches,
+        "descriptors-max",
+        MAX_DESCRIPTORS as u64,
+        u64::from(LIMITS.descriptors_max),
+    )?;
+    let descriptions_max = limit_of(
+        matches,
+        "descriptions-max",
+        MAX_DESCRIPTIONS as u64,
+        u64::from(LIMITS.descriptions_max),
+    )?;
+    let processes_max = limit_of(
+        matches,
+        "processes-max",
+        MAX_PROCESSES as u64,
+        u64::from(LIMITS.processes_max),
+    )?;
+    Ok(Limits {
+        descriptors_max: descriptors_max as u32,
+        descriptions_max: descriptions_max as u32,
+        processes_max: processes_max as u32,
+        ..LIMITS
+    })
+}
+
 /// The number of the first call and the limits of the kernel, by the words that the command took; `memory` is the limit on memory that they
 /// give.
 pub(crate) fn limits_of(matches: &ArgMatches, memory: Option<u64>) -> Result<Limits, Fault>
@@ -33,18 +64,12 @@ pub(crate) fn limits_of(matches: &ArgMatches, memory: Option<u64>) -> Result<Lim
 {
     let most_bytes = u64::from(LIMITS.file_max);
     let most_capacity = u64::from(LIMITS.capacity_max);
-    let most_descriptors = u64::from(LIMITS.descriptors_max);
     let first_call = limit_of(matches, "first-call", u64::MAX, LIMITS.first_call)?;
     let file_max = limit_of(matches, "file-max", most_bytes, most_bytes)?;
     let names_max = limit_of(matches, "names-max", u64::MAX, LIMITS.names_max)?;
     let waiting_max = limit_of(matches, "waiting-max", u64::MAX, LIMITS.waiting_max)?;
     let capacity_max = limit_of(matches, "capacity-max", most_capacity, most_capacity)?;
-    let descriptors_max = limit_of(
-        matches,
-        "descriptors-max",
-        most_descriptors,
-        most_descriptors,
-    )?;
+    let table_limits = table_limits_of(matches)?;
     let usual_spare = Limits::usual_spare(memory.unwrap_or(NO_LIMIT));
     let spare_max = limit_of(matches, "spare-max", u64::MAX, usual_spare)?;
     Ok(Limits {
@@ -53,8 +78,8 @@ pub(crate) fn limits_of(matches: &ArgMatches, memory: Option<u64>) -> Result<Lim
         names_max,
         waiting_max,
         capacity_max: capacity_max as u32,
-        descriptors_max: descriptors_max as u32,
         spare_max,
+        ..table_limits
     })
 }
 

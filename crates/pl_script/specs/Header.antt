@@ -3,7 +3,7 @@
 use Rattle.std.specs.Prelude.{◌≡◌, ℕ, ◌+◌, ◌<◌, ◌^◌, List, [], ◌∷◌, length, Bool, ◌&&◌, if◌then◌else◌, nat_le, Option, Some, None, Result, Ok, Err, codes}
 use Rattle.std.specs.Str.{bytes_eq}
 use Rattle.pl_model.specs.declared.calls.Limits.{Limits}
-use Rattle.pl_model.specs.Numbers.{most_file_bytes, most_capacity, open_max, most_script_bytes}
+use Rattle.pl_model.specs.Numbers.{most_file_bytes, most_capacity, most_descriptors, most_descriptions, most_processes, most_script_bytes}
 use Rattle.pl_model.specs.Words.{◌>>=◌, words, without_return, number}
 use Rattle.pl_model.specs.Script.{lines, version_of, header_lines, body}
 use Rattle.pl_script.specs.Running.{Fits}
@@ -21,7 +21,9 @@ with_limit limits option n =
     else if bytes_eq option (codes "--names-max") then Some (record limits { names_max = n })
     else if bytes_eq option (codes "--waiting-max") then Some (record limits { waiting_max = n })
     else if bytes_eq option (codes "--capacity-max") then (if nat_le n most_capacity then Some (record limits { capacity_max = n }) else None)
-    else if bytes_eq option (codes "--descriptors-max") then (if nat_le n open_max then Some (record limits { descriptors_max = n }) else None)
+    else if bytes_eq option (codes "--descriptors-max") then (if nat_le n most_descriptors then Some (record limits { descriptors_max = n }) else None)
+    else if bytes_eq option (codes "--descriptions-max") then (if nat_le n most_descriptions then Some (record limits { descriptions_max = n }) else None)
+    else if bytes_eq option (codes "--processes-max") then (if nat_le n most_processes then Some (record limits { processes_max = n }) else None)
     else None
 
 -- `OPTION NUMBER ..`, any number of them, each number below 2^64; of an option that stands twice the last one counts

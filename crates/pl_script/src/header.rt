@@ -1,5 +1,5 @@
 //! The limits that a record names.
-ghost use Rattle.std.specs.Prelude.{◌≡◌, ◌≤◌, ◌+◌, Some, None, IfSome, IfOk, MatchResult, option_map};
+ghost use Rattle.std.specs.Prelude.{◌≡◌, ◌≤◌, ◌+◌, Some, None, IfSome, IfOk, MatchResult, option_map, if◌then◌else◌, nat_le};
 ghost use Rattle.pl_model.specs.Numbers.{most_file_bytes};
 ghost use Rattle.pl_model.specs.Script.{lines, version_of, header_lines};
 ghost use Rattle.pl_model.specs.Words.{words};
@@ -10,8 +10,21 @@ use crate::fault::ScriptFault;
 use crate::running::header_lines;
 use pl_lines::{next_line, split_version};
 use pl_model::Limits;
-use pl_model::numbers::{MAX_CAPACITY, MAX_FILE_BYTES, OPEN_MAX};
+use pl_model::numbers::{
+    MAX_CAPACITY, MAX_DESCRIPTIONS, MAX_DESCRIPTORS, MAX_FILE_BYTES, MAX_PROCESSES,
+};
 use pl_words::{next_word, parse_u64, without_return};
+
+/// The number, as one of 32 bits; `None` where it is above the most.
+fn within(n: u64, most: u32) -> Option<u32>
+    ensures { result ≡ (if nat_le n most then Some n else None) }
+{
+    if n <= u64::from(most) {
+        Some(n as u32)
+    } else {
+        None
+    }
+}
 
 /// The limits with the one that the option names set to this; `None` where no option has this name, or the number is out of its range.
 #[tactic(auto, unfolding(crate::specs::Header::with_limit))]
@@ -20,48 +33,27 @@ fn with_limit(limits: Limits, option: &[u8], n: u64) -> Option<Limits>
     ensures said { result ≡ with_limit limits option.now n }
     ensures most { IfSome result (λ set. set.file_max ≤ most_file_bytes) }
 {
+    let mut set = limits;
     if option == b"--first-call".as_slice() {
-        Some(Limits {
-            first_call: n,
-            ..limits
-        })
+        set.first_call = n;
     } else if option == b"--file-max".as_slice() {
-        if n > u64::from(MAX_FILE_BYTES) {
-            return None;
-        }
-        Some(Limits {
-            file_max: n as u32,
-            ..limits
-        })
+        set.file_max = within(n, MAX_FILE_BYTES)?;
     } else if option == b"--names-max".as_slice() {
-        Some(Limits {
-            names_max: n,
-            ..limits
-        })
+        set.names_max = n;
     } else if option == b"--waiting-max".as_slice() {
-        Some(Limits {
-            waiting_max: n,
-            ..limits
-        })
+        set.waiting_max = n;
     } else if option == b"--capacity-max".as_slice() {
-        if n > u64::from(MAX_CAPACITY) {
-            return None;
-        }
-        Some(Limits {
-            capacity_max: n as u32,
-            ..limits
-        })
+        set.capacity_max = within(n, MAX_CAPACITY)?;
     } else if option == b"--descriptors-max".as_slice() {
-        if n > OPEN_MAX as u64 {
-            return None;
-        }
-        Some(Limits {
-            descriptors_max: n as u32,
-            ..limits
-        })
+        set.descriptors_max = within(n, MAX_DESCRIPTORS as u32)?;
+    } else if option == b"--descriptions-max".as_slice() {
+        set.descriptions_max = within(n, MAX_DESCRIPTIONS as u32)?;
+    } else if option == b"--processes-max".as_slice() {
+        set.processes_max = within(n, MAX_PROCESSES as u32)?;
     } else {
-        None
+        return None;
     }
+    Some(set)
 }
 
 /// The limits with those that the words set, each an option and its number; `None` where they say something else.
@@ -114,8 +106,8 @@ fn limits_of_lines(limits: Limits, body: &[u8]) -> Option<Limits>
 
 /// The limits of a record: those given, with those that its header sets. The header is a comment `# piperun OPTION NUMBER ..`, as the
 /// first line, or behind the one that names the version. The options are `--first-call`, `--file-max` up to 16,777,216, `--names-max`,
-/// `--waiting-max`, `--capacity-max` up to 1,048,576 and `--descriptors-max` up to 256. Every number is below 2^64, and of an option that
-/// stands twice the last counts.
+/// `--waiting-max`, `--capacity-max` up to 1,048,576, `--descriptors-max` up to 65,536, `--descriptions-max` up to 1,048,576 and
+/// `--processes-max` up to 65,536. Every number is below 2^64, and of an option that stands twice the last counts.
 ///
 /// # Errors
 ///

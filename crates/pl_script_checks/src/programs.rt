@@ -8,6 +8,7 @@ use pl_script::{MAX_READS, Reads, Writes};
 use std::alloc::Global;
 use std::fs::Files;
 use std::io::{Read, Write};
+use std::process::Abort;
 use std::test::Fail;
 
 /// A run of the program: the words of its command line, its input, and what it comes to.
@@ -268,6 +269,25 @@ const PROGRAMS: &[Program] = &[
     },
 ];
 
+/// Programs within limits on tables, apart from the others: a proof computes on the rows of a table all at once.
+const WITHIN_OTHER_LIMITS: &[Program] = &[
+    Program {
+        words: &["--descriptors-max", "300"],
+        input: "start\n1 pipe\n1 dupfd 0 299\n1 dup2 0 300\n1 dupfd 0 300\n",
+        output: "pid 1\nfds 0 1\nfd 299\nEBADF\nEINVAL\n",
+        line: "",
+        status: 0,
+    },
+    // No description and no process above the limits is made.
+    Program {
+        words: &["--descriptions-max", "3", "--processes-max", "1"],
+        input: "start\n1 pipe\n1 pipe\n1 open f w creat\n1 open f w\nstart\n1 fork\n",
+        output: "pid 1\nfds 0 1\nENFILE\nfd 2\nENFILE\nEAGAIN\nEAGAIN\n",
+        line: "",
+        status: 0,
+    },
+];
+
 /// Runs the program from the reader to the writer, of which a proof then need not see what they are. A live run tells bad lines to `told`.
 fn run_between<R: Files + AllocGlobal, I: Read + Drop, O: Write + Drop, E: Write + Drop>(
     rt: &R,
@@ -314,20 +334,27 @@ fn is_as_expected<R: Files + AllocGlobal>(rt: &R, words: &[String], program: &Pr
     is_printed && is_told && status == program.status
 }
 
-#[test]
-fn the_program(rt: HostRuntime) -> Result<(), Fail> {
-    for program in PROGRAMS {
+/// Runs each of these programs.
+fn are_as_expected<R: Files + AllocGlobal + Abort>(
+    rt: &R,
+    programs: &[Program],
+) -> Result<(), Fail> {
+    for program in programs {
         let words = strings(rt.alloc(), program.words)?;
-        let is_so = is_as_expected(&rt, words.as_slice(), program);
-        is(
-            &rt,
-            program.output,
-            usize::from(program.status),
-            is_so,
-            true,
-        );
+        let is_so = is_as_expected(rt, words.as_slice(), program);
+        is(rt, program.output, usize::from(program.status), is_so, true);
     }
     Ok(())
+}
+
+#[test]
+fn the_program(rt: HostRuntime) -> Result<(), Fail> {
+    are_as_expected(&rt, PROGRAMS)
+}
+
+#[test]
+fn the_program_within_other_limits(rt: HostRuntime) -> Result<(), Fail> {
+    are_as_expected(&rt, WITHIN_OTHER_LIMITS)
 }
 
 /// The script of the example in the help text, and what stands beside its lines.

@@ -17,6 +17,7 @@ const LIMITS: Limits = Limits {
     capacity_max: 65_536,
     descriptors_max: 32,
     spare_max: 0,
+    ..Limits::DEFAULT
 };
 
 const MADE: &[(Ask, Want)] = &[
@@ -55,6 +56,46 @@ fn a_record_has_each_step_and_its_reply(rt: HostRuntime) -> Result<(), Fail> {
         add(rt.alloc(), &mut text, *ask, *want)?;
     }
     is(&rt, "record", 0, text.as_str() == RECORD, true);
+    Ok(())
+}
+
+/// The limits on descriptions and on processes, and the header within them.
+const HEADERS: &[(u32, u32, &str)] = &[
+    (
+        4_095,
+        1_024,
+        "piperun 2
+# piperun --first-call 7 --file-max 4096 --names-max 3 --waiting-max 2 --capacity-max 65536 --descriptors-max 32 --descriptions-max 4095
+",
+    ),
+    (
+        4_096,
+        1_025,
+        "piperun 2
+# piperun --first-call 7 --file-max 4096 --names-max 3 --waiting-max 2 --capacity-max 65536 --descriptors-max 32 --processes-max 1025
+",
+    ),
+    (
+        1_048_576,
+        0,
+        "piperun 2
+# piperun --first-call 7 --file-max 4096 --names-max 3 --waiting-max 2 --capacity-max 65536 --descriptors-max 32 --descriptions-max 1048576 --processes-max 0
+",
+    ),
+];
+
+#[test]
+fn a_header_names_what_is_not_usual(rt: HostRuntime) -> Result<(), Fail> {
+    for (i, (descriptions_max, processes_max, header)) in HEADERS.iter().enumerate() {
+        let limits = Limits {
+            descriptions_max: *descriptions_max,
+            processes_max: *processes_max,
+            ..LIMITS
+        };
+        let mut text = String::new(rt.alloc());
+        push_header(&mut text, limits)?;
+        is(&rt, "header", i, text.as_str() == *header, true);
+    }
     Ok(())
 }
 

@@ -165,6 +165,24 @@ const RECORDS: &[Record] = &[
         all: "",
         end: Ok((1, 0)),
     },
+    Record {
+        script: "# piperun --descriptors-max 65536\nstart\n1 pipe\n1 dupfd 0 65535\n# => fd 65535\n1 dupfd 0 65535\n# => EMFILE\n",
+        first: "",
+        all: "",
+        end: Ok((2, 0)),
+    },
+    Record {
+        script: "# piperun --descriptions-max 3\nstart\n1 pipe\n1 pipe\n# => ENFILE\n1 open f w creat\n# => fd 2\n1 open f w\n# => ENFILE\n",
+        first: "",
+        all: "",
+        end: Ok((3, 0)),
+    },
+    Record {
+        script: "# piperun --descriptions-max 1048576 --processes-max 2\nstart\nstart\n# => pid 2\nstart\n# => EAGAIN\n1 fork\n# => EAGAIN\n",
+        first: "",
+        all: "",
+        end: Ok((3, 0)),
+    },
     // A header that stands elsewhere is a comment.
     Record {
         script: "start\n# piperun --first-call 7\n1 pipe\n1 read 0 1\n# => parked 1\n",
@@ -198,7 +216,19 @@ const RECORDS: &[Record] = &[
         end: Err(ScriptFault::BadLine(1)),
     },
     Record {
-        script: "# piperun --descriptors-max 257\n",
+        script: "# piperun --descriptors-max 65537\n",
+        first: "",
+        all: "",
+        end: Err(ScriptFault::BadLine(1)),
+    },
+    Record {
+        script: "# piperun --descriptions-max 1048577\n",
+        first: "",
+        all: "",
+        end: Err(ScriptFault::BadLine(1)),
+    },
+    Record {
+        script: "# piperun --processes-max 65537\n",
         first: "",
         all: "",
         end: Err(ScriptFault::BadLine(1)),

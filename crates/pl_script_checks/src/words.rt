@@ -58,7 +58,16 @@ const ALL_SET: Limits = Limits {
     waiting_max: 2,
     capacity_max: 8_192,
     descriptors_max: 5,
+    descriptions_max: 6,
+    processes_max: 4,
     spare_max: 8_191,
+};
+
+const GREATEST_TABLES: Limits = Limits {
+    descriptors_max: 65_536,
+    descriptions_max: 1_048_576,
+    processes_max: 65_536,
+    ..LIMITS
 };
 
 const NOTHING_SPARE: Limits = Limits {
@@ -178,8 +187,23 @@ const WORDS_OF_LIMITS: &[(&[&str], Asked)] = &[
     (&["--capacity-max", "1048577"], BAD),
     (&["--capacity-max"], BAD),
     (&["--descriptors-max", "256"], Runs(1)),
-    (&["--descriptors-max", "257"], BAD),
+    (&["--descriptors-max", "65537"], BAD),
     (&["--descriptors-max", "4294967299"], BAD),
+    (&["--descriptions-max", "4096"], Runs(1)),
+    (&["--descriptions-max", "1048577"], BAD),
+    (&["--descriptions-max", "-1"], BAD),
+    (&["--processes-max", "1024"], Runs(1)),
+    (&["--processes-max", "65537"], BAD),
+    (&["--processes-max"], BAD),
+    (&["--processes-max=4", "--processes-max=4"], BAD),
+    (
+        &[
+            "--processes-max=65536",
+            "--descriptions-max=1048576",
+            "--descriptors-max=65536",
+        ],
+        RunsIn(GREATEST_TABLES),
+    ),
     (&["--spare-max", "0"], RunsIn(NOTHING_SPARE)),
     (
         &["--spare-max", "0", "--memory", "65536"],
@@ -190,6 +214,8 @@ const WORDS_OF_LIMITS: &[(&[&str], Asked)] = &[
     (
         &[
             "--spare-max=8191",
+            "--processes-max=4",
+            "--descriptions-max=6",
             "--descriptors-max=5",
             "--capacity-max=8192",
             "--waiting-max=2",

@@ -23,7 +23,7 @@ pub record Parts (A : Type 0) : Type 0 where
   pub calls : Calls A
   pub limits : Limits
   pub whole : IsWhole A (contents descs nodes calls limits)
-  pub are : AreCounted A descs calls.calls
+  pub are : AreCounted A limits descs calls.calls
 
 -- a kernel's parts, and its invariant
 pub record Known (A : Type 0) : Type 0 where
@@ -32,7 +32,7 @@ pub record Known (A : Type 0) : Type 0 where
   pub calls : Calls A
   pub limits : Limits
   pub sound : IsSound A (contents descs nodes calls limits)
-  pub are : AreCounted A descs calls.calls
+  pub are : AreCounted A limits descs calls.calls
 
 abbrev pub parts_of : {A : Type 0} → Known A → Parts A
 parts_of m = record { descs = m.descs; nodes = m.nodes; calls = m.calls; limits = m.limits; whole = m.sound.whole; are = m.are }
@@ -44,7 +44,7 @@ pub record Caller (A : Type 0) : Type 0 where
   pub pid : ℕ
   pub process : is_pid descs.tables pid ≡ true
 
-module _ {A : Type 0} (k : Inside A) (invariant : IsSound A (view_of k) × AreCounted A k.descs k.parked.calls) where
+module _ {A : Type 0} (k : Inside A) (invariant : IsSound A (view_of k) × AreCounted A k.limits k.descs k.parked.calls) where
   -- what is known of its fields
   abbrev pub known : Known A
   known = record { descs = k.descs; nodes = nodes_of k.nodes; calls = k.parked; limits = k.limits; sound = invariant.0; are = invariant.1 }
@@ -54,8 +54,8 @@ module _ {A : Type 0} (k : Inside A) (invariant : IsSound A (view_of k) × AreCo
   caller self is pid process = record { kernel = known; pid = pid; process = ap (λ (z : Contents A). is_pid z.tables pid) is ∙ process }
 
   -- the same, where the descriptors are as they were
-  pub still_sound : (descs : Descs) → k.descs ≡ descs → (IsSound A (contents descs (nodes_of k.nodes) k.parked k.limits)) × (AreCounted A descs k.parked.calls)
-  still_sound descs same = subst (λ (d : Descs). (IsSound A (contents d (nodes_of k.nodes) k.parked k.limits)) × (AreCounted A d k.parked.calls)) same invariant
+  pub still_sound : (descs : Descs) → k.descs ≡ descs → (IsSound A (contents descs (nodes_of k.nodes) k.parked k.limits)) × (AreCounted A k.limits descs k.parked.calls)
+  still_sound descs same = subst (λ (d : Descs). (IsSound A (contents d (nodes_of k.nodes) k.parked k.limits)) × (AreCounted A k.limits d k.parked.calls)) same invariant
 
 -- what a call on a pipe leaves: other pipes, and all else as it was
 pub moved_view : {A : Type 0} (k : Inside A) (new : KeptNodes) → SameFiles k.nodes new → with_pipes (view_of k) (nodes_of new) ≡ view_of (record k { nodes = new })

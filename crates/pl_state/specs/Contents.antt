@@ -6,6 +6,7 @@ use Rattle.pl_model.specs.declared.node.Node.{Node}
 use Rattle.pl_model.specs.declared.node.Node.TheVariants.{Pipe, File}
 use Rattle.pl_model.specs.Modes.{reads, writes}
 use Rattle.pl_model.specs.Map.{Map}
+use Rattle.pl_model.specs.Tables.{descriptor_limit, description_limit, process_limit}
 use Rattle.pl_model.specs.Keys.{PipeNode, FileNode}
 use Rattle.pl_model.specs.Keys.{Node as KeyNode}
 use Rattle.pl_model.specs.State.{Core, Description, Waiting}
@@ -13,6 +14,7 @@ use Rattle.pl_model.specs.State.{Pipe as PipeState}
 use Rattle.pl_model.specs.Numbered.{numbers}
 use Rattle.pl_parked.specs.declared.call.ParkedCall.{ParkedCall}
 use Rattle.pl_parked.specs.Calls.{Calls}
+use Rattle.pl_desc.specs.declared.limits.DescLimits.{DescLimits}
 use Rattle.pl_desc.specs.Rows.{at, Tables, is_pid, row_at}
 use Rattle.pl_desc.specs.Descs.{Opened, Descs}
 use Rattle.pl_segments.specs.Segments.{segment_size}
@@ -34,6 +36,10 @@ pub record Nodes : Type 0 where
 -- The limits of pipes and files. Of the memory that is kept for further bytes whole segments count.
 abbrev pub node_limits : Limits → NodeLimits
 node_limits limits = record { file_max = limits.file_max; spare_max = limits.spare_max / segment_size }
+
+-- the limits of what processes open
+abbrev pub desc_limits : Limits → DescLimits
+desc_limits limits = record { descriptors = descriptor_limit limits; descriptions = description_limit limits; processes = process_limit limits }
 
 -- what the kernel has of its nodes
 abbrev pub nodes_of : KeptNodes → Nodes

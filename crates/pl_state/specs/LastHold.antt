@@ -57,6 +57,7 @@ pub record Releases (old new : Descs) (before after : Nodes) (key : ℕ) : Type 
   pub opened : at new.opened ≡ (if last_hold old key then set_at nat_eq (at old.opened) key None else at old.opened)
   pub loose : count_at new.loose ≡ change_count key one_less (count_at old.loose)
   pub tables : new.tables ≡ old.tables
+  pub limits : new.limits ≡ old.limits
   pub tidy : IsTidy new
   pub shrinks : Shrinks before.memory after.memory
   pub stays : last_hold old key ≡ false → after ≡ before

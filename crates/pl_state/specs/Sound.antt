@@ -3,32 +3,33 @@ use Rattle.std.specs.Prelude.{◌≡◌, ◌≢◌, ◌≤◌, ◌<◌, ℕ, Boo
 use Rattle.std.specs.List.{sum_by}
 use Rattle.std.specs.Cmp.Lexicographic.{pointwise}
 use Rattle.pl_model.specs.declared.calls.Call.{Call}
+use Rattle.pl_model.specs.declared.calls.Limits.{Limits}
 use Rattle.pl_model.specs.declared.calls.Call.TheVariants as call
 use Rattle.pl_model.specs.declared.node.Node.{Node}
 use Rattle.pl_model.specs.declared.node.Node.TheVariants as node
-use Rattle.pl_model.specs.Numbers.{last_call, open_max, pipe_buf}
+use Rattle.pl_model.specs.Numbers.{last_call, most_descriptors, pipe_buf}
 use Rattle.pl_model.specs.Map.{Map, get, EachOnce}
 use Rattle.pl_model.specs.Laws.{IsSettled}
 use Rattle.pl_parked.specs.declared.call.ParkedCall.{ParkedCall}
 use Rattle.pl_numbered.specs.Rising.{Rise}
 use Rattle.pl_desc.specs.Rows.{at, is_pid, count_at}
 use Rattle.pl_desc.specs.Descs.{Opened, Descs, IsTidy}
-use Rattle.pl_state.specs.Contents.{Contents, Nodes, IsThere, node_limits, core_of}
+use Rattle.pl_state.specs.Contents.{Contents, Nodes, IsThere, node_limits, desc_limits, core_of}
 
 -- What may wait, with so many bytes taken: a read, an open, a splice, a tee and a poll take none, a write less than it has, and none
--- where it is to go in whole. A poll has no more entries than a process has descriptors.
+-- where it is to go in whole. A poll has no more entries than any process may have descriptors.
 abbrev pub MayWait : {A : Type 0} → Call A → ℕ → Type 0
 MayWait (call.Read fd n) taken = taken ≡ 0
 MayWait (call.Write fd bytes) taken = (taken < length bytes) × (length bytes ≤ pipe_buf → taken ≡ 0)
 MayWait (call.OpenName name mode flags) taken = taken ≡ 0
 MayWait (call.Splice from from_offset to to_offset len flags) taken = (taken ≡ 0) × (0 < len)
 MayWait (call.Tee from to len flags) taken = (taken ≡ 0) × (0 < len)
-MayWait (call.Poll entries wait) taken = (taken ≡ 0) × (length entries ≤ open_max)
+MayWait (call.Poll entries wait) taken = (taken ≡ 0) × (length entries ≤ most_descriptors)
 MayWait other taken = ⊥
 
 -- Our own: the descriptions that one call keeps.
 abbrev pub most_kept : ℕ
-most_kept = 256
+most_kept = most_descriptors
 
 -- the only key of a list
 abbrev pub IsOnly : ℕ → List ℕ → Type 0
@@ -157,6 +158,8 @@ abbrev pub keeping : {A : Type 0} → Map ℕ (ParkedCall A) → ℕ → ℕ
 keeping calls key = sum_by (λ e. times e.1.kept key) calls
 
 -- Its invariant, of who holds what: a loose hold of a description is that of a parked call that keeps it.
-pub record AreCounted (A : Type 0) (descs : Descs) (calls : Map ℕ (ParkedCall A)) : Type 0 where
+pub record AreCounted (A : Type 0) (limits : Limits) (descs : Descs) (calls : Map ℕ (ParkedCall A)) : Type 0 where
   pub tidy : IsTidy descs
+  -- so a process has as many descriptors as the machine's may, and there may be as many descriptions and processes
+  pub bounds : descs.limits ≡ desc_limits limits
   pub counted : (key : ℕ) → count_at descs.loose key ≡ keeping calls key

@@ -90,6 +90,7 @@ pub fn release<A: Allocator + Copy>(descs: &mut Descs<A>, nodes: &mut Nodes<A>, 
     ensures opened { at descs.new.opened ≡ (if last_hold descs.old key then set_at nat_eq (at descs.old.opened) key None else at descs.old.opened) }
     ensures loose { count_at descs.new.loose ≡ change_count key one_less (count_at descs.old.loose) }
     ensures tables { descs.new.tables ≡ descs.old.tables }
+    ensures limits { descs.new.limits ≡ descs.old.limits }
     ensures tidy { IsTidy descs.new }
     ensures shrinks { Shrinks (memory_of nodes.old) (memory_of nodes.new) }
     ensures stays { last_hold descs.old key ≡ false → nodes.new ≡ nodes.old }

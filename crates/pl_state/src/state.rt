@@ -1,9 +1,9 @@
 //! All that a kernel holds.
 ghost use Rattle.pl_model.specs.Numbers.{most_file_bytes};
-ghost use Rattle.pl_state.specs.Contents.{node_limits};
+ghost use Rattle.pl_state.specs.Contents.{node_limits, desc_limits};
 ghost use Rattle.std.specs.Prelude.{◌≡◌, ◌≤◌};
 
-use pl_desc::Descs;
+use pl_desc::{DescLimits, Descs};
 use pl_model::Limits;
 use pl_nodes::{NodeLimits, Nodes};
 use pl_parked::Parked;
@@ -31,7 +31,7 @@ impl<A: Allocator> Model for KernelState<A> {
 
     ghost view = { view_of };
 
-    ghost invariant = { λ k. IsSound A (view_of k) × AreCounted A k.descs k.parked.calls };
+    ghost invariant = { λ k. IsSound A (view_of k) × AreCounted A k.limits k.descs k.parked.calls };
 }
 
 // The limits of pipes and files. Of the memory that is kept for further bytes whole segments count.
@@ -41,6 +41,17 @@ fn node_limits(limits: Limits) -> NodeLimits
     NodeLimits {
         file_max: limits.file_max as usize,
         spare_max: (limits.spare_max / SEGMENT_SIZE as u64) as usize,
+    }
+}
+
+// The limits of what processes open.
+fn desc_limits(limits: Limits) -> DescLimits
+    ensures { result ≡ desc_limits limits }
+{
+    DescLimits {
+        descriptors: limits.descriptors(),
+        descriptions: limits.descriptions(),
+        processes: limits.processes(),
     }
 }
 
@@ -56,7 +67,7 @@ impl<A: Allocator + Copy> KernelState<A> {
         KernelState {
             alloc,
             limits,
-            descs: Descs::new(alloc),
+            descs: Descs::new(alloc, desc_limits(limits)),
             nodes: Nodes::new(alloc, node_limits(limits)),
             parked: Parked::new(alloc, limits.first_call),
         }

@@ -2,7 +2,7 @@
 use crate::asked::{Ask, Data, Want};
 use crate::buffers::reply_on_buffers;
 use pl_kernel::Kernel;
-use pl_model::numbers::{MAX_FILE_BYTES, MAX_PROCESSES};
+use pl_model::numbers::{MAX_FILE_BYTES, USUAL_PROCESSES};
 use pl_model::{Bytes8, Call, Limits, MaskList, Name, Outcome, Reply, Step};
 use std::alloc::{Allocator, Global};
 use std::marker::Model;
@@ -218,10 +218,10 @@ impl<A: Allocator + Copy> Bench<A> {
         self.answers(Ask::Exit(1), Want::Unit)
     }
 
-    /// Ends every process, and then takes the names away, which are all. It fails where one isn't there, and where bytes are kept
-    /// in memory after that.
+    /// Ends every process, of which there may be no more than usual, and then takes the names away, which are all. It fails where one
+    /// isn't there, and where bytes are kept in memory after that.
     pub fn ends_empty(&mut self, names: &[Data]) -> Result<(), Fail> {
-        for pid in 1..=MAX_PROCESSES as u32 {
+        for pid in 1..=USUAL_PROCESSES as u32 {
             let _reply = reply_to(&mut self.kernel, Step::Begin(pid, Call::Exit));
         }
         self.unlink_all(names)?;

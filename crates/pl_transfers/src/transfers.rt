@@ -17,7 +17,6 @@ ghost use Rattle.pl_transfers.specs.Waits.{reply_of, WriteTried, WaitsToWrite};
 use crate::files::write_file;
 use crate::waiting::park_write;
 use bitflags::Flags;
-use pl_model::numbers::MAX_DESCRIPTIONS;
 use pl_model::{Bytes8, Call, Errno, Mode, Node, OpenFlags, ReadCase, Reply, Step, WriteCase};
 use pl_nodes::WriteFault;
 use pl_state::{Access, Answered, KernelState, NoMemory, OpenEnd, OpenNode, open_at};
@@ -55,8 +54,8 @@ fn flags_of_writer(nonblock: bool, direct: bool) -> OpenFlags
 /// Makes a pipe, and opens its read end and its write end on the two least free descriptors (POSIX.1-2017, pipe; pipe(2)). With
 /// `direct` it is a packet pipe.
 ///
-/// The reply is the two, or `EMFILE` where fewer are free, or `ENFILE` above 4,094 descriptions. The only error is want of memory. All of
-/// these leave all as it was.
+/// The reply is the two, or `EMFILE` where fewer are free, or `ENFILE` where there may be fewer than two descriptions more. The only error
+/// is want of memory. All of these leave all as it was.
 pub fn pipe<A: Allocator + Copy>(
     kernel: &mut KernelState<A>,
     pid: u32,
@@ -68,14 +67,13 @@ pub fn pipe<A: Allocator + Copy>(
     ensures undone { OnErr result (kernel.new ≡ kernel.old) }
     ensures wanted { OnErr result (MayWantAtKeys {A = A} kernel.old (Step.Begin pid (Call.Pipe nonblock direct))) }
 {
-    let most = kernel.limits.descriptors_max;
-    let Some(first) = kernel.descs.lowest(pid, 0, most) else {
+    let Some(first) = kernel.descs.lowest(pid, 0) else {
         return Ok(Reply::Fault(Errno::EMFILE));
     };
-    let Some(second) = kernel.descs.lowest(pid, first + 1, most) else {
+    let Some(second) = kernel.descs.lowest(pid, first + 1) else {
         return Ok(Reply::Fault(Errno::EMFILE));
     };
-    if kernel.descs.live() > MAX_DESCRIPTIONS - 2 {
+    if kernel.limits.descriptions() < kernel.descs.live() + 2 {
         return Ok(Reply::Fault(Errno::ENFILE));
     }
     let flags = flags_of(nonblock);

@@ -313,7 +313,7 @@ pub fn resume_open<A: Allocator + Copy>(
     if !met {
         return Reply::Parked(number);
     }
-    let Some(fd) = kernel.descs.lowest(pid, 0, kernel.limits.descriptors_max) else {
+    let Some(fd) = kernel.descs.lowest(pid, 0) else {
         end_call(kernel, number);
         return Reply::Fault(Errno::EMFILE);
     };

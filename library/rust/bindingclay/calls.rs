@@ -21,8 +21,7 @@ impl Clay {
         })
     }
 
-    /// A kernel without processes, within limits. `None` where there is no memory, or a pipe or a file might have more bytes than any may, or
-    /// a process more descriptors.
+    /// A kernel without processes, within limits. `None` where there is no memory, or a limit is above its greatest.
     ///
     /// # Panics
     ///
@@ -41,12 +40,14 @@ impl Clay {
             capacity,
             file_max,
             descriptors_max,
+            descriptions_max,
+            processes_max,
             spare_max,
         } = *limits;
         let sizes = u64::from(file_max) << 32 | u64::from(capacity);
         // the words of bindingclay_limits, whose first one is its size
         let words = [
-            64,
+            80,
             first_call,
             memory,
             names,
@@ -54,6 +55,8 @@ impl Clay {
             sizes,
             u64::from(descriptors_max),
             spare_max,
+            u64::from(descriptions_max),
+            u64::from(processes_max),
         ];
         let mut kernel = std::ptr::null_mut();
         let mut budget = std::ptr::null_mut();

@@ -72,7 +72,7 @@ pub struct CallFacts {
 pub struct SegmentUse {
     /// Those in which bytes are. If there is no process and no name, there are none.
     pub used: u64,
-    /// Those that are kept for further bytes: at most 256.
+    /// Those that are kept for further bytes: at most as many as fit `spare_max` of the limits.
     pub spare: u64,
 }
 

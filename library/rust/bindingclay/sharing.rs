@@ -16,6 +16,8 @@ impl Clay {
             capacity,
             file_max,
             descriptors_max,
+            descriptions_max,
+            processes_max,
             spare_max,
         } = *limits;
         let limits = Limits {
@@ -25,6 +27,8 @@ impl Clay {
             capacity,
             file_max,
             descriptors_max,
+            descriptions_max,
+            processes_max,
             spare_max,
             ..Limits::default()
         };

@@ -12,8 +12,17 @@ pub const MOST_FILE_BYTES: u32 = 16_777_216;
 /// The most bytes that a pipe can be made to hold.
 pub const MOST_CAPACITY: u32 = 1_048_576;
 
-/// The most descriptors of a process.
-pub const MOST_DESCRIPTORS: u32 = 256;
+/// How many descriptors a process may have, where nobody sets another limit, and the greatest limit on them.
+pub const USUAL_DESCRIPTORS: u32 = 256;
+pub const MOST_DESCRIPTORS: u32 = 65_536;
+
+/// The same of the open file descriptions of a kernel.
+pub const USUAL_DESCRIPTIONS: u32 = 4_096;
+pub const MOST_DESCRIPTIONS: u32 = 1_048_576;
+
+/// The same of the processes of a kernel.
+pub const USUAL_PROCESSES: u32 = 1_024;
+pub const MOST_PROCESSES: u32 = 65_536;
 
 /// The modes and flags of `open_name`, `set_fl` and `get_fl`, and `O_NONBLOCK` of `pipe2` (Linux, fcntl.h).
 pub const O_RDONLY: u32 = 0;
@@ -71,7 +80,12 @@ pub struct Limits {
     /// The most bytes of a regular file, at most `MOST_FILE_BYTES`.
     pub file_max: u32,
     /// The most descriptors of a process, numbered from 0, at most `MOST_DESCRIPTORS`. A call that would give one from there on is EMFILE.
+    /// A poll takes as many entries, and 256 where this is less. Each process takes 8 bytes for each of them, from its start on.
     pub descriptors_max: u32,
+    /// The most open file descriptions at one time, at most `MOST_DESCRIPTIONS`. One more is ENFILE.
+    pub descriptions_max: u32,
+    /// The most processes at one time, with pids from 1 to this number, at most `MOST_PROCESSES`. One more is EAGAIN.
+    pub processes_max: u32,
     /// The most bytes of memory that the kernel keeps for further bytes when no pipe or file holds them any more, in segments of 4,096.
     /// `u64::MAX`: 16,777,216, but at most a sixteenth of `memory`.
     pub spare_max: u64,
@@ -86,7 +100,9 @@ impl Default for Limits {
             waiting_calls: u64::MAX,
             capacity: MOST_CAPACITY,
             file_max: MOST_FILE_BYTES,
-            descriptors_max: MOST_DESCRIPTORS,
+            descriptors_max: USUAL_DESCRIPTORS,
+            descriptions_max: USUAL_DESCRIPTIONS,
+            processes_max: USUAL_PROCESSES,
             spare_max: u64::MAX,
         }
     }

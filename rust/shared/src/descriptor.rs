@@ -181,7 +181,7 @@ macro_rules! handle {
                 $name(Descriptor::new(process, fd))
             }
 
-            /// The number of its descriptor, 0 to 255.
+            /// The number of its descriptor.
             pub fn as_raw_fd(&self) -> i32 {
                 self.0.fd()
             }

@@ -21,6 +21,8 @@ pub(super) struct Inner {
 pub(super) struct Front {
     lock: Lock<Inner>,
     yields: Yields,
+    /// How many descriptors a process may have.
+    pub(super) descriptors: usize,
 }
 
 /// The kernel, while its lock is held. As it is dropped, the calls that can make progress are answered, and those who wait for them are woken.
@@ -54,11 +56,12 @@ impl Wakes {
 }
 
 impl Front {
-    pub(super) fn new(clay: Clay) -> Front {
+    pub(super) fn new(clay: Clay, descriptors: usize) -> Front {
         let waiters = Waiters::new();
         Front {
             lock: Lock::new(Inner { clay, waiters }),
             yields: Yields::new(),
+            descriptors,
         }
     }
 

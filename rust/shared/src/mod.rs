@@ -76,6 +76,13 @@ use std::fmt;
 use std::io;
 use std::sync::Arc;
 
+/// The greatest limits that a kernel takes.
+const MOST_CAPACITY: u32 = 1_048_576;
+const MOST_FILE_BYTES: u32 = 16_777_216;
+const MOST_DESCRIPTORS: u32 = 65_536;
+const MOST_DESCRIPTIONS: u32 = 1_048_576;
+const MOST_PROCESSES: u32 = 65_536;
+
 /// What a shared kernel may take. `Limits::default()` are the limits where nobody sets any.
 ///
 /// ```
@@ -96,8 +103,14 @@ pub struct Limits {
     pub capacity: u32,
     /// The most bytes of a regular file, at most 16,777,216.
     pub file_max: u32,
-    /// The most descriptors of a process, numbered from 0, at most 256. A call that would give one from there on is `EMFILE`.
+    /// The most descriptors of a process, numbered from 0, at most 65,536, and 256 by default. A call that would give one from there on is
+    /// `EMFILE`. A poll takes as many entries, and 256 where this is less. Each process takes 8 bytes of `memory` for each of them, and 4 bytes
+    /// beside it, from its start on.
     pub descriptors_max: u32,
+    /// The most open file descriptions at one time, at most 1,048,576, and 4,096 by default. One more is `ENFILE`.
+    pub descriptions_max: u32,
+    /// The most processes at one time, numbered from 1, at most 65,536, and 1,024 by default. One more is `EAGAIN`.
+    pub processes_max: u32,
     /// The most bytes of memory that the kernel keeps for further bytes when no pipe or file holds them any more, in segments of 4,096.
     /// `u64::MAX`: 16,777,216, but at most a sixteenth of `memory`.
     pub spare_max: u64,
@@ -109,9 +122,11 @@ impl Default for Limits {
             memory: u64::MAX,
             names: u64::MAX,
             waiting_calls: u64::MAX,
-            capacity: 1_048_576,
-            file_max: 16_777_216,
+            capacity: MOST_CAPACITY,
+            file_max: MOST_FILE_BYTES,
             descriptors_max: 256,
+            descriptions_max: 4_096,
+            processes_max: 1_024,
             spare_max: u64::MAX,
         }
     }
@@ -137,16 +152,17 @@ impl Shared {
     ///
     /// # Errors
     ///
-    /// `InvalidInput` if a pipe or a file might have more bytes than any may, or a process more descriptors, and `OutOfMemory`.
+    /// `InvalidInput` if a limit is above its greatest, and `OutOfMemory`.
     pub fn within(limits: &Limits) -> io::Result<Shared> {
-        let most = Limits::default();
-        if limits.capacity > most.capacity
-            || limits.file_max > most.file_max
-            || limits.descriptors_max > most.descriptors_max
+        if limits.capacity > MOST_CAPACITY
+            || limits.file_max > MOST_FILE_BYTES
+            || limits.descriptors_max > MOST_DESCRIPTORS
+            || limits.descriptions_max > MOST_DESCRIPTIONS
+            || limits.processes_max > MOST_PROCESSES
         {
             return Err(io::ErrorKind::InvalidInput.into());
         }
-        let front = Front::new(Clay::of_shared(limits)?);
+        let front = Front::new(Clay::of_shared(limits)?, limits.descriptors_max as usize);
         Ok(Shared {
             front: Arc::new(front),
         })
@@ -156,11 +172,12 @@ impl Shared {
     ///
     /// # Errors
     ///
-    /// `EAGAIN` if there are 1,024 processes, and `OutOfMemory`.
+    /// `EAGAIN` if there are as many processes as the limit `processes_max` allows, and `OutOfMemory`.
     pub fn start(&self) -> io::Result<Process> {
+        let closes = process::no_closes(&self.front)?;
         let mut locked = self.front.lock();
         let pid = locked.clay().start()?;
-        Ok(Process::of_pid(&self.front, pid))
+        Ok(Process::of_pid(&self.front, pid, closes))
     }
 
     /// How many calls wait now, of threads and of tasks.

@@ -18,8 +18,8 @@ pub const POLLHUP: i16 = 0o20;
 /// The descriptor isn't open. It is found unasked.
 pub const POLLNVAL: i16 = 0o40;
 
-/// The most entries of a poll (`OPEN_MAX`; poll, `EINVAL`).
-const MOST_ENTRIES: usize = 256;
+/// Each poll may have so many entries, and as many as a process may have descriptors, if that is more (poll, `EINVAL`). So many are asked on the stack.
+const FEW_ENTRIES: usize = 256;
 
 /// A handle in a poll: what is asked of it, and what was found.
 #[derive(Debug)]
@@ -50,8 +50,8 @@ impl<'a> PollFd<'a> {
 ///
 /// # Errors
 ///
-/// `InvalidInput` without an entry, above 256 of them, and if they are of several processes; `OutOfMemory`. While it waits, as of any
-/// [call that waits](super#what-ends-a-call-that-waits).
+/// `InvalidInput` without an entry, of more than 256 of them that are more than the limit `descriptors_max` too, and if they are of several
+/// processes; `OutOfMemory`. While it waits, as of any [call that waits](super#what-ends-a-call-that-waits).
 ///
 /// ```
 /// use bindingclay::shared::{POLLIN, PollFd, Shared, poll};
@@ -73,11 +73,20 @@ pub fn poll(entries: &mut [PollFd<'_>], timeout: Option<Duration>) -> io::Result
     let of_one = entries
         .iter()
         .all(|entry| Arc::ptr_eq(entry.descriptor.owner(), &owner));
-    if entries.len() > MOST_ENTRIES || !of_one {
+    let count = entries.len();
+    if count > FEW_ENTRIES.max(owner.front.descriptors) || !of_one {
         return Err(io::ErrorKind::InvalidInput.into());
     }
-    let mut asked = [Clay::entry(-1, 0); MOST_ENTRIES];
-    let asked = &mut asked[..entries.len()];
+    let mut few = [Clay::entry(-1, 0); FEW_ENTRIES];
+    let mut many = Vec::new();
+    let asked = if count <= FEW_ENTRIES {
+        &mut few[..count]
+    } else {
+        many.try_reserve_exact(count)
+            .map_err(|_| io::ErrorKind::OutOfMemory)?;
+        many.resize(count, Clay::entry(-1, 0));
+        &mut many[..]
+    };
     for (ask, entry) in asked.iter_mut().zip(&*entries) {
         *ask = Clay::entry(entry.descriptor.fd(), entry.events);
     }

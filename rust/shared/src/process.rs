@@ -14,8 +14,18 @@ use std::sync::atomic::{AtomicBool, AtomicU32, Ordering};
 const O_NONBLOCK: u32 = 0o4000;
 const O_DIRECT: u32 = 0o40000;
 
-/// The most descriptors of a process (`OPEN_MAX` of the layer).
-const DESCRIPTORS: usize = 256;
+/// How often each descriptor of a process was closed, by its number.
+type Closes = Vec<AtomicU32>;
+
+/// Those of a process that is to be made. They are taken before it is, so that it isn't made if there is no memory for them.
+pub(super) fn no_closes(front: &Front) -> io::Result<Closes> {
+    let mut closes = Vec::new();
+    closes
+        .try_reserve_exact(front.descriptors)
+        .map_err(|_| io::ErrorKind::OutOfMemory)?;
+    closes.resize_with(front.descriptors, AtomicU32::default);
+    Ok(closes)
+}
 
 /// A process, for all who have it or a descriptor of it. It exits as the last of them goes.
 pub(super) struct Owner {
@@ -24,7 +34,7 @@ pub(super) struct Owner {
     /// Whether it has exited, so that its pid may be another process's. It is written and read under the lock.
     gone: AtomicBool,
     /// How often each descriptor was closed or made to name something else. It is written and read under the lock.
-    closes: [AtomicU32; DESCRIPTORS],
+    closes: Closes,
 }
 
 impl Owner {
@@ -76,7 +86,7 @@ impl Drop for Owner {
     }
 }
 
-/// A process, which has up to 256 descriptors, or as many as the limits of its kernel allow. Clones are the same process.
+/// A process, which has as many descriptors as the limits of its kernel allow. Clones are the same process.
 ///
 /// It exits by [`exit`](Self::exit), or as the last of its clones and of its handles is dropped.
 #[derive(Clone)]
@@ -107,9 +117,8 @@ pub struct PipeOptions {
 }
 
 impl Process {
-    pub(super) fn of_pid(front: &Arc<Front>, pid: u32) -> Process {
+    pub(super) fn of_pid(front: &Arc<Front>, pid: u32, closes: Closes) -> Process {
         let front = Arc::clone(front);
-        let closes = [const { AtomicU32::new(0) }; DESCRIPTORS];
         Process {
             owner: Arc::new(Owner {
                 front,
@@ -124,7 +133,7 @@ impl Process {
         &self.owner
     }
 
-    /// Its number, 1 to 1,024. Once it has exited, another process may have it.
+    /// Its number, from 1 to the limit `processes_max`. Once it has exited, another process may have it.
     pub fn id(&self) -> u32 {
         self.owner.pid
     }
@@ -133,7 +142,8 @@ impl Process {
     ///
     /// # Errors
     ///
-    /// `EMFILE` if fewer than two of its descriptors are free, `ENFILE` if the kernel has 4,096 open file descriptions, and `OutOfMemory`.
+    /// `EMFILE` if fewer than two of its descriptors are free, `ENFILE` if the limit `descriptions_max` allows fewer than two more open file
+    /// descriptions, and `OutOfMemory`.
     pub fn pipe(&self) -> io::Result<(PipeReader, PipeWriter)> {
         self.pipe_with(PipeOptions::default())
     }
@@ -174,7 +184,7 @@ impl Process {
     ///
     /// # Errors
     ///
-    /// `EAGAIN` if there are 1,024 processes, and `OutOfMemory`.
+    /// `EAGAIN` if there are as many processes as the limit `processes_max` allows, and `OutOfMemory`.
     ///
     /// ```
     /// use bindingclay::shared::{PipeReader, Shared};
@@ -193,9 +203,10 @@ impl Process {
     /// # Ok::<(), std::io::Error>(())
     /// ```
     pub fn fork(&self) -> io::Result<Process> {
+        let closes = no_closes(&self.owner.front)?;
         let mut locked = self.owner.lock()?;
         let pid = locked.clay().fork(self.id())?;
-        Ok(Process::of_pid(&self.owner.front, pid))
+        Ok(Process::of_pid(&self.owner.front, pid, closes))
     }
 
     /// Ends the process: all its descriptors are closed, and its calls that wait end with an error. Its handles answer errors from then on,
@@ -236,7 +247,7 @@ impl Process {
     ///
     /// # Errors
     ///
-    /// `EBADF` if the descriptor isn't open, or the number is below 0 or above 255.
+    /// `EBADF` if the descriptor isn't open, or the number is below 0 or not below the limit `descriptors_max`.
     pub fn dup2(&self, fd: i32, target: i32) -> io::Result<()> {
         let mut locked = self.owner.lock()?;
         locked.clay().dup2(self.id(), fd, target)?;

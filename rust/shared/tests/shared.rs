@@ -14,6 +14,8 @@ use waiting::until_waiting;
 
 /// Linux's numbers of errors (errno.h).
 const EBADF: i32 = 9;
+const EAGAIN: i32 = 11;
+const ENFILE: i32 = 23;
 const EMFILE: i32 = 24;
 
 /// The bytes of a new pipe (pipe(7), Pipe capacity).
@@ -106,22 +108,99 @@ fn a_descriptor_is_free_once_its_handle_is_dropped() -> Result<()> {
     Ok(())
 }
 
+/// A kernel within so many descriptors, descriptions and processes.
+fn within(descriptors_max: u32, descriptions_max: u32, processes_max: u32) -> Result<Shared> {
+    Shared::within(&Limits {
+        descriptors_max,
+        descriptions_max,
+        processes_max,
+        ..Limits::default()
+    })
+}
+
+#[test]
+fn limits_end_at_their_greatest() -> Result<()> {
+    within(65_536, 1_048_576, 65_536)?;
+    for (descriptors, descriptions, processes) in
+        [(65_537, 1, 1), (1, 1_048_577, 1), (1, 1, 65_537)]
+    {
+        let more = within(descriptors, descriptions, processes);
+        assert_eq!(
+            more.err().map(|error| error.kind()),
+            Some(ErrorKind::InvalidInput)
+        );
+    }
+    Ok(())
+}
+
+#[test]
+fn a_kernel_has_as_many_descriptions_and_processes_as_the_limits_allow() -> Result<()> {
+    let kernel = within(256, 3, 2)?;
+    let (one, other) = (kernel.start()?, kernel.start()?);
+    for refused in [kernel.start(), one.fork()] {
+        assert_eq!(
+            refused.expect_err("two are there").raw_os_error(),
+            Some(EAGAIN)
+        );
+    }
+    let (reader, _writer) = one.pipe()?;
+    assert_eq!(
+        other.pipe().expect_err("one is left").raw_os_error(),
+        Some(ENFILE)
+    );
+    let _same = reader.try_clone()?;
+    other.exit()?;
+    assert_eq!(one.fork()?.id(), 2);
+    Ok(())
+}
+
+#[test]
+fn a_poll_takes_as_many_entries_as_there_may_be_descriptors() -> Result<()> {
+    for (descriptors, most) in [(2, 256), (300, 300)] {
+        let process = within(descriptors, 2, 1)?.start()?;
+        let (reader, mut writer) = process.pipe()?;
+        let mut entries: Vec<_> = (0..=most).map(|_| PollFd::new(&reader, POLLIN)).collect();
+        writer.write_all(b"!")?;
+        assert_eq!(
+            poll(&mut entries, None).expect_err("one too many").kind(),
+            ErrorKind::InvalidInput
+        );
+        entries.pop();
+        assert_eq!(poll(&mut entries, None)?, most);
+        assert!(entries.iter().all(|entry| entry.revents() == POLLIN));
+    }
+    Ok(())
+}
+
+#[test]
+fn a_process_has_more_descriptors_than_usual() -> Result<()> {
+    let process = within(1_000, 2, 1)?.start()?;
+    let (reader, writer) = process.pipe()?;
+    let copies: Vec<_> = (2..1_000)
+        .map(|_| reader.try_clone())
+        .collect::<Result<_>>()?;
+    assert_eq!(copies[997].as_raw_fd(), 999);
+    assert_eq!(
+        writer.try_clone().expect_err("none is free").raw_os_error(),
+        Some(EMFILE)
+    );
+    process.close(700)?;
+    assert_eq!(writer.try_clone()?.into_raw_fd(), 700);
+    // the last number may be closed so too, and the one behind it is none
+    process.dup2(writer.as_raw_fd(), 999)?;
+    assert_eq!(
+        process
+            .dup2(0, 1_000)
+            .expect_err("it's none")
+            .raw_os_error(),
+        Some(EBADF)
+    );
+    Ok(())
+}
+
 #[test]
 fn a_process_has_as_many_descriptors_as_the_limits_allow() -> Result<()> {
-    let most = Limits::default();
-    let more = Shared::within(&Limits {
-        descriptors_max: most.descriptors_max + 1,
-        ..most
-    });
-    assert_eq!(
-        more.err().map(|error| error.kind()),
-        Some(ErrorKind::InvalidInput)
-    );
-    let process = Shared::within(&Limits {
-        descriptors_max: 3,
-        ..most
-    })?
-    .start()?;
+    let process = within(3, 4_096, 1_024)?.start()?;
     let (reader, _writer) = process.pipe()?;
     assert_eq!(
         process.pipe().expect_err("one is free").raw_os_error(),

@@ -3,7 +3,7 @@ use Rattle.std.proofs.Common.{◌≡◌, ◌<◌, ◌≤◌, ◌≢◌, ℕ, Boo
 use Rattle.std.specs.Prelude.{not, ℤ, pos, negsuc, option_map}
 use Rattle.std.proofs.lemmas.Bool.{le-ltb, lt-ltb}
 use Rattle.std.proofs.lemmas.Bool.Decides.{nat_tests}
-use Rattle.pl_model.specs.Numbers.{open_max}
+use Rattle.pl_model.specs.Numbers.{most_descriptors}
 use Rattle.pl_model.specs.declared.calls.Call.{Call}
 use Rattle.pl_model.specs.declared.calls.Limits.{Limits}
 use Rattle.pl_model.specs.declared.calls.Step.{Step}
@@ -60,7 +60,7 @@ module _ (limits : Limits) where
 
   -- a place of the table that names nothing
   pub unnamed : (tables : Tables) (pid : ℕ) (fd : ℤ) → is_descriptor limits fd ≡ true → row_of tables pid fd ≡ None → row_at tables pid (natural fd) ≡ None
-  unnamed tables pid (pos n) h e = sym (ap (λ b. cond b (row_at tables pid n) None) (lt-ltb n open_max (omega (arith, ltb-true n (descriptor_limit limits) h)))) ∙ e
+  unnamed tables pid (pos n) h e = sym (ap (λ b. cond b (row_at tables pid n) None) (lt-ltb n most_descriptors (omega (arith, ltb-true n (descriptor_limit limits) h)))) ∙ e
   unnamed tables pid (negsuc n) h e = absurd (cc)
 
 -- A description is held once more, and a free descriptor comes to name it by that hold.
@@ -78,8 +78,8 @@ module _ {A : Type 0} (m : Known A) (pid fd key : ℕ) (more : Descs) (more_loos
   same : at new.opened ≡ at descs.opened
   same = ap (λ (z : Descs). at z.opened) rest ∙ ap (λ (z : Descs). at z.opened) more_rest
 
-  pub name-held : AreCounted A new calls.calls
-  name-held = record { tidy = tidy; counted = λ q. ap (λ (m : ℕ → ℕ). m q) (loose ∙ ap (change_count key one_less) more_loose ∙ one_more_less key (count_at descs.loose)) ∙ are.counted q }
+  pub name-held : AreCounted A limits new calls.calls
+  name-held = record { tidy = tidy; bounds = ap (λ (z : Descs). z.limits) rest ∙ ap (λ (z : Descs). z.limits) more_rest ∙ are.bounds; counted = λ q. ap (λ (m : ℕ → ℕ). m q) (loose ∙ ap (change_count key one_less) more_loose ∙ one_more_less key (count_at descs.loose)) ∙ are.counted q }
 
   pub name-sound : IsSound A (contents new nodes calls limits)
   name-sound = stays-sound m new same name-held (belong-same calls.calls (is_pid descs.tables) (is_pid new.tables) sound.belong (pids ∙ ap (λ (z : Descs). is_pid z.tables) more_rest))
@@ -127,11 +127,11 @@ module _ {A : Type 0} (m : Caller A) (fd : ℤ) where
   names_free key o = found o EMFILE (λ free. answered (install c pid free key) (Fd (pos free)))
 
   module _ (call : Call A) (least key : ℕ) (begins : begin c pid call ≡ names_free key (lowest c pid least)) (reply : Reply A) (new : Contents A) where
-    duplicated : Duplicates k pid key (lowest_of descs.tables limits.descriptors_max pid least) reply new → MakesAtKeys k (Begin pid call) reply new
+    duplicated : Duplicates k pid key (lowest_of descs.tables (descriptor_limit limits) pid least) reply new → MakesAtKeys k (Begin pid call) reply new
     unfolding lowest core_of
-    duplicated d = by (lowest_of descs.tables limits.descriptors_max pid least) refl d
+    duplicated d = by (lowest_of descs.tables (descriptor_limit limits) pid least) refl d
       where
-        by : (o : Option ℕ) → lowest_of descs.tables limits.descriptors_max pid least ≡ o → Duplicates k pid key o reply new → MakesAtKeys k (Begin pid call) reply new
+        by : (o : Option ℕ) → lowest_of descs.tables (descriptor_limit limits) pid least ≡ o → Duplicates k pid key o reply new → MakesAtKeys k (Begin pid call) reply new
         by None e d = does_plain k new (Begin pid call) (ended c (stepped c (Fault EMFILE))) reply (step-refused k pid call process EMFILE (begins ∙ ap (names_free key) e)) d.0 (ap (λ z. core_of z) d.1 ∙ sym sound.settled)
         by (Some free) e d = does_plain k new (Begin pid call) (ended c (stepped (install c pid free key) (Fd (pos free)))) reply
             (step-answered k pid call process (install c pid free key) (Fd (pos free)) (begins ∙ ap (names_free key) e)) d.0 (sym d.2 ∙ ap (settle c) d.1)
@@ -147,7 +147,7 @@ module _ {A : Type 0} (m : Caller A) (fd : ℤ) where
   pub dup-closed : row_of descs.tables pid fd ≡ None → MakesAtKeys k (Begin pid (Call.Dup fd)) (Fault EBADF) k
   dup-closed = unopened (Call.Dup fd) dups dup_begins
 
-  pub dup-does : (key : ℕ) → row_of descs.tables pid fd ≡ Some key → (reply : Reply A) (new : Contents A) → Duplicates k pid key (lowest_of descs.tables limits.descriptors_max pid 0) reply new → MakesAtKeys k (Begin pid (Call.Dup fd)) reply new
+  pub dup-does : (key : ℕ) → row_of descs.tables pid fd ≡ Some key → (reply : Reply A) (new : Contents A) → Duplicates k pid key (lowest_of descs.tables (descriptor_limit limits) pid 0) reply new → MakesAtKeys k (Begin pid (Call.Dup fd)) reply new
   dup-does key row reply new = duplicated (Call.Dup fd) 0 key (opened (Call.Dup fd) dups dup_begins key row) reply new
 
   -- fcntl, F_DUPFD
@@ -166,7 +166,7 @@ module _ {A : Type 0} (m : Caller A) (fd : ℤ) where
       pub dup_fd-refused : is_descriptor limits least ≡ false → MakesAtKeys k (Begin pid (Call.DupFd fd least)) (Fault EINVAL) k
       dup_fd-refused out = refused (Call.DupFd fd least) dups_from dup_fd_begins key row EINVAL (names_free key (lowest c pid (natural least))) (ap (λ b. refuse_if (not b) EINVAL (names_free key (lowest c pid (natural least)))) out)
 
-      pub dup_fd-does : is_descriptor limits least ≡ true → (reply : Reply A) (new : Contents A) → Duplicates k pid key (lowest_of descs.tables limits.descriptors_max pid (natural least)) reply new → MakesAtKeys k (Begin pid (Call.DupFd fd least)) reply new
+      pub dup_fd-does : is_descriptor limits least ≡ true → (reply : Reply A) (new : Contents A) → Duplicates k pid key (lowest_of descs.tables (descriptor_limit limits) pid (natural least)) reply new → MakesAtKeys k (Begin pid (Call.DupFd fd least)) reply new
       dup_fd-does within reply new = duplicated (Call.DupFd fd least) (natural least) key
           (opened (Call.DupFd fd least) dups_from dup_fd_begins key row ∙ ap (λ b. refuse_if (not b) EINVAL (names_free key (lowest c pid (natural least)))) within) reply new
 
@@ -214,13 +214,17 @@ module _ {A : Type 0} (m : Caller A) (fd : ℤ) where
 
         from : Row c key
         unfolding core_of
-        from = row_held c descs.tables calls.calls refl refl refl are.tidy.few are.tidy.wide key (row-names descs.tables pid (natural fd) key (row_there descs.tables pid fd key row))
+        from = row_held c descs.tables calls.calls refl refl refl descs.limits are.bounds are.tidy.few are.tidy.wide key (row-names descs.tables pid (natural fd) key (row_there descs.tables pid fd key row))
 
         -- what the close leaves
         module _ (mid : Contents A) (closes : core_of mid ≡ settle c (close_row c pid (natural target))) where
           pub mid_process : is_pid mid.tables pid ≡ true
           unfolding core_of settle
           mid_process = (λ i. (closes i).processes pid) ∙ process
+
+          pub mid_limits : mid.limits ≡ limits
+          unfolding core_of settle
+          mid_limits = (λ i. (closes i).limits)
 
           pub mid_free : row_at mid.tables pid (natural target) ≡ None
           unfolding core_of settle

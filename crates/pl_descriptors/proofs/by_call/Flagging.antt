@@ -106,5 +106,5 @@ module _ {A : Type 0} (m : Caller A) (fd : ℤ) where
         on_nodes = wait-changed calls.calls (at descs.opened) (at descs'.opened) d (λ o. record o { flags = f }) (λ o. refl) opened sound.on_nodes;
       }
 
-      pub set-held : IsTidy descs' → AreCounted A descs' calls.calls
-      set-held tidy = record { tidy = tidy; counted = λ q. ap (λ z. count_at z.loose q) rest ∙ are.counted q }
+      pub set-held : IsTidy descs' → AreCounted A limits descs' calls.calls
+      set-held tidy = record { tidy = tidy; bounds = ap (λ z. z.limits) rest ∙ are.bounds; counted = λ q. ap (λ z. count_at z.loose q) rest ∙ are.counted q }

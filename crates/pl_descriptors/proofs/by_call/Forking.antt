@@ -26,6 +26,7 @@ use Rattle.pl_state.proofs.Known.{Caller}
 use Rattle.pl_state.proofs.by_call.Begun.{does_plain, does_same, wants_plain, step-refused, step-answered}
 use Rattle.pl_state.proofs.holders.Belonging.{belong-more}
 use Rattle.pl_state.proofs.holders.Staying.{stays-settled, stays-sound}
+use Rattle.pl_desc.specs.declared.limits.DescLimits.{DescLimits}
 
 module _ {A : Type 0} (m : Caller A) where
   open m use {kernel, descs, nodes, calls, limits, sound, are, pid, process}
@@ -42,27 +43,27 @@ module _ {A : Type 0} (m : Caller A) where
   abbrev x : Step A
   x = Begin pid call
 
-  came : (o : Option ℕ) → free_pid descs.tables ≡ o → begin c pid call ≡ found o EAGAIN (λ child. answered (fork c pid child) (Pid child))
+  came : (o : Option ℕ) → free_pid descs.tables descs.limits.processes ≡ o → begin c pid call ≡ found o EAGAIN (λ child. answered (fork c pid child) (Pid child))
   unfolding begin begin_fork lowest_pid core_of
-  came o e = ap (λ o. found o EAGAIN (λ child. answered (fork (core_of k) pid child) (Pid child))) e
+  came o e = ap (λ o. found o EAGAIN (λ child. answered (fork (core_of k) pid child) (Pid child))) (ap (λ (b : DescLimits). free_pid descs.tables b.processes) (sym are.bounds) ∙ e)
 
-  pub fork-full : free_pid descs.tables ≡ None → MakesAtKeys k x (Fault EAGAIN) k
+  pub fork-full : free_pid descs.tables descs.limits.processes ≡ None → MakesAtKeys k x (Fault EAGAIN) k
   fork-full full = does_same k sound x (stepped c (Fault EAGAIN)) (Fault EAGAIN) (step-refused k pid call process EAGAIN (came None full)) refl refl
 
-  pub fork-may : (free_pid descs.tables ≡ None → ⊥) → MayWantAtKeys {A = A} k x
-  fork-may free = by (free_pid descs.tables) refl
+  pub fork-may : (free_pid descs.tables descs.limits.processes ≡ None → ⊥) → MayWantAtKeys {A = A} k x
+  fork-may free = by (free_pid descs.tables descs.limits.processes) refl
     where
-      by : (o : Option ℕ) → free_pid descs.tables ≡ o → MayWantAtKeys {A = A} k x
+      by : (o : Option ℕ) → free_pid descs.tables descs.limits.processes ≡ o → MayWantAtKeys {A = A} k x
       by None e = absurd (free e)
       by (Some child) e = wants_plain k k x _ (step-answered k pid call process (fork c pid child) (Pid child) (came (Some child) e)) refl
 
-  module _ (child : ℕ) (free : free_pid descs.tables ≡ Some child) (descs' : Descs) (pids : is_pid descs'.tables ≡ set_at nat_eq (is_pid descs.tables) child true)
+  module _ (child : ℕ) (free : free_pid descs.tables descs.limits.processes ≡ Some child) (descs' : Descs) (pids : is_pid descs'.tables ≡ set_at nat_eq (is_pid descs.tables) child true)
       (rows : row_at descs'.tables ≡ with_rows_of (row_at descs.tables) pid child) (rest : descs' ≡ record descs { tables = descs'.tables }) (tidy : IsTidy descs') where
     abbrev new : Contents A
     new = contents descs' nodes calls limits
 
-    pub fork-held : AreCounted A descs' calls.calls
-    fork-held = record { tidy = tidy; counted = λ d. ap (λ z. count_at z.loose d) rest ∙ are.counted d }
+    pub fork-held : AreCounted A limits descs' calls.calls
+    fork-held = record { tidy = tidy; bounds = ap (λ z. z.limits) rest ∙ are.bounds; counted = λ d. ap (λ z. count_at z.loose d) rest ∙ are.counted d }
 
     rows_are : with_rows_of (row_at descs.tables) pid child ≡ set_at nat_eq (row_at descs.tables) child (row_at descs.tables pid)
     rows_are = fun_ext at_q

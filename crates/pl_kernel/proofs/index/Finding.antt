@@ -5,7 +5,7 @@ use Rattle.std.proofs.lemmas.Int.{to_z-of_z}
 use Rattle.std.specs.declared.option.Option.{Option}
 use Rattle.std.specs.declared.option.Option.TheVariants.{None, Some}
 use Rattle.pl_model.specs.declared.node.Node.{Node}
-use Rattle.pl_model.specs.Numbers.{open_max}
+use Rattle.pl_model.specs.Numbers.{most_descriptors}
 use Rattle.pl_model.specs.Keys.{same_node}
 use Rattle.pl_model.specs.Keys.{Node as KeyNode}
 use Rattle.pl_model.specs.Modes.{any_mode}
@@ -22,7 +22,7 @@ use Rattle.pl_kernel.specs.ToldNodes.{OfFd, OfName, node_at, key_of}
 
 module _ {A : Type 0} (c : Core A numbers) (fit : IsFit c) where
   rowless : (pid : ℕ) (fd : ℤ) → c.processes pid ≡ false → row c pid fd ≡ None
-  rowless pid (pos n) none = by (nat_lt n open_max)
+  rowless pid (pos n) none = by (nat_lt n most_descriptors)
     where
       by : (b : Bool) → cond b (c.rows pid n) None ≡ None
       by true = fit.rows pid n none

@@ -19,7 +19,7 @@ use Rattle.pl_model.specs.Live.{is_end}
 use Rattle.pl_model.proofs.settling.Members.{and_left, and_right, or_elim, any_number}
 use Rattle.pl_model.proofs.settling.Opening.{same_is}
 use Rattle.pl_model.specs.Map.{Map, get, EachOnce}
-use Rattle.pl_model.specs.Numbers.{open_max, numbers_from}
+use Rattle.pl_model.specs.Numbers.{numbers_from}
 use Rattle.pl_model.specs.Touching.{is_at, keeps_at, waits_at, has_at, touches}
 use Rattle.pl_parked.specs.declared.call.ParkedCall.{ParkedCall}
 use Rattle.pl_desc.specs.Rows.{at}
@@ -33,6 +33,7 @@ use Rattle.pl_kernel.specs.Progress.{is_ready}
 use Rattle.pl_kernel.specs.ToldNodes.{key_of}
 use Rattle.pl_kernel.proofs.NextReady.{mapped}
 use Rattle.pl_kernel.specs.Index.{IsNoLess, IsTouched, TouchesAll, Touches}
+use Rattle.pl_model.specs.Tables.{descriptor_limit}
 
 -- what stands in a list is a member of it
 pub member-at : (keys : List ℕ) (i : ℕ) → i < length keys → is_member nat_eq keys (slice_index_or keys i 0) ≡ true
@@ -131,11 +132,11 @@ module _ {A : Type 0} (c : Core A numbers) (once : EachOnce nat_eq c.parked) (no
       by true is h rest = (e.0, e.1, ap (λ b. cond b (Some e.1) (get nat_eq es e.0)) (eq-eqb e.0 e.0 refl), eqb-true e.1.pid pid (and_left (nat_eq e.1.pid pid) (keeps_at c node e.1) is), and_right (nat_eq e.1.pid pid) (keeps_at c node e.1) is)
       by false is h rest = (let f = rest h in (f.0, f.1, later f.0 f.1 f.2, f.3, f.4))
 
-  pub at-process : has_at c node pid ≡ true → (list_any (λ fd. is_at c node (c.rows pid fd)) (numbers_from open_max 0) ≡ true) ⊎ ((n : ℕ) × (v : Waiting A numbers) × (get nat_eq c.parked n ≡ Some v) × (v.pid ≡ pid) × (keeps_at c node v ≡ true))
-  at-process h = or_elim (list_any (λ fd. is_at c node (c.rows pid fd)) (numbers_from open_max 0)) _ (λ e. inl e) (λ e. inr (found-call c.parked once e)) h
+  pub at-process : has_at c node pid ≡ true → (list_any (λ fd. is_at c node (c.rows pid fd)) (numbers_from (descriptor_limit c.limits) 0) ≡ true) ⊎ ((n : ℕ) × (v : Waiting A numbers) × (get nat_eq c.parked n ≡ Some v) × (v.pid ≡ pid) × (keeps_at c node v ≡ true))
+  at-process h = or_elim (list_any (λ fd. is_at c node (c.rows pid fd)) (numbers_from (descriptor_limit c.limits) 0)) _ (λ e. inl e) (λ e. inr (found-call c.parked once e)) h
 
-  pub row-below : list_any (λ fd. is_at c node (c.rows pid fd)) (numbers_from open_max 0) ≡ true → (fd : ℕ) × (fd < open_max) × (is_at c node (c.rows pid fd) ≡ true)
-  row-below h = (let f = any_number (λ fd. is_at c node (c.rows pid fd)) open_max 0 h in (f.0, omega (arith, f.2), f.3))
+  pub row-below : list_any (λ fd. is_at c node (c.rows pid fd)) (numbers_from (descriptor_limit c.limits) 0) ≡ true → (fd : ℕ) × (fd < descriptor_limit c.limits) × (is_at c node (c.rows pid fd) ≡ true)
+  row-below h = (let f = any_number (λ fd. is_at c node (c.rows pid fd)) (descriptor_limit c.limits) 0 h in (f.0, omega (arith, f.2), f.3))
 
 -- What a step touches is touched, if all is that it may touch.
 module _ {A : Type 0} (c : Core A numbers) (x : Step A) (w u : Waiters A) where

@@ -10,7 +10,8 @@ use Rattle.pl_model.specs.declared.calls.Step.TheVariants.{Begin, Resume}
 use Rattle.pl_model.specs.declared.flags.PollMask.{PollMask}
 use Rattle.pl_model.specs.declared.replies.Reply.TheVariants.{Fault, NoProcess}
 use Rattle.pl_model.specs.declared.replies.Errno.TheVariants.{EINVAL}
-use Rattle.pl_model.specs.Numbers.{open_max}
+use Rattle.pl_model.specs.Numbers.{most_descriptors}
+use Rattle.pl_model.specs.Tables.{entry_limit}
 use Rattle.pl_model.specs.Flags.{no_mask}
 use Rattle.pl_model.specs.Map.{get}
 use Rattle.pl_model.specs.Keys.{Keys, Plain, drawing_map}
@@ -63,8 +64,8 @@ module _ {A : Type 0} {K : Keys} (s : Core A K) where
       at None few = omega (arith, few)
       at (Some o) few = omega (arith, few)
 
-    pub most-kept : (entries : List (ℤ × PollMask)) → nat_lt open_max (length entries) ≡ false → length (kept_now entries) ≤ open_max
-    most-kept entries few = omega (arith, few-kept entries, ltb-false open_max (length entries) few)
+    pub most-kept : (entries : List (ℤ × PollMask)) → nat_lt (entry_limit s.limits) (length entries) ≡ false → length (kept_now entries) ≤ most_descriptors
+    most-kept entries few = omega (arith, few-kept entries, ltb-false (entry_limit s.limits) (length entries) few)
 
     -- what is kept is described
     pub kept-described : (entries : List (ℤ × PollMask)) → All (λ d. IsSome (described s d)) (kept_now entries)
@@ -147,15 +148,15 @@ module _ {A : Type 0} {K : Keys} (s : Core A K) (pid : ℕ) (entries : List (ℤ
       ap (λ z. drawing_map (ended s) (cond z (drawing_map (begun s pid call) (begin s pid call)) (Plain (stepped s NoProcess)))) process
       ∙ ap (λ z. drawing_map (ended s) (drawing_map (begun s pid call) z)) e
 
-  begins : (over : Bool) → nat_lt open_max (length entries) ≡ over → begin s pid call ≡ refuse_if over EINVAL checked
+  begins : (over : Bool) → nat_lt (entry_limit s.limits) (length entries) ≡ over → begin s pid call ≡ refuse_if over EINVAL checked
   unfolding begin begin_poll
   begins over e = ap (λ z. refuse_if z EINVAL checked) e
 
-  -- more entries than there are descriptors
-  pub poll-refused : nat_lt open_max (length entries) ≡ true → core_step s (Begin pid call) ≡ Plain (ended s (stepped s (Fault EINVAL)))
+  -- more entries than a poll may have
+  pub poll-refused : nat_lt (entry_limit s.limits) (length entries) ≡ true → core_step s (Begin pid call) ≡ Plain (ended s (stepped s (Fault EINVAL)))
   poll-refused over = leads (Refused EINVAL) (begins true over)
 
-  module _ (few : nat_lt open_max (length entries) ≡ false) where
+  module _ (few : nat_lt (entry_limit s.limits) (length entries) ≡ false) where
     tries : list_any is_none (named_by s pid entries) ≡ false → (b : Bool) → (list_any is_ready found || not wait) ≡ b → try s w call wait ≡ cond b (Done s still (masks_reply found)) (Wait s still 0)
     unfolding try try_poll
     tries named b e =
@@ -178,7 +179,7 @@ module _ {A : Type 0} {K : Keys} (s : Core A K) (pid : ℕ) (entries : List (ℤ
       at false e = poll-tried e true some
 
   -- nothing is found, and the poll may wait
-  pub poll-waits : nat_lt open_max (length entries) ≡ false → list_any is_ready found ≡ false → wait ≡ true → core_step s (Begin pid call) ≡ Plain (ended s (first_tried s w (can_wait s) (Wait s still 0)))
+  pub poll-waits : nat_lt (entry_limit s.limits) (length entries) ≡ false → list_any is_ready found ≡ false → wait ≡ true → core_step s (Begin pid call) ≡ Plain (ended s (first_tried s w (can_wait s) (Wait s still 0)))
   poll-waits few none may =
       poll-tried few (all-named s pid entries none) false (λ i. none i || not (may i))
       ∙ ap (λ z. Plain (ended s (first_tried s w (z && can_wait s) (Wait s still 0)))) may

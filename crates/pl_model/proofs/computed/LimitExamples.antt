@@ -9,10 +9,10 @@ use Rattle.pl_model.specs.Poll.{try_poll}
 use Rattle.pl_model.specs.Splice.{try_move}
 use Rattle.pl_model.specs.Capacity.{rounded_capacity}
 use Rattle.pl_model.specs.Tables.{lowest, lowest_pid}
-use Rattle.pl_model.specs.Begin.{begin_pipe, begin_mkfifo, begin_open_name, begin_read, begin_write, begin_splice, begin_tee, begin_poll, begin_dup, begin_dup2, begin_dup_fd, begin_close, begin_set_pipe_sz, begin_unlink}
+use Rattle.pl_model.specs.Begin.{begin_pipe, begin_mkfifo, begin_open_name, begin_read, begin_write, begin_splice, begin_tee, begin_poll, begin_dup, begin_dup2, begin_dup_fd, begin_close, begin_set_pipe_sz, begin_unlink, begin_fork}
 use Rattle.pl_model.specs.Step.{try, begin, happen, core_step}
 use Rattle.pl_model.specs.Numbered.{step}
-use Rattle.pl_model.specs.WorkedLimits.{NamesUpToTheLimit, WaitingCallsUpToTheLimit, NoCallMayWait, CapacitiesUpToTheLimit, DescriptorsUpToTheLimit, DescriptorsAtTheEnds}
+use Rattle.pl_model.specs.WorkedLimits.{NamesUpToTheLimit, WaitingCallsUpToTheLimit, NoCallMayWait, CapacitiesUpToTheLimit, DescriptorsUpToTheLimit, DescriptorsAtTheEnds, DescriptionsUpToTheLimit, ProcessesUpToTheLimit, EntriesUpToTheLimit}
 
 module _ (A : Type 0) where
   pub names_up_to_the_limit : NamesUpToTheLimit A
@@ -38,3 +38,15 @@ module _ (A : Type 0) where
   pub descriptors_at_the_ends : DescriptorsAtTheEnds A
   unfolding first_from numbers_from pids in_rows in_parked readers writers settle flowed lowest lowest_pid begin_pipe begin_open_name begin_dup2 begin_dup_fd try begin happen core_step step
   descriptors_at_the_ends first_call file_max = (refl, refl)
+
+  pub descriptions_up_to_the_limit : DescriptionsUpToTheLimit A
+  unfolding first_from numbers_from pids in_rows in_parked readers writers settle flowed lowest lowest_pid begin_pipe begin_open_name begin_poll begin_dup begin_close begin_fork try_poll try begin happen core_step step
+  descriptions_up_to_the_limit first_call file_max = refl
+
+  pub processes_up_to_the_limit : ProcessesUpToTheLimit A
+  unfolding first_from numbers_from pids in_rows in_parked readers writers settle flowed lowest lowest_pid begin_pipe begin_open_name begin_poll begin_dup begin_close begin_fork try_poll try begin happen core_step step
+  processes_up_to_the_limit first_call file_max = refl
+
+  pub entries_up_to_the_limit : EntriesUpToTheLimit A
+  unfolding first_from numbers_from pids in_rows in_parked readers writers settle flowed lowest lowest_pid begin_pipe begin_open_name begin_poll begin_dup begin_close begin_fork try_poll try begin happen core_step step
+  entries_up_to_the_limit first_call file_max = (refl, refl)

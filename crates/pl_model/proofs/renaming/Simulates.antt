@@ -12,7 +12,8 @@ use Rattle.pl_model.specs.declared.calls.Step.{Step}
 use Rattle.pl_model.specs.declared.replies.Reply.{Reply}
 use Rattle.pl_model.specs.Keys.{Node, NewKeys, PipeNode, FileNode, Drawing, Plain, Draws, drawn, drawing_map, same_node}
 use Rattle.pl_model.specs.State.{Core, Description, Waiting}
-use Rattle.pl_model.specs.Numbers.{numbers_from, open_max}
+use Rattle.pl_model.specs.Numbers.{numbers_from}
+use Rattle.pl_model.specs.Tables.{descriptor_limit}
 use Rattle.pl_model.specs.Live.{is_live, in_rows, in_parked, in_use, pids, is_end, is_open, has_name}
 use Rattle.pl_model.specs.Settle.{settle, settled_pipe, is_kept}
 use Rattle.pl_model.specs.Modes.{any_mode}
@@ -515,7 +516,7 @@ module _ {A : Type 0} (s : State A) (x : Step A) (below : IsBelowCounters s) whe
   no_desc : (d : ℕ) → m ≤ d → left.descriptions d ≡ None
   unfolding settle in_rows in_parked pids
   no_desc d h =
-      let rows : is_member nat_eq (in_rows left) d ≡ false = none_flat d (λ pid. filter_map (left.rows pid) (numbers_from open_max 0)) (pids left) (λ k pid l. none_filter_map d (left.rows _) (no_row d h _) (numbers_from open_max 0)) in
+      let rows : is_member nat_eq (in_rows left) d ≡ false = none_flat d (λ pid. filter_map (left.rows pid) (numbers_from (descriptor_limit left.limits) 0)) (pids left) (λ k pid l. none_filter_map d (left.rows _) (no_row d h _) (numbers_from (descriptor_limit left.limits) 0)) in
       let parked : is_member nat_eq (in_parked left) d ≡ false = none_flat d (λ (c : ℕ × Waiting A numbers). c.1.kept) left.parked (λ k y l. none_kept d _ (no_kept d h k y l)) in
       let dead : is_live left d ≡ false = list_any-append (nat_eq d) (in_rows left) (in_parked left) ∙ (λ i. rows i || parked i) in
       let same : is_live unsettled d ≡ false = ap (λ z. is_live z d) (sym is_settled) ∙ dead in

@@ -8,7 +8,7 @@ use Rattle.std.proofs.lemmas.Bool.Decides.{eqb_tells}
 use Rattle.pl_model.specs.declared.calls.Mode.{Mode}
 use Rattle.pl_model.specs.declared.calls.Mode.TheVariants as mode
 use Rattle.pl_model.specs.declared.flags.OpenFlags.{OpenFlags}
-use Rattle.pl_model.specs.Numbers.{open_max, most_processes}
+use Rattle.pl_model.specs.Tables.{descriptor_limit, process_limit}
 use Rattle.pl_model.specs.Modes.{any_mode, reads, writes}
 use Rattle.pl_model.specs.Map.{set_at}
 use Rattle.pl_model.specs.Keys.{Node, NewKeys, PipeNode, FileNode, same_node}
@@ -125,8 +125,8 @@ module _ {A : Type 0} (c : Core A numbers) (settled : IsSettled c) (d : ℕ) (x 
 
 -- a pipe is made, its ends at two free descriptors of a process
 module _ {A : Type 0} (c : Core A numbers) (settled : IsSettled c) (new : NewKeys numbers) (unused : AreUnused c new) (pid first second : ℕ) (packets : Bool) (of_reader of_writer : OpenFlags)
-    (low : 1 ≤ pid) (high : pid < 1 + most_processes) (process : c.processes pid ≡ true)
-    (first_within : first < open_max) (second_within : second < open_max) (apart : first ≢ second)
+    (low : 1 ≤ pid) (high : pid < 1 + process_limit c.limits) (process : c.processes pid ≡ true)
+    (first_within : first < descriptor_limit c.limits) (second_within : second < descriptor_limit c.limits) (apart : first ≢ second)
     (first_free : c.rows pid first ≡ None) (second_free : c.rows pid second ≡ None) where
   abbrev made : Core A numbers
   made = make_pipe c new pid first second packets of_reader of_writer

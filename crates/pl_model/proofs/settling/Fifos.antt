@@ -6,7 +6,7 @@ use Rattle.std.proofs.lemmas.Bool.Decides.{eqb_tells}
 use Rattle.pl_model.specs.declared.calls.Mode.{Mode}
 use Rattle.pl_model.specs.declared.calls.Mode.TheVariants.{Read, Write, Both}
 use Rattle.pl_model.specs.declared.flags.OpenFlags.{OpenFlags}
-use Rattle.pl_model.specs.Numbers.{open_max, most_processes}
+use Rattle.pl_model.specs.Tables.{descriptor_limit, process_limit}
 use Rattle.pl_model.specs.Modes.{any_mode, reads, writes}
 use Rattle.pl_model.specs.Map.{Map, set_at}
 use Rattle.pl_model.specs.Keys.{Node, PipeNode, FileNode, same_node}
@@ -118,8 +118,8 @@ module _ {A : Type 0} (c : Core A numbers) (settled : IsSettled c) (p d : ℕ) (
           (set_at nat_eq c.pipes p (Some left_open)) at_key_of (λ q off. ap (λ b. cond b (Some left_open) (c.pipes q)) off)
 
 -- a pipe that is there is opened by its name
-module _ {A : Type 0} (c : Core A numbers) (settled : IsSettled c) (p d pid fd : ℕ) (unused : IsUnusedDescription c d) (low : 1 ≤ pid) (high : pid < 1 + most_processes)
-    (process : c.processes pid ≡ true) (within : fd < open_max) (free : c.rows pid fd ≡ None) (mode : Mode) (flags : OpenFlags) (x : Pipe) (there : c.pipes p ≡ Some x) where
+module _ {A : Type 0} (c : Core A numbers) (settled : IsSettled c) (p d pid fd : ℕ) (unused : IsUnusedDescription c d) (low : 1 ≤ pid) (high : pid < 1 + process_limit c.limits)
+    (process : c.processes pid ≡ true) (within : fd < descriptor_limit c.limits) (free : c.rows pid fd ≡ None) (mode : Mode) (flags : OpenFlags) (x : Pipe) (there : c.pipes p ≡ Some x) where
   abbrev opened : Core A numbers
   opened = install (describe c d (PipeNode p) mode flags) pid fd d
 

@@ -10,7 +10,7 @@ use Rattle.std.proofs.lemmas.Bool.{true≢false, eq-eqb}
 use Rattle.std.proofs.lemmas.Bool.Decides.{eqb_tells}
 use Rattle.pl_model.specs.declared.calls.Mode.{Mode}
 use Rattle.pl_model.specs.declared.flags.OpenFlags.{OpenFlags}
-use Rattle.pl_model.specs.Numbers.{open_max, most_processes}
+use Rattle.pl_model.specs.Tables.{descriptor_limit, process_limit}
 use Rattle.pl_model.specs.Modes.{any_mode}
 use Rattle.pl_model.specs.Map.{Map, get, kept_if, put_in_order, set_at, without}
 use Rattle.pl_model.specs.Keys.{Node, PipeNode, FileNode, same_node}
@@ -65,7 +65,7 @@ write-settled c settled d x y described same_place same_mode f held there bytes 
 module _ {A : Type 0} (c : Core A numbers) (settled : IsSettled c) (files : ℕ → Option (List ℕ)) (names : Map (List ℕ) (Node numbers)) (f : ℕ)
     (other_names : (node : Node numbers) → same_node {K = numbers} (FileNode f) node ≡ false → list_any (λ e. same_node {K = numbers} e.1 node) names ≡ has_name c node)
     (other_files : (g : ℕ) → f ≢ g → files g ≡ c.files g)
-    (d : ℕ) (unused : IsUnusedDescription c d) (pid fd : ℕ) (low : 1 ≤ pid) (high : pid < 1 + most_processes) (process : c.processes pid ≡ true) (within : fd < open_max)
+    (d : ℕ) (unused : IsUnusedDescription c d) (pid fd : ℕ) (low : 1 ≤ pid) (high : pid < 1 + process_limit c.limits) (process : c.processes pid ≡ true) (within : fd < descriptor_limit c.limits)
     (free : c.rows pid fd ≡ None) (mode : Mode) (flags : OpenFlags) where
   abbrev file_opened : Core A numbers
   file_opened = install (describe (record c { files = files; names = names }) d (FileNode f) mode flags) pid fd d
@@ -104,8 +104,8 @@ put-here name node (e ∷ es) = by (slice_cmp nat_cmp name e.0) (put_in_order (s
     by Equal put rest = or_left (same_node {K = numbers} node node) _ (same_refl node)
     by Greater put rest = or_right (same_node {K = numbers} e.1 node) _ rest
 
-module _ {A : Type 0} (c : Core A numbers) (settled : IsSettled c) (f d pid fd : ℕ) (unused : IsUnusedDescription c d) (low : 1 ≤ pid) (high : pid < 1 + most_processes)
-    (process : c.processes pid ≡ true) (within : fd < open_max) (free : c.rows pid fd ≡ None) (mode : Mode) (flags : OpenFlags) where
+module _ {A : Type 0} (c : Core A numbers) (settled : IsSettled c) (f d pid fd : ℕ) (unused : IsUnusedDescription c d) (low : 1 ≤ pid) (high : pid < 1 + process_limit c.limits)
+    (process : c.processes pid ≡ true) (within : fd < descriptor_limit c.limits) (free : c.rows pid fd ≡ None) (mode : Mode) (flags : OpenFlags) where
   -- a file that is there is opened
   pub reopen-settled : settle c (install (describe c d (FileNode f) mode flags) pid fd d) ≡ install (describe c d (FileNode f) mode flags) pid fd d
   reopen-settled = open-settled c settled c.files c.names f (λ node off. refl) (λ g n. refl) d unused pid fd low high process within free mode flags

@@ -10,7 +10,7 @@ use Rattle.std.specs.List.{list_any, flat_map, filter}
 use Rattle.std.specs.Set.{is_member, distinct_count}
 use Rattle.pl_model.specs.declared.calls.Mode.{Mode}
 use Rattle.pl_model.specs.declared.flags.OpenFlags.{OpenFlags}
-use Rattle.pl_model.specs.Numbers.{open_max, most_processes}
+use Rattle.pl_model.specs.Tables.{descriptor_limit, process_limit}
 use Rattle.pl_model.specs.Modes.{any_mode, reads, writes}
 use Rattle.pl_model.specs.Map.{Map, get, without, EachOnce, kept_if}
 use Rattle.pl_model.specs.Keys.{PipeNode, FileNode}
@@ -118,8 +118,8 @@ pub meet-settled : {A : Type 0} (c : Core A numbers) → IsSettled c → (p : �
 meet-settled c settled p mode = meet-settles c c p mode ∙ ap (λ u. with_calls u (meet c p mode).parked) settled
 
 -- a pipe that is there is opened by its name, and meets the opens that wait
-pub open_meets-settled : {A : Type 0} (c : Core A numbers) → IsSettled c → (p d pid fd : ℕ) → IsUnusedDescription c d → 1 ≤ pid → pid < 1 + most_processes →
-    c.processes pid ≡ true → fd < open_max → c.rows pid fd ≡ None → (mode : Mode) (flags : OpenFlags) (x : Pipe) → c.pipes p ≡ Some x →
+pub open_meets-settled : {A : Type 0} (c : Core A numbers) → IsSettled c → (p d pid fd : ℕ) → IsUnusedDescription c d → 1 ≤ pid → pid < 1 + process_limit c.limits →
+    c.processes pid ≡ true → fd < descriptor_limit c.limits → c.rows pid fd ≡ None → (mode : Mode) (flags : OpenFlags) (x : Pipe) → c.pipes p ≡ Some x →
     settle c (install (describe (meet c p mode) d (PipeNode p) mode flags) pid fd d)
     ≡ install (describe (set_pipe (meet c p mode) p (record x { hung = cond (writes mode) false x.hung })) d (PipeNode p) mode flags) pid fd d
 open_meets-settled c settled p d pid fd unused low high process within free mode flags x there =
@@ -204,7 +204,7 @@ module _ {A : Type 0} where
 
 -- An open that met gives its description a free descriptor, and its call ends: the description was live by the call, and is by the row.
 module _ {A : Type 0} (c : Core A numbers) (settled : IsSettled c) (once : EachOnce nat_eq c.parked) (n d : ℕ) (w : Waiting A numbers) (here : get nat_eq c.parked n ≡ Some w) (kept : w.kept ≡ d ∷ [])
-    (fd : ℕ) (low : 1 ≤ w.pid) (high : w.pid < 1 + most_processes) (process : c.processes w.pid ≡ true) (within : fd < open_max) (free : c.rows w.pid fd ≡ None) where
+    (fd : ℕ) (low : 1 ≤ w.pid) (high : w.pid < 1 + process_limit c.limits) (process : c.processes w.pid ≡ true) (within : fd < descriptor_limit c.limits) (free : c.rows w.pid fd ≡ None) where
   abbrev ends : Core A numbers
   ends = without_call (install c w.pid fd d) n
 

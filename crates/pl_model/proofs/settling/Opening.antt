@@ -6,7 +6,7 @@ use Rattle.std.proofs.lemmas.Bool.{eq-eqb, eqb-true}
 use Rattle.std.proofs.lemmas.Bool.Decides.{eqb_tells}
 use Rattle.pl_model.specs.declared.calls.Mode.{Mode}
 use Rattle.pl_model.specs.declared.flags.OpenFlags.{OpenFlags}
-use Rattle.pl_model.specs.Numbers.{open_max, most_processes}
+use Rattle.pl_model.specs.Tables.{descriptor_limit, process_limit}
 use Rattle.pl_model.specs.Modes.{any_mode, reads, writes}
 use Rattle.pl_model.specs.Map.{Map, kept_if}
 use Rattle.pl_model.specs.Keys.{Node, PipeNode, FileNode, same_node}
@@ -59,7 +59,7 @@ module _ {A : Type 0} (c : Core A numbers) (pid fd d : ℕ) (free : c.rows pid f
   row_here = λ i. cond (eq-eqb pid pid refl i && eq-eqb fd fd refl i) (Some d) (c.rows pid fd)
 
   -- so the other descriptions are live that were, and this one is, whatever stands under the keys
-  module _ (low : 1 ≤ pid) (high : pid < 1 + most_processes) (process : c.processes pid ≡ true) (within : fd < open_max)
+  module _ (low : 1 ≤ pid) (high : pid < 1 + process_limit c.limits) (process : c.processes pid ≡ true) (within : fd < descriptor_limit c.limits)
       (descriptions : ℕ → Option (Description numbers)) (pipes : ℕ → Option Pipe) (files : ℕ → Option (List ℕ)) (names : Map (List ℕ) (Node numbers)) where
     abbrev over : Core A numbers
     over = record installed { descriptions = descriptions; pipes = pipes; files = files; names = names }

@@ -1,16 +1,16 @@
 -- The invariant of the machine's states, and what of it stands at the start.
-use Rattle.std.specs.Prelude.{Bool, true, false, List, [], ◌∷◌, refl}
+use Rattle.std.specs.Prelude.{Bool, true, false, List, [], ◌∷◌, option_map}
 use Rattle.pl_model.specs.declared.calls.Limits.{Limits}
 use Rattle.pl_model.specs.declared.calls.Step.{Step}
-use Rattle.pl_model.specs.Keys.{Drawing, Plain, Draws, drawing_map}
-use Rattle.pl_model.specs.State.{opening_core}
-use Rattle.pl_model.specs.Numbers.{numbers_from}
-use Rattle.pl_model.specs.Live.{pids, in_rows, in_parked}
-use Rattle.pl_model.specs.Settle.{settle}
+use Rattle.pl_model.specs.Keys.{Drawing, Plain, Draws, drawing_map, PipeNode, FileNode}
+use Rattle.pl_model.specs.State.{Core, opening_core}
+use Rattle.pl_model.specs.Live.{is_live}
+use Rattle.pl_model.specs.Settle.{settle, settled_pipe, is_kept}
 use Rattle.pl_model.specs.Step.{Stepped, happen, core_step, ended}
 use Rattle.pl_model.specs.Numbered.{numbers, State, opening, next_numbers, step_of, step}
 use Rattle.pl_model.specs.Run.{after}
 use Rattle.pl_model.specs.Laws.{IsSettled, IsSound}
+use Rattle.pl_model.proofs.settling.WhoIsLive.{nothing_kept}
 use Rattle.pl_model.proofs.settling.Idempotent.{settled}
 use Rattle.pl_model.proofs.renaming.Simulates.{below_step}
 use Rattle.pl_model.proofs.streams.StreamRuns.{opening_below}
@@ -25,8 +25,14 @@ module _ {A : Type 0} where
   step-settled s x = settled_after s (happen s.core x)
 
   pub opening-settled : (limits : Limits) → IsSettled (opening_core {A = A} {K = numbers} limits)
-  unfolding settle pids in_rows in_parked numbers_from
-  opening-settled limits = refl
+  unfolding settle
+  opening-settled limits =
+      let c : Core A numbers = opening_core limits in
+      λ i. record c {
+        descriptions = λ d. nothing_kept (is_live c d) i;
+        pipes = λ p. option_map (settled_pipe c c p) (nothing_kept (is_kept c (PipeNode p)) i);
+        files = λ f. nothing_kept (is_kept c (FileNode f)) i;
+      }
 
   pub opening-sound : (limits : Limits) → IsSound (opening {A = A} limits)
   opening-sound limits = record { below = opening_below limits; settled = opening-settled limits }

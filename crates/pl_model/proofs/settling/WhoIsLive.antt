@@ -7,7 +7,8 @@ use Rattle.std.specs.Set.{is_member}
 use Rattle.std.proofs.lemmas.List.Folds.{list_any-append}
 use Rattle.std.proofs.lemmas.Bool.{eq-eqb, eqb-true}
 use Rattle.pl_model.specs.declared.calls.Mode.{Mode}
-use Rattle.pl_model.specs.Numbers.{numbers_from, open_max, most_processes}
+use Rattle.pl_model.specs.Numbers.{numbers_from}
+use Rattle.pl_model.specs.Tables.{descriptor_limit, process_limit}
 use Rattle.pl_model.specs.Modes.{any_mode, reads, writes}
 use Rattle.pl_model.specs.Map.{kept_if}
 use Rattle.pl_model.specs.Keys.{Node, PipeNode, FileNode, same_node}
@@ -28,21 +29,21 @@ pub record Row {A : Type 0} (c : Core A numbers) (d : ℕ) : Type 0 where
   pub pid : ℕ
   pub fd : ℕ
   pub low : 1 ≤ pid
-  pub high : pid < 1 + most_processes
+  pub high : pid < 1 + process_limit c.limits
   pub process : c.processes pid ≡ true
-  pub within : fd < open_max
+  pub within : fd < descriptor_limit c.limits
   pub names : c.rows pid fd ≡ Some d
 
 module _ {A : Type 0} (c : Core A numbers) (d : ℕ) where
   in_row : ℕ → Bool
-  in_row pid = list_any (λ fd. is_here d (c.rows pid fd)) (numbers_from open_max 0)
+  in_row pid = list_any (λ fd. is_here d (c.rows pid fd)) (numbers_from (descriptor_limit c.limits) 0)
 
-  in_rows-is : is_member nat_eq (in_rows c) d ≡ list_any (λ pid. c.processes pid && in_row pid) (numbers_from most_processes 1)
+  in_rows-is : is_member nat_eq (in_rows c) d ≡ list_any (λ pid. c.processes pid && in_row pid) (numbers_from (process_limit c.limits) 1)
   unfolding in_rows pids in_row
   in_rows-is =
-      member_flat d (λ pid. filter_map (c.rows pid) (numbers_from open_max 0)) (pids c)
-      ∙ ap (λ f. list_any f (pids c)) (fun_ext (λ pid. member_filter_map d (c.rows pid) (numbers_from open_max 0)))
-      ∙ any_filter (λ pid. list_any (λ fd. is_here d (c.rows pid fd)) (numbers_from open_max 0)) c.processes (numbers_from most_processes 1)
+      member_flat d (λ pid. filter_map (c.rows pid) (numbers_from (descriptor_limit c.limits) 0)) (pids c)
+      ∙ ap (λ f. list_any f (pids c)) (fun_ext (λ pid. member_filter_map d (c.rows pid) (numbers_from (descriptor_limit c.limits) 0)))
+      ∙ any_filter (λ pid. list_any (λ fd. is_here d (c.rows pid fd)) (numbers_from (descriptor_limit c.limits) 0)) c.processes (numbers_from (process_limit c.limits) 1)
 
   here_is : (o : Option ℕ) → is_here d o ≡ true → o ≡ Some d
   here_is None h = absurd (cc)
@@ -51,16 +52,16 @@ module _ {A : Type 0} (c : Core A numbers) (d : ℕ) where
   pub row_found : is_member nat_eq (in_rows c) d ≡ true → Row c d
   unfolding in_row
   row_found h =
-      let p = any_number (λ pid. c.processes pid && in_row pid) most_processes 1 (sym in_rows-is ∙ h) in
-      let f = any_number (λ fd. is_here d (c.rows p.0 fd)) open_max 0 (and_right (c.processes p.0) _ p.3) in
+      let p = any_number (λ pid. c.processes pid && in_row pid) (process_limit c.limits) 1 (sym in_rows-is ∙ h) in
+      let f = any_number (λ fd. is_here d (c.rows p.0 fd)) (descriptor_limit c.limits) 0 (and_right (c.processes p.0) _ p.3) in
       record { pid = p.0; fd = f.0; low = p.1; high = p.2; process = and_left (c.processes p.0) _ p.3; within = omega (arith, f.2); names = here_is _ f.3 }
 
   pub row_member : Row c d → is_member nat_eq (in_rows c) d ≡ true
   unfolding in_row
   row_member r =
       let here : is_here d (c.rows r.pid r.fd) ≡ true = ap (is_here d) r.names ∙ eq-eqb d d refl in
-      let there : in_row r.pid ≡ true = number_passes (λ fd. is_here d (c.rows r.pid fd)) open_max 0 r.fd (omega arith) (omega (arith, r.within)) here in
-      in_rows-is ∙ number_passes (λ pid. c.processes pid && in_row pid) most_processes 1 r.pid r.low r.high ((λ i. r.process i && there i))
+      let there : in_row r.pid ≡ true = number_passes (λ fd. is_here d (c.rows r.pid fd)) (descriptor_limit c.limits) 0 r.fd (omega arith) (omega (arith, r.within)) here in
+      in_rows-is ∙ number_passes (λ pid. c.processes pid && in_row pid) (process_limit c.limits) 1 r.pid r.low r.high ((λ i. r.process i && there i))
 
   pub row_live : Row c d → is_live c d ≡ true
   row_live r = list_any-append (nat_eq d) (in_rows c) (in_parked c) ∙ or_left (is_member nat_eq (in_rows c) d) _ (row_member r)

@@ -11,7 +11,7 @@ use Rattle.pl_model.specs.declared.flags.PollMask.{PollMask}
 use Rattle.pl_model.specs.declared.replies.Reply.{Reply}
 use Rattle.pl_model.specs.declared.replies.Reply.TheVariants.{Fault, NoProcess}
 use Rattle.pl_model.specs.declared.replies.Errno.TheVariants.{EINVAL}
-use Rattle.pl_model.specs.Numbers.{open_max}
+use Rattle.pl_model.specs.Tables.{entry_limit}
 use Rattle.pl_model.specs.Map.{get}
 use Rattle.pl_model.specs.Keys.{Plain, drawn, drawing_map}
 use Rattle.pl_model.specs.State.{Core, Description, Open, Waiting, described, can_wait}
@@ -139,5 +139,5 @@ module _ {A : Type 0} (p q : ℕ) (entries : List (ℤ × PollMask)) (wait : Boo
         sized false to = named (list_any is_none (named_by s.core pid entries)) to
 
         process : (b : Bool) → StepTo s (Begin pid poll) (drawn (next_numbers s) (cond b (drawing_map (begun s.core pid poll) (begin s.core pid poll)) (Plain (stepped s.core NoProcess)))) → BegunWhole p q place s xs pid poll PollFirst
-        process true to = sized (nat_lt open_max (length entries)) to
+        process true to = sized (nat_lt (entry_limit s.core.limits) (length entries)) to
         process false to = quiet_says p q place s xs pid poll PollFirst NoProcess to refl (refl, refl)

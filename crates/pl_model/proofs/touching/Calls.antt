@@ -10,7 +10,7 @@ use Rattle.pl_model.specs.declared.calls.Whence.{Whence}
 use Rattle.pl_model.specs.declared.flags.OpenFlags.{OpenFlags}
 use Rattle.pl_model.specs.declared.flags.SpliceFlags.{SpliceFlags}
 use Rattle.pl_model.specs.declared.flags.PollMask.{PollMask}
-use Rattle.pl_model.specs.Numbers.{open_max}
+use Rattle.pl_model.specs.Numbers.{most_descriptors}
 use Rattle.pl_model.specs.Modes.{writes}
 use Rattle.pl_model.specs.Flags.{has, trunc, status_flags}
 use Rattle.pl_model.specs.Map.{Map}
@@ -68,21 +68,21 @@ module _ {A : Type 0} (c : Core A numbers) (node : Node numbers) where
       none_some e f = cc
 
   -- nor does one within the table that names nothing there
-  row_off : (pid fd : ℕ) → nat_lt fd open_max ≡ true → names_at c node pid (pos fd) ≡ false → OffRow c node c pid fd
+  row_off : (pid fd : ℕ) → nat_lt fd most_descriptors ≡ true → names_at c node pid (pos fd) ≡ false → OffRow c node c pid fd
   row_off pid fd within off k named = ap (is_at c node) (sym (ap (λ b. cond b (c.rows pid fd) None) within ∙ named)) ∙ off
 
   target_off : (pid : ℕ) (target : ℤ) → not (is_descriptor c.limits target) ≡ false → names_at c node pid target ≡ false → OffRow c node c pid (natural target)
   target_off pid (pos n) within off = at (nat_lt n (descriptor_limit c.limits)) refl within
     where
       at : (b : Bool) → nat_lt n (descriptor_limit c.limits) ≡ b → not b ≡ false → OffRow c node c pid n
-      at true e h = row_off pid n (lt-ltb n open_max (omega (arith, ltb-true n (descriptor_limit c.limits) e))) off
+      at true e h = row_off pid n (lt-ltb n most_descriptors (omega (arith, ltb-true n (descriptor_limit c.limits) e))) off
       at false e h = absurd (cc)
   target_off pid (negsuc n) within off = absurd (cc)
 
   closed_off : (pid : ℕ) (fd : ℤ) (o : Open numbers) → open_fd c pid fd ≡ Some o → names_at c node pid fd ≡ false → OffRow c node c pid (natural fd)
-  closed_off pid (pos n) o h off = at (nat_lt n open_max) refl h
+  closed_off pid (pos n) o h off = at (nat_lt n most_descriptors) refl h
     where
-      at : (b : Bool) → nat_lt n open_max ≡ b → option_and_then (described c) (cond b (c.rows pid n) None) ≡ Some o → OffRow c node c pid n
+      at : (b : Bool) → nat_lt n most_descriptors ≡ b → option_and_then (described c) (cond b (c.rows pid n) None) ≡ Some o → OffRow c node c pid n
       at true e h = row_off pid n e off
       at false e h = absurd (cc)
   closed_off pid (negsuc n) o h off = absurd (cc)

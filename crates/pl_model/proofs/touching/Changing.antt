@@ -4,7 +4,8 @@ use Rattle.std.specs.Prelude.{◌||◌, ◌&&◌, not}
 use Rattle.std.specs.List.{list_any, filter}
 use Rattle.std.specs.Set.{is_member}
 use Rattle.std.proofs.lemmas.Bool.{false_from_ne_true, eqb-true, or_parts}
-use Rattle.pl_model.specs.Numbers.{open_max, numbers_from}
+use Rattle.pl_model.specs.Numbers.{numbers_from}
+use Rattle.pl_model.specs.Tables.{descriptor_limit}
 use Rattle.pl_model.specs.Map.{Map, get, without, EachOnce}
 use Rattle.pl_model.specs.Keys.{Node, PipeNode, FileNode, same_node}
 use Rattle.pl_model.specs.State.{Core, Description, Pipe, Waiting, set_row, set_pipe, set_file, set_description}
@@ -194,13 +195,13 @@ module _ {A : Type 0} (c : Core A numbers) (node : Node numbers) where
   pub exit_leaves : (pid : ℕ) → has_at c node pid ≡ false → Leaves c (exit c pid) node
   exit_leaves pid off = record { rows = rows; calls = λ d on k. others_keep pid d on c.parked none.1 k; there = λ d on. refl; back = λ d on. refl; held = held node }
     where
-      none : (list_any (λ fd. is_at c node (c.rows pid fd)) (numbers_from open_max 0) ≡ false) × (list_any (λ e. nat_eq e.1.pid pid && keeps_at c node e.1) c.parked ≡ false)
+      none : (list_any (λ fd. is_at c node (c.rows pid fd)) (numbers_from (descriptor_limit c.limits) 0) ≡ false) × (list_any (λ e. nat_eq e.1.pid pid && keeps_at c node e.1) c.parked ≡ false)
       none = or_parts _ _ off
 
       other : (d : ℕ) → is_on node (c.descriptions d) ≡ true → (r : Row c d) → pid ≢ r.pid
       other d on r e =
           let here : is_at c node (c.rows pid r.fd) ≡ true = ap (is_at c node) (ap (λ q. c.rows q r.fd) e ∙ r.names) ∙ on in
-          no_two (number_passes (λ fd. is_at c node (c.rows pid fd)) open_max 0 r.fd (omega arith) (omega (arith, r.within)) here) none.0
+          no_two (number_passes (λ fd. is_at c node (c.rows pid fd)) (descriptor_limit c.limits) 0 r.fd (omega arith) (omega (arith, r.within)) here) none.0
 
       rows : (d : ℕ) → is_on node (c.descriptions d) ≡ true → Row c d → Row (exit c pid) d
       rows d on r = record {

@@ -35,6 +35,7 @@ use Rattle.pl_naming.proofs.by_call.OpenedNode.{free, left, opened_sound, opened
 use Rattle.pl_naming.proofs.by_call.Opening.{made, new-begun}
 use Rattle.pl_naming.proofs.by_call.Unused.{unused}
 use Rattle.pl_naming.proofs.by_call.Unlinking.{keyed, get-keyed}
+use Rattle.pl_desc.specs.declared.limits.DescLimits.{DescLimits}
 
 abbrev pub put : Map (List ℕ) Node → List ℕ → Node → Map (List ℕ) Node
 put es name n = put_in_order (slice_cmp nat_cmp) es name n
@@ -95,7 +96,7 @@ module _ {A : Type 0} (m : Caller A) (name : List ℕ) (mode : Mode) (flags : Op
     end_settled =
         let place = free m calls sound are fd may.lowest (node.File f) d vacant mode (status_flags flags) in
         create-settled (core_of k) sound.settled f d pid fd (unused m.kernel d vacant) (pid_in descs.tables pid process).0
-        (let h = (pid_in descs.tables pid process).1 in omega (arith, h, are.tidy.few)) process place.1 place.0 mode (status_flags flags) name none
+        (let h = (pid_in descs.tables pid process).1 in let n = ap (λ (b : DescLimits). b.processes) are.bounds in omega (arith, h, are.tidy.few, n)) process place.1 place.0 mode (status_flags flags) name none
 
     still : (n : Node) → IsThere nodes n → IsThere nodes' n
     still (node.Pipe p) h = subst (λ z. IsSome (z p)) (sym pipes_are) h

@@ -10,7 +10,6 @@ use Rattle.pl_model.specs.declared.node.Node.{Node}
 use Rattle.pl_model.specs.declared.node.Node.TheVariants as node
 use Rattle.pl_model.specs.declared.replies.Reply.TheVariants.{Fd, Fault}
 use Rattle.pl_model.specs.declared.replies.Errno.TheVariants.{ENXIO}
-use Rattle.pl_model.specs.Numbers.{open_max}
 use Rattle.pl_model.specs.Flags.{has, nonblock, status_flags}
 use Rattle.pl_model.specs.Modes.{reads, writes}
 use Rattle.pl_model.specs.Map.{EachOnce, change_at, set_at}
@@ -18,7 +17,7 @@ use Rattle.pl_model.specs.Keys.{NewKeys, Draws, PipeNode}
 use Rattle.pl_model.specs.State.{Core, Pipe, set_pipe}
 use Rattle.pl_model.specs.Settle.{settle}
 use Rattle.pl_model.specs.Trial.{Begins, Answered, refuse_if}
-use Rattle.pl_model.specs.Tables.{install, describe}
+use Rattle.pl_model.specs.Tables.{install, describe, descriptor_limit}
 use Rattle.pl_model.specs.Fifo.{opens_at_once, can_open, meet}
 use Rattle.pl_model.specs.Begin.{await_other_end}
 use Rattle.pl_model.specs.Step.{begin}
@@ -45,6 +44,7 @@ use Rattle.pl_naming.proofs.by_call.Unused.{unused}
 use Rattle.pl_naming.proofs.by_call.OpenedNode.{free, left, opened_sound, opened_makes}
 use Rattle.pl_naming.proofs.by_call.Opening.{drawn-wants, refused-makes}
 use Rattle.pl_naming.proofs.by_call.Unlinking.{keyed}
+use Rattle.pl_desc.specs.declared.limits.DescLimits.{DescLimits}
 
 -- whether it can be opened is told by the counts of its ends
 pub can_open-is : {A : Type 0} (k : Contents A) → IsSound A k → (p : ℕ) (mode : Mode) (flags : OpenFlags)
@@ -101,11 +101,11 @@ module _ {A : Type 0} (m : Caller A) (mode : Mode) (flags : OpenFlags) (fd p : �
     pub fifo-wants : can_open c p mode flags ≡ true → MayWantAtKeys k (Begin pid (Call.OpenName name mode flags))
     fifo-wants is = drawn-wants m name mode flags fd opens (begun true is)
 
-  module _ (least : lowest_of descs.tables limits.descriptors_max pid 0 ≡ Some fd) (d : ℕ) (x : Pipe) (was : at nodes.pipes p ≡ Some x) (vacant : at descs.opened d ≡ None) where
+  module _ (least : lowest_of descs.tables (descriptor_limit limits) pid 0 ≡ Some fd) (d : ℕ) (x : Pipe) (was : at nodes.pipes p ≡ Some x) (vacant : at descs.opened d ≡ None) where
     abbrev met : Calls A
     met = met_calls kernel p mode
 
-    abbrev place : (row_at descs.tables pid fd ≡ None) × (fd < open_max)
+    abbrev place : (row_at descs.tables pid fd ≡ None) × (fd < descriptor_limit limits)
     place = free m met (met_sound kernel p mode) (met_held kernel p mode) fd least (node.Pipe p) d vacant mode (status_flags flags)
 
     abbrev left_by : Nodes → Core A numbers
@@ -114,7 +114,7 @@ module _ {A : Type 0} (m : Caller A) (mode : Mode) (flags : OpenFlags) (fd p : �
     settles_so : settle c (end d (meet c p mode)) ≡ end d (set_pipe (meet c p mode) p (unhung mode x))
     unfolding core_of
     settles_so = open_meets-settled (core_of k) sound.settled p d pid fd (unused m.kernel d vacant) (pid_in descs.tables pid process).0
-        (let h = (pid_in descs.tables pid process).1 in omega (arith, h, are.tidy.few)) process place.1 place.0 mode (status_flags flags) x was
+        (let h = (pid_in descs.tables pid process).1 in let n = ap (λ (b : DescLimits). b.processes) are.bounds in omega (arith, h, are.tidy.few, n)) process place.1 place.0 mode (status_flags flags) x was
 
     module _ (descs' : Descs) (nodes' : Nodes) (pids : is_pid descs'.tables ≡ is_pid descs.tables) (rows : row_at descs'.tables ≡ with_row (row_at descs.tables) pid fd (Some d))
         (opened : at descs'.opened ≡ set_at nat_eq (at descs.opened) d (Some (fresh (node.Pipe p) mode (status_flags flags)))) (pipes_are : at nodes'.pipes ≡ change_at p (unhung mode) (at nodes.pipes))

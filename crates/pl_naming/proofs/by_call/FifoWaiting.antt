@@ -210,9 +210,10 @@ module _ {A : Type 0} (m : Caller A) (name : List ℕ) (mode : Mode) (flags : Op
             (none_kept (record { descs = descs; nodes = nodes; calls = met; limits = limits; sound = s; are = met_held kernel p mode }) d awaits.vacant) s.on_nodes) n);
       })
 
-      waits_held : AreCounted A descs' more.calls
+      waits_held : AreCounted A limits descs' more.calls
       waits_held = record {
         tidy = awaits.tidy;
+        bounds = awaits.limits ∙ are.bounds;
         counted = λ q. held_once d (count_at descs.loose) (count_at descs'.loose) awaits.loose q ∙ ap (λ n. n + times (d ∷ []) q) ((met_held kernel p mode).counted q) ∙ sym (keeping_more met.calls calls.next w q);
       }
 
@@ -227,6 +228,6 @@ module _ {A : Type 0} (m : Caller A) (name : List ℕ) (mode : Mode) (flags : Op
 
       -- all of it, where the opens that wait for this end are met
       pub wait-leaves : (calls'' : Calls A) → calls'' ≡ record calls' { calls = all_marked p mode calls'.calls }
-          → (IsSound A (contents descs' nodes' calls'' limits)) × (AreCounted A descs' calls''.calls) × MakesAtKeys k (Begin pid call) (Parked calls.next) (contents descs' nodes' calls'' limits)
-      wait-leaves calls'' marks = subst (λ (z : Calls A). (IsSound A (contents descs' nodes' z limits)) × (AreCounted A descs' z.calls) × MakesAtKeys k (Begin pid call) (Parked calls.next) (contents descs' nodes' z limits))
+          → (IsSound A (contents descs' nodes' calls'' limits)) × (AreCounted A limits descs' calls''.calls) × MakesAtKeys k (Begin pid call) (Parked calls.next) (contents descs' nodes' calls'' limits)
+      wait-leaves calls'' marks = subst (λ (z : Calls A). (IsSound A (contents descs' nodes' z limits)) × (AreCounted A limits descs' z.calls) × MakesAtKeys k (Begin pid call) (Parked calls.next) (contents descs' nodes' z limits))
           (sym (marks ∙ marked_more)) (waits_sound, waits_held, waits_makes)

@@ -8,12 +8,11 @@ use Rattle.pl_model.specs.declared.calls.Step.TheVariants.{Begin}
 use Rattle.pl_model.specs.declared.flags.OpenFlags.{OpenFlags}
 use Rattle.pl_model.specs.declared.node.Node.{Node}
 use Rattle.pl_model.specs.declared.replies.Reply.TheVariants.{Fd}
-use Rattle.pl_model.specs.Numbers.{open_max}
 use Rattle.pl_model.specs.Map.{EachOnce, set_at}
 use Rattle.pl_model.specs.Keys.{NewKeys, Draws}
 use Rattle.pl_model.specs.State.{Core}
 use Rattle.pl_model.specs.Settle.{settle}
-use Rattle.pl_model.specs.Tables.{install, describe}
+use Rattle.pl_model.specs.Tables.{install, describe, descriptor_limit}
 use Rattle.pl_model.specs.Trial.{Answered}
 use Rattle.pl_model.specs.Step.{begin}
 use Rattle.pl_model.specs.Numbered.{numbers}
@@ -34,8 +33,8 @@ use Rattle.pl_naming.proofs.by_call.Unlinking.{keyed}
 use Rattle.pl_naming.proofs.by_call.Unused.{keys, are_unused}
 
 -- A description is opened on a node, at the least free descriptor. The parked calls may be others by then, of which the same is known.
-module _ {A : Type 0} (m : Caller A) (calls' : Calls A) (sound' : IsSound A (contents m.descs m.nodes calls' m.limits)) (are' : AreCounted A m.descs calls'.calls)
-    (fd : ℕ) (least : lowest_of m.descs.tables m.limits.descriptors_max m.pid 0 ≡ Some fd) (n : Node) (d : ℕ) (vacant : at m.descs.opened d ≡ None) (mode : Mode) (flags : OpenFlags) where
+module _ {A : Type 0} (m : Caller A) (calls' : Calls A) (sound' : IsSound A (contents m.descs m.nodes calls' m.limits)) (are' : AreCounted A m.limits m.descs calls'.calls)
+    (fd : ℕ) (least : lowest_of m.descs.tables (descriptor_limit m.limits) m.pid 0 ≡ Some fd) (n : Node) (d : ℕ) (vacant : at m.descs.opened d ≡ None) (mode : Mode) (flags : OpenFlags) where
   open m use {kernel, descs, nodes, calls, limits, sound, are, pid, process}
 
   abbrev k : Contents A
@@ -47,8 +46,8 @@ module _ {A : Type 0} (m : Caller A) (calls' : Calls A) (sound' : IsSound A (con
   abbrev end : Opened
   end = fresh n mode flags
 
-  pub free : (row_at descs.tables pid fd ≡ None) × (fd < open_max)
-  free = let l = lowest_found descs.tables limits.descriptors_max pid 0 fd least in (l.0, l.1)
+  pub free : (row_at descs.tables pid fd ≡ None) × (fd < descriptor_limit limits)
+  free = let l = lowest_found descs.tables (descriptor_limit limits) pid 0 fd least in (l.0, l.1)
 
   abbrev pub left : Nodes → Core A numbers
   left nodes' = install (describe (record c { pipes = at nodes'.pipes; files = at nodes'.files; names = keyed nodes'.names; parked = parked_of calls'.calls; next_call = calls'.next }) d (node_of n) mode flags) pid fd d

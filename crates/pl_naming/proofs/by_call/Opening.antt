@@ -11,7 +11,6 @@ use Rattle.pl_model.specs.declared.node.Node.TheVariants as node
 use Rattle.pl_model.specs.declared.replies.Reply.TheVariants.{Fd, Fault}
 use Rattle.pl_model.specs.declared.replies.Errno.{Errno}
 use Rattle.pl_model.specs.declared.replies.Errno.TheVariants.{EEXIST, EMFILE, ENFILE, ENOENT, ENOSPC}
-use Rattle.pl_model.specs.Numbers.{most_descriptions}
 use Rattle.pl_model.specs.Flags.{has, creat, excl, status_flags}
 use Rattle.pl_model.specs.Map.{get}
 use Rattle.pl_model.specs.Keys.{NewKeys, Drawing, Draws, FileNode, drawn}
@@ -20,7 +19,7 @@ use Rattle.pl_model.specs.Memory.{is_refusal}
 use Rattle.pl_model.specs.State.{Core, named}
 use Rattle.pl_model.specs.Live.{live_count}
 use Rattle.pl_model.specs.Trial.{Begins, Answered, found, refuse_if}
-use Rattle.pl_model.specs.Tables.{lowest, install, describe, create_file}
+use Rattle.pl_model.specs.Tables.{lowest, install, describe, create_file, descriptor_limit, description_limit}
 use Rattle.pl_model.specs.Begin.{begin_open_name, open_named, truncated}
 use Rattle.pl_model.specs.Step.{Stepped, begin, stepped}
 use Rattle.pl_model.specs.Numbered.{numbers}
@@ -57,7 +56,7 @@ module _ {A : Type 0} (k : Contents A) (pid : ℕ) (name : List ℕ) (mode : Mod
   in_room n fd full = refuse_if full ENFILE (open_named c pid fd name n mode flags)
 
   abbrev at_place : Option (KeyNode numbers) → Option ℕ → Begins A numbers
-  at_place n place = found place EMFILE (λ fd. in_room n fd (nat_le most_descriptions (live_count c)))
+  at_place n place = found place EMFILE (λ fd. in_room n fd (nat_le (description_limit c.limits) (live_count c)))
 
   abbrev checks : Option (KeyNode numbers) → Begins A numbers
   checks n = refuse_if (is_some n && (creates && is_exclusive)) EEXIST (refuse_if (is_none n && not creates) ENOENT (at_place n (lowest c pid 0)))
@@ -81,33 +80,35 @@ module _ {A : Type 0} (k : Contents A) (pid : ℕ) (name : List ℕ) (mode : Mod
     open-fault errno is = checked ∙ ap (λ f. unless_fault f (at_place (option_map node_of o) (lowest c pid 0))) is
 
     module _ (fine : fault_of_open (is_some o) creates is_exclusive ≡ None) where
-      lowest-is : lowest c pid 0 ≡ lowest_of k.tables k.limits.descriptors_max pid 0
+      lowest-is : lowest c pid 0 ≡ lowest_of k.tables (descriptor_limit k.limits) pid 0
       unfolding lowest core_of
       lowest-is = refl
 
-      placed : (place : Option ℕ) → lowest_of k.tables k.limits.descriptors_max pid 0 ≡ place → begin c pid call ≡ at_place (option_map node_of o) place
+      placed : (place : Option ℕ) → lowest_of k.tables (descriptor_limit k.limits) pid 0 ≡ place → begin c pid call ≡ at_place (option_map node_of o) place
       placed place is = checked ∙ ap (λ f. unless_fault f (at_place (option_map node_of o) (lowest c pid 0))) fine ∙ ap (at_place (option_map node_of o)) (lowest-is ∙ is)
 
-      pub open-many : lowest_of k.tables k.limits.descriptors_max pid 0 ≡ None → IsRefused k pid name mode flags EMFILE
+      pub open-many : lowest_of k.tables (descriptor_limit k.limits) pid 0 ≡ None → IsRefused k pid name mode flags EMFILE
       open-many none = placed None none
 
-      pub open-full : (fd : ℕ) → live_count c ≡ opened_count k.opened → lowest_of k.tables k.limits.descriptors_max pid 0 ≡ Some fd → most_descriptions ≤ opened_count k.opened → IsRefused k pid name mode flags ENFILE
+      pub open-full : (fd : ℕ) → live_count c ≡ opened_count k.opened → lowest_of k.tables (descriptor_limit k.limits) pid 0 ≡ Some fd → description_limit k.limits ≤ opened_count k.opened → IsRefused k pid name mode flags ENFILE
+      unfolding core_of
       open-full fd count is full =
-          placed (Some fd) is ∙ ap (in_room (option_map node_of o) fd) (let many : most_descriptions ≤ live_count c = omega (arith, count, full) in over (live_count c) many)
+          placed (Some fd) is ∙ ap (in_room (option_map node_of o) fd) (let many : description_limit k.limits ≤ live_count c = omega (arith, count, full) in over (description_limit k.limits) (live_count c) many)
         where
-          over : (n : ℕ) → most_descriptions ≤ n → nat_le most_descriptions n ≡ true
-          over n h = grind arith
+          over : (m n : ℕ) → m ≤ n → nat_le m n ≡ true
+          over m n h = grind arith
 
-      pub open-may : (fd : ℕ) → live_count c ≡ opened_count k.opened → lowest_of k.tables k.limits.descriptors_max pid 0 ≡ Some fd → opened_count k.opened < most_descriptions → MayOpen k pid name mode flags fd o
+      pub open-may : (fd : ℕ) → live_count c ≡ opened_count k.opened → lowest_of k.tables (descriptor_limit k.limits) pid 0 ≡ Some fd → opened_count k.opened < description_limit k.limits → MayOpen k pid name mode flags fd o
+      unfolding core_of
       open-may fd count is few = record {
-        begun = placed (Some fd) is ∙ ap (in_room (option_map node_of o) fd) (let fewer : live_count c < most_descriptions = omega (arith, count, few) in under (live_count c) fewer);
+        begun = placed (Some fd) is ∙ ap (in_room (option_map node_of o) fd) (let fewer : live_count c < description_limit k.limits = omega (arith, count, few) in under (description_limit k.limits) (live_count c) fewer);
         named = stands;
         lowest = is;
         few = few;
       }
         where
-          under : (n : ℕ) → n < most_descriptions → nat_le most_descriptions n ≡ false
-          under n h = grind arith
+          under : (m n : ℕ) → n < m → nat_le m n ≡ false
+          under m n h = grind arith
 
 module _ {A : Type 0} (m : Caller A) (name : List ℕ) (mode : Mode) (flags : OpenFlags) where
   open m use {descs, nodes, calls, limits, sound, pid, process}

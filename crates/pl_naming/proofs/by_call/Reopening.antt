@@ -16,10 +16,9 @@ use Rattle.pl_model.specs.Map.{EachOnce, set_at, change_at}
 use Rattle.pl_model.specs.Keys.{FileNode}
 use Rattle.pl_model.specs.State.{Core, set_file}
 use Rattle.pl_model.specs.Settle.{settle}
-use Rattle.pl_model.specs.Tables.{install, describe}
+use Rattle.pl_model.specs.Tables.{install, describe, descriptor_limit}
 use Rattle.pl_model.specs.Numbered.{numbers}
 use Rattle.pl_model.proofs.settling.Files.{reopen-settled, truncate-settled}
-use Rattle.pl_model.specs.Numbers.{open_max}
 use Rattle.pl_desc.specs.Rows.{at, is_pid, row_at, lowest_of, with_row}
 use Rattle.pl_desc.specs.Descs.{Descs, fresh}
 use Rattle.pl_desc.proofs.RowLemmas.{pid_in}
@@ -36,6 +35,7 @@ use Rattle.pl_naming.proofs.by_call.Unlinking.{keyed}
 use Rattle.pl_state.proofs.by_call.Piping.{past_end}
 use Rattle.pl_nodes.proofs.Keyed.{change_at-is}
 use Rattle.std.proofs.Math.Path.{fun_ext}
+use Rattle.pl_desc.specs.declared.limits.DescLimits.{DescLimits}
 
 -- a map is as it was where nothing at a key changes
 pub unchanged : (f : ℕ) (m : ℕ → Option (List ℕ)) → m ≡ change_at f (λ bytes. bytes) m
@@ -55,19 +55,19 @@ module _ {A : Type 0} (m : Caller A) (name : List ℕ) (mode : Mode) (flags : Op
   abbrev c : Core A numbers
   c = core_of k
 
-  module _ (f : ℕ) (least : lowest_of descs.tables limits.descriptors_max pid 0 ≡ Some fd) (d : ℕ) (held : List ℕ) (was : at nodes.files f ≡ Some held) (vacant : at descs.opened d ≡ None) where
+  module _ (f : ℕ) (least : lowest_of descs.tables (descriptor_limit limits) pid 0 ≡ Some fd) (d : ℕ) (held : List ℕ) (was : at nodes.files f ≡ Some held) (vacant : at descs.opened d ≡ None) where
     abbrev end : Core A numbers → Core A numbers
     end s = install (describe s d (FileNode f) mode (status_flags flags)) pid fd d
 
-    abbrev place : (row_at descs.tables pid fd ≡ None) × (fd < open_max)
+    abbrev place : (row_at descs.tables pid fd ≡ None) × (fd < descriptor_limit limits)
     place = free m calls sound are fd least (node.File f) d vacant mode (status_flags flags)
 
     again : (b : Bool) → settle c (end (cond b (set_file c f []) c)) ≡ end (cond b (set_file c f []) c)
     unfolding core_of
     again true = truncate-settled (core_of k) sound.settled f d pid fd (unused m.kernel d vacant) (pid_in descs.tables pid process).0
-        (let h = (pid_in descs.tables pid process).1 in omega (arith, h, are.tidy.few)) process place.1 place.0 mode (status_flags flags) held was
+        (let h = (pid_in descs.tables pid process).1 in let n = ap (λ (b : DescLimits). b.processes) are.bounds in omega (arith, h, are.tidy.few, n)) process place.1 place.0 mode (status_flags flags) held was
     again false = reopen-settled (core_of k) sound.settled f d pid fd (unused m.kernel d vacant) (pid_in descs.tables pid process).0
-        (let h = (pid_in descs.tables pid process).1 in omega (arith, h, are.tidy.few)) process place.1 place.0 mode (status_flags flags)
+        (let h = (pid_in descs.tables pid process).1 in let n = ap (λ (b : DescLimits). b.processes) are.bounds in omega (arith, h, are.tidy.few, n)) process place.1 place.0 mode (status_flags flags)
 
     files_by : (b : Bool) → change_at f (λ bytes. cond b [] bytes) (at nodes.files) ≡ (cond b (set_file c f []) c).files
     unfolding core_of

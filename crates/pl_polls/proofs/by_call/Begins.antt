@@ -2,7 +2,7 @@
 use Rattle.std.proofs.Common.{◌≡◌, ◌≢◌, ◌≤◌, ◌<◌, ℕ, ℤ, Bool, true, false, List, [], ◌∷◌, length, Option, Some, None, IfSome, refl, sym, ◌∙◌, ap, subst, nat_lt, arith, slice_index_or}
 use Rattle.std.specs.Prelude.{◌||◌, ◌==◌, not, if◌then◌else◌}
 use Rattle.std.specs.List.{list_any}
-use Rattle.std.proofs.lemmas.Bool.{eq-eqb}
+use Rattle.std.proofs.lemmas.Bool.{eq-eqb, lt-ltb, le-ltb}
 use Rattle.pl_model.specs.declared.calls.Call.{Call}
 use Rattle.pl_model.specs.declared.calls.Call.TheVariants.{Poll}
 use Rattle.pl_model.specs.declared.calls.Step.{Step}
@@ -12,7 +12,7 @@ use Rattle.pl_model.specs.declared.node.Node.{Node}
 use Rattle.pl_model.specs.declared.node.Node.TheVariants as node
 use Rattle.pl_model.specs.declared.replies.Errno.TheVariants.{EAGAIN, EINVAL}
 use Rattle.pl_model.specs.declared.replies.Reply.TheVariants.{Fault, Parked, CallsSpent}
-use Rattle.pl_model.specs.Numbers.{last_call, open_max}
+use Rattle.pl_model.specs.Numbers.{last_call, most_descriptors}
 use Rattle.pl_model.specs.Keys.{Plain}
 use Rattle.pl_model.specs.State.{Core, Waiting}
 use Rattle.pl_model.specs.Settle.{settle}
@@ -35,6 +35,7 @@ use Rattle.pl_state.proofs.by_call.Moving.{flowed-still}
 use Rattle.pl_state.proofs.waiting.ParkedCalls.{call_settles}
 use Rattle.pl_polls.specs.Waiting.{poll_of}
 use Rattle.pl_polls.proofs.by_call.Naming.{keys-is, keys-open}
+use Rattle.pl_model.specs.Tables.{entry_limit}
 
 -- a poll may wait on any nodes
 module _ {A : Type 0} (opened : ℕ → Option Opened) (w : ParkedCall A) (entries : List (ℤ × PollMask)) (wait : Bool) (is : w.call ≡ Poll entries wait) where
@@ -79,15 +80,24 @@ module _ {A : Type 0} (m : Caller A) (entries : List (ℤ × PollMask)) where
   unfolding core_of
   there = process
 
-  -- more entries than there are descriptors
-  pub poll-many : (wait : Bool) → open_max < length entries → MakesAtKeys k (Begin pid (Poll entries wait)) (Fault EINVAL) k
+  -- more entries than a poll may have
+  pub poll-many : (wait : Bool) → entry_limit m.limits < length entries → MakesAtKeys k (Begin pid (Poll entries wait)) (Fault EINVAL) k
+  unfolding core_of
   poll-many wait many =
-      let over : nat_lt open_max (length entries) ≡ true = grind (arith, many) in
+      let over : nat_lt (entry_limit m.limits) (length entries) ≡ true = lt-ltb (entry_limit m.limits) (length entries) many in
       does_same k sound (Begin pid (Poll entries wait)) (stepped c (Fault EINVAL)) (Fault EINVAL) (poll-refused c pid entries wait there over) refl refl
 
-  module _ (few : length entries ≤ open_max) where
-    not_over : nat_lt open_max (length entries) ≡ false
-    not_over = grind (arith, few)
+  -- what a poll that is parked waits with
+  abbrev kept : ParkedCall A
+  kept = poll_of k.tables pid entries
+
+  pub poll_may_wait : length entries ≤ most_descriptors → IsWaiting A kept
+  poll_may_wait few = let short = subst (λ ds. length ds ≤ length entries) (keys-is kernel pid entries) (few-kept c pid entries) in record { few = omega (arith, few, short); keeps = tt; may = (refl, few) }
+
+  module _ (few : length entries ≤ entry_limit m.limits) where
+    not_over : nat_lt (entry_limit c.limits) (length entries) ≡ false
+    unfolding core_of
+    not_over = le-ltb (entry_limit m.limits) (length entries) few
 
     -- it is answered
     module _ (wait : Bool) (ends : (list_any is_ready found || not wait) ≡ true) where
@@ -99,13 +109,6 @@ module _ {A : Type 0} (m : Caller A) (entries : List (ℤ × PollMask)) where
 
       pub poll-answers-wants : MayWantAtKeys k (Begin pid (Poll entries wait))
       poll-answers-wants = wants_plain k k (Begin pid (Poll entries wait)) _ answers refl
-
-    -- what a poll that is parked waits with
-    abbrev kept : ParkedCall A
-    kept = poll_of k.tables pid entries
-
-    pub poll_may_wait : IsWaiting A kept
-    poll_may_wait = let short = subst (λ ds. length ds ≤ length entries) (keys-is kernel pid entries) (few-kept c pid entries) in record { few = omega (arith, few, short); keeps = tt; may = (refl, few) }
 
     -- or it waits
     module _ (none : list_any is_ready found ≡ false) where
@@ -146,7 +149,7 @@ module _ {A : Type 0} (m : Caller A) (entries : List (ℤ × PollMask)) where
 
         pub poll-parks : MakesAtKeys k x (Parked k.calls.next) (with_call k kept)
         poll-parks = does_plain k (with_call k kept) x _ (Parked k.calls.next) (waits can false left) refl
-            (call_settles k sound kept poll_may_wait (keys-open kernel pid entries) not_last (keeps_any (at k.opened) kept entries true refl) process
+            (call_settles k sound kept (poll_may_wait (omega (arith, few))) (keys-open kernel pid entries) not_last (keeps_any (at k.opened) kept entries true refl) process
             ∙ ap (λ ds. settle c (parked c (waiting pid (Poll entries true) ds false))) (sym (keys-is kernel pid entries)))
           where
             not_last : k.calls.next ≢ last_call

@@ -8,7 +8,7 @@ use Rattle.pl_model.specs.declared.calls.Step.TheVariants.{Begin}
 use Rattle.pl_model.specs.declared.replies.Reply.TheVariants.{Fault}
 use Rattle.pl_model.specs.declared.replies.Reply.TheVariants as reply
 use Rattle.pl_model.specs.declared.replies.Errno.TheVariants.{EBADF}
-use Rattle.pl_model.specs.Numbers.{open_max}
+use Rattle.pl_model.specs.Numbers.{most_descriptors}
 use Rattle.pl_model.specs.State.{Core, Open}
 use Rattle.pl_model.specs.Settle.{settle}
 use Rattle.pl_model.specs.Trial.{Begins, found, answered}
@@ -31,7 +31,7 @@ without_row-is tables pid (pos n) d e = refl
 without_row-is tables pid (negsuc n) d e = absurd (cc)
 
 pub row_there : (tables : Tables) (pid : ℕ) (fd : ℤ) (d : ℕ) → row_of tables pid fd ≡ Some d → row_at tables pid (natural fd) ≡ Some d
-row_there tables pid (pos n) d e = by (nat_lt n open_max) e where
+row_there tables pid (pos n) d e = by (nat_lt n most_descriptors) e where
   by : (b : Bool) → (if b then row_at tables pid n else None) ≡ Some d → row_at tables pid n ≡ Some d
   by true h = h
   by false h = absurd (cc)
@@ -53,14 +53,15 @@ module _ {A : Type 0} (m : Known A) (pid fd d : ℕ) where
   open m use {descs, nodes, calls, limits, sound, are}
 
   pub close-gives : (loosed : Descs) → row_at loosed.tables ≡ with_row (row_at descs.tables) pid fd None → is_pid loosed.tables ≡ is_pid descs.tables → count_at loosed.loose ≡ change_count d one_more (count_at descs.loose)
-      → holders loosed ≡ holders descs → loosed.opened ≡ descs.opened → IsTidy loosed → GivesUp (parts_of m) (close_row (core_of (contents descs nodes calls limits)) pid fd) d loosed calls
+      → holders loosed ≡ holders descs → loosed.opened ≡ descs.opened → loosed.limits ≡ descs.limits → IsTidy loosed → GivesUp (parts_of m) (close_row (core_of (contents descs nodes calls limits)) pid fd) d loosed calls
   unfolding core_of
-  close-gives loosed rows pids loose holds same tidy = record {
+  close-gives loosed rows pids loose holds same bounds tidy = record {
     alike = record { descriptions = refl; files = refl; names = refl };
     pipes_as_before = refl;
     agrees = record { processes = pids; rows = rows; parked = refl; next_call = refl; limits = refl };
     opened = same;
     tidy = tidy;
+    bounds = bounds;
     held_as_before = λ q. (λ i. holds i q);
     loose = λ q. (λ i. loose i q) ∙ more (nat_eq d q) (count_at descs.loose q) (keeping calls.calls q) (are.counted q);
     rise = sound.rise;

@@ -1,6 +1,6 @@
 -- What an exit comes to at the kernel's keys.
 use Rattle.std.proofs.Common.{◌≡◌, ℕ, ◌+◌, ◌<◌, ◌≤◌, Bool, true, false, not, cond, [], ◌∷◌, length, Option, Some, None, IfSome, refl, sym, ◌∙◌, ap, subst, inl, inr, ⊎_elim, nat_eq, arith}
-use Rattle.std.specs.Prelude.{◌||◌, ◌&&◌, option_map, option_and_then, is_some, IsSomeAnd, count_by}
+use Rattle.std.specs.Prelude.{◌||◌, ◌&&◌, option_map, is_some, IsSomeAnd, count_by}
 use Rattle.std.specs.List.{list_any}
 use Rattle.std.proofs.lemmas.Bool.{cases_lt, eq-eqb, ne_eqb}
 use Rattle.std.proofs.lemmas.Bool.Decides.{eqb_tells}
@@ -17,7 +17,7 @@ use Rattle.pl_model.proofs.settling.AtOnce.{IsExiting, is_others, exiting_ends}
 use Rattle.pl_parked.specs.declared.call.ParkedCall.{ParkedCall}
 use Rattle.pl_numbered.specs.Rising.{Rise}
 use Rattle.pl_numbered.proofs.Rising.{Rise-bounds, get_first, get_later, get-low}
-use Rattle.pl_desc.specs.Rows.{at, Tables, is_pid, rows_of, row_at, first_open, count_at, with_row, without_first}
+use Rattle.pl_desc.specs.Rows.{at, Tables, is_pid, rows_of, row_at, count_at, with_row}
 use Rattle.pl_desc.specs.Descs.{Descs, IsTidy}
 use Rattle.pl_desc.specs.Ends.{one_if}
 use Rattle.pl_desc.proofs.SlotLemmas.{tally-change}
@@ -86,25 +86,15 @@ module _ {A : Type 0} where
         (let l = without_fewer ys n c (sym (ap (λ b. cond b (Some y.1) (get nat_eq ys n)) t.0) ∙ h) in omega (arith, l))
   ]
 
--- the least open descriptor was closed, which named this key
-module _ (tables new : Tables) (pid key : ℕ) (named : Some key ≡ option_and_then (row_at tables pid) (first_open tables pid)) (closed : row_at new ≡ without_first (row_at tables) pid (first_open tables pid)) where
-  pub taken : (fd : ℕ) × (row_at tables pid fd ≡ Some key) × (row_at new ≡ with_row (row_at tables) pid fd None)
-  taken = by (first_open tables pid) named closed
-    where
-      by : (o : Option ℕ) → Some key ≡ option_and_then (row_at tables pid) o → row_at new ≡ without_first (row_at tables) pid o → (fd : ℕ) × (row_at tables pid fd ≡ Some key) × (row_at new ≡ with_row (row_at tables) pid fd None)
-      by None n c = absurd (cc)
-      by (Some fd) n c = (fd, sym n, c)
-
-  abbrev fd : ℕ
-  fd = taken.0
-
+-- an open descriptor was closed, which named this key
+module _ (tables new : Tables) (pid fd key : ℕ) (named : row_at tables pid fd ≡ Some key) (closed : row_at new ≡ with_row (row_at tables) pid fd None) where
   row_left : (q : ℕ) (b : Bool) → nat_eq q fd ≡ b → row_at new pid q ≡ cond b None (row_at tables pid q)
-  row_left q b e = (λ i. taken.2 i pid q) ∙ (λ i. cond (eq-eqb pid pid refl i && e i) None (row_at tables pid q))
+  row_left q b e = (λ i. closed i pid q) ∙ (λ i. cond (eq-eqb pid pid refl i && e i) None (row_at tables pid q))
 
   -- so that one less is open
   pub fewer_open : count_by is_some (rows_of new pid) < count_by is_some (rows_of tables pid)
   fewer_open =
-      let was : one_if (is_some (row_at tables pid fd)) ≡ 1 = ap (λ o. one_if (is_some o)) taken.1 in
+      let was : one_if (is_some (row_at tables pid fd)) ≡ 1 = ap (λ o. one_if (is_some o)) named in
       let is : one_if (is_some (row_at new pid fd)) ≡ 0 = ap (λ o. one_if (is_some o)) (row_left fd true (eq-eqb fd fd refl)) in
       let change = tally-change is_some refl fd (rows_of tables pid) (rows_of new pid) (λ q other. row_left q false (ne_eqb q fd other)) in
       omega (arith, was, is, change)
@@ -201,8 +191,8 @@ module _ {A : Type 0} (old : Contents A) (pid : ℕ) (process : is_pid old.table
   abbrev new : Contents A
   new = contents descs' nodes calls limits
 
-  pub exit-held : AreCounted A descs' calls.calls
-  exit-held = record { tidy = tidy; counted = λ d. ap (λ z. count_at z.loose d) rest ∙ are.counted d }
+  pub exit-held : AreCounted A limits descs' calls.calls
+  exit-held = record { tidy = tidy; bounds = ap (λ z. z.limits) rest ∙ are.bounds; counted = λ d. ap (λ z. count_at z.loose d) rest ∙ are.counted d }
 
   pub exit-sound : IsSound A new
   exit-sound = stays-sound m descs' (ap (λ z. at z.opened) rest) exit-held (belong-fewer calls.calls (is_pid descs.tables) (is_pid descs'.tables) m.sound.belong pid pids (none_of_it calls.calls pid dropped))

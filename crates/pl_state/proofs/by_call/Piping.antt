@@ -1,7 +1,7 @@
 -- What making a pipe comes to at the kernel's keys.
-use Rattle.std.proofs.Common.{◌∷◌, length, w32, to_z, ◌≡◌, ◌≢◌, ℕ, ◌+◌, ◌-◌, ◌<◌, ◌≤◌, min, Bool, true, false, cond, List, [], Option, Some, None, IfSome, IsSome, refl, sym, ◌∙◌, ap, subst, nat_eq, nat_lt, arith, map}
+use Rattle.std.proofs.Common.{◌∷◌, length, w32, to_z, ◌≡◌, ◌≢◌, ℕ, ◌+◌, ◌-◌, ◌<◌, ◌≤◌, Bool, true, false, cond, List, [], Option, Some, None, IfSome, IsSome, refl, sym, ◌∙◌, ap, subst, nat_eq, nat_lt, arith, map}
 use Rattle.std.specs.Prelude.{◌&&◌, pos, option_map, is_some, is_none, FitsSigned}
-use Rattle.std.proofs.lemmas.Bool.{eq-eqb, ne_eqb}
+use Rattle.std.proofs.lemmas.Bool.{eq-eqb, ne_eqb, lt-ltb, le-ltb}
 use Rattle.std.proofs.lemmas.Int.{to_z_pos}
 use Rattle.std.proofs.lemmas.List.Elements.{All-map}
 use Rattle.pl_model.specs.declared.calls.Call.{Call}
@@ -12,7 +12,7 @@ use Rattle.pl_model.specs.declared.calls.Step.{Step}
 use Rattle.pl_model.specs.declared.calls.Step.TheVariants.{Begin}
 use Rattle.pl_model.specs.declared.replies.Reply.TheVariants.{Fds, Fault}
 use Rattle.pl_model.specs.declared.replies.Errno.TheVariants.{EMFILE, ENFILE}
-use Rattle.pl_model.specs.Numbers.{open_max, most_descriptions}
+use Rattle.pl_model.specs.Numbers.{most_descriptors}
 use Rattle.pl_model.specs.Flags.{nonblock_if, write_end_flags}
 use Rattle.pl_model.specs.Map.{set_at, EachOnce}
 use Rattle.std.specs.Cmp.Lexicographic.{pointwise}
@@ -26,7 +26,7 @@ use Rattle.std.specs.List.{list_any}
 use Rattle.std.specs.Set.{is_member}
 use Rattle.pl_model.specs.Settle.{settle}
 use Rattle.pl_model.specs.Trial.{Begins, Begun, Answered, found, refuse_if}
-use Rattle.pl_model.specs.Tables.{lowest}
+use Rattle.pl_model.specs.Tables.{lowest, description_limit, descriptor_limit}
 use Rattle.pl_model.specs.Begin.{begin_pipe, make_pipe}
 use Rattle.pl_model.specs.Step.{Stepped, begin, core_step, ended, stepped, begun}
 use Rattle.pl_model.specs.Numbered.{numbers}
@@ -42,7 +42,7 @@ use Rattle.pl_desc.specs.Descs.{Opened, Descs, fresh}
 use Rattle.pl_desc.specs.Descs.{live_count as opened_count}
 use Rattle.pl_desc.proofs.RowLemmas.{pid_in}
 use Rattle.pl_desc.proofs.First.{first_found}
-use Rattle.pl_state.specs.Contents.{Contents, Nodes, contents, node_of, description_of, parked_of, core_of, IsThere}
+use Rattle.pl_state.specs.Contents.{Contents, Nodes, contents, node_of, description_of, parked_of, core_of, IsThere, desc_limits}
 use Rattle.pl_state.specs.Sound.{IsSound, AreThere, WaitOnNodes}
 use Rattle.pl_state.specs.Makes.{MakesAtKeys, MayWantAtKeys}
 use Rattle.pl_state.proofs.Known.{Known, Caller}
@@ -53,6 +53,8 @@ use Rattle.pl_state.proofs.by_call.Begun.{does_same, step-refused, step-draws}
 use Rattle.pl_model.proofs.settling.FromSettled.{at_key}
 use Rattle.pl_state.proofs.holders.There.{settled_after, there-put, there-added, map-set_at}
 use Rattle.pl_state.proofs.holders.OnNodes.{keeps-map, wait-beside}
+use Rattle.pl_desc.specs.declared.limits.DescLimits.{DescLimits}
+use Rattle.pl_model.specs.declared.calls.Limits.{Limits}
 
 module _ {A : Type 0} (m : Known A) where
   open m use {descs, nodes, calls, limits, are}
@@ -67,11 +69,15 @@ module _ {A : Type 0} (m : Known A) where
   kept_live d h = sym (opened-live descs nodes calls limits are d) ∙ live-is state d ∙ or_right (is_member nat_eq (in_rows state) d) _ h
 
 -- the least free descriptor is free, and within the table
-pub lowest_found : (tables : Tables) (most pid least fd : ℕ) → lowest_of tables most pid least ≡ Some fd → (row_at tables pid fd ≡ None) × (fd < open_max) × (least ≤ fd)
-lowest_found tables most pid least fd h = (let f = first_found (λ fd. is_none (row_at tables pid fd)) (min most open_max - least) least fd h in (free (row_at tables pid fd) f.0, omega (arith, f.1, f.2), f.1)) where
+pub lowest_found : (tables : Tables) (most pid least fd : ℕ) → lowest_of tables most pid least ≡ Some fd → (row_at tables pid fd ≡ None) × (fd < most) × (least ≤ fd)
+lowest_found tables most pid least fd h = (let f = first_found (λ fd. is_none (row_at tables pid fd)) (most - least) least fd h in (free (row_at tables pid fd) f.0, omega (arith, f.1, f.2), f.1)) where
   free : (o : Option ℕ) → is_none o ≡ true → o ≡ None
   free None h = refl
   free (Some d) h = absurd (cc)
+
+-- by the limits of the descriptions and by those of the kernel it is the same one
+pub lowest-limit : (descs : Descs) (limits : Limits) → descs.limits ≡ desc_limits limits → (pid least : ℕ) → lowest_of descs.tables (descriptor_limit limits) pid least ≡ lowest_of descs.tables descs.limits.descriptors pid least
+lowest-limit descs limits bounds pid least = ap (λ (b : DescLimits). lowest_of descs.tables b.descriptors pid least) (sym bounds)
 
 pub no_value : {X : Type 0} (o : Option X) → o ≡ None → IsSome o → ⊥
 no_value None e h = cc
@@ -127,57 +133,58 @@ module _ {A : Type 0} (m : Caller A) (nonblock direct : Bool) where
   abbrev x : Step A
   x = Begin pid call
 
-  lowest-is : (least : ℕ) → lowest c pid least ≡ lowest_of k.tables k.limits.descriptors_max pid least
+  abbrev bounds : DescLimits
+  bounds = descs.limits
+
+  lowest-is : (least : ℕ) → lowest c pid least ≡ lowest_of k.tables bounds.descriptors pid least
   unfolding lowest core_of
-  lowest-is least = refl
+  lowest-is least = lowest-limit descs limits are.bounds pid least
 
   abbrev makes : ℕ → ℕ → NewKeys numbers → Begun A numbers
   makes first second new = Answered (make_pipe c new pid first second direct (nonblock_if nonblock) (write_end_flags nonblock direct)) (Fds (pos first) (pos second))
 
   abbrev second_found : ℕ → Option ℕ → Begins A numbers
-  second_found first o = found o EMFILE (λ second. refuse_if (nat_lt (most_descriptions - 2) (live_count c)) ENFILE (Draws (makes first second)))
+  second_found first o = found o EMFILE (λ second. refuse_if (nat_lt (description_limit c.limits) (live_count c + 2)) ENFILE (Draws (makes first second)))
 
   abbrev first_found_at : Option ℕ → Begins A numbers
   first_found_at o = found o EMFILE (λ first. second_found first (lowest c pid (first + 1)))
 
-  pub pipe-none : lowest_of k.tables k.limits.descriptors_max pid 0 ≡ None → MakesAtKeys k x (Fault EMFILE) k
+  pub pipe-none : lowest_of k.tables bounds.descriptors pid 0 ≡ None → MakesAtKeys k x (Fault EMFILE) k
   unfolding begin begin_pipe
   pipe-none h = does_same k sound x (stepped c (Fault EMFILE)) (Fault EMFILE) (step-refused k pid call process EMFILE (ap first_found_at (lowest-is 0 ∙ h))) refl refl
 
-  module _ (first : ℕ) (at_first : lowest_of k.tables k.limits.descriptors_max pid 0 ≡ Some first) where
+  module _ (first : ℕ) (at_first : lowest_of k.tables bounds.descriptors pid 0 ≡ Some first) where
     begun_first : begin c pid call ≡ second_found first (lowest c pid (first + 1))
     unfolding begin begin_pipe
     begun_first = ap first_found_at (lowest-is 0 ∙ at_first)
 
-    pub pipe-one : lowest_of k.tables k.limits.descriptors_max pid (first + 1) ≡ None → MakesAtKeys k x (Fault EMFILE) k
+    pub pipe-one : lowest_of k.tables bounds.descriptors pid (first + 1) ≡ None → MakesAtKeys k x (Fault EMFILE) k
     pipe-one h = does_same k sound x (stepped c (Fault EMFILE)) (Fault EMFILE) (step-refused k pid call process EMFILE (begun_first ∙ ap (second_found first) (lowest-is (first + 1) ∙ h))) refl refl
 
-    pub first_free : (row_at k.tables pid first ≡ None) × (first < open_max)
-    first_free = let f = lowest_found k.tables k.limits.descriptors_max pid 0 first at_first in (f.0, f.1)
+    pub first_free : (row_at k.tables pid first ≡ None) × (first < bounds.descriptors)
+    first_free = let f = lowest_found k.tables bounds.descriptors pid 0 first at_first in (f.0, f.1)
 
-    module _ (second : ℕ) (at_second : lowest_of k.tables k.limits.descriptors_max pid (first + 1) ≡ Some second) where
-      pub second_free : (row_at k.tables pid second ≡ None) × (second < open_max) × (first < second)
-      second_free = let f = lowest_found k.tables k.limits.descriptors_max pid (first + 1) second at_second in (f.0, f.1, omega (arith, f.2))
+    module _ (second : ℕ) (at_second : lowest_of k.tables bounds.descriptors pid (first + 1) ≡ Some second) where
+      pub second_free : (row_at k.tables pid second ≡ None) × (second < bounds.descriptors) × (first < second)
+      second_free = let f = lowest_found k.tables bounds.descriptors pid (first + 1) second at_second in (f.0, f.1, omega (arith, f.2))
 
-      begun_second : begin c pid call ≡ refuse_if (nat_lt (most_descriptions - 2) (live_count c)) ENFILE (Draws (makes first second))
+      begun_second : begin c pid call ≡ refuse_if (nat_lt (description_limit c.limits) (live_count c + 2)) ENFILE (Draws (makes first second))
       begun_second = begun_first ∙ ap (second_found first) (lowest-is (first + 1) ∙ at_second)
 
-      pub pipe-many : most_descriptions - 2 < opened_count k.opened → MakesAtKeys k x (Fault ENFILE) k
-      pipe-many many =
-          let over : nat_lt (most_descriptions - 2) (live_count c) ≡ true = above (live_count c) (omega (arith, counted kernel, many)) in
-          does_same k sound x (stepped c (Fault ENFILE)) (Fault ENFILE) (step-refused k pid call process ENFILE (begun_second ∙ ap (λ b. refuse_if b ENFILE (Draws (makes first second))) over)) refl refl
-        where
-          above : (n : ℕ) → most_descriptions - 2 < n → nat_lt (most_descriptions - 2) n ≡ true
-          above n h = grind arith
+      most : description_limit c.limits ≡ bounds.descriptions
+      unfolding core_of
+      most = ap (λ (b : DescLimits). b.descriptions) (sym are.bounds)
 
-      module _ (few : opened_count k.opened ≤ most_descriptions - 2) where
+      pub pipe-many : bounds.descriptions < opened_count k.opened + 2 → MakesAtKeys k x (Fault ENFILE) k
+      pipe-many many =
+          let over : nat_lt (description_limit c.limits) (live_count c + 2) ≡ true = lt-ltb (description_limit c.limits) (live_count c + 2) (omega (arith, counted kernel, many, most)) in
+          does_same k sound x (stepped c (Fault ENFILE)) (Fault ENFILE) (step-refused k pid call process ENFILE (begun_second ∙ ap (λ b. refuse_if b ENFILE (Draws (makes first second))) over)) refl refl
+
+      module _ (few : opened_count k.opened + 2 ≤ bounds.descriptions) where
         draws : core_step c x ≡ Draws (λ new. ended c (begun c pid call (makes first second new)))
         draws =
-            let under : nat_lt (most_descriptions - 2) (live_count c) ≡ false = below (live_count c) (omega (arith, counted kernel, few)) in
+            let under : nat_lt (description_limit c.limits) (live_count c + 2) ≡ false = le-ltb (description_limit c.limits) (live_count c + 2) (omega (arith, counted kernel, few, most)) in
             step-draws k pid call process (makes first second) (begun_second ∙ ap (λ b. refuse_if b ENFILE (Draws (makes first second))) under)
-          where
-            below : (n : ℕ) → n ≤ most_descriptions - 2 → nat_lt (most_descriptions - 2) n ≡ false
-            below n h = grind arith
 
         pub pipe-wants : MayWantAtKeys {A = A} k x
         pipe-wants = λ new. ap (λ (a : Drawing numbers (Stepped A numbers)). is_refusal (drawn {X = Stepped A numbers} new a).reply) draws
@@ -239,10 +246,14 @@ module _ {A : Type 0} (m : Caller A) (nonblock direct : Bool) where
                   ∙ map-set_at description_of (set_at nat_eq (at k.opened) d (Some reader)) d' (Some writer)
                   ∙ ap (λ (m : ℕ → Option (Description numbers)). set_at nat_eq m d' (Some (description_of writer))) (map-set_at description_of (at k.opened) d (Some reader))
 
+          within : (n : ℕ) → n < bounds.descriptors → n < descriptor_limit c.limits
+          unfolding core_of
+          within n l = let w = ap (λ (b : DescLimits). b.descriptors) are.bounds in omega (arith, l, w)
+
           high : core_of {A = A} new ≡ settle c (make_pipe c keys pid first second direct (nonblock_if nonblock) (write_end_flags nonblock direct))
           unfolding core_of
           high = core_is ∙ sym (pipe-settled (core_of {A = A} k) sound.settled keys unused pid first second direct (nonblock_if nonblock) (write_end_flags nonblock direct)
-              (pid_in descs.tables pid process).0 (let h = (pid_in descs.tables pid process).1 in omega (arith, h, are.tidy.few)) process first_free.1 second_free.1 (λ e. absurd (omega (arith, second_free.2, e))) first_free.0 second_free.0)
+              (pid_in descs.tables pid process).0 (let h = (pid_in descs.tables pid process).1 in let n = ap (λ (b : DescLimits). b.processes) are.bounds in omega (arith, h, are.tidy.few, n)) process (within first first_free.1) (within second second_free.1) (λ e. absurd (omega (arith, second_free.2, e))) first_free.0 second_free.0)
 
           pipe-makes : MakesAtKeys k x (Fds (pos first) (pos second)) new
           pipe-makes = subst (λ a. Comes c a (Fds (pos first) (pos second)) (core_of new)) (sym draws) (keys, unused, refl, high)
@@ -280,9 +291,9 @@ with_row-other rows pid fd other d apart = ap (λ b. cond (nat_eq pid pid && b) 
     by false = refl
 
 -- a place of a table fits a descriptor
-pub fits_place : (n : ℕ) → n < open_max → FitsSigned w32 (pos n)
+pub fits_place : (n : ℕ) → n < most_descriptors → FitsSigned w32 (pos n)
 fits_place n l = omega (arith, l)
 
 -- and is the descriptor
-pub to_z_place : (n : ℕ) → n < open_max → to_z w32 n ≡ pos n
+pub to_z_place : (n : ℕ) → n < most_descriptors → to_z w32 n ≡ pos n
 to_z_place n l = to_z_pos w32 n (omega (arith, l))

@@ -20,13 +20,14 @@ use Rattle.pl_model.proofs.streams.StreamRuns.{opening_below}
 use Rattle.pl_desc.specs.Rows.{at, table_of, rows_in, is_pid, row_at, free_pid, count_at}
 use Rattle.pl_desc.specs.Descs.{Descs, IsTidy}
 use Rattle.pl_nodes.specs.Nodes.{Memory}
-use Rattle.pl_state.specs.Contents.{Contents, contents, node_limits, core_of}
+use Rattle.pl_state.specs.Contents.{Contents, contents, node_limits, core_of, desc_limits}
 use Rattle.pl_state.specs.Sound.{IsSound, AreCounted}
 use Rattle.pl_state.specs.Makes.{MakesAtKeys, MayWantAtKeys, Stands}
 use Rattle.pl_state.proofs.Known.{Known}
 use Rattle.pl_state.proofs.by_call.Begun.{does_plain, does_same, wants_plain}
 use Rattle.pl_state.proofs.holders.Belonging.{belong-more}
 use Rattle.pl_state.proofs.holders.Staying.{stays-settled, stays-sound}
+use Rattle.pl_desc.specs.declared.limits.DescLimits.{DescLimits}
 
 module _ {A : Type 0} (m : Known A) where
   open m use {descs, nodes, calls, limits, sound, are}
@@ -40,28 +41,28 @@ module _ {A : Type 0} (m : Known A) where
   abbrev x : Step A
   x = Start
 
-  came : (o : Option ℕ) → free_pid descs.tables ≡ o → core_step c x ≡ Plain (ended c (started c o))
+  came : (o : Option ℕ) → free_pid descs.tables descs.limits.processes ≡ o → core_step c x ≡ Plain (ended c (started c o))
   unfolding core_step happen lowest_pid core_of
-  came o e = ap (λ o. Plain (ended c (started c o))) e
+  came o e = ap (λ o. Plain (ended c (started c o))) (ap (λ (b : DescLimits). free_pid descs.tables b.processes) (sym are.bounds) ∙ e)
 
-  pub start-full : free_pid descs.tables ≡ None → MakesAtKeys k x (Fault EAGAIN) k
+  pub start-full : free_pid descs.tables descs.limits.processes ≡ None → MakesAtKeys k x (Fault EAGAIN) k
   start-full full = does_same k sound x (stepped c (Fault EAGAIN)) (Fault EAGAIN) (came None full) refl refl
 
-  pub start-may : (free_pid descs.tables ≡ None → ⊥) → MayWantAtKeys {A = A} k x
-  start-may free = by (free_pid descs.tables) refl
+  pub start-may : (free_pid descs.tables descs.limits.processes ≡ None → ⊥) → MayWantAtKeys {A = A} k x
+  start-may free = by (free_pid descs.tables descs.limits.processes) refl
     where
-      by : (o : Option ℕ) → free_pid descs.tables ≡ o → MayWantAtKeys {A = A} k x
+      by : (o : Option ℕ) → free_pid descs.tables descs.limits.processes ≡ o → MayWantAtKeys {A = A} k x
       by None e = absurd (free e)
       by (Some pid) e = wants_plain k k x _ (came (Some pid) e) refl
 
-  module _ (pid : ℕ) (free : free_pid descs.tables ≡ Some pid) where
+  module _ (pid : ℕ) (free : free_pid descs.tables descs.limits.processes ≡ Some pid) where
     module _ (descs' : Descs) (pids : is_pid descs'.tables ≡ set_at nat_eq (is_pid descs.tables) pid true) (rows : row_at descs'.tables ≡ row_at descs.tables)
         (rest : descs' ≡ record descs { tables = descs'.tables }) (tidy : IsTidy descs') where
       abbrev new : Contents A
       new = contents descs' nodes calls limits
 
-      pub start-held : AreCounted A descs' calls.calls
-      start-held = record { tidy = tidy; counted = λ d. ap (λ z. count_at z.loose d) rest ∙ are.counted d }
+      pub start-held : AreCounted A limits descs' calls.calls
+      start-held = record { tidy = tidy; bounds = ap (λ z. z.limits) rest ∙ are.bounds; counted = λ d. ap (λ z. count_at z.loose d) rest ∙ are.counted d }
 
       is : core_of new ≡ start c pid
       unfolding core_of
@@ -117,8 +118,8 @@ module _ (A : Type 0) (memory : Memory) (limits : Limits) where
     on_nodes = λ number. tt;
   }
 
-  pub held_nothing : (descs : Descs) → descs.loose ≡ [] → IsTidy descs → AreCounted A descs []
-  held_nothing descs none tidy = record { tidy = tidy; counted = λ d. ap (λ xs. count_at xs d) none }
+  pub held_nothing : (descs : Descs) → descs.loose ≡ [] → descs.limits ≡ desc_limits limits → IsTidy descs → AreCounted A limits descs []
+  held_nothing descs none bounds tidy = record { tidy = tidy; bounds = bounds; counted = λ d. ap (λ xs. count_at xs d) none }
 
   pub stands_nothing : Stands (nothing memory limits) (opening {A = A} limits)
   stands_nothing = record {

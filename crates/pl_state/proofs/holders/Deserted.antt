@@ -4,7 +4,7 @@ use Rattle.std.specs.Prelude.{IsTrue, ◌||◌, option_map}
 use Rattle.std.specs.List.{list_any, filter, filter_map, flat_map}
 use Rattle.std.proofs.lemmas.Bool.{eq-eqb}
 use Rattle.pl_model.specs.declared.node.Node.{Node}
-use Rattle.pl_model.specs.Numbers.{open_max, most_processes, numbers_from}
+use Rattle.pl_model.specs.Numbers.{numbers_from}
 use Rattle.pl_model.specs.Modes.{any_mode}
 use Rattle.pl_model.specs.Map.{Map, get, kept_if}
 use Rattle.pl_model.specs.Keys.{PipeNode, FileNode, same_node}
@@ -19,6 +19,7 @@ use Rattle.pl_desc.specs.Rows.{at, is_pid}
 use Rattle.pl_state.specs.Contents.{Contents, node_of, parked_of, core_of}
 use Rattle.pl_state.specs.Sound.{IsSound, Belong}
 use Rattle.pl_state.specs.Makes.{Stands, IsDeserted}
+use Rattle.pl_model.specs.Tables.{process_limit, descriptor_limit}
 
 none_pass : {X : Type 0} (test : X → Bool) → ((x : X) → test x ≡ false) → (xs : List X) → filter test xs ≡ []
 none_pass test none [] = refl
@@ -42,10 +43,10 @@ module _ {A : Type 0} (k : Contents A) (sound : IsSound A k) (nobody : (pid : �
   -- nothing is in use
   no_use : in_use c ≡ []
   unfolding in_rows in_parked pids core_of
-  no_use = by (none_pass (is_pid k.tables) nobody (numbers_from most_processes 1)) (no_calls (is_pid k.tables) nobody k.calls.calls sound.belong)
+  no_use = by (none_pass (is_pid k.tables) nobody (numbers_from (process_limit k.limits) 1)) (no_calls (is_pid k.tables) nobody k.calls.calls sound.belong)
     where
-      by : filter (is_pid k.tables) (numbers_from most_processes 1) ≡ [] → k.calls.calls ≡ [] → in_use (core_of k) ≡ []
-      by rows calls = λ i. flat_map (λ pid. filter_map ((core_of k).rows pid) (numbers_from open_max 0)) (rows i) ++ flat_map (λ (w : ℕ × Waiting A numbers). w.1.kept) (parked_of (calls i))
+      by : filter (is_pid k.tables) (numbers_from (process_limit k.limits) 1) ≡ [] → k.calls.calls ≡ [] → in_use (core_of k) ≡ []
+      by rows calls = λ i. flat_map (λ pid. filter_map ((core_of k).rows pid) (numbers_from (descriptor_limit k.limits) 0)) (rows i) ++ flat_map (λ (w : ℕ × Waiting A numbers). w.1.kept) (parked_of (calls i))
 
   not_kept : (n : KeyNode numbers) → is_kept c n ≡ false
   unfolding core_of

@@ -17,7 +17,7 @@ use Rattle.pl_numbered.specs.Rising.{Rise}
 use Rattle.pl_parked.specs.Calls.{Calls}
 use Rattle.pl_desc.specs.Rows.{at, is_pid, row_at, naming, count_at}
 use Rattle.pl_desc.specs.Descs.{Opened, Descs, IsTidy, holders, last_hold}
-use Rattle.pl_state.specs.Contents.{Contents, Nodes, IsThere, contents, node_limits, node_of, description_of, core_of}
+use Rattle.pl_state.specs.Contents.{Contents, Nodes, IsThere, contents, node_limits, desc_limits, node_of, description_of, core_of}
 use Rattle.pl_state.specs.LastHold.{Leaves, Releases}
 use Rattle.pl_state.specs.Sound.{IsWhole, AreThere, AreCounted, keeping}
 use Rattle.pl_state.proofs.Known.{Parts}
@@ -33,6 +33,7 @@ pub record GivesUp {A : Type 0} (m : Parts A) (u : Core A numbers) (key : ℕ) (
   pub agrees : Agrees (contents loosed m.nodes left m.limits) u
   pub opened : loosed.opened ≡ m.descs.opened
   pub tidy : IsTidy loosed
+  pub bounds : loosed.limits ≡ m.descs.limits
   pub held_as_before : (q : ℕ) → holders loosed q ≡ holders m.descs q
   pub loose : (q : ℕ) → count_at loosed.loose q ≡ keeping left.calls q + cond (nat_eq key q) 1 0
   pub rise : Rise 0 left.next left.calls
@@ -61,10 +62,10 @@ module _ {A : Type 0} (m : Parts A) (u : Core A numbers) (key : ℕ) (loosed : D
 
   live_before : (q : ℕ) → is_live c q ≡ nat_lt 0 (holders descs q)
   unfolding core_of
-  live_before q = lives-is c descs.tables calls.calls refl refl refl are.tidy.few are.tidy.wide q ∙ ap (λ n. nat_lt 0 (naming descs.tables q + n)) (sym (are.counted q))
+  live_before q = lives-is c descs.tables calls.calls refl refl refl descs.limits are.bounds are.tidy.few are.tidy.wide q ∙ ap (λ n. nat_lt 0 (naming descs.tables q + n)) (sym (are.counted q))
 
   live_after : (q : ℕ) → is_live u q ≡ nat_lt 0 (naming loosed.tables q + keeping left.calls q)
-  live_after q = lives-is u loosed.tables left.calls (sym gives.agrees.processes) (sym gives.agrees.rows) (sym gives.agrees.parked) gives.tidy.few gives.tidy.wide q
+  live_after q = lives-is u loosed.tables left.calls (sym gives.agrees.processes) (sym gives.agrees.rows) (sym gives.agrees.parked) loosed.limits (gives.bounds ∙ are.bounds ∙ ap desc_limits gives.agrees.limits) gives.tidy.few gives.tidy.wide q
 
   others : (q : ℕ) → q ≢ key → is_live u q ≡ is_live c q
   others q other =
@@ -96,8 +97,8 @@ module _ {A : Type 0} (m : Parts A) (u : Core A numbers) (key : ℕ) (loosed : D
   }
 
   -- each loose hold is that of a call again
-  pub given_held : AreCounted A descs' left.calls
-  given_held = record { tidy = releases.tidy; counted = counted }
+  pub given_held : AreCounted A limits descs' left.calls
+  given_held = record { tidy = releases.tidy; bounds = releases.limits ∙ gives.bounds ∙ are.bounds; counted = counted }
     where
       less : (b : Bool) (n m : ℕ) → n ≡ m + cond b 1 0 → cond b (n - 1) n ≡ m
       less true n m e = omega (arith, e)

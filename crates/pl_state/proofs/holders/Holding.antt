@@ -7,7 +7,6 @@ use Rattle.std.specs.Set.{is_member}
 use Rattle.std.proofs.lemmas.Bool.{eq-eqb, ne_eqb}
 use Rattle.std.proofs.lemmas.Bool.Decides.{eqb_tells}
 use Rattle.std.proofs.lemmas.List.Sums.{sum_by-cons, sum_by_push}
-use Rattle.pl_model.specs.Numbers.{open_max, most_processes}
 use Rattle.pl_model.specs.Map.{Map, get, put, without}
 use Rattle.pl_model.specs.State.{Core}
 use Rattle.pl_model.specs.Live.{in_rows, is_live}
@@ -21,8 +20,10 @@ use Rattle.pl_parked.specs.declared.call.ParkedCall.{ParkedCall}
 use Rattle.pl_numbered.specs.Rising.{Rise}
 use Rattle.pl_desc.specs.Rows.{change_count, one_more, one_less, at, Tables, table_of, is_pid, rows_in, rows_of, row_at, names, named_in, naming}
 use Rattle.pl_desc.proofs.RowLemmas.{within, table_at, pid_in, has_table, rows-length, row-names}
-use Rattle.pl_state.specs.Contents.{parked_of}
+use Rattle.pl_state.specs.Contents.{parked_of, desc_limits}
 use Rattle.pl_state.specs.Sound.{IsWaiting, most_kept, times, keeping}
+use Rattle.pl_desc.specs.declared.limits.DescLimits.{DescLimits}
+use Rattle.pl_model.specs.Tables.{process_limit, descriptor_limit}
 
 -- a number that is one more and then one less, and one more is not 0
 pub one_more_less : (key : ℕ) (m : ℕ → ℕ) → change_count key one_less (change_count key one_more m) ≡ m
@@ -195,15 +196,17 @@ module _ {A : Type 0} where
 
 -- A core whose rows are those of the tables, and whose parked calls are these.
 module _ {A : Type 0} (c : Core A numbers) (tables : Tables) (calls : Map ℕ (ParkedCall A)) (processes : c.processes ≡ is_pid tables) (rows : c.rows ≡ row_at tables) (parked : c.parked ≡ parked_of calls)
-    (few : length tables ≤ most_processes) (wide : (place : ℕ) → IfSome (at tables place) (λ table. length table ≡ open_max)) where
+    (bounds : DescLimits) (limited : bounds ≡ desc_limits c.limits) (few : length tables ≤ bounds.processes) (wide : (place : ℕ) → IfSome (at tables place) (λ table. length table ≡ bounds.descriptors)) where
   pub row_held : (d : ℕ) → 0 < naming tables d → Row c d
   row_held d h =
       let r = naming_row tables d h in
       let process : is_pid tables r.0 ≡ true = has_table (table_of tables r.0) r.1 (ap is_some r.2) in
       let pid = pid_in tables r.0 process in
       let within_it : r.1 < length (rows_of tables r.0) = within (rows_of tables r.0) r.1 (ap is_some r.2) in
-      let size : length (rows_of tables r.0) ≡ open_max = rows-length tables r.0 process wide in
-      record { pid = r.0; fd = r.1; low = omega (arith, pid.0); high = omega (arith, pid.1, few); process = (λ i. processes i r.0) ∙ process; within = omega (arith, within_it, size); names = (λ i. rows i r.0 r.1) ∙ r.2 }
+      let size : length (rows_of tables r.0) ≡ bounds.descriptors = rows-length tables r.0 process wide in
+      let most : bounds.processes ≡ process_limit c.limits = ap (λ (b : DescLimits). b.processes) limited in
+      let width : bounds.descriptors ≡ descriptor_limit c.limits = ap (λ (b : DescLimits). b.descriptors) limited in
+      record { pid = r.0; fd = r.1; low = omega (arith, pid.0); high = omega (arith, pid.1, few, most); process = (λ i. processes i r.0) ∙ process; within = omega (arith, within_it, size, width); names = (λ i. rows i r.0 r.1) ∙ r.2 }
 
   named-is : (d : ℕ) → is_member nat_eq (in_rows c) d ≡ nat_lt 0 (naming tables d)
   named-is d = both_ways (is_member nat_eq (in_rows c) d) (nat_lt 0 (naming tables d))

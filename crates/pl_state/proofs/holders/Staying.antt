@@ -18,12 +18,12 @@ use Rattle.pl_state.proofs.holders.Holding.{lives-is}
 use Rattle.pl_state.proofs.holders.There.{settled_after}
 use Rattle.pl_state.proofs.holders.OnNodes.{wait-same}
 
-module _ {A : Type 0} (descs : Descs) (nodes : Nodes) (calls : Calls A) (limits : Limits) (are : AreCounted A descs calls.calls) where
+module _ {A : Type 0} (descs : Descs) (nodes : Nodes) (calls : Calls A) (limits : Limits) (are : AreCounted A limits descs calls.calls) where
   -- a description is live exactly where it is open
   pub opened-live : (d : ℕ) → is_live (core_of (contents descs nodes calls limits)) d ≡ is_some (at descs.opened d)
   unfolding core_of
   opened-live d =
-      lives-is (core_of (contents descs nodes calls limits)) descs.tables calls.calls refl refl refl are.tidy.few are.tidy.wide d
+      lives-is (core_of (contents descs nodes calls limits)) descs.tables calls.calls refl refl refl descs.limits are.bounds are.tidy.few are.tidy.wide d
       ∙ ap (λ n. nat_lt 0 (naming descs.tables d + n)) (sym (are.counted d)) ∙ by (at descs.opened d) refl
     where
       by : (o : Option Opened) → at descs.opened d ≡ o → nat_lt 0 (holders descs d) ≡ is_some o
@@ -31,7 +31,7 @@ module _ {A : Type 0} (descs : Descs) (nodes : Nodes) (calls : Calls A) (limits 
       by (Some o) e = above (holders descs d) (are.tidy.held d (subst (λ z. IsSome z) (sym e) refl))
 
 -- Rows and calls changed, and what is open didn't.
-module _ {A : Type 0} (m : Known A) (descs' : Descs) (same : at descs'.opened ≡ at m.descs.opened) (are' : AreCounted A descs' m.calls.calls) where
+module _ {A : Type 0} (m : Known A) (descs' : Descs) (same : at descs'.opened ≡ at m.descs.opened) (are' : AreCounted A m.limits descs' m.calls.calls) where
   open m use {descs, nodes, calls, limits, sound, are}
 
   abbrev c : Core A numbers

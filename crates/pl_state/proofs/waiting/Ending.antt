@@ -63,7 +63,7 @@ module _ {A : Type 0} (m : Parts A) (n : ℕ) (call : ParkedCall A) (here : get 
   record Keeps (keys : List ℕ) (descs' : Descs) (nodes' : Nodes) : Type 0 where
     pub of_it : (d : ℕ) → is_member nat_eq keys d ≡ true → is_member nat_eq call.kept d ≡ true
     pub whole : IsWhole A (contents descs' nodes' (with_only keys) limits)
-    pub are : AreCounted A descs' (with_only keys).calls
+    pub are : AreCounted A limits descs' (with_only keys).calls
     pub settles : core_of (contents descs' nodes' (with_only keys) limits) ≡ settle c (core_with keys)
 
   here_is : get nat_eq c.parked n ≡ Some (waiting_of call)
@@ -81,7 +81,7 @@ module _ {A : Type 0} (m : Parts A) (n : ℕ) (call : ParkedCall A) (here : get 
   all_kept = record {
     of_it = λ d h. h;
     whole = subst (λ (z : Calls A). IsWhole A (contents descs nodes z limits)) (sym calls_are) whole;
-    are = subst (λ (z : Calls A). AreCounted A descs z.calls) (sym calls_are) are;
+    are = subst (λ (z : Calls A). AreCounted A limits descs z.calls) (sym calls_are) are;
     settles = ap (λ (z : Calls A). core_of (contents descs nodes z limits)) calls_are ∙ sym whole.settled ∙ ap (settle c) (sym core_is);
   }
     where
@@ -136,6 +136,7 @@ module _ {A : Type 0} (m : Parts A) (n : ℕ) (call : ParkedCall A) (here : get 
         };
         opened = refl;
         tidy = k.are.tidy;
+        bounds = refl;
         held_as_before = λ q. refl;
         loose = loose;
         rise = Rise-put 0 calls.next calls.calls n (only keys) call here whole.rise;
@@ -169,9 +170,9 @@ module _ {A : Type 0} (m : Parts A) (n : ℕ) (call : ParkedCall A) (here : get 
     same_live : (d : ℕ) → is_live dropped d ≡ is_live (core_with []) d
     unfolding core_of
     same_live d =
-        lives-is dropped descs.tables left.calls refl refl (without_put (parked_of calls.calls) n (waiting_of (only [])) ∙ sym (without-parked calls.calls n)) are.tidy.few are.tidy.wide d
+        lives-is dropped descs.tables left.calls refl refl (without_put (parked_of calls.calls) n (waiting_of (only [])) ∙ sym (without-parked calls.calls n)) descs.limits are.bounds are.tidy.few are.tidy.wide d
         ∙ ap (λ z. nat_lt 0 (naming descs.tables d + z)) (same_keeping d)
-        ∙ sym (lives-is (core_with []) descs.tables (with_only []).calls refl refl (sym (parked_is [])) are.tidy.few are.tidy.wide d)
+        ∙ sym (lives-is (core_with []) descs.tables (with_only []).calls refl refl (sym (parked_is [])) descs.limits are.bounds are.tidy.few are.tidy.wide d)
 
     pub ended : core_of new ≡ settle c (without_call c n)
     unfolding core_of settle
@@ -184,5 +185,5 @@ module _ {A : Type 0} (m : Parts A) (n : ℕ) (call : ParkedCall A) (here : get 
     pub ended_whole : IsWhole A new
     ended_whole = record { rise = Rise-without 0 calls.next calls.calls n whole.rise; numbered = whole.numbered; there = none.whole.there; limit = none.whole.limit; once = none.whole.once; settled = settled_after (core_of new) c (without_call c n) ended }
 
-    pub ended_held : AreCounted A descs' left.calls
-    ended_held = record { tidy = none.are.tidy; counted = λ q. none.are.counted q ∙ sym (same_keeping q) }
+    pub ended_held : AreCounted A limits descs' left.calls
+    ended_held = record { tidy = none.are.tidy; bounds = none.are.bounds; counted = λ q. none.are.counted q ∙ sym (same_keeping q) }

@@ -93,5 +93,5 @@ module _ {A : Type 0} (m : Known A) (p : ℕ) (mode : Mode) where
     }) calls.calls n (sound.on_nodes n);
   }
 
-  pub met_held : AreCounted A descs met_calls.calls
-  met_held = record { tidy = are.tidy; counted = λ q. are.counted q ∙ sym (marked_keeping p mode calls.calls q) }
+  pub met_held : AreCounted A limits descs met_calls.calls
+  met_held = record { tidy = are.tidy; bounds = are.bounds; counted = λ q. are.counted q ∙ sym (marked_keeping p mode calls.calls q) }

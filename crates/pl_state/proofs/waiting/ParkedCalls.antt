@@ -129,13 +129,13 @@ module _ {A : Type 0} (k : Contents A) (sound : IsSound A k) (key : ℕ) (o : Op
     park_moves_sound = subst (IsSound A) (sym adds.rest) (changed_sound with_it park_sound key p (record { opened = on.opened; here = on.here; node = on.node }) x is new.nodes (gain more) refl adds.pipes)
 
 -- few holds are loose
-pub few_holds : {A : Type 0} (descs : Descs) (k : Contents A) → IsSound A k → AreCounted A descs k.calls.calls → (key : ℕ) → count_at descs.loose key < 2 ^ 100
+pub few_holds : {A : Type 0} (descs : Descs) (k : Contents A) → IsSound A k → AreCounted A k.limits descs k.calls.calls → (key : ℕ) → count_at descs.loose key < 2 ^ 100
 few_holds descs k sound are key =
     let few : keeping k.calls.calls key + most_kept * 0 ≤ most_kept * k.calls.next = keeping_few 0 k.calls.next k.calls.calls key sound.rise sound.waiting in
     omega (arith, are.counted key, few, sound.numbered)
 
 -- with room for those of one call more
-pub few_to_hold : {A : Type 0} (descs : Descs) (k : Contents A) → IsSound A k → AreCounted A descs k.calls.calls → (kept : List ℕ) → length kept ≤ most_kept → (key : ℕ) → count_at descs.loose key + length kept ≤ 2 ^ 100
+pub few_to_hold : {A : Type 0} (descs : Descs) (k : Contents A) → IsSound A k → AreCounted A k.limits descs k.calls.calls → (kept : List ℕ) → length kept ≤ most_kept → (key : ℕ) → count_at descs.loose key + length kept ≤ 2 ^ 100
 few_to_hold descs k sound are kept short key =
     let few : keeping k.calls.calls key + most_kept * 0 ≤ most_kept * k.calls.next = keeping_few 0 k.calls.next k.calls.calls key sound.rise sound.waiting in
     omega (arith, are.counted key, few, sound.numbered, short)
@@ -150,5 +150,5 @@ module _ {A : Type 0} (m : Known A) (w : ParkedCall A) (descs' : Descs) (rest : 
   pub held_is : contents descs' nodes more limits ≡ with_call (contents descs nodes calls limits) w
   held_is = ap (λ z. contents z nodes more limits) rest
 
-  pub park_held : ((q : ℕ) → count_at descs'.loose q ≡ count_at descs.loose q + times w.kept q) → IsTidy descs' → AreCounted A descs' more.calls
-  park_held loose tidy = record { tidy = tidy; counted = λ q. loose q ∙ ap (λ n. n + times w.kept q) (are.counted q) ∙ sym (keeping_more calls.calls calls.next w q) }
+  pub park_held : ((q : ℕ) → count_at descs'.loose q ≡ count_at descs.loose q + times w.kept q) → descs'.limits ≡ descs.limits → IsTidy descs' → AreCounted A limits descs' more.calls
+  park_held loose bounds tidy = record { tidy = tidy; bounds = bounds ∙ are.bounds; counted = λ q. loose q ∙ ap (λ n. n + times w.kept q) (are.counted q) ∙ sym (keeping_more calls.calls calls.next w q) }

@@ -88,5 +88,5 @@ module _ {A : Type 0} (k : Contents A) (o : CallOnPipe k) (taken : ℕ) (may : M
   }
 
   -- the same calls keep each description
-  pub again_held : (descs : Descs) → AreCounted A descs k.calls.calls → AreCounted A descs new.calls.calls
-  again_held descs are = record { tidy = are.tidy; counted = λ d. let same = keeping_put k.calls.calls n w now d here in omega (arith, are.counted d, same) }
+  pub again_held : (descs : Descs) → AreCounted A k.limits descs k.calls.calls → AreCounted A k.limits descs new.calls.calls
+  again_held descs are = record { tidy = are.tidy; bounds = are.bounds; counted = λ d. let same = keeping_put k.calls.calls n w now d here in omega (arith, are.counted d, same) }

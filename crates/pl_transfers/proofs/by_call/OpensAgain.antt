@@ -5,12 +5,11 @@ use Rattle.pl_model.specs.declared.calls.Step.TheVariants.{Resume}
 use Rattle.pl_model.specs.declared.replies.Reply.TheVariants.{Fd, Fault, Parked}
 use Rattle.pl_model.specs.declared.replies.Errno.TheVariants.{EMFILE}
 use Rattle.std.proofs.lemmas.Bool.{eq-eqb}
-use Rattle.pl_model.specs.Numbers.{most_processes}
 use Rattle.pl_model.specs.Map.{get, without}
 use Rattle.pl_model.specs.State.{Core}
 use Rattle.pl_model.specs.Settle.{settle}
 use Rattle.pl_model.specs.Trial.{Trial, Wait, still, flowed}
-use Rattle.pl_model.specs.Tables.{lowest, install}
+use Rattle.pl_model.specs.Tables.{lowest, install, process_limit}
 use Rattle.pl_model.specs.Step.{try, with_kept, kept_at, opened_by, without_call}
 use Rattle.pl_model.specs.Numbered.{numbers}
 use Rattle.pl_model.proofs.settling.Meeting.{resume_fifo-settled}
@@ -31,7 +30,8 @@ use Rattle.pl_state.proofs.holders.Holding.{keeping_without, times_one}
 use Rattle.pl_state.proofs.holders.There.{settled_after}
 use Rattle.pl_state.proofs.by_call.Begun.{does_plain, there}
 use Rattle.pl_state.proofs.by_call.Resumed.{parked-is, came, ends_still, waits_still}
-use Rattle.pl_state.proofs.by_call.Piping.{lowest_found}
+use Rattle.pl_state.proofs.by_call.Piping.{lowest_found, lowest-limit}
+use Rattle.pl_desc.specs.declared.limits.DescLimits.{DescLimits}
 
 module _ {A : Type 0} (m : Known A) (n pid d : ℕ) (met : Bool) (waits : OpenWaits (contents m.descs m.nodes m.calls m.limits) n pid d met) where
   open m use {descs, nodes, calls, limits, sound, are}
@@ -66,17 +66,17 @@ module _ {A : Type 0} (m : Known A) (n pid d : ℕ) (met : Bool) (waits : OpenWa
   open-waits unmet = waits_still k sound n w here w.taken refl (came k sound n w here _ (tries ∙ ap (λ b. tried b (lowest c pid 0)) unmet))
 
   module _ (yes : met ≡ true) where
-    placed : (place : Option ℕ) → lowest_of descs.tables limits.descriptors_max pid 0 ≡ place → try c (waiting_of w) w.call true ≡ opened_by c pid d place
+    placed : (place : Option ℕ) → lowest_of descs.tables descs.limits.descriptors pid 0 ≡ place → try c (waiting_of w) w.call true ≡ opened_by c pid d place
     unfolding lowest core_of
-    placed place is = tries ∙ ap (λ b. tried b (lowest c pid 0)) yes ∙ ap (opened_by c pid d) is
+    placed place is = tries ∙ ap (λ b. tried b (lowest c pid 0)) yes ∙ ap (opened_by c pid d) (lowest-limit descs limits are.bounds pid 0 ∙ is)
 
-    pub open-many : lowest_of descs.tables limits.descriptors_max pid 0 ≡ None → (new : Contents A) → core_of new ≡ settle c (without_call c n) → MakesAtKeys k (Resume n) (Fault EMFILE) new
+    pub open-many : lowest_of descs.tables descs.limits.descriptors pid 0 ≡ None → (new : Contents A) → core_of new ≡ settle c (without_call c n) → MakesAtKeys k (Resume n) (Fault EMFILE) new
     open-many none new is = ends_still k sound n w here (Fault EMFILE) new (came k sound n w here _ (placed None none)) is
 
     -- the descriptor comes to name the description, and the call is gone
-    module _ (fd : ℕ) (least : lowest_of descs.tables limits.descriptors_max pid 0 ≡ Some fd)
+    module _ (fd : ℕ) (least : lowest_of descs.tables descs.limits.descriptors pid 0 ≡ Some fd)
         (descs' : Descs) (pids : is_pid descs'.tables ≡ is_pid descs.tables) (rows : row_at descs'.tables ≡ with_row (row_at descs.tables) pid fd (Some d))
-        (opened : descs'.opened ≡ descs.opened) (loose : count_at descs'.loose ≡ change_count d one_less (count_at descs.loose)) (tidy : IsTidy descs') where
+        (opened : descs'.opened ≡ descs.opened) (limits_are : descs'.limits ≡ descs.limits) (loose : count_at descs'.loose ≡ change_count d one_less (count_at descs.loose)) (tidy : IsTidy descs') where
       abbrev left : Calls A
       left = record calls { calls = without nat_eq calls.calls n }
 
@@ -89,12 +89,14 @@ module _ {A : Type 0} (m : Known A) (n pid d : ℕ) (met : Bool) (waits : OpenWa
       settles : settle c gone ≡ gone
       unfolding core_of
       settles =
-          let place = lowest_found descs.tables limits.descriptors_max pid 0 fd least in
+          let place = lowest_found descs.tables descs.limits.descriptors pid 0 fd least in
+          let most = ap (λ (b : DescLimits). b.processes) are.bounds in
+          let width = ap (λ (b : DescLimits). b.descriptors) are.bounds in
           let bounds = pid_in descs.tables pid process in
           subst (λ p. settle c (without_call (install c p fd d) n) ≡ without_call (install c p fd d) n) of
           (resume_fifo-settled c sound.settled (rise_once 0 calls.next calls.calls sound.rise) n d (waiting_of w) (parked-is k sound n (Some w) here) kept fd
-          (subst (λ p. 1 ≤ p) (sym of) bounds.0) (subst (λ p. p < 1 + most_processes) (sym of) (let high = bounds.1 in omega (arith, high, are.tidy.few)))
-          (ap (is_pid descs.tables) of ∙ process) place.1 (ap (λ p. row_at descs.tables p fd) of ∙ place.0))
+          (subst (λ p. 1 ≤ p) (sym of) bounds.0) (subst (λ p. p < 1 + process_limit c.limits) (sym of) (let high = bounds.1 in omega (arith, high, are.tidy.few, most)))
+          (ap (is_pid descs.tables) of ∙ process) (omega (arith, place.1, width)) (ap (λ p. row_at descs.tables p fd) of ∙ place.0))
 
       new_is : core_of new ≡ gone
       unfolding core_of
@@ -124,8 +126,8 @@ module _ {A : Type 0} (m : Known A) (n pid d : ℕ) (met : Bool) (waits : OpenWa
         on_nodes = λ q. get_without calls.calls n (λ y. KeepsNodes (at descs'.opened) y) q (subst (λ z. IfSome (get nat_eq calls.calls q) (λ y. KeepsNodes (at z) y)) (sym opened) (sound.on_nodes q));
       }
 
-      pub open-held : AreCounted A descs' left.calls
-      open-held = record { tidy = tidy; counted = λ q. (λ i. loose i q) ∙ fewer q (nat_eq d q) refl }
+      pub open-held : AreCounted A limits descs' left.calls
+      open-held = record { tidy = tidy; bounds = limits_are ∙ are.bounds; counted = λ q. (λ i. loose i q) ∙ fewer q (nat_eq d q) refl }
         where
           one : (q : ℕ) (b : Bool) → nat_eq d q ≡ b → times w.kept q ≡ cond b 1 0
           one q b e = ap (λ ks. times ks q) kept ∙ times_one d q ∙ ap (λ z. cond z 1 0) e

@@ -1,7 +1,7 @@
 -- In how many slots a pipe's bytes stand, whatever keys the machine has for it.
 use Rattle.std.proofs.Common.{◌≡◌, ◌≤◌, ◌*◌, ◌/◌, ℕ, ℤ, pos, negsuc, Bool, true, false, nat_lt, Option, Some, None, refl, sym, ◌∙◌, ap, subst}
 use Rattle.std.specs.Prelude.{option_map, option_and_then, unwrap_or, if◌then◌else◌}
-use Rattle.pl_model.specs.Numbers.{open_max}
+use Rattle.pl_model.specs.Numbers.{most_descriptors}
 use Rattle.pl_model.specs.Keys.{PipeNode, FileNode}
 use Rattle.pl_model.specs.Keys.{Node as KeyNode}
 use Rattle.pl_model.specs.State.{Core, Description, Open, Pipe, described, row, empty_pipe}
@@ -19,7 +19,7 @@ use Rattle.pl_transfers.specs.Capacities.{pipe_named, capacity_named, AreFew, Wi
 module _ {A : Type 0} (r : Renamings) (c : Core A numbers) where
   row-renamed : (pid : ℕ) (fd : ℤ) → row (rename r c) pid fd ≡ option_map r.description.to (row c pid fd)
   row-renamed pid (negsuc n) = refl
-  row-renamed pid (pos fd) = by (nat_lt fd open_max)
+  row-renamed pid (pos fd) = by (nat_lt fd most_descriptors)
     where
       by : (b : Bool) → (if b then option_map r.description.to (c.rows pid fd) else None) ≡ option_map r.description.to (if b then c.rows pid fd else None)
       by true = refl

@@ -1,5 +1,4 @@
-use Rattle.std.proofs.Common.{◌≡◌, ℕ, ◌+◌, ◌-◌, ◌≤◌, drop}
-use Rattle.pl_model.specs.Numbers.{open_max}
+use Rattle.std.proofs.Common.{◌≡◌, ℕ, ◌+◌, ◌-◌, ◌≤◌, drop, length}
 use Rattle.pl_desc.specs.Rows.{at}
 use Rattle.pl_desc.specs.Slots.{opened_in, holders_of, held_all}
 use Rattle.pl_desc.proofs.description.hold_all.Given as goal
@@ -7,7 +6,7 @@ use Rattle.pl_desc.proofs.description.hold_all.Given as goal
 -- what is left to hold gives the whole, and no count has risen by more than the rows so far
 abbrev pub invariant-loop-fd : goal.invariant-loop-fd
 invariant-loop-fd g l = record {
-  low : l.from ≤ open_max;
+  low : l.from ≤ length l.table;
   all : held_all (drop l.from l.table) l.descriptions.slots ≡ held_all l.table l.fn.descriptions.slots;
   rest : l.descriptions ≡ record l.fn.descriptions { slots = l.descriptions.slots };
   same : opened_in l.descriptions.slots ≡ opened_in l.fn.descriptions.slots;
@@ -15,4 +14,4 @@ invariant-loop-fd g l = record {
 }
 
 abbrev pub decreases-loop-fd : goal.decreases-loop-fd
-decreases-loop-fd g l = open_max - l.from
+decreases-loop-fd g l = length l.table - l.from

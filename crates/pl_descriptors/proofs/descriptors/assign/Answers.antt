@@ -7,6 +7,11 @@ use Rattle.pl_state.proofs.Known.{Known, known}
 use Rattle.pl_descriptors.proofs.descriptors.assign.Given.{Over}
 use Rattle.pl_descriptors.proofs.descriptors.assign.Goals.{After-install}
 use Rattle.pl_descriptors.proofs.descriptors.assign.Goals as goal
+use Rattle.std.proofs.Common.{◌<◌, ap, sym, subst, ◌∙◌, arith}
+use Rattle.pl_model.specs.Tables.{descriptor_limit}
+use Rattle.pl_desc.specs.declared.limits.DescLimits.{DescLimits}
+use Rattle.pl_desc.specs.Descs.{Descs}
+use Rattle.pl_state.specs.Contents.{Contents}
 
 -- what is known as a free descriptor comes to name a description
 abbrev holds : (g : Over) → After-install g → Known g.row.A.Denot
@@ -40,3 +45,9 @@ returns-clause-settled g c =
     let h = c.hold.ensures in
     let i = c.install.ensures in
     rw (← c.kernel.view_is) (name-settled m c.args.pid c.args.fd c.args.key c.hold.new.self h.loose h.rest c.install.new.self i.rows i.pids i.loose i.rest i.tidy)
+
+pub install-requires-clause-place : goal.install-requires-clause-place
+install-requires-clause-place g c =
+    let within = subst (λ (z : Contents g.row.A.Denot). c.args.fd < descriptor_limit z.limits) (sym c.kernel.view_is) c.requires.place in
+    let width = ap (λ (b : DescLimits). b.descriptors) (ap (λ (d : Descs). d.limits) c.hold.ensures.rest ∙ c.kernel.invariant.1.bounds) in
+    omega (arith, within, width)

@@ -44,11 +44,11 @@ module _ (g : Over) (c : After-release-arg-2-1 g) where
       let fd_is = to_z-of_z w32 c.args.fd c.ranges.fd in
       let row : row_of tables c.args.pid c.args.fd ≡ Some key = ap (row_of tables c.args.pid) (sym fd_is) ∙ sym c.remove.ensures.key ∙ c.unwrap-key.ensures in
       let rows = subst (λ r. OnSome r (row_at loosed.tables ≡ without_row (row_at tables) c.args.pid c.args.fd)) c.unwrap-key.ensures (subst (λ z. OnSome c.remove.result (row_at loosed.tables ≡ without_row (row_at tables) c.args.pid z)) fd_is c.remove.ensures.rows) in
-      close-gives calls.kernel c.args.pid (natural c.args.fd) key loosed (rows ∙ without_row-is tables c.args.pid c.args.fd key row) c.remove.ensures.pids (c.remove.ensures.loose ∙ ap (λ r. more_if r (count_at calls.descs.loose)) c.unwrap-key.ensures) c.remove.ensures.holders (ap (λ z. z.opened) c.remove.ensures.rest) tidy
+      close-gives calls.kernel c.args.pid (natural c.args.fd) key loosed (rows ∙ without_row-is tables c.args.pid c.args.fd key row) c.remove.ensures.pids (c.remove.ensures.loose ∙ ap (λ r. more_if r (count_at calls.descs.loose)) c.unwrap-key.ensures) c.remove.ensures.holders (ap (λ z. z.opened) c.remove.ensures.rest) (ap (λ z. z.limits) c.remove.ensures.rest) tidy
 
 -- the hold is given up
 released : (g : Over) (c : After-release g) → Releases c.remove.new.self c.release.new.descs (nodes_of c.kernel.inside.nodes) (nodes_of c.release.new.nodes) c.unwrap-key.result
-released g c = record { opened = c.release.ensures.opened; loose = c.release.ensures.loose; tables = c.release.ensures.tables; tidy = c.release.ensures.tidy; shrinks = c.release.ensures.shrinks; stays = λ last. ap nodes_of (c.release.ensures.stays last); leaves = c.release.ensures.leaves }
+released g c = record { opened = c.release.ensures.opened; loose = c.release.ensures.loose; tables = c.release.ensures.tables; limits = c.release.ensures.limits; tidy = c.release.ensures.tidy; shrinks = c.release.ensures.shrinks; stays = λ last. ap nodes_of (c.release.ensures.stays last); leaves = c.release.ensures.leaves }
 
 pub release-requires-clause-held : goal.release-requires-clause-held
 release-requires-clause-held g c = (may_release (parts_of (calls g c).kernel) _ (key g c) (loosed g c) c.kernel.inside.parked (gives g c)).0

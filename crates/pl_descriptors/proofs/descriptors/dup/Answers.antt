@@ -8,6 +8,7 @@ use Rattle.pl_state.proofs.Known.{Caller, caller}
 use Rattle.pl_descriptors.proofs.descriptors.dup.Given.{Over}
 use Rattle.pl_descriptors.proofs.descriptors.dup.Goals.{After-find}
 use Rattle.pl_descriptors.proofs.descriptors.dup.Goals as goal
+use Rattle.pl_model.specs.Tables.{descriptor_limit}
 
 -- the process that calls, and what its descriptor names
 module _ (g : Over) (c : After-find g) where
@@ -25,5 +26,5 @@ returns-in_default g c =
 pub returns : goal.returns
 returns g c =
     let w = (goal.at.returns g c).After-find in
-    let done = subst (λ (z : Contents g.row.A.Denot). Duplicates z c.args.pid c.in-Some.key (lowest_of z.tables z.limits.descriptors_max c.args.pid 0) c.duplicate.result c.duplicate.new.kernel) (sym c.kernel.view_is) c.duplicate.ensures in
+    let done = subst (λ (z : Contents g.row.A.Denot). Duplicates z c.args.pid c.in-Some.key (lowest_of z.tables (descriptor_limit z.limits) c.args.pid 0) c.duplicate.result c.duplicate.new.kernel) (sym c.kernel.view_is) c.duplicate.ensures in
     rw (← c.kernel.view_is) (dup-does (calls g w) c.args.fd c.in-Some.key (named g w ∙ c.in-Some.is) c.duplicate.result c.duplicate.new.kernel done)

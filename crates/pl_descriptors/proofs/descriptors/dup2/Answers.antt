@@ -4,12 +4,12 @@ use Rattle.pl_model.specs.Begin.{is_descriptor, natural}
 use Rattle.pl_model.specs.Settle.{settle}
 use Rattle.pl_model.specs.State.{Core}
 use Rattle.pl_model.specs.Numbered.{numbers}
-use Rattle.pl_model.specs.Tables.{close_row, install}
+use Rattle.pl_model.specs.Tables.{close_row, install, descriptor_limit}
 use Rattle.pl_desc.specs.Rows.{Tables, at, is_pid, row_at, row_of}
 use Rattle.pl_state.specs.Contents.{Contents, core_of}
 use Rattle.pl_state.specs.KernelView.{view_of}
 use Rattle.pl_state.proofs.by_call.Closing.{row_found, named_there}
-use Rattle.pl_descriptors.proofs.by_call.Duplicating.{below_all, above_all, within_all, place_is, unnamed, dup2-closed, dup2-refused, dup2-same, dup2-free, dup2-instead, mid_process, mid_free, mid_here}
+use Rattle.pl_descriptors.proofs.by_call.Duplicating.{below_all, above_all, within_all, place_is, unnamed, dup2-closed, dup2-refused, dup2-same, dup2-free, dup2-instead, mid_process, mid_limits, mid_free, mid_here}
 use Rattle.pl_state.proofs.Known.{Caller, caller}
 use Rattle.pl_descriptors.proofs.descriptors.dup2.Given.{Over}
 use Rattle.pl_descriptors.proofs.descriptors.dup2.Goals.{After-find, After-find-2}
@@ -44,7 +44,7 @@ module _ (g : Over) (c : After-find-2 g) where
   target_is = to_z-of_z w32 c.args.target c.ranges.target
 
   within : is_descriptor c.kernel.inside.limits c.args.target ≡ true
-  within = within_all c.kernel.inside.limits c.args.target (ap (λ z. lt_z z (pos 0)) (sym target_is) ∙ c.if-target-lt0.false) (omega (arith, c.min-most.ensures, subst (λ z. nat_abs z < c.min-most.result) target_is c.if-most-target.false))
+  within = within_all c.kernel.inside.limits c.args.target (ap (λ z. lt_z z (pos 0)) (sym target_is) ∙ c.if-target-lt0.false) (omega (arith, c.descriptors-most.ensures, subst (λ z. nat_abs z < c.descriptors-most.result) target_is c.if-most-target.false))
 
   place : nat_abs (to_z w32 (of_z w32 c.args.target)) ≡ natural c.args.target
   place = ap nat_abs target_is ∙ place_is c.kernel.inside.limits c.args.target within
@@ -71,7 +71,7 @@ returns-then-target-lt0 g c =
     let target_is = to_z-of_z w32 c.args.target c.ranges.target in
     let out : is_descriptor c.kernel.inside.limits c.args.target ≡ false = elim c.then-target-lt0.branch [
       | then-target-lt0-via-then-target-lt0 w ↦ below_all c.kernel.inside.limits c.args.target (ap (λ z. lt_z z (pos 0)) (sym target_is) ∙ w.if-target-lt0.true)
-      | then-target-lt0-via-else-target-lt0+then-most-target w ↦ above_all c.kernel.inside.limits c.args.target (ap (λ z. lt_z z (pos 0)) (sym target_is) ∙ w.if-target-lt0.false) (omega (arith, c.min-most.ensures, subst (λ z. c.min-most.result ≤ nat_abs z) target_is w.if-most-target.true))
+      | then-target-lt0-via-else-target-lt0+then-most-target w ↦ above_all c.kernel.inside.limits c.args.target (ap (λ z. lt_z z (pos 0)) (sym target_is) ∙ w.if-target-lt0.false) (omega (arith, c.descriptors-most.ensures, subst (λ z. c.descriptors-most.result ≤ nat_abs z) target_is w.if-most-target.true))
     ] in
     rw (← c.kernel.view_is) (dup2-refused (calls g w) c.args.fd c.args.target c.in-Some.key (named g w ∙ c.in-Some.is) out)
 
@@ -89,6 +89,18 @@ assign-requires-clause-process g c =
           ap (λ (z : Contents g.row.A.Denot). is_pid z.tables c.args.pid) w.kernel-is
           ∙ mid_process (at_call g v) c.args.fd c.args.target c.in-Some.key (row g v) w.in-Some-find.other (target_names g v ∙ w.in-Some-find.is) (λ e. w.if-other-key.false (sym e)) w.close_open.new.kernel (closes g v _ w.close_open.ensures)
       | in_default-find w ↦ ap (λ (z : Contents g.row.A.Denot). is_pid z.tables c.args.pid) w.kernel-is ∙ c.requires
+    ]
+
+pub assign-requires-clause-place : goal.assign-requires-clause-place
+assign-requires-clause-place g c =
+    let v = (goal.at.assign-requires-clause-place g c).After-find-2 in
+    let below : nat_abs (to_z w32 (of_z w32 c.args.target)) < descriptor_limit c.kernel.inside.limits = omega (arith, c.descriptors-most.ensures, c.if-most-target.false) in
+    elim c.match-find-2.branch [
+      | in-Some-find+else-other-key w ↦
+          subst (λ (z : Contents g.row.A.Denot). nat_abs (to_z w32 (of_z w32 c.args.target)) < descriptor_limit z.limits) (sym w.kernel-is)
+          (subst (λ l. nat_abs (to_z w32 (of_z w32 c.args.target)) < descriptor_limit l)
+          (sym (mid_limits (at_call g v) c.args.fd c.args.target c.in-Some.key (row g v) w.in-Some-find.other (target_names g v ∙ w.in-Some-find.is) (λ e. w.if-other-key.false (sym e)) w.close_open.new.kernel (closes g v _ w.close_open.ensures))) below)
+      | in_default-find w ↦ subst (λ (z : Contents g.row.A.Denot). nat_abs (to_z w32 (of_z w32 c.args.target)) < descriptor_limit z.limits) (c.kernel.view_is ∙ sym w.kernel-is) below
     ]
 
 pub assign-requires-clause-free : goal.assign-requires-clause-free

@@ -13,6 +13,7 @@ use Rattle.pl_descriptors.proofs.descriptors.dup_fd.Goals as goal
 use Rattle.pl_descriptors.proofs.descriptors.dup_fd.Goals.{then-least-lt0-via-then-least-lt0, then-least-lt0-via-else-least-lt0+then-most-least}
 use lib.Signed.{lt_z}
 use lib.IntN.{nat_abs}
+use Rattle.pl_model.specs.Tables.{descriptor_limit}
 
 -- the process that calls, and what its descriptor names
 module _ (g : Over) (c : After-find g) where
@@ -33,7 +34,7 @@ returns-then-least-lt0 g c =
     let least_is = to_z-of_z w32 c.args.least c.ranges.least in
     let out : is_descriptor c.kernel.inside.limits c.args.least ≡ false = elim c.then-least-lt0.branch [
       | then-least-lt0-via-then-least-lt0 v ↦ below_all c.kernel.inside.limits c.args.least (ap (λ z. lt_z z (pos 0)) (sym least_is) ∙ v.if-least-lt0.true)
-      | then-least-lt0-via-else-least-lt0+then-most-least v ↦ above_all c.kernel.inside.limits c.args.least (ap (λ z. lt_z z (pos 0)) (sym least_is) ∙ v.if-least-lt0.false) (omega (arith, c.min-most.ensures, subst (λ z. c.min-most.result ≤ nat_abs z) least_is v.if-most-least.true))
+      | then-least-lt0-via-else-least-lt0+then-most-least v ↦ above_all c.kernel.inside.limits c.args.least (ap (λ z. lt_z z (pos 0)) (sym least_is) ∙ v.if-least-lt0.false) (omega (arith, c.descriptors-most.ensures, subst (λ z. c.descriptors-most.result ≤ nat_abs z) least_is v.if-most-least.true))
     ] in
     rw (← c.kernel.view_is) (dup_fd-refused (calls g w) c.args.fd c.args.least c.in-Some.key (named g w ∙ c.in-Some.is) out)
 
@@ -41,8 +42,8 @@ pub returns : goal.returns
 returns g c =
     let w = (goal.at.returns g c).After-find in
     let least_is = to_z-of_z w32 c.args.least c.ranges.least in
-    let within : is_descriptor c.kernel.inside.limits c.args.least ≡ true = within_all c.kernel.inside.limits c.args.least (ap (λ z. lt_z z (pos 0)) (sym least_is) ∙ c.if-least-lt0.false) (omega (arith, c.min-most.ensures, subst (λ z. nat_abs z < c.min-most.result) least_is c.if-most-least.false)) in
+    let within : is_descriptor c.kernel.inside.limits c.args.least ≡ true = within_all c.kernel.inside.limits c.args.least (ap (λ z. lt_z z (pos 0)) (sym least_is) ∙ c.if-least-lt0.false) (omega (arith, c.descriptors-most.ensures, subst (λ z. nat_abs z < c.descriptors-most.result) least_is c.if-most-least.false)) in
     let least : nat_abs (to_z w32 (of_z w32 c.args.least)) ≡ natural c.args.least = ap nat_abs least_is ∙ place_is c.kernel.inside.limits c.args.least within in
-    let done = subst (λ (z : Contents g.row.A.Denot). Duplicates z c.args.pid c.in-Some.key (lowest_of z.tables z.limits.descriptors_max c.args.pid (natural c.args.least)) c.duplicate.result c.duplicate.new.kernel) (sym c.kernel.view_is)
-    (subst (λ n. Duplicates c.args.kernel.now c.args.pid c.in-Some.key (lowest_of c.args.kernel.now.tables c.args.kernel.now.limits.descriptors_max c.args.pid n) c.duplicate.result c.duplicate.new.kernel) least c.duplicate.ensures) in
+    let done = subst (λ (z : Contents g.row.A.Denot). Duplicates z c.args.pid c.in-Some.key (lowest_of z.tables (descriptor_limit z.limits) c.args.pid (natural c.args.least)) c.duplicate.result c.duplicate.new.kernel) (sym c.kernel.view_is)
+    (subst (λ n. Duplicates c.args.kernel.now c.args.pid c.in-Some.key (lowest_of c.args.kernel.now.tables (descriptor_limit c.args.kernel.now.limits) c.args.pid n) c.duplicate.result c.duplicate.new.kernel) least c.duplicate.ensures) in
     rw (← c.kernel.view_is) (dup_fd-does (calls g w) c.args.fd c.args.least c.in-Some.key (named g w ∙ c.in-Some.is) within c.duplicate.result c.duplicate.new.kernel done)

@@ -1,5 +1,5 @@
-use Rattle.std.proofs.Common.{◌≡◌, ℕ, ◌<◌, ◌≤◌, List, Option, Some, None, IfSome, IsSome, true, false, refl, sym, ◌∙◌, ap, subst, nat_eq, arith}
-use Rattle.std.specs.Prelude.{is_some, count_by}
+use Rattle.std.proofs.Common.{◌≡◌, ℕ, ◌<◌, ◌≤◌, List, Option, Some, None, IfSome, IsSome, true, false, refl, sym, ◌∙◌, ap, subst, nat_eq, arith, ◌+◌, length, inl, inr, ⊎_elim}
+use Rattle.std.specs.Prelude.{is_some, count_by, if◌then◌else◌, ◌&&◌}
 use Rattle.std.specs.List.{list_any}
 use Rattle.pl_model.specs.Map.{get}
 use Rattle.pl_model.specs.Numbered.{numbers}
@@ -7,11 +7,15 @@ use Rattle.pl_model.specs.State.{Core}
 use Rattle.pl_model.specs.Tables.{close_row}
 use Rattle.pl_model.proofs.settling.AtOnce.{IsExiting, is_others, exiting_begins, exiting_closes, exiting_drops}
 use Rattle.pl_parked.specs.declared.call.ParkedCall.{ParkedCall}
+use Rattle.pl_desc.proofs.RowLemmas.{open-found, rows-length}
+use Rattle.pl_state.proofs.by_call.Piping.{with_row-other}
+use Rattle.std.proofs.lemmas.Bool.{eq-eqb, cases_lt}
+use Rattle.std.proofs.lemmas.Bool.Decides.{eqb_tells}
 use Rattle.pl_desc.specs.Rows.{is_pid, rows_of, row_at, with_row, at}
 use Rattle.pl_state.specs.KernelView.{view_of}
 use Rattle.pl_state.specs.Contents.{Contents, contents, nodes_of, parked_of, core_of}
 use Rattle.pl_state.specs.LastHold.{Releases}
-use Rattle.pl_state.proofs.by_call.Exiting.{NoneBelow, taken, fewer_open, below_next, next_call, own_call, no_call, drops_rows, drops_process, drops_one, drops_through, exit-held, exit-sound, exit-exits}
+use Rattle.pl_state.proofs.by_call.Exiting.{NoneBelow, fewer_open, below_next, next_call, own_call, no_call, drops_rows, drops_process, drops_one, drops_through, exit-held, exit-sound, exit-exits}
 use Rattle.pl_state.proofs.by_call.Closing.{close-gives}
 use Rattle.pl_state.proofs.holders.Belonging.{belong-same}
 use Rattle.pl_state.proofs.holders.GivenUp.{GivesUp, may_release, given, given_whole, given_held}
@@ -22,80 +26,101 @@ use Rattle.pl_descriptors.proofs.processes.exit.Goals as goal
 use Rattle.pl_state.proofs.holders.OnNodes.{wait-released}
 use Rattle.pl_state.specs.Sound.{WaitOnNodes}
 
-pub loop-key-init : goal.loop-key-init
-loop-key-init g c =
+pub loop-fd-init : goal.loop-fd-init
+loop-fd-init g c =
     let A = g.row.A.Denot in
     let core = core_of (view_of c.kernel.inside) in
     record {
       kept = c.kernel.invariant;
       leaving = subst (λ (z : Contents A). IsExiting (core_of z) c.args.pid core) c.kernel.view_is (exiting_begins core c.args.pid c.kernel.invariant.0.settled);
       process = ap (λ (z : Contents A). is_pid z.tables c.args.pid) c.kernel.view_is ∙ c.requires;
+      gone = λ fd l. absurd (omega (arith, l));
     }
 
 -- the least open descriptor is closed, and its row a loose hold
 module _ (g : Over) (c : In-Some g) where
   abbrev some_left : Known g.row.A.Denot
-  some_left = known c.loop-key.kernel-inside c.loop-key.invariant.kept
+  some_left = known c.loop-fd.kernel-inside c.loop-fd.invariant.kept
 
-  least : (fd : ℕ) × (row_at some_left.descs.tables c.args.pid fd ≡ Some c.in-Some.key) × (row_at c.take_fd.new.self.tables ≡ with_row (row_at some_left.descs.tables) c.args.pid fd None)
-  least = taken some_left.descs.tables c.take_fd.new.self.tables c.args.pid c.in-Some.key c.in-Some.ensures.key c.take_fd.ensures.rows
+  first : (row_at some_left.descs.tables c.args.pid c.in-Some.fd ≡ Some c.in-Some.key) × (c.loop-fd.least ≤ c.in-Some.fd) × (c.in-Some.fd < length (rows_of some_left.descs.tables c.args.pid)) × ((k : ℕ) → c.loop-fd.least ≤ k → k < c.in-Some.fd → row_at some_left.descs.tables c.args.pid k ≡ None)
+  first = open-found (rows_of some_left.descs.tables c.args.pid) c.loop-fd.least c.in-Some.fd c.in-Some.key (sym c.in-Some.ensures.taken)
+
+  named : row_at some_left.descs.tables c.args.pid c.in-Some.fd ≡ Some c.in-Some.key
+  named = first.0
+
+  -- nothing is open up to it
+  none_before : (fd : ℕ) → fd < c.in-Some.fd + 1 → with_row (row_at some_left.descs.tables) c.args.pid c.in-Some.fd None c.args.pid fd ≡ None
+  none_before fd l = elim (eqb_tells fd c.in-Some.fd) as (λ _. with_row (row_at some_left.descs.tables) c.args.pid c.in-Some.fd None c.args.pid fd ≡ None) [
+    | inl e ↦ (λ i. if eq-eqb c.args.pid c.args.pid refl i && e.0 i then None else row_at some_left.descs.tables c.args.pid fd)
+    | inr e ↦
+        with_row-other (row_at some_left.descs.tables) c.args.pid c.in-Some.fd fd None e.1
+        ∙ ⊎_elim (λ early. c.loop-fd.invariant.gone fd early) (λ late. first.3 fd late (omega (arith, l, e.1))) (cases_lt fd c.loop-fd.least)
+  ]
 
   abbrev one_closed : Core g.row.A.Denot numbers
-  one_closed = close_row (core_of (view_of c.loop-key.kernel-inside)) c.args.pid least.0
+  one_closed = close_row (core_of (view_of c.loop-fd.kernel-inside)) c.args.pid c.in-Some.fd
 
-  gives : GivesUp (parts_of some_left) one_closed c.in-Some.key c.take_fd.new.self c.loop-key.kernel-inside.parked
+  gives : GivesUp (parts_of some_left) one_closed c.in-Some.key c.take_fd.new.self c.loop-fd.kernel-inside.parked
   gives =
       let new = c.take_fd.ensures in
-      close-gives some_left c.args.pid least.0 c.in-Some.key c.take_fd.new.self least.2 new.pids c.in-Some.ensures.loose new.holders (ap (λ z. z.opened) new.rest) new.tidy
+      close-gives some_left c.args.pid c.in-Some.fd c.in-Some.key c.take_fd.new.self c.in-Some.ensures.rows new.pids c.in-Some.ensures.loose new.holders (ap (λ z. z.opened) new.rest) (ap (λ z. z.limits) new.rest) new.tidy
 
 -- the hold is given up
-released : (g : Over) (c : After-release g) → Releases c.take_fd.new.self c.release.new.descs (nodes_of c.loop-key.kernel-inside.nodes) (nodes_of c.release.new.nodes) c.in-Some.key
-released g c = record { opened = c.release.ensures.opened; loose = c.release.ensures.loose; tables = c.release.ensures.tables; tidy = c.release.ensures.tidy; shrinks = c.release.ensures.shrinks; stays = λ last. ap nodes_of (c.release.ensures.stays last); leaves = c.release.ensures.leaves }
+released : (g : Over) (c : After-release g) → Releases c.take_fd.new.self c.release.new.descs (nodes_of c.loop-fd.kernel-inside.nodes) (nodes_of c.release.new.nodes) c.in-Some.key
+released g c = record { opened = c.release.ensures.opened; loose = c.release.ensures.loose; tables = c.release.ensures.tables; limits = c.release.ensures.limits; tidy = c.release.ensures.tidy; shrinks = c.release.ensures.shrinks; stays = λ last. ap nodes_of (c.release.ensures.stays last); leaves = c.release.ensures.leaves }
 
 pub release-requires-clause-held : goal.release-requires-clause-held
 release-requires-clause-held g c =
     let w = (goal.at.release-requires-clause-held g c).In-Some in
-    (may_release (parts_of (some_left g w)) _ c.in-Some.key c.take_fd.new.self c.loop-key.kernel-inside.parked (gives g w)).0
+    (may_release (parts_of (some_left g w)) _ c.in-Some.key c.take_fd.new.self c.loop-fd.kernel-inside.parked (gives g w)).0
 
 pub release-requires-clause-there : goal.release-requires-clause-there
 release-requires-clause-there g c =
     let w = (goal.at.release-requires-clause-there g c).In-Some in
-    (may_release (parts_of (some_left g w)) _ c.in-Some.key c.take_fd.new.self c.loop-key.kernel-inside.parked (gives g w)).1
+    (may_release (parts_of (some_left g w)) _ c.in-Some.key c.take_fd.new.self c.loop-fd.kernel-inside.parked (gives g w)).1
 
-pub loop-key-preserved : goal.loop-key-preserved
-loop-key-preserved g c =
-    let w = (goal.at.loop-key-preserved g c).In-Some in
+pub loop-fd-preserved : goal.loop-fd-preserved
+loop-fd-preserved g c =
+    let w = (goal.at.loop-fd-preserved g c).In-Some in
     let m = parts_of (some_left g w) in
     let u = one_closed g w in
     let d = c.release.new.descs in
     let ps = nodes_of c.release.new.nodes in
     let core = core_of c.args.kernel.now in
-    let was = c.loop-key.invariant in
+    let was = c.loop-fd.invariant in
     record {
       kept = (record { whole = given_whole m u c.in-Some.key c.take_fd.new.self m.calls (gives g w) d ps (released g c); waiting = was.kept.0.waiting; belong = belong-same m.calls.calls (is_pid m.descs.tables) (is_pid d.tables) was.kept.0.belong (ap is_pid c.release.ensures.tables ∙ c.take_fd.ensures.pids); on_nodes = wait-released m.calls.calls c.take_fd.new.self d m.nodes ps c.in-Some.key (released g c) (subst (λ os. WaitOnNodes m.calls.calls (at os)) (sym (gives g w).opened) was.kept.0.on_nodes) }, given_held m u c.in-Some.key c.take_fd.new.self m.calls (gives g w) d ps (released g c));
-      leaving = subst (IsExiting core c.args.pid) (sym (given m u c.in-Some.key c.take_fd.new.self m.calls (gives g w) d ps (released g c))) (exiting_closes core c.args.pid (core_of (view_of c.loop-key.kernel-inside)) (least g w).0 was.leaving);
+      leaving = subst (IsExiting core c.args.pid) (sym (given m u c.in-Some.key c.take_fd.new.self m.calls (gives g w) d ps (released g c))) (exiting_closes core c.args.pid (core_of (view_of c.loop-fd.kernel-inside)) c.in-Some.fd was.leaving);
       process = ap (λ ts. is_pid ts c.args.pid) c.release.ensures.tables ∙ (λ i. c.take_fd.ensures.pids i c.args.pid) ∙ was.process;
+      gone = λ fd l. ap (λ ts. row_at ts c.args.pid fd) c.release.ensures.tables ∙ (λ i. c.in-Some.ensures.rows i c.args.pid fd) ∙ none_before g w fd l;
     }
 
-pub loop-key-smaller : goal.loop-key-smaller
-loop-key-smaller g c =
-    let open_were : List (Option ℕ) = rows_of c.loop-key.kernel-inside.descs.tables c.args.pid in
+pub overflow_add-least : goal.overflow_add-least
+overflow_add-least g c =
+    let w = (goal.at.overflow_add-least g c).In-Some in
+    let m = some_left g w in
+    let long = rows-length m.descs.tables c.args.pid c.loop-fd.invariant.process m.are.tidy.wide in
+    omega (arith, (first g w).2, long, m.are.tidy.limited.descriptors)
+
+pub loop-fd-smaller : goal.loop-fd-smaller
+loop-fd-smaller g c =
+    let open_were : List (Option ℕ) = rows_of c.loop-fd.kernel-inside.descs.tables c.args.pid in
     subst (λ ts. count_by is_some (rows_of ts c.args.pid) < count_by is_some open_were) (sym c.release.ensures.tables)
-    (fewer_open c.loop-key.kernel-inside.descs.tables c.take_fd.new.self.tables c.args.pid c.in-Some.key c.in-Some.ensures.key c.take_fd.ensures.rows)
+    (fewer_open c.loop-fd.kernel-inside.descs.tables c.take_fd.new.self.tables c.args.pid c.in-Some.fd c.in-Some.key (named g (goal.at.loop-fd-smaller g c).In-Some) c.in-Some.ensures.rows)
 
 pub loop-number-init : goal.loop-number-init
 loop-number-init g c =
-    let was = c.loop-key.invariant in
+    let was = c.loop-fd.invariant in
     let same = c.in_default.ensures.none in
     record {
-      leaving = subst (λ d. IsExiting (core_of c.args.kernel.now) c.args.pid (core_of (contents d (nodes_of c.loop-key.kernel-inside.nodes) c.loop-key.kernel-inside.parked c.loop-key.kernel-inside.limits))) (sym same) was.leaving;
+      leaving = subst (λ d. IsExiting (core_of c.args.kernel.now) c.args.pid (core_of (contents d (nodes_of c.loop-fd.kernel-inside.nodes) c.loop-fd.kernel-inside.parked c.loop-fd.kernel-inside.limits))) (sym same) was.leaving;
       process = ap (λ d. is_pid d.tables c.args.pid) same ∙ was.process;
-      closed = λ fd. ap (λ d. row_at d.tables c.args.pid fd) same ∙ c.in_default.ensures.closed fd;
+      closed = λ fd. ap (λ d. row_at d.tables c.args.pid fd) same ∙ ⊎_elim (λ early. was.gone fd early) (λ late. c.in_default.ensures.closed fd late) (cases_lt fd c.loop-fd.least);
       dropped = λ n l. absurd (omega (arith, l));
     }
 
 pub invariant_of-kernel : goal.invariant_of-kernel
-invariant_of-kernel g c = still_sound c.loop-key.kernel-inside c.loop-key.invariant.kept c.take_fd.new.self (sym c.in_default.ensures.none)
+invariant_of-kernel g c = still_sound c.loop-fd.kernel-inside c.loop-fd.invariant.kept c.take_fd.new.self (sym c.in_default.ensures.none)
 
 -- the call that goes next
 module _ (g : Over) (c : In-Some-next_of_process g) where

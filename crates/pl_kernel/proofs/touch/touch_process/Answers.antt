@@ -14,14 +14,17 @@ use Rattle.pl_kernel.specs.ToldNodes.{key_of}
 use Rattle.pl_kernel.proofs.touch.touch_process.Given.{Over}
 use Rattle.pl_kernel.proofs.touch.touch_process.Goals.{After-state, In-Some}
 use Rattle.pl_kernel.proofs.touch.touch_process.Goals as goal
+use Rattle.pl_model.specs.Tables.{descriptor_limit}
 
 pub loop-number-init : goal.loop-number-init
+unfolding core_of
 loop-number-init g c =
     let core = core_of c.args.state.now in
     let once = (known_in c.args.state.now (known c.state.inside c.state.invariant) c.state.view_is).order.once in
+    let most = c.descriptors-fd-end.ensures ∙ ap (λ (z : Contents g.row.A.Denot). descriptor_limit z.limits) c.state.view_is in
     record {
       less = c.loop-fd.invariant.less;
-      named = λ node h. (let f = row-below core once node c.args.pid h in c.loop-fd.invariant.named node f.0 (omega (arith, f.1, c.loop-fd-test.false)) f.2);
+      named = λ node h. (let f = row-below core once node c.args.pid h in c.loop-fd.invariant.named node f.0 (omega (arith, f.1, most, c.loop-fd-test.false)) f.2);
       kept = λ node n v low. absurd (omega (arith, low));
     }
 
@@ -67,6 +70,7 @@ loop-number-preserved g c =
     }
 
 pub returns-clause-touched : goal.returns-clause-touched
+unfolding core_of
 returns-clause-touched g c = λ node h.
     let w = (goal.at.returns-clause-touched g c).After-state in
     let core = core_of c.args.state.now in

@@ -49,7 +49,7 @@ returns-in_err-park_open-clause-wanted g c =
 
 -- what it leaves
 made : (g : Over) (c : After-unhang_if g) (can : lets_wait (view_of c.kernel.inside) ≡ true) (left : c.kernel.inside.parked.next ≢ last_call)
-    → (IsSound g.row.A.Denot (contents c.park_open.new.descs (nodes_of c.unhang_if.new.nodes) c.mark_met.new.self c.kernel.inside.limits)) × (AreCounted g.row.A.Denot c.park_open.new.descs c.mark_met.new.self.calls)
+    → (IsSound g.row.A.Denot (contents c.park_open.new.descs (nodes_of c.unhang_if.new.nodes) c.mark_met.new.self c.kernel.inside.limits)) × (AreCounted g.row.A.Denot c.kernel.inside.limits c.park_open.new.descs c.mark_met.new.self.calls)
     × MakesAtKeys (view_of c.kernel.inside) (Begin c.args.pid (Call.OpenName c.args.name c.args.end.mode c.args.end.flags)) (Parked c.kernel.inside.parked.next) (contents c.park_open.new.descs (nodes_of c.unhang_if.new.nodes) c.mark_met.new.self c.kernel.inside.limits)
 made g c can left =
     let A = g.row.A.Denot in

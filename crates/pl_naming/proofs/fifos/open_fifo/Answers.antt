@@ -1,4 +1,4 @@
-use Rattle.std.proofs.Common.{◌≡◌, ℕ, true, false, cond, None, Some, IsSome, sym, ap, subst, ◌∙◌, nat_eq}
+use Rattle.std.proofs.Common.{◌≡◌, ℕ, true, false, cond, None, Some, IsSome, sym, ap, subst, ◌∙◌, nat_eq, arith}
 use Rattle.std.specs.Prelude.{pos}
 use Rattle.pl_model.specs.declared.calls.Call.{Call}
 use Rattle.pl_model.specs.declared.calls.Step.TheVariants.{Begin}
@@ -24,6 +24,8 @@ use Rattle.pl_state.proofs.waiting.Met.{met_held}
 use Rattle.pl_naming.proofs.fifos.open_fifo.Given.{Over}
 use Rattle.pl_naming.proofs.fifos.open_fifo.Goals.{After-can_open, After-open_at}
 use Rattle.pl_naming.proofs.fifos.open_fifo.Goals as goal
+use Rattle.pl_model.specs.Tables.{descriptor_limit}
+use Rattle.pl_desc.specs.declared.limits.DescLimits.{DescLimits}
 
 -- whether it can be opened was asked of what the kernel holds
 asked : (g : Over) (c : After-can_open g) → machine_can_open (core_of {A = g.row.A.Denot} (view_of c.kernel.inside)) c.args.pipe c.args.mode c.args.flags ≡ c.can_open.result
@@ -52,19 +54,23 @@ returns-in_err-reserve-clause-wanted g c =
     on_err c.from_residual.result _ (rw (← c.kernel.view_is) (fifo-wants m c.args.mode c.args.flags c.args.fd c.args.pipe c.args.name (may g v) (asked g v ∙ c.if-not-can_open.false)))
 
 pub open_at-requires-clause-place : goal.open_at-requires-clause-place
-open_at-requires-clause-place g c = (lowest_found c.args.kernel.now.tables c.args.kernel.now.limits.descriptors_max c.args.pid 0 c.args.fd c.requires.may.lowest).1
+open_at-requires-clause-place g c =
+    let within = (lowest_found c.args.kernel.now.tables (descriptor_limit c.args.kernel.now.limits) c.args.pid 0 c.args.fd c.requires.may.lowest).1 in
+    let same = ap (λ (z : Contents g.row.A.Denot). descriptor_limit z.limits) c.kernel.view_is in
+    let width = ap (λ (b : DescLimits). b.descriptors) (ap (λ (z : Descs). z.limits) c.reserve.ensures.kept ∙ c.kernel.invariant.1.bounds) in
+    omega (arith, within, same, width)
 
 pub open_at-requires-clause-free : goal.open_at-requires-clause-free
 open_at-requires-clause-free g c =
     ap (λ (z : Descs). row_at z.tables c.args.pid c.args.fd) c.reserve.ensures.kept ∙ ap (λ (z : Contents g.row.A.Denot). row_at z.tables c.args.pid c.args.fd) c.kernel.view_is
-    ∙ (lowest_found c.args.kernel.now.tables c.args.kernel.now.limits.descriptors_max c.args.pid 0 c.args.fd c.requires.may.lowest).0
+    ∙ (lowest_found c.args.kernel.now.tables (descriptor_limit c.args.kernel.now.limits) c.args.pid 0 c.args.fd c.requires.may.lowest).0
 
 pub overflow_cast-result : goal.overflow_cast-result
-overflow_cast-result g c = fits_place c.args.fd (lowest_found c.args.kernel.now.tables c.args.kernel.now.limits.descriptors_max c.args.pid 0 c.args.fd c.requires.may.lowest).1
+overflow_cast-result g c = fits_place c.args.fd (omega (arith, (lowest_found c.args.kernel.now.tables (descriptor_limit c.args.kernel.now.limits) c.args.pid 0 c.args.fd c.requires.may.lowest).1))
 
 -- what opening the FIFO comes to
 made : (g : Over) (c : After-open_at g) (can : machine_can_open (core_of {A = g.row.A.Denot} (view_of c.kernel.inside)) c.args.pipe c.args.mode c.args.flags ≡ true)
-    → (IsSound g.row.A.Denot (contents c.open_at.new.descs (nodes_of c.unhang_if.new.nodes) c.mark_met.new.self c.kernel.inside.limits)) × (AreCounted g.row.A.Denot c.open_at.new.descs c.mark_met.new.self.calls)
+    → (IsSound g.row.A.Denot (contents c.open_at.new.descs (nodes_of c.unhang_if.new.nodes) c.mark_met.new.self c.kernel.inside.limits)) × (AreCounted g.row.A.Denot c.kernel.inside.limits c.open_at.new.descs c.mark_met.new.self.calls)
     × MakesAtKeys (view_of c.kernel.inside) (Begin c.args.pid (Call.OpenName c.args.name c.args.mode c.args.flags)) (Fd (pos c.args.fd)) (contents c.open_at.new.descs (nodes_of c.unhang_if.new.nodes) c.mark_met.new.self c.kernel.inside.limits)
 made g c can =
     let A = g.row.A.Denot in
@@ -80,10 +86,10 @@ made g c can =
     let pids = c.open_at.ensures.pids ∙ ap (λ (z : Descs). is_pid z.tables) kept in
     let same_holds : (q : ℕ) → count_at c.open_at.new.descs.loose q ≡ count_at m.descs.loose q = λ q. (λ i. c.open_at.ensures.loose i q) ∙ ap (λ (z : Descs). count_at z.loose q) kept in
     let same = c.unhang_if.ensures.files in
-    subst (λ (z : Calls A). (IsSound A (contents c.open_at.new.descs (nodes_of c.unhang_if.new.nodes) z c.kernel.inside.limits)) × (AreCounted A c.open_at.new.descs z.calls)
+    subst (λ (z : Calls A). (IsSound A (contents c.open_at.new.descs (nodes_of c.unhang_if.new.nodes) z c.kernel.inside.limits)) × (AreCounted A c.kernel.inside.limits c.open_at.new.descs z.calls)
     × MakesAtKeys (view_of c.kernel.inside) (Begin c.args.pid (Call.OpenName c.args.name c.args.mode c.args.flags)) (Fd (pos c.args.fd)) (contents c.open_at.new.descs (nodes_of c.unhang_if.new.nodes) z c.kernel.inside.limits)) (sym c.mark_met.ensures) (
       fifo_sound m c.args.mode c.args.flags c.args.fd c.args.pipe may.lowest d held.0 held.1 vacant c.open_at.new.descs (nodes_of c.unhang_if.new.nodes) pids rows opened pipes (ap at same.files) same.names same.limits,
-      record { tidy = c.open_at.ensures.tidy; counted = λ q. same_holds q ∙ (met_held m.kernel c.args.pipe c.args.mode).counted q },
+      record { tidy = c.open_at.ensures.tidy; bounds = c.open_at.ensures.limits ∙ ap (λ (z : Descs). z.limits) kept ∙ m.are.bounds; counted = λ q. same_holds q ∙ (met_held m.kernel c.args.pipe c.args.mode).counted q },
       fifo_makes m c.args.mode c.args.flags c.args.fd c.args.pipe may.lowest d held.0 held.1 vacant c.open_at.new.descs (nodes_of c.unhang_if.new.nodes) pids rows opened pipes (ap at same.files) same.names same.limits c.args.name may can,
     )
 
@@ -96,4 +102,4 @@ pub returns-clause-done : goal.returns-clause-done
 returns-clause-done g c =
     let v = goal.at.returns-clause-done g c in
     let all = made g v.After-open_at (asked g v.After-can_open ∙ c.if-not-can_open.false) in
-    rw (← c.kernel.view_is, to_z_place c.args.fd (lowest_found c.args.kernel.now.tables c.args.kernel.now.limits.descriptors_max c.args.pid 0 c.args.fd c.requires.may.lowest).1) all.2
+    rw (← c.kernel.view_is, to_z_place c.args.fd (omega (arith, (lowest_found c.args.kernel.now.tables (descriptor_limit c.args.kernel.now.limits) c.args.pid 0 c.args.fd c.requires.may.lowest).1))) all.2

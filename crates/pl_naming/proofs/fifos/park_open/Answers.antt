@@ -47,7 +47,8 @@ returns-clause-ok g c =
       vacant = ap (λ (z : Descs). at z.opened key) (sym kept_room) ∙ vacant;
       opened = opened ∙ (λ i. set_at nat_eq (at (kept_room i).opened) key (Some (fresh (node.Pipe c.args.end.pipe) c.args.end.mode (c.status_of.ensures i))));
       loose = loose ∙ ap (λ (z : Descs). change_count key one_more (count_at z.loose)) kept_room;
-      tables = c.open_desc.ensures.tables ∙ ap (λ (z : Descs). z.tables) kept_room;
+      tables = ap (λ (z : Descs). z.tables) c.open_desc.ensures.rest ∙ ap (λ (z : Descs). z.tables) kept_room;
+      limits = ap (λ (z : Descs). z.limits) c.open_desc.ensures.rest ∙ ap (λ (z : Descs). z.limits) kept_room;
       tidy = tidy;
       parked = set
           ∙ (λ i. record (c.in-Ok.ensures.ok i) { calls = put nat_eq (c.in-Ok.ensures.ok i).calls (c.in-Ok.ensures.number i) (record first { kept = keys i }) })

@@ -4,7 +4,7 @@ use Rattle.pl_model.specs.Flags.{has, creat, excl}
 use Rattle.pl_decisions.specs.Names.{fault_of_open}
 use Rattle.pl_state.specs.KernelView.{view_of}
 use Rattle.pl_naming.proofs.by_call.Opening.{open-misnamed, open-fault, open-many, open-full, open-may}
-use Rattle.pl_state.proofs.by_call.Piping.{counted}
+use Rattle.pl_state.proofs.by_call.Piping.{counted, lowest-limit}
 use Rattle.pl_state.proofs.Known.{known}
 use Rattle.pl_naming.proofs.naming.checked_open.Given.{Over}
 use Rattle.pl_naming.proofs.naming.checked_open.Goals.{After-open_fault}
@@ -27,16 +27,16 @@ pub returns-in_default-lowest : goal.returns-in_default-lowest
 returns-in_default-lowest g c =
     let v = (goal.at.returns-in_default-lowest g c).After-open_fault in
     λ mode. rw (← c.kernel.view_is) (open-many (view_of c.kernel.inside) c.args.pid c.args.name.now mode c.args.flags (sym c.name_fault.ensures ∙ c.in_default.is) c.look_up-found.result (sym c.look_up-found.ensures)
-    (decided g v ∙ c.in_default-open_fault.is) (sym c.lowest.ensures ∙ c.in_default-lowest.is))
+    (decided g v ∙ c.in_default-open_fault.is) (lowest-limit c.kernel.inside.descs c.kernel.inside.limits c.kernel.invariant.1.bounds c.args.pid 0 ∙ sym c.lowest.ensures ∙ c.in_default-lowest.is))
 
-pub returns-then-live-ge-MAX_DESCRIPTIONS : goal.returns-then-live-ge-MAX_DESCRIPTIONS
-returns-then-live-ge-MAX_DESCRIPTIONS g c =
-    let v = (goal.at.returns-then-live-ge-MAX_DESCRIPTIONS g c).After-open_fault in
+pub returns-then-descriptions-live : goal.returns-then-descriptions-live
+returns-then-descriptions-live g c =
+    let v = (goal.at.returns-then-descriptions-live g c).After-open_fault in
     λ mode. rw (← c.kernel.view_is) (open-full (view_of c.kernel.inside) c.args.pid c.args.name.now mode c.args.flags (sym c.name_fault.ensures ∙ c.in_default.is) c.look_up-found.result (sym c.look_up-found.ensures)
-    (decided g v ∙ c.in_default-open_fault.is) c.in-Some-lowest.fd (counted (known c.kernel.inside c.kernel.invariant)) (sym c.lowest.ensures ∙ c.in-Some-lowest.is) (omega (arith, c.live.ensures.value, c.if-live-ge-MAX_DESCRIPTIONS.true)))
+    (decided g v ∙ c.in_default-open_fault.is) c.in-Some-lowest.fd (counted (known c.kernel.inside c.kernel.invariant)) (lowest-limit c.kernel.inside.descs c.kernel.inside.limits c.kernel.invariant.1.bounds c.args.pid 0 ∙ sym c.lowest.ensures ∙ c.in-Some-lowest.is) (omega (arith, c.live.ensures.value, c.descriptions.ensures, c.if-descriptions-live.true)))
 
 pub returns : goal.returns
 returns g c =
     let v = (goal.at.returns g c).After-open_fault in
     λ mode. rw (← c.kernel.view_is) (open-may (view_of c.kernel.inside) c.args.pid c.args.name.now mode c.args.flags (sym c.name_fault.ensures ∙ c.in_default.is) c.look_up-found.result (sym c.look_up-found.ensures)
-    (decided g v ∙ c.in_default-open_fault.is) c.in-Some-lowest.fd (counted (known c.kernel.inside c.kernel.invariant)) (sym c.lowest.ensures ∙ c.in-Some-lowest.is) (omega (arith, c.live.ensures.value, c.if-live-ge-MAX_DESCRIPTIONS.false)))
+    (decided g v ∙ c.in_default-open_fault.is) c.in-Some-lowest.fd (counted (known c.kernel.inside c.kernel.invariant)) (lowest-limit c.kernel.inside.descs c.kernel.inside.limits c.kernel.invariant.1.bounds c.args.pid 0 ∙ sym c.lowest.ensures ∙ c.in-Some-lowest.is) (omega (arith, c.live.ensures.value, c.descriptions.ensures, c.if-descriptions-live.false)))

@@ -1,4 +1,4 @@
-use Rattle.std.proofs.Common.{◌≡◌, ℕ, true, [], None, Some, sym, ap, subst, ◌∙◌, nat_eq}
+use Rattle.std.proofs.Common.{◌≡◌, ℕ, true, [], None, Some, sym, ap, subst, ◌∙◌, nat_eq, arith}
 use Rattle.std.specs.Prelude.{pos}
 use Rattle.std.specs.Ordering.{nat_cmp}
 use Rattle.std.specs.Cmp.Lexicographic.{slice_cmp}
@@ -22,6 +22,8 @@ use Rattle.pl_state.proofs.Known.{caller}
 use Rattle.pl_naming.proofs.naming.create_file.Given.{Over}
 use Rattle.pl_naming.proofs.naming.create_file.Goals.{After-open_at}
 use Rattle.pl_naming.proofs.naming.create_file.Goals as goal
+use Rattle.pl_model.specs.Tables.{descriptor_limit}
+use Rattle.pl_desc.specs.declared.limits.DescLimits.{DescLimits}
 
 pub returns-then-not-can_name-clause-done : goal.returns-then-not-can_name-clause-done
 returns-then-not-can_name-clause-done g c =
@@ -48,19 +50,23 @@ returns-in_default-clause-wanted g c =
     rw (← c.kernel.view_is) (new-wants m c.args.name.now c.args.mode c.args.flags c.args.fd may (ap lets_name c.kernel.view_is ∙ sym c.can_name.ensures ∙ c.if-not-can_name.false))
 
 pub open_at-requires-clause-place : goal.open_at-requires-clause-place
-open_at-requires-clause-place g c = (lowest_found c.args.kernel.now.tables c.args.kernel.now.limits.descriptors_max c.args.pid 0 c.args.fd c.requires.may.lowest).1
+open_at-requires-clause-place g c =
+    let within = (lowest_found c.args.kernel.now.tables (descriptor_limit c.args.kernel.now.limits) c.args.pid 0 c.args.fd c.requires.may.lowest).1 in
+    let same = ap (λ (z : Contents g.row.A.Denot). descriptor_limit z.limits) c.kernel.view_is in
+    let width = ap (λ (b : DescLimits). b.descriptors) (ap (λ (z : Descs). z.limits) c.reserve.ensures.kept ∙ c.kernel.invariant.1.bounds) in
+    omega (arith, within, same, width)
 
 pub open_at-requires-clause-free : goal.open_at-requires-clause-free
 open_at-requires-clause-free g c =
     ap (λ (z : Descs). row_at z.tables c.args.pid c.args.fd) c.reserve.ensures.kept ∙ ap (λ (z : Contents g.row.A.Denot). row_at z.tables c.args.pid c.args.fd) c.kernel.view_is
-    ∙ (lowest_found c.args.kernel.now.tables c.args.kernel.now.limits.descriptors_max c.args.pid 0 c.args.fd c.requires.may.lowest).0
+    ∙ (lowest_found c.args.kernel.now.tables (descriptor_limit c.args.kernel.now.limits) c.args.pid 0 c.args.fd c.requires.may.lowest).0
 
 pub overflow_cast-result : goal.overflow_cast-result
-overflow_cast-result g c = fits_place c.args.fd (lowest_found c.args.kernel.now.tables c.args.kernel.now.limits.descriptors_max c.args.pid 0 c.args.fd c.requires.may.lowest).1
+overflow_cast-result g c = fits_place c.args.fd (omega (arith, (lowest_found c.args.kernel.now.tables (descriptor_limit c.args.kernel.now.limits) c.args.pid 0 c.args.fd c.requires.may.lowest).1))
 
 -- what making the file and opening it comes to
 made : (g : Over) (c : After-open_at g) (can : lets_name (view_of c.kernel.inside) ≡ true)
-    → (IsSound g.row.A.Denot (contents c.open_at.new.descs (nodes_of c.make_file.new.self) c.kernel.inside.parked c.kernel.inside.limits)) × (AreCounted g.row.A.Denot c.open_at.new.descs c.kernel.inside.parked.calls)
+    → (IsSound g.row.A.Denot (contents c.open_at.new.descs (nodes_of c.make_file.new.self) c.kernel.inside.parked c.kernel.inside.limits)) × (AreCounted g.row.A.Denot c.kernel.inside.limits c.open_at.new.descs c.kernel.inside.parked.calls)
     × (MakesAtKeys (view_of c.kernel.inside) (Begin c.args.pid (Call.OpenName c.args.name.now c.args.mode c.args.flags)) (Fd (pos c.args.fd)) (contents c.open_at.new.descs (nodes_of c.make_file.new.self) c.kernel.inside.parked c.kernel.inside.limits))
 made g c can =
     let m = caller c.kernel.inside c.kernel.invariant c.args.kernel.now c.kernel.view_is c.args.pid c.requires.process in
@@ -78,7 +84,7 @@ made g c can =
     let pids = c.open_at.ensures.pids ∙ ap (λ (z : Descs). is_pid z.tables) kept in
     let same_holds : (q : ℕ) → count_at c.open_at.new.descs.loose q ≡ count_at m.descs.loose q = λ q. (λ i. c.open_at.ensures.loose i q) ∙ ap (λ (z : Descs). count_at z.loose q) kept in
     let both = created m c.args.name.now c.args.mode c.args.flags c.args.fd may can f d vacant_file vacant c.open_at.new.descs (nodes_of c.make_file.new.self) pids rows opened c.in-Ok.ensures.pipes files names c.in-Ok.ensures.limits in
-    (both.0, record { tidy = c.open_at.ensures.tidy; counted = λ q. same_holds q ∙ m.are.counted q }, both.1)
+    (both.0, record { tidy = c.open_at.ensures.tidy; bounds = c.open_at.ensures.limits ∙ ap (λ (z : Descs). z.limits) kept ∙ m.are.bounds; counted = λ q. same_holds q ∙ m.are.counted q }, both.1)
 
 pub invariant_of-kernel-2 : goal.invariant_of-kernel-2
 invariant_of-kernel-2 g c = let all = made g (goal.at.invariant_of-kernel-2 g c).After-open_at (ap lets_name c.kernel.view_is ∙ sym c.can_name.ensures ∙ c.if-not-can_name.false) in (all.0, all.1)
@@ -86,4 +92,4 @@ invariant_of-kernel-2 g c = let all = made g (goal.at.invariant_of-kernel-2 g c)
 pub returns-clause-done : goal.returns-clause-done
 returns-clause-done g c =
     let all = made g (goal.at.returns-clause-done g c).After-open_at (ap lets_name c.kernel.view_is ∙ sym c.can_name.ensures ∙ c.if-not-can_name.false) in
-    rw (← c.kernel.view_is, to_z_place c.args.fd (lowest_found c.args.kernel.now.tables c.args.kernel.now.limits.descriptors_max c.args.pid 0 c.args.fd c.requires.may.lowest).1) all.2
+    rw (← c.kernel.view_is, to_z_place c.args.fd (omega (arith, (lowest_found c.args.kernel.now.tables (descriptor_limit c.args.kernel.now.limits) c.args.pid 0 c.args.fd c.requires.may.lowest).1))) all.2

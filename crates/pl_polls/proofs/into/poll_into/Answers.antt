@@ -1,4 +1,4 @@
-use Rattle.std.proofs.Common.{◌≡◌, ◌<◌, ◌≤◌, Bool, List, ℤ, None, true, false, map, sym, ap, subst, ◌∙◌, length}
+use Rattle.std.proofs.Common.{◌≡◌, ◌<◌, ◌≤◌, Bool, List, ℤ, None, true, false, map, sym, ap, subst, ◌∙◌, length, arith}
 use Rattle.std.specs.Prelude.{◌||◌, ◌==◌, not}
 use Rattle.std.specs.List.{list_any}
 use Rattle.std.proofs.lemmas.List.{length-map}
@@ -8,7 +8,7 @@ use Rattle.pl_model.specs.declared.flags.PollMask.{PollMask}
 use Rattle.pl_model.specs.declared.replies.Reply.{Reply}
 use Rattle.pl_model.specs.declared.replies.Reply.TheVariants.{Fault, Masks, Parked, CallsSpent}
 use Rattle.pl_model.specs.declared.replies.Errno.TheVariants.{EAGAIN}
-use Rattle.pl_model.specs.Numbers.{last_call, open_max}
+use Rattle.pl_model.specs.Numbers.{last_call}
 use Rattle.pl_model.specs.Begin.{named_by}
 use Rattle.pl_model.specs.Poll.{is_ready, masks_reply}
 use Rattle.pl_model.proofs.by_call.Polls.{found_now}
@@ -31,6 +31,7 @@ use Rattle.pl_polls.proofs.Marking.{found_marked}
 use Rattle.pl_polls.proofs.into.poll_into.Given.{Over}
 use Rattle.pl_polls.proofs.into.poll_into.Goals.{After-table, then-not-wait-via-then-not-wait, then-not-wait-via-else-not-wait+then-is_any_ready}
 use Rattle.pl_polls.proofs.into.poll_into.Goals as goal
+use Rattle.pl_model.specs.Tables.{entry_limit}
 
 -- as many are asked as there are entries
 asked-each : (entries : List PollEntry) → length (asked entries) ≡ length entries
@@ -50,8 +51,8 @@ module _ (g : Over) (c : After-table g) where
   abbrev entries : List (ℤ × PollMask)
   entries = asked c.args.entries.now
 
-  few : length entries ≤ open_max
-  few = subst (λ n. n ≤ open_max) (sym (asked-each c.args.entries.now)) c.if-entries-gt-OPEN_MAX.false
+  few : length entries ≤ entry_limit c.kernel.inside.limits
+  few = omega (arith, asked-each c.args.entries.now, c.poll_entries.ensures, c.if-entries-poll_entries.false)
 
   abbrev found : List PollMask
   found = found_now (core_of k) c.args.pid entries
@@ -71,9 +72,9 @@ module _ (g : Over) (c : After-table g) where
   says_found : (noted : List PollEntry) → noted ≡ marked c.args.entries.now looked → map found_in noted ≡ looked
   says_found noted is = ap (map found_in) is ∙ found_marked c.args.entries.now looked looked-each
 
-pub returns-then-entries-gt-OPEN_MAX-clause-done : goal.returns-then-entries-gt-OPEN_MAX-clause-done
-returns-then-entries-gt-OPEN_MAX-clause-done g c =
-    let many : open_max < length (asked c.args.entries.now) = subst (λ n. open_max < n) (sym (asked-each c.args.entries.now)) c.if-entries-gt-OPEN_MAX.true in
+pub returns-then-entries-poll_entries-clause-done : goal.returns-then-entries-poll_entries-clause-done
+returns-then-entries-poll_entries-clause-done g c =
+    let many : entry_limit c.kernel.inside.limits < length (asked c.args.entries.now) = omega (arith, asked-each c.args.entries.now, c.poll_entries.ensures, c.if-entries-poll_entries.true) in
     rw (← c.kernel.view_is) (poll-many (caller c.kernel.inside c.kernel.invariant c.args.kernel.now c.kernel.view_is c.args.pid c.requires) (asked c.args.entries.now) c.args.wait many)
 
 pub returns-then-not-wait-clause-done : goal.returns-then-not-wait-clause-done

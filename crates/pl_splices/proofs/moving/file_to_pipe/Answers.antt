@@ -68,7 +68,7 @@ module _ (g : Over) (c : After-advance g) where
 pub invariant_of-kernel-2 : goal.invariant_of-kernel-2
 invariant_of-kernel-2 g c = (
   subst (IsSound g.row.A.Denot) (new_is g c) (from_file_sound (k g c) c.kernel.invariant.0 c.args.from c.args.to c.args.source c.args.target (on_f g c) (on_q g c) (file g c).0 (pipe g c).0 (file g c).1 (pipe g c).1 c.args.count (left g c) (nodes_of c.move_file_pipe.new.self) (after g c) c.advance.new.descs.opened (moves g c)),
-  record { tidy = c.advance.ensures.tidy; counted = λ q. ap (λ (d : Descs). count_at d.loose q) c.advance.ensures.rest ∙ c.kernel.invariant.1.counted q },
+  record { tidy = c.advance.ensures.tidy; bounds = ap (λ (d : Descs). d.limits) c.advance.ensures.rest ∙ c.kernel.invariant.1.bounds; counted = λ q. ap (λ (d : Descs). count_at d.loose q) c.advance.ensures.rest ∙ c.kernel.invariant.1.counted q },
 )
 
 pub returns-clause-done : goal.returns-clause-done

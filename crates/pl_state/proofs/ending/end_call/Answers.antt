@@ -48,7 +48,7 @@ invariant_of-kernel g c =
     let n = c.args.number in
     let call = c.unwrap-call.result in
     let descs = c.release_all.new.descs in
-    subst (λ (z : Calls A). (IsSound A (contents descs (nodes g w) z c.kernel.inside.limits)) × (AreCounted A descs z.calls)) (sym c.take.ensures.rest) (
+    subst (λ (z : Calls A). (IsSound A (contents descs (nodes g w) z c.kernel.inside.limits)) × (AreCounted A c.kernel.inside.limits descs z.calls)) (sym c.take.ensures.rest) (
       record {
         whole = ended_whole (parts g v) n call (here g v) descs (nodes g w) (released g w);
         waiting = λ q. get_without c.kernel.inside.parked.calls n (IsWaiting A) q (c.kernel.invariant.0.waiting q);

@@ -15,6 +15,7 @@ use Rattle.pl_state.proofs.waiting.ParkedCalls.{few_to_hold, call_sound, held_is
 use Rattle.pl_state.proofs.holding.park.Given.{Over}
 use Rattle.pl_state.proofs.holding.park.Goals.{After-get, After-as_slice}
 use Rattle.pl_state.proofs.holding.park.Goals as goal
+use Rattle.pl_desc.specs.Descs.{Descs}
 
 -- the call stands under its number
 here : (g : Over) (c : After-get g) → get nat_eq c.park.new.self.calls c.in-Ok.number ≡ Some c.args.call
@@ -55,5 +56,5 @@ invariant_of-kernel-2 g c =
     let is = held_is m w c.hold_all.new.descs c.hold_all.ensures.rest in
     let sound = call_sound v c.kernel.invariant.0 w c.requires.waits open_ones left nodes process in
     let loose = subst (λ ks. (key : ℕ) → count_at c.hold_all.new.descs.loose key ≡ count_at k.descs.loose key + times ks key) (kept_is g (goal.at.invariant_of-kernel-2 g c).After-as_slice) c.hold_all.ensures.loose in
-    let are = park_held m w c.hold_all.new.descs c.hold_all.ensures.rest loose c.hold_all.ensures.tidy in
-    subst (λ (z : Calls A). IsSound A (contents c.hold_all.new.descs (nodes_of k.nodes) z k.limits) × AreCounted A c.hold_all.new.descs z.calls) (sym c.in-Ok.ensures.ok) (subst (IsSound A) (sym is) sound, are)
+    let are = park_held m w c.hold_all.new.descs c.hold_all.ensures.rest loose (ap (λ (d : Descs). d.limits) c.hold_all.ensures.rest) c.hold_all.ensures.tidy in
+    subst (λ (z : Calls A). IsSound A (contents c.hold_all.new.descs (nodes_of k.nodes) z k.limits) × AreCounted A c.kernel.inside.limits c.hold_all.new.descs z.calls) (sym c.in-Ok.ensures.ok) (subst (IsSound A) (sym is) sound, are)

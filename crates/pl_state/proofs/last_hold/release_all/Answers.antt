@@ -16,7 +16,7 @@ loop-place-preserved g c =
     let place = c.loop-place.place in
     let was = c.loop-place.invariant in
     let told = c.release.ensures in
-    let one : Releases mid new between after _ = record { opened = told.opened; loose = told.loose; tables = told.tables; tidy = told.tidy; shrinks = told.shrinks; stays = λ last. ap nodes_of (told.stays last); leaves = told.leaves } in
+    let one : Releases mid new between after _ = record { opened = told.opened; loose = told.loose; tables = told.tables; limits = told.limits; tidy = told.tidy; shrinks = told.shrinks; stays = λ last. ap nodes_of (told.stays last); leaves = told.leaves } in
     record {
       released = released_next keys place c.loop-place-test.true old mid new before between after was.released was.held was.there was.tidy one;
       held = held_next keys place c.loop-place-test.true old mid new before between after was.released was.held was.there was.tidy one;

@@ -49,7 +49,7 @@ invariant_of-kernel g c =
     let k = view_of c.kernel.inside in (
       redescribed_sound k c.kernel.invariant.0 c.args.key on.opened on.here _ (λ x. refl) refl (view_of (record c.kernel.inside { descs = c.set_offset.new.self }))
           c.set_offset.ensures.opened (ap (λ (d : Descs). contents d (nodes_of c.kernel.inside.nodes) c.kernel.inside.parked c.kernel.inside.limits) c.set_offset.ensures.rest),
-      record { tidy = c.set_offset.ensures.tidy; counted = λ q. ap (λ (d : Descs). count_at d.loose q) c.set_offset.ensures.rest ∙ c.kernel.invariant.1.counted q },
+      record { tidy = c.set_offset.ensures.tidy; bounds = ap (λ (d : Descs). d.limits) c.set_offset.ensures.rest ∙ c.kernel.invariant.1.bounds; counted = λ q. ap (λ (d : Descs). count_at d.loose q) c.set_offset.ensures.rest ∙ c.kernel.invariant.1.counted q },
     )
 
 pub returns-clause-done : goal.returns-clause-done

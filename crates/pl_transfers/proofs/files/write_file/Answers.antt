@@ -72,7 +72,7 @@ invariant_of-kernel-2 g c =
     let s = at_first g c in (
       rewritten_sound (view_of c.kernel.inside) c.kernel.invariant.0 c.args.key (on g s).opened (on g s).here _ (λ x. refl) refl (after g c) c.set_offset.ensures.opened
           c.args.file (held g s).0 (held g s).1 (λ b. put_bytes b c.place_to_write-place.result (fits g c)) (put g c) (rest g c),
-      record { tidy = c.set_offset.ensures.tidy; counted = λ q. ap (λ (d : Descs). count_at d.loose q) c.set_offset.ensures.rest ∙ c.kernel.invariant.1.counted q },
+      record { tidy = c.set_offset.ensures.tidy; bounds = ap (λ (d : Descs). d.limits) c.set_offset.ensures.rest ∙ c.kernel.invariant.1.bounds; counted = λ q. ap (λ (d : Descs). count_at d.loose q) c.set_offset.ensures.rest ∙ c.kernel.invariant.1.counted q },
     )
 
 pub returns-clause-done : goal.returns-clause-done

@@ -77,7 +77,7 @@ invariant_of-kernel g c =
     let rest = c.set_offset.ensures.rest in (
       redescribed_sound (view_of c.kernel.inside) m.sound c.in-Some.key o.0 o.1 (λ (x : Opened). record x { offset = c.in-Ok.place }) (λ x. refl) refl
           (contents c.set_offset.new.self m.nodes m.calls m.limits) c.set_offset.ensures.opened (ap (λ (z : Descs). contents z m.nodes m.calls m.limits) rest),
-      record { tidy = c.set_offset.ensures.tidy; counted = λ q. ap (λ (z : Descs). count_at z.loose q) rest ∙ m.are.counted q },
+      record { tidy = c.set_offset.ensures.tidy; bounds = ap (λ (z : Descs). z.limits) rest ∙ m.are.bounds; counted = λ q. ap (λ (z : Descs). count_at z.loose q) rest ∙ m.are.counted q },
     )
 
 pub returns-in-Ok : goal.returns-in-Ok

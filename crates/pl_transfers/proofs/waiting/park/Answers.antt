@@ -11,6 +11,7 @@ use Rattle.pl_state.proofs.holders.Holding.{held_once}
 use Rattle.pl_state.proofs.waiting.ParkedCalls.{few_holds, park_sound, held_is, park_held}
 use Rattle.pl_state.proofs.Known.{known}
 use Rattle.pl_transfers.proofs.waiting.park.Goals as goal
+use Rattle.pl_desc.specs.Descs.{Descs}
 
 pub hold-requires-clause-few : goal.hold-requires-clause-few
 hold-requires-clause-few g c = few_holds c.kernel.inside.descs (view_of c.kernel.inside) c.kernel.invariant.0 c.kernel.invariant.1 c.args.key
@@ -28,8 +29,8 @@ invariant_of-kernel-2 g c =
     let w = call_on c.args.key c.args.pid c.args.call c.args.taken in
     let is = held_is m w c.hold.new.self c.hold.ensures.rest in
     let sound = park_sound (view_of k) c.kernel.invariant.0 c.args.key o.0 o.1 left c.args.pid c.args.call c.args.taken c.requires.one c.requires.may process pipe in
-    let are = park_held m w c.hold.new.self c.hold.ensures.rest (held_once c.args.key (count_at k.descs.loose) (count_at c.hold.new.self.loose) c.hold.ensures.loose) c.hold.ensures.tidy in
-    subst (λ (z : Calls A). IsSound A (contents c.hold.new.self (nodes_of k.nodes) z k.limits) × AreCounted A c.hold.new.self z.calls) (sym c.in_ok-number.ensures.ok) (subst (IsSound A) (sym is) sound, are)
+    let are = park_held m w c.hold.new.self c.hold.ensures.rest (held_once c.args.key (count_at k.descs.loose) (count_at c.hold.new.self.loose) c.hold.ensures.loose) (ap (λ (d : Descs). d.limits) c.hold.ensures.rest) c.hold.ensures.tidy in
+    subst (λ (z : Calls A). IsSound A (contents c.hold.new.self (nodes_of k.nodes) z k.limits) × AreCounted A c.kernel.inside.limits c.hold.new.self z.calls) (sym c.in_ok-number.ensures.ok) (subst (IsSound A) (sym is) sound, are)
 
 pub returns-clause-ok : goal.returns-clause-ok
 returns-clause-ok g c =

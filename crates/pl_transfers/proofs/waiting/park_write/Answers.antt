@@ -21,6 +21,7 @@ use Rattle.pl_state.proofs.Known.{Known, known}
 use Rattle.pl_transfers.proofs.waiting.park_write.Given.{Over}
 use Rattle.pl_transfers.proofs.waiting.park_write.Goals.{After-get, After-bytes_of-bytes, After-hold}
 use Rattle.pl_transfers.proofs.waiting.park_write.Goals as goal
+use Rattle.pl_desc.specs.Descs.{Descs}
 
 -- the call stands under its number
 module _ (g : Over) (c : After-get g) where
@@ -89,8 +90,8 @@ invariant_of-kernel-in-Ok g c =
     let p = pipe_there k c.kernel.invariant.0.whole c.args.end.key c.args.end.pipe on in
     let process = ap (λ (z : Contents A). is_pid z.tables c.args.pid) c.kernel.view_is ∙ c.requires.process in
     let sound = park_moves_sound k c.kernel.invariant.0 c.args.end.key on.opened on.here left c.args.pid c.args.call c.args.taken c.requires.one c.requires.may process (subst (MayKeep (call_on c.args.end.key c.args.pid c.args.call c.args.taken)) (sym on.node) c.requires.keeps) c.args.end.pipe on p.0 p.1 (more g v) (with_pipes (with_it g v) (pipes g v)) (adds g v bytes) in
-    let are = park_held (holds g v) (call_on c.args.end.key c.args.pid c.args.call c.args.taken) c.hold.new.self c.hold.ensures.rest (held_once c.args.end.key (count_at (holds g v).descs.loose) (count_at c.hold.new.self.loose) c.hold.ensures.loose) c.hold.ensures.tidy in
-    subst (λ (z : Calls A). IsSound A (contents c.hold.new.self (nodes_of c.write_pipe.new.self) z k.limits) × AreCounted A c.hold.new.self z.calls) (sym c.in_ok-number.ensures.ok) (subst (IsSound A) (held_moved g v c.in-Ok.ensures.files) sound, are)
+    let are = park_held (holds g v) (call_on c.args.end.key c.args.pid c.args.call c.args.taken) c.hold.new.self c.hold.ensures.rest (held_once c.args.end.key (count_at (holds g v).descs.loose) (count_at c.hold.new.self.loose) c.hold.ensures.loose) (ap (λ (d : Descs). d.limits) c.hold.ensures.rest) c.hold.ensures.tidy in
+    subst (λ (z : Calls A). IsSound A (contents c.hold.new.self (nodes_of c.write_pipe.new.self) z k.limits) × AreCounted A c.kernel.inside.limits c.hold.new.self z.calls) (sym c.in_ok-number.ensures.ok) (subst (IsSound A) (held_moved g v c.in-Ok.ensures.files) sound, are)
 
 pub returns-in-Ok-clause-ok : goal.returns-in-Ok-clause-ok
 returns-in-Ok-clause-ok g c =

@@ -1,4 +1,4 @@
-use Rattle.std.proofs.Common.{◌≡◌, sym, ap, subst, ◌∙◌}
+use Rattle.std.proofs.Common.{◌≡◌, sym, ap, subst, ◌∙◌, ℕ, ◌<◌, ◌≤◌, arith}
 use Rattle.std.specs.Prelude.{pos}
 use Rattle.pl_model.specs.declared.calls.Step.TheVariants.{Resume}
 use Rattle.pl_model.specs.declared.replies.Reply.TheVariants.{Fd}
@@ -17,6 +17,10 @@ use Rattle.pl_transfers.proofs.by_call.OpensAgain.{open-waits, open-many, open-s
 use Rattle.pl_transfers.proofs.waiting.resume_open.Given.{Over}
 use Rattle.pl_transfers.proofs.waiting.resume_open.Goals.{After-kernel}
 use Rattle.pl_transfers.proofs.waiting.resume_open.Goals as goal
+use Rattle.pl_model.specs.Numbers.{most_descriptors}
+
+small : (fd most : ℕ) → most ≤ most_descriptors → fd < most → fd < most_descriptors
+small fd most few l = omega (arith, few, l)
 
 -- the open that waits
 module _ (g : Over) (c : After-kernel g) where
@@ -39,10 +43,10 @@ returns-in_default g c =
     rw (← c.kernel.view_is) (open-many (m g v) c.args.number c.args.pid c.args.key c.args.met (waits g v) c.if-not-met.false (sym c.lowest.ensures ∙ c.in_default.is) new ended)
 
 pub install-requires-clause-place : goal.install-requires-clause-place
-install-requires-clause-place g c = (lowest_found c.kernel.inside.descs.tables c.kernel.inside.limits.descriptors_max c.args.pid 0 c.in-Some.fd (sym c.lowest.ensures ∙ c.in-Some.is)).1
+install-requires-clause-place g c = (lowest_found c.kernel.inside.descs.tables c.kernel.inside.descs.limits.descriptors c.args.pid 0 c.in-Some.fd (sym c.lowest.ensures ∙ c.in-Some.is)).1
 
 pub install-requires-clause-free : goal.install-requires-clause-free
-install-requires-clause-free g c = (lowest_found c.kernel.inside.descs.tables c.kernel.inside.limits.descriptors_max c.args.pid 0 c.in-Some.fd (sym c.lowest.ensures ∙ c.in-Some.is)).0
+install-requires-clause-free g c = (lowest_found c.kernel.inside.descs.tables c.kernel.inside.descs.limits.descriptors c.args.pid 0 c.in-Some.fd (sym c.lowest.ensures ∙ c.in-Some.is)).0
 
 pub install-requires-clause-held : goal.install-requires-clause-held
 install-requires-clause-held g c =
@@ -50,7 +54,7 @@ install-requires-clause-held g c =
     held (m g v) c.args.number c.args.pid c.args.key c.args.met (waits g v)
 
 pub overflow_cast-result : goal.overflow_cast-result
-overflow_cast-result g c = fits_place c.in-Some.fd (lowest_found c.kernel.inside.descs.tables c.kernel.inside.limits.descriptors_max c.args.pid 0 c.in-Some.fd (sym c.lowest.ensures ∙ c.in-Some.is)).1
+overflow_cast-result g c = fits_place c.in-Some.fd (small c.in-Some.fd c.kernel.inside.descs.limits.descriptors c.kernel.invariant.1.tidy.limited.descriptors (lowest_found c.kernel.inside.descs.tables c.kernel.inside.descs.limits.descriptors c.args.pid 0 c.in-Some.fd (sym c.lowest.ensures ∙ c.in-Some.is)).1)
 
 pub invariant_of-kernel : goal.invariant_of-kernel
 invariant_of-kernel g c =
@@ -58,9 +62,9 @@ invariant_of-kernel g c =
     let i = c.install.ensures in
     let n = c.args.number in
     let at_call = waits g v in
-    subst (λ (z : Calls g.row.A.Denot). (IsSound g.row.A.Denot (contents c.install.new.self (nodes_of c.kernel.inside.nodes) z c.kernel.inside.limits)) × (AreCounted g.row.A.Denot c.install.new.self z.calls)) (sym c.take.ensures.rest) (
-      open-sound (m g v) n c.args.pid c.args.key c.args.met at_call c.if-not-met.false c.in-Some.fd (sym c.lowest.ensures ∙ c.in-Some.is) c.install.new.self i.pids i.rows (ap (λ (z : Descs). z.opened) i.rest) i.loose i.tidy,
-      open-held (m g v) n c.args.pid c.args.key c.args.met at_call c.if-not-met.false c.in-Some.fd (sym c.lowest.ensures ∙ c.in-Some.is) c.install.new.self i.pids i.rows (ap (λ (z : Descs). z.opened) i.rest) i.loose i.tidy,
+    subst (λ (z : Calls g.row.A.Denot). (IsSound g.row.A.Denot (contents c.install.new.self (nodes_of c.kernel.inside.nodes) z c.kernel.inside.limits)) × (AreCounted g.row.A.Denot c.kernel.inside.limits c.install.new.self z.calls)) (sym c.take.ensures.rest) (
+      open-sound (m g v) n c.args.pid c.args.key c.args.met at_call c.if-not-met.false c.in-Some.fd (sym c.lowest.ensures ∙ c.in-Some.is) c.install.new.self i.pids i.rows (ap (λ (z : Descs). z.opened) i.rest) (ap (λ (z : Descs). z.limits) i.rest) i.loose i.tidy,
+      open-held (m g v) n c.args.pid c.args.key c.args.met at_call c.if-not-met.false c.in-Some.fd (sym c.lowest.ensures ∙ c.in-Some.is) c.install.new.self i.pids i.rows (ap (λ (z : Descs). z.opened) i.rest) (ap (λ (z : Descs). z.limits) i.rest) i.loose i.tidy,
     )
 
 pub returns : goal.returns
@@ -70,6 +74,6 @@ returns g c =
     let n = c.args.number in
     let fd = c.in-Some.fd in
     let least = sym c.lowest.ensures ∙ c.in-Some.is in
-    rw (← c.kernel.view_is, to_z_place fd (lowest_found c.kernel.inside.descs.tables c.kernel.inside.limits.descriptors_max c.args.pid 0 fd least).1)
+    rw (← c.kernel.view_is, to_z_place fd (small fd c.kernel.inside.descs.limits.descriptors c.kernel.invariant.1.tidy.limited.descriptors (lowest_found c.kernel.inside.descs.tables c.kernel.inside.descs.limits.descriptors c.args.pid 0 fd least).1))
     (subst (λ (z : Calls g.row.A.Denot). MakesAtKeys (view_of c.kernel.inside) (Resume n) (Fd (pos fd)) (contents c.install.new.self (nodes_of c.kernel.inside.nodes) z c.kernel.inside.limits)) (sym c.take.ensures.rest)
-    (open-made (m g v) n c.args.pid c.args.key c.args.met (waits g v) c.if-not-met.false fd least c.install.new.self i.pids i.rows (ap (λ (z : Descs). z.opened) i.rest) i.loose i.tidy))
+    (open-made (m g v) n c.args.pid c.args.key c.args.met (waits g v) c.if-not-met.false fd least c.install.new.self i.pids i.rows (ap (λ (z : Descs). z.opened) i.rest) (ap (λ (z : Descs). z.limits) i.rest) i.loose i.tidy))

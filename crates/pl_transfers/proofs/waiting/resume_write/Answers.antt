@@ -145,7 +145,7 @@ invariant_of-kernel-in-Waits g c =
     let moved = ap (λ (z : Contents A). record z { calls = c.set_taken.new.self }) (moved_view c.kernel.inside c.write_pipe-in-Waits.new.self c.in_ok-write_pipe-in-Waits.ensures.files) in
     let calls = taken_in g (goal.at.invariant_of-kernel-in-Waits g c).After-set_taken (w g v).call (w g v).here in (
       subst (IsSound A) (sym (ap (λ z. record (with_pipes k pipes) { calls = z }) calls) ∙ moved) (again_sound k (o g v) c.in-Waits.to may_on part pipes c.in_ok-write_pipe-in-Waits.ensures.ok),
-      subst (λ (z : Calls A). AreCounted A c.kernel.inside.descs z.calls) (sym calls) (again_held k (o g v) c.in-Waits.to may_on part pipes c.in_ok-write_pipe-in-Waits.ensures.ok c.kernel.inside.descs c.kernel.invariant.1),
+      subst (λ (z : Calls A). AreCounted A c.kernel.inside.limits c.kernel.inside.descs z.calls) (sym calls) (again_held k (o g v) c.in-Waits.to may_on part pipes c.in_ok-write_pipe-in-Waits.ensures.ok c.kernel.inside.descs c.kernel.invariant.1),
     )
 
 pub returns-in-Broken-clause-done : goal.returns-in-Broken-clause-done

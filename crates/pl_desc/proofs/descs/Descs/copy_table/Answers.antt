@@ -1,7 +1,6 @@
 use Rattle.std.proofs.Common.{◌≡◌, ◌≤◌, ◌<◌, ◌^◌, ◌-◌, length, ap, ◌∙◌, sym, subst, Some, true, nat_eq, arith, ⊎_elim}
 use Rattle.std.specs.Prelude.{is_some, count_by}
 use Rattle.std.proofs.lemmas.Bool.{cases_lt}
-use Rattle.pl_model.specs.Numbers.{most_processes, open_max}
 use Rattle.pl_model.specs.Map.{set_at}
 use Rattle.pl_desc.specs.Rows.{Tables, at, is_pid, row_at, rows_of, free_pid, with_table, with_rows_of, count_at}
 use Rattle.pl_desc.specs.Descs.{Descs, live_count}
@@ -14,15 +13,15 @@ use Rattle.pl_desc.proofs.Steps.{ok_part, err_part, holders-few, sound-copied, r
 use Rattle.pl_desc.proofs.ViewLemmas.{len-same}
 use Rattle.pl_desc.proofs.Known.{Known, Starts, known}
 use Rattle.pl_desc.proofs.descs.Descs.copy_table.Given.{Over}
-use Rattle.pl_desc.proofs.descs.Descs.copy_table.Goals.{After-table-2-1, Joined-index_mut}
+use Rattle.pl_desc.proofs.descs.Descs.copy_table.Goals.{After-table-2-1, After-add}
 use Rattle.pl_desc.proofs.descs.Descs.copy_table.Goals as goal
 
 -- the table is copied
-copied : (g : Over) (c : After-table-2-1 g) → c.in-Ok.table ≡ rows_of c.self.inside.tables.items c.args.pid
+copied : (g : Over) (c : After-table-2-1 g) → c.in-Ok.table ≡ rows_of c.self.inside.tables c.args.pid
 copied g c = c.in-Ok.ensures ∙ ap (λ d. rows_of d.tables c.args.pid) (sym c.self.view_is)
 
 -- a process starts under the least free pid, with the copied table
-module _ (g : Over) (c : Joined-index_mut g) where
+module _ (g : Over) (c : After-add g) where
   abbrev m : Known
   m = known c.self.inside c.self.invariant
 
@@ -30,52 +29,54 @@ module _ (g : Over) (c : Joined-index_mut g) where
   table_is = c.in-Ok.ensures ∙ ap (λ d. rows_of d.tables c.args.pid) (sym c.self.view_is)
 
   abbrev places : Tables
-  places = c.reserve_place.new.tables.items
+  places = c.reserve.new.self
 
-  free : free_pid m.tables ≡ Some c.in-Some.other
-  free = ap (λ d. free_pid d.tables) c.self.view_is ∙ sym c.in-Some.ensures.value
+  free : free_pid m.tables m.limits.processes ≡ Some c.in-Some.other
+  free = sym c.in-Some.ensures.value
 
   high : c.in-Some.other ≤ length places
-  high = ok_part c.reserve_place.result (sym c.is_err.ensures.value ∙ c.if-is_err.false) c.reserve_place.ensures.place
+  high = ok_part c.reserve.result (sym c.is_err.ensures.value ∙ c.if-is_err.false) c.reserve.ensures.place
 
-  few : length places ≤ most_processes
+  few : length places ≤ m.limits.processes
   few =
-      let said = c.reserve_place.ensures in
-      ⊎_elim (λ l. omega (arith, l, said.pids, (pid-found m.tables c.in-Some.other free).2)) (λ l. omega (arith, l, said.high l, m.sound.few)) (cases_lt (length m.tables) c.in-Some.other)
+      let said = c.reserve.ensures in
+      ⊎_elim (λ l. omega (arith, l, said.pids, (pid-found m.tables m.limits.processes c.in-Some.other free).2)) (λ l. omega (arith, l, said.high l, m.sound.few)) (cases_lt (length m.tables) c.in-Some.other)
 
-  wide : length c.in-Ok.table ≡ open_max
+  wide : length c.in-Ok.table ≡ m.limits.descriptors
   wide = ap length table_is ∙ rows-length m.tables c.args.pid (ap (λ d. is_pid d.tables c.args.pid) c.self.view_is ∙ c.requires.process) m.sound.wide
 
   abbrev starts : Starts m
-  starts = record { pid = c.in-Some.other; free = free; places = places; same = c.reserve_place.ensures.rows; names_same = c.reserve_place.ensures.names; few = few; high = high; table = c.in-Ok.table; wide = wide }
+  starts = record { pid = c.in-Some.other; free = free; places = places; same = c.reserve.ensures.rows; names_same = c.reserve.ensures.names; few = few; high = high; table = c.in-Ok.table; wide = wide }
 
 pub hold_all-requires-clause-here : goal.hold_all-requires-clause-here
 hold_all-requires-clause-here g c = λ fd key h.
     let k = c.self.inside in
-    slot_of k.descriptions.slots key (is_named k.tables.items k.descriptions.slots (ends_at k.counts) c.self.invariant c.args.pid fd key (ap (λ t. at t fd) (sym (copied g c)) ∙ h))
+    slot_of k.descriptions.slots key (is_named k.tables k.descriptions.slots (ends_at k.counts) c.self.invariant c.args.pid fd key (ap (λ t. at t fd) (sym (copied g c)) ∙ h))
 
 pub hold_all-requires-clause-few : goal.hold_all-requires-clause-few
 hold_all-requires-clause-few g c = λ key.
     let k = c.self.inside in
-    holders-few k.tables.items k.descriptions.slots (ends_at k.counts) c.self.invariant key (subst (λ d. count_at d.loose key < 2 ^ 100) (sym c.self.view_is) (c.requires.few key))
+    holders-few k.tables k.descriptions.slots (ends_at k.counts) c.self.invariant key (subst (λ d. count_at d.loose key < 2 ^ 100) (sym c.self.view_is) (c.requires.few key))
 
 pub invariant_of-self-2 : goal.invariant_of-self-2
 invariant_of-self-2 g c =
-    subst (λ ss. IsSound (with_table (places g c) c.in-Some.other (Some c.in-Ok.table)) ss (ends_at c.self.inside.counts)) (sym (ap (λ s. s.slots) c.hold_all.ensures))
-    (sound-copied (m g c) (starts g c) c.args.pid (table_is g c))
+    subst (λ ts. IsSound c.self.inside.limits ts c.hold_all.new.descriptions.slots (ends_at c.self.inside.counts)) (sym c.add.ensures)
+    (subst (λ ss. IsSound c.self.inside.limits (with_table (places g c) c.in-Some.other (Some c.in-Ok.table)) ss (ends_at c.self.inside.counts)) (sym (ap (λ s. s.slots) c.hold_all.ensures))
+    (sound-copied (m g c) (starts g c) c.args.pid (table_is g c)))
 
 pub returns-clause-pids : goal.returns-clause-pids
-returns-clause-pids g c = pids-started (m g c) (starts g c) ∙ ap (λ d. set_at nat_eq (is_pid d.tables) c.in-Some.other true) c.self.view_is
+returns-clause-pids g c = ap is_pid c.add.ensures ∙ pids-started (m g c) (starts g c) ∙ ap (λ d. set_at nat_eq (is_pid d.tables) c.in-Some.other true) c.self.view_is
 
 pub returns-clause-rows : goal.returns-clause-rows
-returns-clause-rows g c = rows-copied (m g c) (starts g c) c.args.pid (table_is g c) ∙ ap (λ d. with_rows_of (row_at d.tables) c.args.pid c.in-Some.other) c.self.view_is
+returns-clause-rows g c = ap row_at c.add.ensures ∙ rows-copied (m g c) (starts g c) c.args.pid (table_is g c) ∙ ap (λ d. with_rows_of (row_at d.tables) c.args.pid c.in-Some.other) c.self.view_is
 
 pub returns-clause-rest : goal.returns-clause-rest
 returns-clause-rest g c =
     let k = c.self.inside in
-    let new = with_table (places g c) c.in-Some.other (Some c.in-Ok.table) in
+    let new = c.add.new.self in
     let same = all-opened c.in-Ok.table k.descriptions.slots in
     let others : Descs → Descs = λ d. record d { tables = new } in
+    let loose = ap (λ ts. loose_from 0 ts (held_all c.in-Ok.table k.descriptions.slots)) c.add.ensures ∙ loose-copied (m g c) (starts g c) c.args.pid (table_is g c) in
     (λ i. record {
       tables = new;
       opened = opened_in (c.hold_all.ensures i).slots;
@@ -85,16 +86,18 @@ returns-clause-rest g c =
         pipes = length k.counts.pipes.items;
         files = length k.counts.files.items;
       };
+      limits = k.limits;
     })
     ∙ (λ i. record {
       tables = new;
       opened = same i;
-      loose = loose-copied (m g c) (starts g c) c.args.pid (table_is g c) i;
+      loose = loose i;
       room = record {
         descriptions = k.descriptions.capacity - len-same k.descriptions.slots (held_all c.in-Ok.table k.descriptions.slots) (ap live_count same) i;
         pipes = length k.counts.pipes.items;
         files = length k.counts.files.items;
       };
+      limits = k.limits;
     })
     ∙ ap others c.self.view_is
 
@@ -102,4 +105,9 @@ pub returns-clause-tidy : goal.returns-clause-tidy
 returns-clause-tidy g c = tidy _ _ _ (invariant_of-self-2 g c) _
 
 pub invariant_of-self : goal.invariant_of-self
-invariant_of-self g c = subst (λ ts. IsSound ts c.self.inside.descriptions.slots (ends_at c.self.inside.counts)) (sym (err_part c.reserve_place.result (sym c.is_err.ensures.value ∙ c.if-is_err.true) c.reserve_place.ensures.unchanged)) c.self.invariant
+invariant_of-self g c = subst (λ ts. IsSound c.self.inside.limits ts c.self.inside.descriptions.slots (ends_at c.self.inside.counts)) (sym (err_part c.reserve.result (sym c.is_err.ensures.value ∙ c.if-is_err.true) c.reserve.ensures.unchanged)) c.self.invariant
+
+pub reserve-requires-clause-few : goal.reserve-requires-clause-few
+reserve-requires-clause-few g c =
+    let found = pid-found c.self.inside.tables c.self.inside.limits.processes c.in-Some.other (sym c.in-Some.ensures.value) in
+    omega (arith, found.2, c.self.invariant.limited.processes)

@@ -11,24 +11,25 @@ use Rattle.pl_desc.proofs.descs.Descs.new.Goals as goal
 
 pub invariant_of-result : goal.invariant_of-result
 invariant_of-result g c =
-    subst (λ (ts : Tables). IsSound ts c.new-2.result.slots (ends_at c.new-3.result)) (sym c.new.ensures.items)
-    (subst (λ (ss : List (Option Description)). IsSound [] ss (ends_at c.new-3.result)) (sym c.new-2.ensures.empty)
-    (sound-none (ends_at c.new-3.result) (ends-none c.new-3.result c.new-3.ensures.pipes c.new-3.ensures.files)))
+    subst (λ (ts : Tables). IsSound c.args.limits ts c.new-2.result.slots (ends_at c.new-3.result)) (sym c.new.ensures)
+    (subst (λ (ss : List (Option Description)). IsSound c.args.limits [] ss (ends_at c.new-3.result)) (sym c.new-2.ensures.empty)
+    (sound-none c.requires (ends_at c.new-3.result) (ends-none c.new-3.result c.new-3.ensures.pipes c.new-3.ensures.files)))
 
 pub returns-clause-value : goal.returns-clause-value
 returns-clause-value g c =
     let len : c.new-2.result.capacity - count_by is_some c.new-2.result.slots ≡ 0 = omega (arith, c.new-2.ensures.capacity) in
     (λ i. record {
-      tables = c.new.ensures.items i;
+      tables = c.new.ensures i;
       opened = opened_in (c.new-2.ensures.empty i);
-      loose = loose_from 0 (c.new.ensures.items i) (c.new-2.ensures.empty i);
+      loose = loose_from 0 (c.new.ensures i) (c.new-2.ensures.empty i);
       room = record {
         descriptions = len i;
         pipes = length (c.new-3.ensures.pipes i);
         files = length (c.new-3.ensures.files i);
       };
+      limits = c.args.limits;
     })
-    ∙ (λ i. record { tables = []; opened = []; loose = loose-none i; room = record { descriptions = 0; pipes = 0; files = 0 } })
+    ∙ (λ i. record { tables = []; opened = []; loose = loose-none i; room = record { descriptions = 0; pipes = 0; files = 0 }; limits = c.args.limits })
 
 pub returns-clause-tidy : goal.returns-clause-tidy
 returns-clause-tidy g c = tidy _ _ _ (invariant_of-result g c) _

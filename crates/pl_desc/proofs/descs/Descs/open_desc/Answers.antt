@@ -1,7 +1,8 @@
-use Rattle.std.proofs.Common.{◌≡◌, ℕ, ◌+◌, ◌-◌, ◌<◌, ap, ◌∙◌, sym, subst, refl, arith, Some, nat_eq}
+use Rattle.std.proofs.Common.{◌≡◌, ℕ, ◌+◌, ◌-◌, ◌<◌, ap, ◌∙◌, sym, subst, refl, arith, Some, nat_eq, ◌≤◌, false, inl, inr}
+use Rattle.std.proofs.lemmas.Bool.{false≢true}
+use Rattle.std.proofs.lemmas.Bool.Decides.{eqb_tells}
 use Rattle.std.specs.Prelude.{option_map}
 use Rattle.slab.specs.Slab.{Slab}
-use Rattle.pl_model.specs.Numbers.{most_descriptions}
 use Rattle.pl_model.specs.Map.{set_at}
 use Rattle.pl_model.specs.Modes.{reads, writes}
 use Rattle.pl_desc.specs.declared.description.Description.{Description}
@@ -33,21 +34,27 @@ module _ (g : Over) (c : After-add g) where
   same : opened_in m.slots ≡ c.args.self.now.opened
   same = ap (λ d. d.opened) c.self.view_is ∙ ap (λ d. d.opened) c.reserve.ensures.kept
 
+less : (n most : ℕ) → nat_eq n most ≡ false → n ≤ most → n < most
+less n most other few = elim (eqb_tells n most) as (λ _. n < most) [
+  | inl e ↦ absurd (false≢true (sym other ∙ e.0))
+  | inr e ↦ omega (arith, few, e.1)
+]
+
 pub add-requires-clause-readers : goal.add-requires-clause-readers
 add-requires-clause-readers g c =
     let is = ap (λ e. e.readers) (c.self.invariant.counted c.args.node) in
-    omega (arith, is, ends-few reads (opened_in c.self.inside.descriptions.slots) c.args.node, c.self.invariant.most)
+    omega (arith, is, ends-few reads (opened_in c.self.inside.descriptions.slots) c.args.node, c.self.invariant.most, c.self.invariant.limited.descriptions)
 
 pub add-requires-clause-writers : goal.add-requires-clause-writers
 add-requires-clause-writers g c =
     let is = ap (λ e. e.writers) (c.self.invariant.counted c.args.node) in
-    omega (arith, is, ends-few writes (opened_in c.self.inside.descriptions.slots) c.args.node, c.self.invariant.most)
+    omega (arith, is, ends-few writes (opened_in c.self.inside.descriptions.slots) c.args.node, c.self.invariant.most, c.self.invariant.limited.descriptions)
 
 pub invariant_of-self : goal.invariant_of-self
 invariant_of-self g c =
     let k = c.self.inside in
-    let few : live_count (opened_in k.descriptions.slots) < most_descriptions = subst (λ os. live_count os < most_descriptions) (sym (same g c)) (omega (arith, c.live.ensures.value, c.live.ensures.tidy.most, c.if-live-eq-MAX_DESCRIPTIONS.false)) in
-    sound-opened k.tables.items k.descriptions (new g c) (ends_at k.counts) (ends_at c.add.new.self) (key g c) (added g c) c.self.invariant c.insert_reserved-key.ensures.updates c.insert_reserved-key.ensures.was_vacant refl few c.add.ensures.counts
+    let few : live_count (opened_in k.descriptions.slots) < k.limits.descriptions = subst (λ d. live_count d.opened < d.limits.descriptions) (sym (c.self.view_is ∙ c.reserve.ensures.kept)) (less (live_count c.args.self.now.opened) c.args.self.now.limits.descriptions (sym c.is_full.ensures.value ∙ c.if-is_full.false) c.is_full.ensures.tidy.most) in
+    sound-opened k.tables k.descriptions (new g c) (ends_at k.counts) (ends_at c.add.new.self) (key g c) (added g c) c.self.invariant c.insert_reserved-key.ensures.updates c.insert_reserved-key.ensures.was_vacant refl few c.add.ensures.counts
 
 pub returns-clause-vacant : goal.returns-clause-vacant
 returns-clause-vacant g c = ap (λ os. at os (key g c)) (sym (same g c)) ∙ at-opened c.self.inside.descriptions.slots (key g c) ∙ ap (option_map opened_of) c.insert_reserved-key.ensures.was_vacant
@@ -73,7 +80,7 @@ returns-clause-loose g c =
 pub returns-clause-live : goal.returns-clause-live
 returns-clause-live g c =
     let k = c.self.inside in
-    live-more k.tables.items k.descriptions (new g c) (ends_at k.counts) (ends_at c.add.new.self) (key g c) (added g c) c.self.invariant c.insert_reserved-key.ensures.updates c.insert_reserved-key.ensures.was_vacant refl
+    live-more k.tables k.descriptions (new g c) (ends_at k.counts) (ends_at c.add.new.self) (key g c) (added g c) c.self.invariant c.insert_reserved-key.ensures.updates c.insert_reserved-key.ensures.was_vacant refl
     ∙ ap (λ os. live_count os + 1) (same g c)
 
 pub returns-clause-tidy : goal.returns-clause-tidy

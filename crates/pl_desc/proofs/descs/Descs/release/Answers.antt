@@ -64,7 +64,7 @@ module _ (g : Over) (c : After-at-left g) where
   last : last_hold c.args.self.now c.args.key ≡ true
   last = ap (λ d. last_hold d c.args.key) (sym c.self.view_is) ∙ last-is at_last c.args.key x x c.index-description.ensures (view_of c.self.inside).room ∙ eq-eqb x.holders 1 one.0
 
-  sound : IsSound at_last.tables c.try_remove-gone.new.self.slots (ends_at c.remove.new.self)
+  sound : IsSound at_last.limits at_last.tables c.try_remove-gone.new.self.slots (ends_at c.remove.new.self)
   sound = sound-gone at_last.tables c.self.inside.descriptions c.try_remove-gone.new.self at_last.ends (ends_at c.remove.new.self) c.args.key x at_last.sound c.try_remove-gone.ensures.updates c.index-description.ensures one.1 c.remove.ensures.counts
 
 -- the description that goes
@@ -149,15 +149,15 @@ returns-clause-loose g c =
     let none : holders_of (at left c.args.key) ≡ 0 = ap holders_of updates.changed in
     let is : holders_of (at k.descriptions.slots c.args.key) ≡ 1 = ap holders_of c.index-description.ensures ∙ (one g c).0 in
     let bare = (one g c).1 in
-    let here : holders_of (at left c.args.key) - naming k.tables.items c.args.key ≡ (holders_of (at k.descriptions.slots c.args.key) - naming k.tables.items c.args.key) - 1 = omega (arith, none, is, bare) in
-    loose-change k.tables.items k.tables.items k.descriptions.slots left c.args.key one_less here (λ q n. ap (λ o. holders_of o - naming k.tables.items q) (updates.others q n))
+    let here : holders_of (at left c.args.key) - naming k.tables c.args.key ≡ (holders_of (at k.descriptions.slots c.args.key) - naming k.tables c.args.key) - 1 = omega (arith, none, is, bare) in
+    loose-change k.tables k.tables k.descriptions.slots left c.args.key one_less here (λ q n. ap (λ o. holders_of o - naming k.tables q) (updates.others q n))
     ∙ ap (λ d. change_count c.args.key one_less (count_at d.loose)) c.self.view_is
 
 pub returns-clause-live : goal.returns-clause-live
 returns-clause-live g c =
     let k = c.self.inside in
     ap (λ b. live_count (opened_in c.try_remove-gone.new.self.slots) + (if b then 1 else 0)) (last g c)
-    ∙ live-less k.tables.items k.descriptions c.try_remove-gone.new.self (ends_at k.counts) (ends_at c.remove.new.self) c.args.key (x g c) c.self.invariant c.try_remove-gone.ensures.updates c.index-description.ensures (one g c).1 ∙ ap (λ d. live_count d.opened) c.self.view_is
+    ∙ live-less k.tables k.descriptions c.try_remove-gone.new.self (ends_at k.counts) (ends_at c.remove.new.self) c.args.key (x g c) c.self.invariant c.try_remove-gone.ensures.updates c.index-description.ensures (one g c).1 ∙ ap (λ d. live_count d.opened) c.self.view_is
 
 pub returns-then-description-gt1-clause-tidy : goal.returns-then-description-gt1-clause-tidy
 returns-then-description-gt1-clause-tidy g c = tidy _ _ _ (invariant_of-self g c) _

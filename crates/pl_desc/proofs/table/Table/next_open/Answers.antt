@@ -1,22 +1,34 @@
-use Rattle.std.proofs.Common.{◌∙◌, ◌-◌, ◌/◌, ◌<◌, ◌^◌, slice_index_or, ap, sym, subst, arith, rules}
-use Rattle.std.specs.Prelude.{nat_eq, is_some}
-use Rattle.pl_model.specs.Numbers.{open_max}
+use Rattle.std.proofs.Common.{◌≡◌, ◌<◌, Some, None, sym, ◌∙◌, ap, subst, length, arith, ⊎_elim}
+use Rattle.std.proofs.lemmas.Bool.{cases_lt}
+use Rattle.std.proofs.lemmas.List.{length-map}
 use Rattle.pl_desc.specs.Rows.{at}
-use Rattle.pl_desc.specs.TableView.{IsMasked, bit_of}
-use Rattle.pl_desc.proofs.First.{first_agree, first_is}
-use Rattle.pl_desc.proofs.Masks.{turned, is_taken}
+use Rattle.pl_desc.specs.TableView.{named}
+use Rattle.pl_desc.proofs.RowLemmas.{open-is, open-isnt}
+use Rattle.pl_desc.proofs.TableLemmas.{key-at, named-other, named-none}
 use Rattle.pl_desc.proofs.table.Table.next_open.Goals as goal
 
-pub returns-then-is_some : goal.returns-then-is_some
-returns-then-is_some g c =
-    let place = c.if-least-lt-OPEN_MAX.true in
-    sym (first_is (λ fd. is_some (at c.args.self.now fd)) (open_max - c.args.least) c.args.least c.args.least (omega arith) (omega arith)
-    (ap is_some (sym c.get.ensures.value) ∙ sym c.is_some.ensures ∙ c.if-is_some.true) (λ fd l m. absurd (omega arith)))
+pub returns-then-key : goal.returns-then-key
+returns-then-key g c =
+    let keys = c.self.inside.keys.items in
+    let fd = c.loop-fd.fd in
+    let key = c.index-key.result.now in
+    let inside : fd < length keys = omega (arith, c.loop-fd-test.true, c.len.ensures) in
+    let here : at c.args.self.now fd ≡ Some key = subst (λ rows. at rows fd ≡ Some key) c.self.view_is (key-at keys fd key inside c.index-key.ensures ∙ named-other key c.if-key.true) in
+    sym (open-is c.args.self.now c.args.least fd key c.loop-fd.invariant.low here c.loop-fd.invariant.none)
+
+pub loop-fd-preserved : goal.loop-fd-preserved
+loop-fd-preserved g c =
+    let keys = c.self.inside.keys.items in
+    let fd = c.loop-fd.fd in
+    let key = c.index-key.result.now in
+    let inside : fd < length keys = omega (arith, c.loop-fd-test.true, c.len.ensures) in
+    let here : at c.args.self.now fd ≡ None = subst (λ rows. at rows fd ≡ None) c.self.view_is (key-at keys fd key inside c.index-key.ensures ∙ named-none key c.if-key.false) in
+    record {
+      low = omega (arith, c.loop-fd.invariant.low);
+      none = λ k low high. ⊎_elim (λ before. c.loop-fd.invariant.none k low before) (λ up. let is : k ≡ fd = omega (arith, up, high) in ap (at c.args.self.now) is ∙ here) (cases_lt k fd);
+    }
 
 pub returns : goal.returns
 returns g c =
-    let masks = c.self.inside.free in
-    let masked = subst (λ rows. IsMasked rows masks) c.self.view_is c.self.invariant in
-    c.least_set.ensures
-    ∙ first_agree (λ fd. nat_eq (bit_of (turned masks) fd) 1) (λ fd. is_some (at c.args.self.now fd)) (open_max - c.args.least) c.args.least
-    (λ fd low high. let fits : slice_index_or masks (fd / 64) 0 < 2 ^ 64 = search rules in is_taken c.args.self.now masks masked fd (omega arith) fits)
+    let long : length c.args.self.now ≡ length c.self.inside.keys.items = ap length (sym c.self.view_is) ∙ length-map c.self.inside.keys.items named in
+    sym (open-isnt c.args.self.now c.args.least (λ k low high. c.loop-fd.invariant.none k low (omega (arith, high, long, c.len.ensures, c.loop-fd-test.false))))

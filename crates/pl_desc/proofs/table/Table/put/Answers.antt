@@ -1,19 +1,23 @@
-use Rattle.std.proofs.Common.{ap, ◌∙◌, sym, subst, slice_set, slice_index_or, Some, map, ◌/◌, ◌%◌, ◌*◌, ◌^◌, ◌-◌, bit_and}
-use Rattle.std.proofs.lemmas.List.{map-set}
-use Rattle.pl_desc.specs.TableView.{named, IsMasked}
-use Rattle.pl_desc.proofs.Masks.{masked-taken, named-key}
+use Rattle.std.proofs.Common.{◌<◌, ◌∙◌, ap, sym, subst, arith, length, slice_set, Some}
+use Rattle.std.proofs.lemmas.List.{map-set, length-set}
+use Rattle.pl_desc.specs.TableView.{named, view_of, IsTable}
+use Rattle.pl_desc.proofs.TableLemmas.{named-key}
+use Rattle.pl_desc.proofs.Vacant.{vacant-put}
 use Rattle.pl_desc.proofs.table.Table.put.Goals as goal
 
 pub invariant_of-self : goal.invariant_of-self
 invariant_of-self g c =
-    let rows = map named c.self.inside.keys.items in
-    let masks = c.self.inside.free in
+    let rows = view_of c.self.inside in
+    let place : c.args.fd < length rows = subst (λ xs. c.args.fd < length xs) (sym c.self.view_is) c.requires.place in
     let is = map-set named c.self.inside.keys.items c.args.fd c.args.key ∙ ap (slice_set rows c.args.fd) (named-key c.args.key c.requires.key) in
-    subst (λ xs. IsMasked xs (slice_set masks (c.args.fd / 64) (bit_and (slice_index_or masks (c.args.fd / 64) 0) (2 ^ 64 - 1 - 1 * 2 ^ (c.args.fd % 64) % 2 ^ 64)))) (sym is)
-    (masked-taken rows masks c.args.fd c.args.key c.requires.place c.self.told c.self.invariant)
+    subst (λ xs. IsTable xs c.remove.new.self) (sym is)
+    (record {
+      free = vacant-put rows c.self.inside.free c.self.invariant.free c.args.fd (Some c.args.key) c.remove.new.self place c.remove.ensures.value c.remove.ensures.places;
+      few = omega (arith, c.self.invariant.few, length-set rows c.args.fd (Some c.args.key));
+    })
 
 pub returns : goal.returns
 returns g c =
-    map-set named c.self.inside.keys.items c.args.fd c.args.key
-    ∙ ap (slice_set (map named c.self.inside.keys.items) c.args.fd) (named-key c.args.key c.requires.key)
+    let rows = view_of c.self.inside in
+    map-set named c.self.inside.keys.items c.args.fd c.args.key ∙ ap (slice_set rows c.args.fd) (named-key c.args.key c.requires.key)
     ∙ ap (λ rows. slice_set rows c.args.fd (Some c.args.key)) c.self.view_is
