@@ -228,10 +228,10 @@ piperun_on_cut_scripts() {
     piperun_answers 0 "$work/whole.out" '' "$work/whole.script"
 }
 
-# Whether piperun, of 64 processes within 70,000 bytes, starts some and finds no memory for the others. Reading takes 65,536 of them, and gives
-# them back.
+# Whether piperun, of 64 processes within 78,000 bytes, starts some and finds no memory for the others. Reading takes 65,536 of them, and gives
+# them back. With 70,000 the processes leave too little for the output, so the run would end.
 piperun_finds_no_memory() {
-    "$piperun" --memory 70000 "$work/starts.script" < /dev/null > "$work/output" || return 1
+    "$piperun" --memory 78000 "$work/starts.script" < /dev/null > "$work/output" || return 1
     awk '/^pid / && !none && $2 == NR { next } /^nomem$/ && NR > 1 { none = 1; next } { wrong = 1 } END { exit wrong || !none || NR != 64 }' \
         "$work/output" || { cat "$work/output"; return 1; }
 }
