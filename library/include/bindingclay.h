@@ -28,9 +28,9 @@
  * tells how many bytes the kernel holds. It may tell more after a call that found no memory, as a table may have grown. The next call that
  * wants that table uses it. Close, exit, interrupt and a read that is resumed always find what they need, so a guest at its limit can free
  * what it has. Up to spare_max bytes of that stay with the kernel (spare). A step that finds no memory gives all of these back: made again, it
- * has them. A call that finds none for the copy of its name, or for its line of a record, gives nothing back. The tables of segments, processes
- * and descriptions stay too, each as long as it ever was. They take up to 170 bytes for each. Those of waiting calls, pipes and files become
- * shorter as these go.
+ * has them. A call that finds none for the copy of its name, or for its line of a record, gives nothing back. The tables of segments and
+ * descriptions stay too, each as long as it ever was. They take up to 170 bytes for each. Those of waiting calls, pipes, files, processes and
+ * descriptors become shorter as these go.
  *
  * Pointers. A pointer may be null only if it points to 0 bytes or to 0 entries, or is an offset of bindingclay_splice. What a call writes
  * to overlaps nothing else that the call is given, and nothing that it is given overlaps the kernel's own memory. The library keeps no
@@ -191,8 +191,9 @@ typedef struct {
     /* The most bytes of a regular file. At most BINDINGCLAY_MOST_FILE_BYTES. */
     uint32_t file_max;
     /* The most descriptors of a process, numbered from 0 (getrlimit, RLIMIT_NOFILE). None from this number on is free: a call that would
-     * give one fails with EMFILE. At most BINDINGCLAY_MOST_DESCRIPTORS. A poll takes as many entries, and 256 if this is less. Each process
-     * takes 8 bytes of memory for each descriptor that it may have, from its start on. */
+     * give one fails with EMFILE. At most BINDINGCLAY_MOST_DESCRIPTORS. A poll takes as many entries, and 256 if this is less. A high
+     * limit takes no memory by itself. A process takes 8 to 16 bytes for each descriptor up to the highest one that it opens, and gives most
+     * of them back as it closes them. */
     uint64_t descriptors_max;
     /* The most bytes of memory that the kernel keeps for further bytes when no pipe or file holds them any more, in segments of 4,096. They
      * count as held. UINT64_MAX: 16,777,216, but at most a sixteenth of memory. */
@@ -302,7 +303,8 @@ bindingclay_answer bindingclay_exit(bindingclay clay, uint32_t pid);
 
 /* Tries again the call that waits under a number. It answers what the call would answer, or BINDINGCLAY_PARKED with the same number if the
  * call still waits. Then moved tells whether it is a write that put in more of its bytes. A fault ends the call too. For example, EMFILE
- * ends the open of a FIFO that has met its other end, if no descriptor is free.
+ * ends the open of a FIFO that has met its other end, if no descriptor is free. If there is no memory for that descriptor, the answer is
+ * BINDINGCLAY_NO_MEMORY, and the open still waits.
  *
  * A read gives what its pipe holds, and no more than it asked for, into the first of the size bytes at into. Room for 1,048,576 bytes is
  * always enough. If size is less than what the read gives, BINDINGCLAY_SHORT tells how many bytes that is, and the read still waits. The
@@ -501,16 +503,15 @@ bindingclay_answer bindingclay_poll(
 /* ---- Descriptors ---- */
 
 /* Makes the least free descriptor name what fd names too (dup). Value: that descriptor. Fails with EBADF if fd isn't open, and with EMFILE
- * if none is free. Asks for no memory. */
+ * if none is free. */
 bindingclay_answer bindingclay_dup(bindingclay clay, uint32_t pid, int32_t fd);
 
 /* Makes target name what fd names too (dup2). What target named is closed. If that is the same description, nothing changes. Value: target.
- * Fails with EBADF if fd isn't open, or target is below 0 or not below the limit descriptors_max. Asks for no memory. */
+ * Fails with EBADF if fd isn't open, or target is below 0 or not below the limit descriptors_max. If target is open, asks for no memory. */
 bindingclay_answer bindingclay_dup2(bindingclay clay, uint32_t pid, int32_t fd, int32_t target);
 
 /* Makes the least free descriptor from least on name what fd names too (fcntl, F_DUPFD). Value: that descriptor. Fails with EBADF if fd
- * isn't open, with EINVAL if least is below 0 or not below the limit descriptors_max, and with EMFILE if none is free. Asks for no
- * memory. */
+ * isn't open, with EINVAL if least is below 0 or not below the limit descriptors_max, and with EMFILE if none is free. */
 bindingclay_answer bindingclay_dup_fd(bindingclay clay, uint32_t pid, int32_t fd, int32_t least);
 
 /* Closes a descriptor (close). Fails with EBADF if it isn't open. Asks for no memory. */

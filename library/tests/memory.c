@@ -192,7 +192,6 @@ static void with_no_memory(void)
     refuse(0, LONG_MAX);
     DONE(bindingclay_dup(clay, 1, 0), 5);
     DONE(bindingclay_dup2(clay, 1, 0, 6), 6);
-    DONE(bindingclay_dup_fd(clay, 1, 0, 255), 255);
     DONE(bindingclay_lseek(clay, 1, 2, 1, SEEK_SET), 1);
     DONE(bindingclay_get_fl(clay, 1, 0), O_RDONLY | O_NONBLOCK);
     DONE(bindingclay_set_fl(clay, 1, 1, O_NONBLOCK), 0);
@@ -241,6 +240,56 @@ static void with_no_memory(void)
     bindingclay_free(clay);
     HOLDS(refused == 0 && atomic_load(&blocks_left) == 0);
     refuse_none();
+}
+
+enum { ROWS = 16 };
+
+/* Once a descriptor is open, the first 16 have a row. Another one wants memory for its row, but not if it is open or below one that is. */
+static void rows_without_memory(void)
+{
+    enum { OPEN = 99 };
+    bindingclay clay = kernel_with_process();
+    NEW_PIPE(clay, 1, true);
+    DONE(bindingclay_fork(clay, 1), 2);
+    DONE(bindingclay_dup2(clay, 2, 0, OPEN), OPEN);
+    refuse(0, LONG_MAX);
+    for (int32_t fd = 2; fd < ROWS; fd++)
+        DONE(bindingclay_dup(clay, 1, 0), fd);
+    HOLDS(refused == 0);
+    OTHER(bindingclay_dup(clay, 1, 0), BINDINGCLAY_NO_MEMORY);
+    OTHER(bindingclay_dup2(clay, 1, 0, ROWS), BINDINGCLAY_NO_MEMORY);
+    OTHER(bindingclay_dup_fd(clay, 1, 0, ROWS), BINDINGCLAY_NO_MEMORY);
+    HOLDS(refused == 3);
+    FAULT(bindingclay_get_fl(clay, 1, ROWS), EBADF);
+    DONE(bindingclay_dup2(clay, 2, 1, OPEN), OPEN);
+    DONE(bindingclay_get_fl(clay, 2, OPEN), O_WRONLY | O_NONBLOCK);
+    DONE(bindingclay_dup_fd(clay, 2, 0, ROWS), ROWS);
+    DONE(bindingclay_close(clay, 2, OPEN), 0);
+    HOLDS(refused == 3);
+    refuse_none();
+    DONE(bindingclay_dup(clay, 1, 0), ROWS);
+    bindingclay_free(clay);
+}
+
+/* An open that has met its other end waits on where there is no memory for the row of its descriptor. */
+static void an_open_without_a_row(void)
+{
+    bindingclay clay = kernel_with_process();
+    DONE(mkfifo_text(clay, 1, "q"), 0);
+    DONE(bindingclay_fork(clay, 1), 2);
+    PARKED(open_text(clay, 1, "q", O_RDONLY), 1);
+    DONE(open_text(clay, 2, "q", O_WRONLY), 0);
+    DONE(open_text(clay, 1, "f", O_RDWR | O_CREAT), 0);
+    for (int32_t fd = 1; fd < ROWS; fd++)
+        DONE(bindingclay_dup(clay, 1, 0), fd);
+    refuse(0, 1);
+    OTHER(bindingclay_resume(clay, 1, into, 0), BINDINGCLAY_NO_MEMORY);
+    HOLDS(refused == 1 && bindingclay_can_progress(clay, 1));
+    DONE(bindingclay_resume(clay, 1, into, 0), ROWS);
+    refuse_none();
+    DONE(put(clay, 2, 0, "hello"), 5);
+    READS(clay, 1, ROWS, 9, "hello");
+    bindingclay_free(clay);
 }
 
 /* A read asks for memory only where it is to wait, and is made again after it found none. */
@@ -299,6 +348,8 @@ int main(void)
         granted++;
     HOLDS(granted > 40);
     with_no_memory();
+    rows_without_memory();
+    an_open_without_a_row();
     reads_that_wait();
     packets_without_memory();
     return end();

@@ -228,11 +228,11 @@ piperun_on_cut_scripts() {
     piperun_answers 0 "$work/whole.out" '' "$work/whole.script"
 }
 
-# Whether piperun, of 64 processes within 78,000 bytes, starts some and finds no memory for the others. Reading takes 65,536 of them, and gives
-# them back. With 70,000 the processes leave too little for the output, so the run would end.
+# Whether piperun, of 600 processes within 100,000 bytes, starts some and finds no memory for the others. Reading takes 65,536 of them, and gives
+# them back. The list of the processes doubles, and its next doubling after 512 wants more than is left, so that enough stays for the output.
 piperun_finds_no_memory() {
-    "$piperun" --memory 78000 "$work/starts.script" < /dev/null > "$work/output" || return 1
-    awk '/^pid / && !none && $2 == NR { next } /^nomem$/ && NR > 1 { none = 1; next } { wrong = 1 } END { exit wrong || !none || NR != 64 }' \
+    "$piperun" --memory 100000 "$work/starts.script" < /dev/null > "$work/output" || return 1
+    awk '/^pid / && !none && $2 == NR { next } /^nomem$/ && NR > 1 { none = 1; next } { wrong = 1 } END { exit wrong || !none || NR != 600 }' \
         "$work/output" || { cat "$work/output"; return 1; }
 }
 
@@ -565,8 +565,8 @@ try_piperun() {
     check "piperun from a number in many digits" piperun_answers 3 "$here/tests/bad_line.out" 'piperun: line 5: not a command' \
         --first-call=+0000000000000000000000007 "$here/tests/bad_line.script"
     check "piperun with too large a number" piperun_answers 2 /dev/null 'piperun: bad command line' --first-call 18446744073709551616
-    yes start | head -n 64 > "$work/starts.script"
-    seq -f 'pid %.0f' 64 > "$work/starts.out"
+    yes start | head -n 600 > "$work/starts.script"
+    seq -f 'pid %.0f' 600 > "$work/starts.out"
     check "piperun within a budget" piperun_finds_no_memory
     check "piperun within enough memory" piperun_answers 0 "$work/starts.out" '' --memory 1000000 "$work/starts.script"
     check "piperun within too little for the script" piperun_answers 4 /dev/null 'piperun: no memory' --memory 65536 "$work/starts.script"

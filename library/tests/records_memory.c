@@ -187,7 +187,7 @@ static void a_budget_is_filled(void)
     struct record record = { NULL, 0, 0 };
     bindingclay_limits limits = BINDINGCLAY_LIMITS;
     bindingclay clay = { NULL };
-    limits.memory = 40000;
+    limits.memory = 38000;
     HOLDS(bindingclay_open_within(&limits, &clay.kernel));
     DONE(bindingclay_record(clay, true), 0);
     DONE(bindingclay_start(clay), 1);

@@ -209,8 +209,7 @@ static bool is_one_of(const char *word, const char *const *list)
  * and whatever is refused, except by a name, which is copied first. */
 static bool asks_for_none(const struct line *line)
 {
-    static const char *const FRUGAL[]
-        = { "close", "dup", "dup2", "dupfd", "lseek", "getfl", "setfl", "getsz", "exit", NULL };
+    static const char *const FRUGAL[] = { "close", "lseek", "getfl", "setfl", "getsz", "exit", NULL };
     static const char *const WITH_A_NAME[] = { "open", "mkfifo", "unlink", NULL };
     bool is_refused = answer.kind == BINDINGCLAY_FAULT || answer.kind == BINDINGCLAY_NO_PROCESS
         || answer.kind == BINDINGCLAY_NO_CALL || answer.kind == BINDINGCLAY_CALLS_SPENT;

@@ -82,29 +82,6 @@ static void many_descriptors(void)
     bindingclay_free(clay);
 }
 
-/* As many as there can be: each process has a place of 8 bytes for each. */
-static void the_most_descriptors(void)
-{
-    enum { MOST = BINDINGCLAY_MOST_DESCRIPTORS };
-    bindingclay_limits limits = BINDINGCLAY_LIMITS;
-    limits.descriptors_max = MOST;
-    bindingclay clay = kernel_within(&limits);
-    uint64_t held = bindingclay_memory(clay).held;
-    HOLDS(held >= MOST * sizeof(size_t) && held < (MOST + MOST / 8) * sizeof(size_t));
-    NEW_PIPE(clay, 1, false);
-    DONE(bindingclay_dup_fd(clay, 1, 0, MOST - 1), MOST - 1);
-    FAULT(bindingclay_dup_fd(clay, 1, 0, MOST - 1), EMFILE);
-    FAULT(bindingclay_dup_fd(clay, 1, 0, MOST), EINVAL);
-    DONE(bindingclay_dup2(clay, 1, 1, MOST - 1), MOST - 1);
-    FAULT(bindingclay_dup2(clay, 1, 1, MOST), EBADF);
-    FAULT(bindingclay_dup2(clay, 1, 1, INT32_MAX), EBADF);
-    DONE(put(clay, 1, MOST - 1, "hello"), 5);
-    READS(clay, 1, 0, 9, "hello");
-    DONE(bindingclay_exit(clay, 1), 0);
-    HOLDS(bindingclay_memory(clay).held < MOST);
-    bindingclay_free(clay);
-}
-
 /* A poll takes as many entries as there may be descriptors. */
 static void polls_within_many_descriptors(void)
 {
@@ -171,6 +148,89 @@ static void no_descriptors(void)
     FAULT(open_text(clay, 1, "f", O_RDWR | O_CREAT), EMFILE);
     FAULT(bindingclay_dup2(clay, 1, 0, 0), EBADF);
     DONE(mkfifo_text(clay, 1, "q"), 0);
+    bindingclay_free(clay);
+}
+
+/* ---- What descriptors take ---- */
+
+enum { MOST = BINDINGCLAY_MOST_DESCRIPTORS, ROW = sizeof(size_t), LITTLE = 1000 };
+
+/* A kernel whose process has a pipe and may have so many descriptors. */
+static bindingclay with_a_pipe(uint64_t most)
+{
+    bindingclay_limits limits = BINDINGCLAY_LIMITS;
+    limits.descriptors_max = most;
+    bindingclay clay = kernel_within(&limits);
+    NEW_PIPE(clay, 1, false);
+    return clay;
+}
+
+static uint64_t held(bindingclay clay)
+{
+    return bindingclay_memory(clay).held;
+}
+
+/* A high limit takes no memory by itself. */
+static void many_that_nobody_opens(void)
+{
+    bindingclay few = with_a_pipe(2), most = with_a_pipe(MOST);
+    HOLDS(held(most) < held(few) + LITTLE);
+    bindingclay_free(few);
+    bindingclay_free(most);
+}
+
+/* As many as there can be: the highest one takes a row of 8 bytes and a bit for each below it. */
+static void the_most_descriptors(void)
+{
+    bindingclay clay = with_a_pipe(MOST);
+    DONE(bindingclay_dup_fd(clay, 1, 0, MOST - 1), MOST - 1);
+    HOLDS(held(clay) >= MOST * ROW && held(clay) < (MOST + MOST / 8) * ROW);
+    FAULT(bindingclay_dup_fd(clay, 1, 0, MOST - 1), EMFILE);
+    FAULT(bindingclay_dup_fd(clay, 1, 0, MOST), EINVAL);
+    DONE(bindingclay_dup2(clay, 1, 1, MOST - 1), MOST - 1);
+    FAULT(bindingclay_dup2(clay, 1, 1, MOST), EBADF);
+    FAULT(bindingclay_dup2(clay, 1, 1, INT32_MAX), EBADF);
+    DONE(put(clay, 1, MOST - 1, "hello"), 5);
+    READS(clay, 1, 0, 9, "hello");
+    DONE(bindingclay_exit(clay, 1), 0);
+    HOLDS(held(clay) < MOST);
+    bindingclay_free(clay);
+}
+
+/* Rows get more as descriptors are opened, and fewer as they are closed. A child has as many as its parent had. */
+static void descriptors_that_come_and_go(void)
+{
+    bindingclay clay = with_a_pipe(MOST);
+    uint64_t before = held(clay);
+    for (int32_t fd = 2; fd < MOST; fd++)
+        DONE(bindingclay_dup(clay, 1, 0), fd);
+    FAULT(bindingclay_dup(clay, 1, 0), EMFILE);
+    uint64_t all = held(clay) - before;
+    HOLDS(all + LITTLE >= MOST * ROW && all < (MOST + MOST / 8) * ROW);
+    DONE(bindingclay_fork(clay, 1), 2);
+    HOLDS(held(clay) <= before + 2 * all + LITTLE);
+    for (int32_t fd = MOST - 1; fd > 1; fd--)
+        DONE(bindingclay_close(clay, 1, fd), 0);
+    HOLDS(held(clay) <= before + all + LITTLE);
+    DONE(bindingclay_exit(clay, 2), 0);
+    HOLDS(held(clay) <= before + LITTLE);
+    DONE(bindingclay_dup(clay, 1, 0), 2);
+    bindingclay_free(clay);
+}
+
+/* Children with three descriptors each take little, however many they may have, and nothing once they exited. */
+static void children_with_few_descriptors(void)
+{
+    enum { LAST = 1000, OF_A_CHILD = 700 };
+    bindingclay clay = with_a_pipe(MOST);
+    DONE(bindingclay_dup(clay, 1, 0), 2);
+    uint64_t before = held(clay);
+    for (uint32_t pid = 2; pid <= LAST; pid++)
+        DONE(bindingclay_fork(clay, 1), pid);
+    HOLDS(held(clay) <= before + (LAST - 1) * OF_A_CHILD);
+    for (uint32_t pid = 2; pid <= LAST; pid++)
+        DONE(bindingclay_exit(clay, pid), 0);
+    HOLDS(held(clay) <= before);
     bindingclay_free(clay);
 }
 
@@ -242,23 +302,27 @@ static void no_descriptions(void)
     bindingclay_free(clay);
 }
 
-/* More than usual, of one process. */
+/* 100,000, and one more. */
 static void many_descriptions(void)
 {
-    enum { PIPES = 2500 };
+    enum { GUESTS = 4, PIPES_OF_EACH = 12500, PIPES = GUESTS * PIPES_OF_EACH, NEXT = 2 * PIPES_OF_EACH };
     bindingclay_limits limits = BINDINGCLAY_LIMITS;
     bindingclay_ends ends;
-    limits.descriptors_max = 3 * PIPES;
+    limits.descriptors_max = NEXT + 2;
     limits.descriptions_max = 2 * PIPES + 1;
     bindingclay clay = kernel_within(&limits);
-    for (int i = 0; i < PIPES; i++)
-        NEW_PIPE(clay, 1, false);
+    for (uint32_t pid = 1; pid <= GUESTS; pid++) {
+        if (pid > 1)
+            DONE(bindingclay_start(clay), pid);
+        for (int i = 0; i < PIPES_OF_EACH; i++)
+            NEW_PIPE(clay, pid, false);
+    }
     FAULT(bindingclay_pipe(clay, 1, false, &ends), ENFILE);
-    DONE(open_text(clay, 1, "f", O_RDWR | O_CREAT), 2 * PIPES);
+    DONE(open_text(clay, 1, "f", O_RDWR | O_CREAT), NEXT);
     FAULT(open_text(clay, 1, "f", O_RDWR), ENFILE);
-    DONE(bindingclay_close(clay, 1, PIPES), 0);
-    FAULT(bindingclay_pipe(clay, 1, false, &ends), ENFILE);
-    DONE(open_text(clay, 1, "f", O_RDWR), PIPES);
+    DONE(bindingclay_close(clay, GUESTS, PIPES_OF_EACH), 0);
+    FAULT(bindingclay_pipe(clay, GUESTS, false, &ends), ENFILE);
+    DONE(open_text(clay, GUESTS, "f", O_RDWR), PIPES_OF_EACH);
     starts_again(clay);
     bindingclay_free(clay);
 }
@@ -321,11 +385,14 @@ int main(void)
 {
     descriptors();
     many_descriptors();
-    the_most_descriptors();
     polls_within_few_descriptors();
     polls_within_many_descriptors();
     an_open_that_meets_at_the_limit();
     no_descriptors();
+    many_that_nobody_opens();
+    the_most_descriptors();
+    descriptors_that_come_and_go();
+    children_with_few_descriptors();
     descriptions();
     no_descriptions();
     many_descriptions();

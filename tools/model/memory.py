@@ -12,7 +12,7 @@ from replies import FileContent, Plain, Reply, says_no
 from script import Request
 
 # These take no memory, whatever they answer (our own).
-FRUGAL = frozenset(("close", "dup", "dup2", "dupfd", "lseek", "getfl", "setfl", "getsz", "unlink", "exit", "interrupt"))
+FRUGAL = frozenset(("close", "lseek", "getfl", "setfl", "getsz", "unlink", "exit", "interrupt"))
 # These may end a waiting call also if the reply is an error.
 OF_WAITING_CALLS = frozenset(("resume", "interrupt"))
 

@@ -17,8 +17,8 @@ pub record Known : Type 0 where
   pub ends : Node → Ends
   pub sound : IsSound limits tables slots ends
 
-abbrev pub known : {A : Type 0} (k : Inside A) → IsSound k.limits k.tables k.descriptions.slots (ends_at k.counts) → Known
-known k sound = record { limits = k.limits; tables = k.tables; slots = k.descriptions.slots; ends = ends_at k.counts; sound = sound }
+abbrev pub known : {A : Type 0} (k : Inside A) → IsSound k.limits k.tables.tables k.descriptions.slots (ends_at k.counts) → Known
+known k sound = record { limits = k.limits; tables = k.tables.tables; slots = k.descriptions.slots; ends = ends_at k.counts; sound = sound }
 
 -- A process starts with a table, under the least free pid, for which there is a place.
 pub record Starts (m : Known) : Type 0 where

@@ -1,10 +1,13 @@
 pub mod First
 pub mod Vacant
 pub mod TableLemmas
+pub mod Padding
 pub mod RowLemmas
 pub mod SlotLemmas
 pub mod Sound
 pub mod EndLemmas
+pub mod Processes
+pub mod TableSteps
 pub mod Known
 pub mod Steps
 pub mod ViewLemmas

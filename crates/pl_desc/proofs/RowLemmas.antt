@@ -10,6 +10,7 @@ use Rattle.std.proofs.lemmas.Option.{same_Some}
 use Rattle.std.proofs.lemmas.Bool.Decides.{eqb_tells, nat_tests}
 use Rattle.pl_model.specs.Map.{set_at}
 use Rattle.pl_model.specs.Numbers.{most_processes, most_descriptors}
+use Rattle.pl_desc.proofs.Vacant.{at-push}
 use Rattle.pl_desc.specs.Rows.{at, Tables, table_of, is_pid, rows_in, rows_of, row_at, row_of, open_from, next_open, free_pid, with_row, with_table, names, named_in, naming}
 use Rattle.pl_desc.specs.declared.limits.DescLimits.{DescLimits}
 use Rattle.pl_desc.specs.Descs.{AreLimits}
@@ -159,13 +160,7 @@ unfolding naming
 naming-push tables = fun_ext (λ key. sum_by_push (named_in key) tables None ∙ (let e : sum_by (named_in key) tables + 0 ≡ sum_by (named_in key) tables = omega arith in e))
 
 pub table-push : (tables : Tables) → table_of (tables ++ None ∷ []) ≡ table_of tables
-table-push tables = fun_ext (λ pid. ap (λ o. if nat_lt 0 pid then o else None) (by tables (pid - 1)))
-  where
-    by : (ts : Tables) (k : ℕ) → at (ts ++ None ∷ []) k ≡ at ts k
-    by [] zero = refl
-    by [] (suc k) = refl
-    by (t ∷ ts) zero = refl
-    by (t ∷ ts) (suc k) = by ts k
+table-push tables = fun_ext (λ pid. ap (λ o. if nat_lt 0 pid then o else None) (at-push tables (pid - 1)))
 
 pub rows-length : {width : ℕ} (tables : Tables) (pid : ℕ) → is_pid tables pid ≡ true → ((place : ℕ) → IfSome (at tables place) (λ t. length t ≡ width)) → length (rows_of tables pid) ≡ width
 rows-length {width} tables pid process wide = by (table_of tables pid) process (subst (λ o. IfSome o (λ t. length t ≡ width)) (sym (table_at tables pid (pid_in tables pid process).0)) (wide (pid - 1)))

@@ -2,7 +2,7 @@
 use Rattle.std.proofs.Common.{◌≡◌, ◌≢◌, ℕ, ◌+◌, ◌-◌, ◌^◌, ◌<◌, ◌≤◌, Bool, true, false, List, Option, Some, None, refl, sym, ◌∙◌, ap, subst, inl, inr, nat_eq, length, arith, replicate}
 use Rattle.std.specs.Prelude.{if◌then◌else◌, ◌&&◌, is_some, slice_set, count_by, IfSome, option_map, Result, Ok, Err, is_err, OnOk, OnErr}
 use Rattle.std.proofs.Math.Path.{fun_ext}
-use Rattle.std.proofs.lemmas.Bool.{eq-eqb, ne_eqb, false≢true}
+use Rattle.std.proofs.lemmas.Bool.{eq-eqb, ne_eqb, eqb-true, false≢true}
 use Rattle.std.proofs.lemmas.Bool.Decides.{eqb_tells}
 use Rattle.std.proofs.lemmas.List.{length-set}
 use Rattle.pl_model.specs.declared.calls.Mode.{Mode}
@@ -242,6 +242,50 @@ module _ (m : Known) where
           (let a = left_here in let b = sound.held key in (let r : holders_of (at slots key) - naming (put None) key ≡ (holders_of (at slots key) - naming tables key) + 1 = omega (arith, a, b) in r))
           (λ q n. ap (λ m. holders_of (at slots q) - m) (left_there q n))
 
+    -- a descriptor that named a key is let name another
+    module _ (key other : ℕ) (was : row_at tables pid fd ≡ Some other) (lent : 0 < loose key) where
+      named_changed : (q : ℕ) → naming (put (Some key)) q + one_if (nat_eq other q) ≡ naming tables q + one_if (nat_eq key q)
+      named_changed q =
+          let n = row-naming tables pid fd (Some key) process in_rows q in
+          let z : one_if (names q (row_at tables pid fd)) ≡ one_if (nat_eq other q) = ap (λ o. one_if (names q o)) was in
+          (let r : naming (put (Some key)) q + one_if (nat_eq other q) ≡ naming tables q + one_if (nat_eq key q) = omega (arith, n, z) in r)
+
+      spare : naming tables key + 1 ≤ holders_of (at slots key)
+      spare = let l = loose-at tables slots key in omega (arith, l, lent)
+
+      pub sound-replaced : IsSound limits (put (Some key)) slots ends
+      sound-replaced = sound-put (Some key) held
+        where
+          held : (q : ℕ) → naming (put (Some key)) q ≤ holders_of (at slots q)
+          held q = elim (eqb_tells key q) as (λ _. naming (put (Some key)) q ≤ holders_of (at slots q)) [
+            | inl e ↦
+                let n = named_changed q in
+                let one : one_if (nat_eq key q) ≡ 1 = ap one_if e.0 in
+                let few : naming tables q + 1 ≤ holders_of (at slots q) = subst (λ k. naming tables k + 1 ≤ holders_of (at slots k)) e.1 spare in
+                omega (arith, n, one, few)
+            | inr e ↦
+                let n = named_changed q in
+                let none : one_if (nat_eq key q) ≡ 0 = ap one_if e.0 in
+                omega (arith, n, none, sound.held q)
+          ]
+
+      pub loose-replaced : count_at (loose_from 0 (put (Some key)) slots) ≡ change_count other one_more (change_count key one_less loose)
+      loose-replaced = fun_ext (λ q. loose-at (put (Some key)) slots q ∙ by q (nat_eq other q) refl (nat_eq key q) refl)
+        where
+          by : (q : ℕ) (a : Bool) → nat_eq other q ≡ a → (b : Bool) → nat_eq key q ≡ b → holders_of (at slots q) - naming (put (Some key)) q ≡ change_count other one_more (change_count key one_less loose) q
+          by q a is_a b is_b = left a b (let n = named_changed q in let x : one_if (nat_eq other q) ≡ one_if a = ap one_if is_a in let y : one_if (nat_eq key q) ≡ one_if b = ap one_if is_b in omega (arith, n, x, y)) is_b
+              ∙ sym (λ i. if is_a i then one_more (if is_b i then one_less (loose q) else loose q) else (if is_b i then one_less (loose q) else loose q))
+            where
+              few : nat_eq key q ≡ true → naming tables q + 1 ≤ holders_of (at slots q)
+              few e = subst (λ k. naming tables k + 1 ≤ holders_of (at slots k)) (eqb-true key q e) spare
+
+              left : (a b : Bool) → naming (put (Some key)) q + one_if a ≡ naming tables q + one_if b → nat_eq key q ≡ b
+                  → holders_of (at slots q) - naming (put (Some key)) q ≡ (if a then one_more (if b then one_less (loose q) else loose q) else (if b then one_less (loose q) else loose q))
+              left true true n e = let l = loose-at tables slots q in let f = few e in (let r : holders_of (at slots q) - naming (put (Some key)) q ≡ (loose q - 1) + 1 = omega (arith, n, l, f) in r)
+              left true false n e = let l = loose-at tables slots q in let h = sound.held q in (let r : holders_of (at slots q) - naming (put (Some key)) q ≡ loose q + 1 = omega (arith, n, l, h) in r)
+              left false true n e = let l = loose-at tables slots q in let f = few e in (let r : holders_of (at slots q) - naming (put (Some key)) q ≡ loose q - 1 = omega (arith, n, l, f) in r)
+              left false false n e = let l = loose-at tables slots q in (let r : holders_of (at slots q) - naming (put (Some key)) q ≡ loose q = omega (arith, n, l) in r)
+
   -- a process with no open descriptor ends
   module _ (pid : ℕ) (process : is_pid tables pid ≡ true) (closed : (fd : ℕ) → row_at tables pid fd ≡ None) where
     abbrev ended : Tables
@@ -269,6 +313,26 @@ module _ (m : Known) where
 
     pub rows-ended : row_at ended ≡ row_at tables
     rows-ended = let r = pid_in tables pid process in rows-same tables pid None r.0 r.1 (λ k. sym (closed k))
+
+-- the tables of the same processes, whatever places have none
+wide-same : (tables places : Tables) (width : ℕ) → table_of places ≡ table_of tables → ((q : ℕ) → IfSome (at tables q) (λ t. length t ≡ width)) → (q : ℕ) → IfSome (at places q) (λ t. length t ≡ width)
+wide-same tables places width same wide q = subst (λ o. IfSome o (λ t. length t ≡ width)) (sym place) (wide q)
+  where
+    place : at places q ≡ at tables q
+    place =
+        let l : 0 < q + 1 = omega arith in
+        let e : (q + 1) - 1 ≡ q = omega arith in
+        ap (at places) (sym e) ∙ sym (table_at places (q + 1) l) ∙ ap (λ m. m (q + 1)) same ∙ table_at tables (q + 1) l ∙ ap (at tables) e
+
+-- the list of the tables loses places that have none
+module _ (m : Known) (left : Tables) (few : length left ≤ length m.tables) (same : table_of left ≡ table_of m.tables) (names_same : naming left ≡ naming m.tables) where
+  open m use {limits, tables, slots, ends, sound}
+
+  pub sound-left : IsSound limits left slots ends
+  sound-left = sound-tables tables slots ends sound left (omega (arith, few, sound.few)) (wide-same tables left limits.descriptors same sound.wide) (λ q. subst (λ f. f q ≤ holders_of (at slots q)) (sym names_same) (sound.held q))
+
+  pub loose-left : loose_from 0 left slots ≡ loose_from 0 tables slots
+  loose-left = loose-same tables left slots slots refl (λ q. ap (λ f. holders_of (at slots q) - f q) names_same)
 
 -- what holds where a call didn't fail
 pub ok_part : {T E P : Type 0} (r : Result T E) → is_err r ≡ false → OnOk r P → P
@@ -304,14 +368,8 @@ module _ (m : Known) (s : Starts m) where
   few_started : length started ≤ limits.processes
   few_started = omega (arith, few, length-set places (pid - 1) (Some table))
 
-  place_same : (q : ℕ) → at places q ≡ at tables q
-  place_same q =
-      let l : 0 < q + 1 = omega arith in
-      let e : (q + 1) - 1 ≡ q = omega arith in
-      ap (at places) (sym e) ∙ sym (table_at places (q + 1) l) ∙ ap (λ m. m (q + 1)) same ∙ table_at tables (q + 1) l ∙ ap (at tables) e
-
   wide_started : (place : ℕ) → IfSome (at started place) (λ t. length t ≡ limits.descriptors)
-  wide_started = wide-set places pid (Some table) low high limits.descriptors wide (λ q. subst (λ o. IfSome o (λ t. length t ≡ limits.descriptors)) (sym (place_same q)) (sound.wide q))
+  wide_started = wide-set places pid (Some table) low high limits.descriptors wide (wide-same tables places limits.descriptors same sound.wide)
 
   pub pids-started : is_pid started ≡ set_at nat_eq (is_pid tables) pid true
   pids-started = pids-set places pid (Some table) low high ∙ ap (λ (m : ℕ → Option (List (Option ℕ))). set_at nat_eq (λ q. is_some (m q)) pid true) same

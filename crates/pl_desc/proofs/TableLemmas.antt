@@ -1,13 +1,9 @@
 -- What stands at the places of a table.
-use Rattle.std.proofs.Common.{◌≡◌, ℕ, zero, suc, ◌<◌, Bool, true, false, List, [], ◌∷◌, map, length, replicate, Option, Some, None, refl, sym, ◌∙◌, ap, arith, get_or}
-use Rattle.std.specs.Prelude.{if◌then◌else◌, ◌&&◌, nat_lt, is_none}
-use Rattle.std.proofs.lemmas.List.{length-replicate}
+use Rattle.std.proofs.Common.{◌≡◌, ℕ, zero, suc, ◌<◌, ◌≤◌, ◌++◌, take, List, [], ◌∷◌, map, length, replicate, Option, Some, None, refl, sym, ap, arith, get_or}
+use Rattle.std.specs.Prelude.{if◌then◌else◌}
 use Rattle.std.proofs.lemmas.Bool.{ne_eqb}
-use Rattle.pl_masks.specs.declared.masks.Masks.{Masks}
-use Rattle.pl_masks.specs.Masks.{has, has_place}
 use Rattle.pl_desc.specs.Rows.{at, no_key}
-use Rattle.pl_desc.specs.TableView.{named}
-use Rattle.pl_desc.specs.Vacant.{AreVacant}
+use Rattle.pl_desc.specs.TableView.{named, named_all}
 
 -- what is named at a place that a key stands at
 pub named-key : (key : ℕ) → key < no_key → named key ≡ Some key
@@ -25,27 +21,27 @@ key-at [] fd key l e = absurd (omega arith)
 key-at (x ∷ xs) zero key l e = ap named (sym e)
 key-at (x ∷ xs) (suc fd) key l e = key-at xs fd key (omega arith) e
 
-map-replicate : {X Y : Type 0} (f : X → Y) (n : ℕ) (x : X) → map f (replicate n x) ≡ replicate n (f x)
-map-replicate f zero x = refl
-map-replicate f (suc n) x = ap (λ ys. f x ∷ ys) (map-replicate f n x)
-
--- a table with no open descriptor
-pub named-free : (n : ℕ) → map named (replicate n no_key) ≡ replicate n None
-named-free n = map-replicate named n no_key
-
--- a table without keys
+-- rows of free descriptors
 pub at-free : {V : Type 0} (n k : ℕ) → ◌≡◌ {A = Option V} (at (replicate n None) k) None
 at-free zero k = refl
 at-free (suc n) zero = refl
 at-free (suc n) (suc k) = at-free n k
 
--- the numbers below one are the places of a list at which nothing stands
-pub vacant-below : {A : Type 0} (n : ℕ) (set : Masks A) → ((k : ℕ) → has set k ≡ nat_lt k n) → ((k : ℕ) → k < n → has_place set k) → AreVacant {V = ℕ} (replicate n None) set
-vacant-below n set value places = record {
-  told = λ k. value k ∙ all (nat_lt k n) ∙ sym (λ i. nat_lt k (length-replicate {A = Option ℕ} n None i) && is_none (at-free {V = ℕ} n k i));
-  places = λ k l. places k (omega (arith, l, length-replicate {A = Option ℕ} n None));
-}
-  where
-    all : (b : Bool) → b ≡ (b && true)
-    all true = refl
-    all false = refl
+-- a row is pushed, of a free descriptor
+pub named-push : (keys : List ℕ) → named_all (keys ++ no_key ∷ []) ≡ named_all keys ++ None ∷ []
+named-push [] = refl
+named-push (x ∷ xs) = ap (λ ys. named x ∷ ys) (named-push xs)
+
+pub at-push : (names : List (Option ℕ)) (k : ℕ) → at (names ++ None ∷ []) k ≡ at names k
+at-push [] zero = refl
+at-push [] (suc k) = refl
+at-push (x ∷ xs) zero = refl
+at-push (x ∷ xs) (suc k) = at-push xs k
+
+-- the rows from one on are taken away, of free descriptors
+pub at-cut : (keys : List ℕ) (row : ℕ) → ((k : ℕ) → row ≤ k → at (named_all keys) k ≡ None) → (k : ℕ) → at (named_all (take row keys)) k ≡ at (named_all keys) k
+at-cut [] zero free k = refl
+at-cut [] (suc row) free k = refl
+at-cut (x ∷ xs) zero free k = sym (free k (omega arith))
+at-cut (x ∷ xs) (suc row) free zero = refl
+at-cut (x ∷ xs) (suc row) free (suc k) = at-cut xs row (λ j l. free (suc j) (omega (arith, l))) k

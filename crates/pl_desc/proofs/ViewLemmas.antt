@@ -17,29 +17,31 @@ module _ {A : Type 0} (k : Inside A) (after : List (Option Description)) where
   changed = record k { descriptions = record k.descriptions { slots = after } }
 
   -- holders change
-  pub view-held : opened_in after ≡ opened_in k.descriptions.slots → view_of changed ≡ record (view_of k) { loose = loose_from 0 k.tables after }
+  pub view-held : opened_in after ≡ opened_in k.descriptions.slots → view_of changed ≡ record (view_of k) { loose = loose_from 0 k.tables.tables after }
   view-held same = λ i. record {
-    tables = k.tables;
+    tables = k.tables.tables;
     opened = same i;
-    loose = loose_from 0 k.tables after;
+    loose = loose_from 0 k.tables.tables after;
     room = record {
       descriptions = k.descriptions.capacity - len-same k.descriptions.slots after (ap live_count same) i;
       pipes = length k.counts.pipes.items;
       files = length k.counts.files.items;
+      rows = k.tables.rows;
     };
     limits = k.limits;
   }
 
   -- what descriptions say changes
-  pub view-said : live_count (opened_in after) ≡ live_count (opened_in k.descriptions.slots) → loose_from 0 k.tables after ≡ loose_from 0 k.tables k.descriptions.slots → view_of changed ≡ record (view_of k) { opened = opened_in after }
+  pub view-said : live_count (opened_in after) ≡ live_count (opened_in k.descriptions.slots) → loose_from 0 k.tables.tables after ≡ loose_from 0 k.tables.tables k.descriptions.slots → view_of changed ≡ record (view_of k) { opened = opened_in after }
   view-said live loose = λ i. record {
-    tables = k.tables;
+    tables = k.tables.tables;
     opened = opened_in after;
     loose = loose i;
     room = record {
       descriptions = k.descriptions.capacity - len-same k.descriptions.slots after live i;
       pipes = length k.counts.pipes.items;
       files = length k.counts.files.items;
+      rows = k.tables.rows;
     };
     limits = k.limits;
   }

@@ -10,7 +10,7 @@ use Rattle.pl_model.specs.Nodes.{same_node}
 use Rattle.pl_desc.specs.declared.limits.DescLimits.{DescLimits}
 use Rattle.pl_desc.specs.declared.released.Released.{Released}
 use Rattle.pl_desc.specs.declared.released.Released.TheVariants.{Still, Gone}
-use Rattle.pl_desc.specs.Rows.{at, Tables, row_at, naming, count_at}
+use Rattle.pl_desc.specs.Rows.{at, Tables, row_at, rows_at, naming, count_at}
 
 -- POSIX.1-2017, Open File Description: one that is open.
 pub record Opened : Type 0 where
@@ -19,11 +19,13 @@ pub record Opened : Type 0 where
   pub flags : OpenFlags
   pub offset : ℕ
 
--- What can be opened without memory: so many descriptions more, on the pipes and on the files whose keys are below these.
+-- What can be opened without memory: so many descriptions more, on the pipes and on the files whose keys are below these, and of a
+-- process the descriptors below so many.
 pub record Room : Type 0 where
   pub descriptions : ℕ
   pub pipes : ℕ
   pub files : ℕ
+  pub rows : List ℕ
 
 -- The tables of the processes, the descriptions by key, how many loose holds each has (its holders but the rows that name
 -- it), the room for more, and the limits.
@@ -72,6 +74,7 @@ pub record IsNoLess (old new : Room) (count : ℕ) : Type 0 where
   pub descriptions : old.descriptions ≤ new.descriptions + count
   pub pipes : old.pipes ≤ new.pipes
   pub files : old.files ≤ new.files
+  pub rows : (pid : ℕ) → rows_at old.rows pid ≤ rows_at new.rows pid
 
 -- What holds of all of it.
 pub record IsTidy (d : Descs) : Type 0 where

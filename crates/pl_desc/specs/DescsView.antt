@@ -9,14 +9,15 @@ use Rattle.pl_desc.specs.Slots.{opened_in, loose_from}
 abbrev pub view_of : {A : Type 0} → Inside A → Descs
 view_of k =
     record {
-      tables = k.tables;
+      tables = k.tables.tables;
       opened = opened_in k.descriptions.slots;
-      loose = loose_from 0 k.tables k.descriptions.slots;
+      loose = loose_from 0 k.tables.tables k.descriptions.slots;
       room =
           record {
             descriptions = k.descriptions.capacity - slab_len k.descriptions;
             pipes = length k.counts.pipes.items;
             files = length k.counts.files.items;
+            rows = k.tables.rows;
           };
       limits = k.limits;
     }

@@ -11,6 +11,12 @@ no_key = 18446744073709551615
 abbrev pub at : {V : Type 0} → List (Option V) → ℕ → Option V
 at xs key = slice_index_or xs key None
 
+-- A table: what each descriptor that there may be names, and how many of them, from 0 on, have a row. One that has a row can be opened
+-- without memory.
+pub record Tabled : Type 0 where
+  pub names : List (Option ℕ)
+  pub rows : ℕ
+
 -- The tables of the processes 1, 2 and so on, with none where there is no such process. A table has, by descriptor, the
 -- key that each names.
 abbrev pub Tables : Type 0
@@ -58,6 +64,14 @@ open_from table least = first_from (λ fd. is_some (at table fd)) (length table 
 abbrev pub next_open : List (Option ℕ) → (least : ℕ) → Option (ℕ × ℕ)
 next_open table least = option_and_then (λ fd. option_map (λ key. (fd, key)) (at table fd)) (open_from table least)
 
+-- the number that a list of them has at a key
+abbrev pub count_at : List ℕ → ℕ → ℕ
+count_at xs key = slice_index_or xs key 0
+
+-- how many rows a process has, of the numbers of all
+abbrev pub rows_at : List ℕ → ℕ → ℕ
+rows_at rows pid = if nat_lt 0 pid then count_at rows (pid - 1) else 0
+
 -- the least free pid, where there may be so many processes
 abbrev pub free_pid : Tables → (most : ℕ) → Option ℕ
 free_pid tables most = first_from (λ pid. not (is_pid tables pid)) most 1
@@ -96,10 +110,6 @@ naming tables key = sum_by (named_in key) tables
 -- the tables with this one under a pid
 abbrev pub with_table : Tables → ℕ → Option (List (Option ℕ)) → Tables
 with_table tables pid table = slice_set tables (pid - 1) table
-
--- the number that a list of them has at a key
-abbrev pub count_at : List ℕ → ℕ → ℕ
-count_at xs key = slice_index_or xs key 0
 
 -- the numbers with that of one key changed
 abbrev pub change_count : ℕ → (ℕ → ℕ) → (ℕ → ℕ) → ℕ → ℕ

@@ -22,10 +22,10 @@ pub(crate) struct Description {
 
 /// Adds a holder to each description, for each descriptor of the table that names it. It takes no memory.
 pub(crate) fn hold_all<A: Allocator>(descriptions: &mut Slab<Description, A>, table: &Table<A>)
-    requires wide { length table.now ≤ most_descriptors }
-    requires here { (fd key : ℕ) → at table.now fd ≡ Some key → IsSome (at descriptions.old.slots key) }
+    requires wide { length table.now.names ≤ most_descriptors }
+    requires here { (fd key : ℕ) → at table.now.names fd ≡ Some key → IsSome (at descriptions.old.slots key) }
     requires few { (key : ℕ) → holders_of (at descriptions.old.slots key) < 2 ^ 127 }
-    ensures { descriptions.new ≡ record descriptions.old { slots = held_all table.now descriptions.old.slots } }
+    ensures { descriptions.new ≡ record descriptions.old { slots = held_all table.now.names descriptions.old.slots } }
 {
     let mut from = 0;
     while let Some((fd, key)) = table.next_open(from) {

@@ -5,12 +5,12 @@ ghost use Rattle.std.specs.Prelude.{◌≡◌, ℕ, ◌+◌, ◌-◌, ◌<◌, �
 ghost use Rattle.std.specs.Option.{option_copied};
 ghost use Rattle.pl_model.specs.Map.{set_at};
 ghost use Rattle.pl_model.specs.Modes.{reads, writes};
-ghost use Rattle.pl_desc.specs.Rows.{at, table_of, rows_of, is_pid, row_at, row_of, lowest_of, next_open, free_pid, with_row, without_row, without_taken, with_rows_of, count_at, change_count, one_more, one_less, more_if};
+ghost use Rattle.pl_desc.specs.Rows.{at, table_of, rows_of, rows_at, is_pid, row_at, row_of, lowest_of, next_open, free_pid, with_row, without_row, without_taken, with_rows_of, count_at, change_count, one_more, one_less, more_if};
 ghost use Rattle.pl_desc.specs.Descs.{ends_on, live_count, AreLimits, HasRoom, IsNoLess, IsTidy, holders, last_hold, fresh, released};
 
 use crate::description::{Description, hold_all};
 use crate::ends::Counts;
-use crate::fault::{OpenFault, StartFault};
+use crate::fault::StartFault;
 use crate::limits::DescLimits;
 use crate::released::Released;
 use crate::table::Table;
@@ -21,8 +21,8 @@ use std::alloc::{Allocator, Global};
 use std::marker::Model;
 
 /// The descriptions that are open, and the processes whose descriptors name them (POSIX.1-2017, Open File Description,
-/// File Descriptor). A row is a descriptor with the description that it names. A description is held by each row that names
-/// it, and by loose holds, which the caller counts as its own; it is open as long as it is held.
+/// File Descriptor). A process has a row for each descriptor below some number, with the description that it names, if any. A description is
+/// held by each row that names it, and by loose holds, which the caller counts as its own; it is open as long as it is held.
 #[derive(Drop)]
 pub struct Descs<A: Allocator = Global> {
     alloc: A,
@@ -43,14 +43,14 @@ impl<A: Allocator> Model for Descs<A> {
 
     ghost view = { view_of };
 
-    ghost invariant = { λ k. IsSound k.limits k.tables k.descriptions.slots (ends_at k.counts) };
+    ghost invariant = { λ k. IsSound k.limits k.tables.tables k.descriptions.slots (ends_at k.counts) };
 }
 
 impl<A: Allocator + Copy> Descs<A> {
     /// No processes, and nothing open. It takes no memory.
     pub fn new(alloc: A, limits: DescLimits) -> Descs<A>
         requires { AreLimits limits }
-        ensures value { result ≡ record { tables = []; opened = []; loose = []; room = record { descriptions = 0; pipes = 0; files = 0 }; limits = limits } }
+        ensures value { result ≡ record { tables = []; opened = []; loose = []; room = record { descriptions = 0; pipes = 0; files = 0; rows = [] }; limits = limits } }
         ensures tidy { IsTidy result }
     {
         Descs {
@@ -82,7 +82,8 @@ impl<A: Allocator + Copy> Descs<A> {
         ensures pid { IfOk result (λ pid. free_pid self.old.tables self.old.limits.processes ≡ Some pid) }
         ensures pids { IfOk result (λ pid. is_pid self.new.tables ≡ set_at nat_eq (is_pid self.old.tables) pid true) }
         ensures rows { OnOk result (row_at self.new.tables ≡ row_at self.old.tables) }
-        ensures rest { self.new ≡ record self.old { tables = self.new.tables } }
+        ensures rest { self.new ≡ record self.old { tables = self.new.tables; room = self.new.room } }
+        ensures room { IsNoLess self.old.room self.new.room 0 }
         ensures full { (result ≡ Err StartFault.Eagain) ↔ (free_pid self.old.tables self.old.limits.processes ≡ None) }
         ensures tidy { OnOk result (IsTidy self.new) }
         ensures unchanged { OnErr result (self.new ≡ self.old) }
@@ -90,12 +91,10 @@ impl<A: Allocator + Copy> Descs<A> {
         let Some(pid) = self.tables.free_pid(self.limits.processes) else {
             return Err(StartFault::Eagain);
         };
-        let Ok(table) = Table::new(self.alloc, self.limits.descriptors) else {
-            return Err(StartFault::NoMemory);
-        };
         if self.tables.reserve(pid).is_err() {
             return Err(StartFault::NoMemory);
         }
+        let table = Table::new(self.alloc, self.limits.descriptors);
         self.tables.add(pid, table);
         Ok(pid)
     }
@@ -114,7 +113,8 @@ impl<A: Allocator + Copy> Descs<A> {
         ensures pid { IfOk result (λ other. free_pid self.old.tables self.old.limits.processes ≡ Some other) }
         ensures pids { IfOk result (λ other. is_pid self.new.tables ≡ set_at nat_eq (is_pid self.old.tables) other true) }
         ensures rows { IfOk result (λ other. row_at self.new.tables ≡ with_rows_of (row_at self.old.tables) pid other) }
-        ensures rest { self.new ≡ record self.old { tables = self.new.tables } }
+        ensures rest { self.new ≡ record self.old { tables = self.new.tables; room = self.new.room } }
+        ensures room { IsNoLess self.old.room self.new.room 0 }
         ensures full { (result ≡ Err StartFault.Eagain) ↔ (free_pid self.old.tables self.old.limits.processes ≡ None) }
         ensures tidy { OnOk result (IsTidy self.new) }
         ensures unchanged { OnErr result (self.new ≡ self.old) }
@@ -139,10 +139,11 @@ impl<A: Allocator + Copy> Descs<A> {
         requires closed { (fd : ℕ) → row_at self.old.tables pid fd ≡ None }
         ensures pids { is_pid self.new.tables ≡ set_at nat_eq (is_pid self.old.tables) pid false }
         ensures rows { row_at self.new.tables ≡ row_at self.old.tables }
-        ensures rest { self.new ≡ record self.old { tables = self.new.tables } }
+        ensures rest { self.new ≡ record self.old { tables = self.new.tables; room = self.new.room } }
         ensures tidy { IsTidy self.new }
     {
         self.tables.remove(pid);
+        self.tables.trim();
     }
 
     /// Closes the least open descriptor of a process, from `least` on, and answers it with the key that it named, of which the caller has a
@@ -174,7 +175,7 @@ impl<A: Allocator + Copy> Descs<A> {
     /// The table of descriptors of a process, for a caller that looks several up.
     #[inline(always)]
     pub fn table(&self, pid: u32) -> Option<&Table<A>>
-        ensures { option_copied result ≡ table_of self.now.tables pid }
+        ensures { option_map (λ table. table.names) (option_copied result) ≡ table_of self.now.tables pid }
     {
         self.tables.get(pid)
     }
@@ -198,12 +199,63 @@ impl<A: Allocator + Copy> Descs<A> {
         self.tables.get(pid)?.lowest(least)
     }
 
-    /// Lets a free descriptor of a process, which is within the limit, name a description, by a loose hold that the caller gives up. It
-    /// takes no memory.
+    /// Makes a row for a descriptor of a process, which is within the limit, so that opening it takes no memory. Nothing else changes.
+    ///
+    /// # Errors
+    ///
+    /// `NoMemory` where there is neither a row nor memory for it.
+    #[inline(always)]
+    pub fn reserve_row(&mut self, pid: u32, fd: usize) -> Result<(), NoMemory>
+        requires process { IsTrue (is_pid self.old.tables pid) }
+        requires place { fd < self.old.limits.descriptors }
+        ensures row { OnOk result (fd < rows_at self.new.room.rows pid) }
+        ensures grows { IsNoLess self.old.room self.new.room 0 }
+        ensures kept { self.new ≡ record self.old { room = self.new.room } }
+        ensures succeeds { fd < rows_at self.old.room.rows pid → IsOk result }
+    {
+        self.tables.reserve_row(pid, fd)
+    }
+
+    /// Makes room for `count` more descriptions on a node, and a row for a descriptor of a process, which is within the limit, so that opening them
+    /// there takes no memory. Nothing else changes.
+    ///
+    /// # Errors
+    ///
+    /// `NoMemory` where there is neither room nor memory for it.
+    pub fn reserve_at(
+        &mut self,
+        pid: u32,
+        fd: usize,
+        node: Node,
+        count: usize,
+    ) -> Result<(), NoMemory>
+        requires process { IsTrue (is_pid self.old.tables pid) }
+        requires place { fd < self.old.limits.descriptors }
+        ensures room { OnOk result (HasRoom self.new.room node count) }
+        ensures row { OnOk result (fd < rows_at self.new.room.rows pid) }
+        ensures kept { self.new ≡ record self.old { room = self.new.room } }
+    {
+        self.reserve_row(pid, fd)?;
+        self.reserve(node, count)
+    }
+
+    /// Gives back rows of a process after it closed a descriptor, where most of them aren't in use any more. Nothing else changes. It takes no
+    /// memory.
+    #[inline(always)]
+    pub fn trim_rows(&mut self, pid: u32)
+        requires { IsTrue (is_pid self.old.tables pid) }
+        ensures { self.new ≡ record self.old { room = self.new.room } }
+    {
+        self.tables.trim_rows(pid);
+    }
+
+    /// Lets a free descriptor of a process, which has a row, name a description, by a loose hold that the caller gives up. It takes no
+    /// memory.
     #[inline(always)]
     pub fn install(&mut self, pid: u32, fd: usize, key: usize)
         requires process { IsTrue (is_pid self.old.tables pid) }
         requires place { fd < self.old.limits.descriptors }
+        requires row { fd < rows_at self.old.room.rows pid }
         requires free { row_at self.old.tables pid fd ≡ None }
         requires held { 0 < count_at self.old.loose key }
         ensures rows { row_at self.new.tables ≡ with_row (row_at self.old.tables) pid fd (Some key) }
@@ -237,6 +289,27 @@ impl<A: Allocator + Copy> Descs<A> {
         Some(key)
     }
 
+    /// Lets an open descriptor of a process name another description, by a loose hold that the caller gives up (POSIX.1-2017, dup2), and answers
+    /// the key that it named, of which the caller has a loose hold. It takes no memory.
+    pub fn replace(&mut self, pid: u32, fd: usize, key: usize) -> usize
+        requires process { IsTrue (is_pid self.old.tables pid) }
+        requires place { fd < self.old.limits.descriptors }
+        requires open { IsSome (row_at self.old.tables pid fd) }
+        requires held { 0 < count_at self.old.loose key }
+        ensures key { row_at self.old.tables pid fd ≡ Some result }
+        ensures rows { row_at self.new.tables ≡ with_row (row_at self.old.tables) pid fd (Some key) }
+        ensures pids { is_pid self.new.tables ≡ is_pid self.old.tables }
+        ensures loose { count_at self.new.loose ≡ change_count result one_more (change_count key one_less (count_at self.old.loose)) }
+        ensures holders { holders self.new ≡ holders self.old }
+        ensures rest { self.new ≡ record self.old { tables = self.new.tables; loose = self.new.loose } }
+        ensures tidy { IsTidy self.new }
+    {
+        // A key has a slot, so it isn't the number that stands in the row of a free descriptor.
+        let capacity = self.descriptions.capacity();
+        prove!(key < capacity);
+        self.tables.replace(pid, fd, key)
+    }
+
     /// Makes room for `count` more descriptions on a node, so that opening them takes no memory. Nothing else changes.
     pub fn reserve(&mut self, node: Node, count: usize) -> Result<(), NoMemory>
         ensures room { OnOk result (HasRoom self.new.room node count) }
@@ -253,37 +326,20 @@ impl<A: Allocator + Copy> Descs<A> {
         Ok(())
     }
 
-    /// Opens a description on a node (POSIX.1-2017, open), at offset 0, and answers its key, of which the caller has a loose
-    /// hold. An error leaves all as it was, but for the room.
-    ///
-    /// # Errors
-    ///
-    /// - `Enfile` exactly where there are as many descriptions as there may be. It takes no memory.
-    /// - `NoMemory` where there are fewer, and there is neither room nor memory for one more.
+    /// Opens a description on a node (POSIX.1-2017, open), at offset 0, where there is room for it and fewer than there may be, and answers its
+    /// key, of which the caller has a loose hold. It takes no memory.
     #[inline(always)]
-    pub fn open_desc(
-        &mut self,
-        node: Node,
-        mode: Mode,
-        flags: OpenFlags,
-    ) -> Result<usize, OpenFault>
-        ensures vacant { IfOk result (λ key. at self.old.opened key ≡ None) }
-        ensures opened { IfOk result (λ key. at self.new.opened ≡ set_at nat_eq (at self.old.opened) key (Some (fresh node mode flags))) }
-        ensures loose { IfOk result (λ key. count_at self.new.loose ≡ change_count key one_more (count_at self.old.loose)) }
-        ensures live { OnOk result (live_count self.new.opened ≡ live_count self.old.opened + 1) }
+    pub fn open_reserved(&mut self, node: Node, mode: Mode, flags: OpenFlags) -> usize
+        requires room { HasRoom self.old.room node 1 }
+        requires few { live_count self.old.opened < self.old.limits.descriptions }
+        ensures vacant { at self.old.opened result ≡ None }
+        ensures opened { at self.new.opened ≡ set_at nat_eq (at self.old.opened) result (Some (fresh node mode flags)) }
+        ensures loose { count_at self.new.loose ≡ change_count result one_more (count_at self.old.loose) }
+        ensures live { live_count self.new.opened ≡ live_count self.old.opened + 1 }
         ensures rest { self.new ≡ record self.old { opened = self.new.opened; loose = self.new.loose; room = self.new.room } }
         ensures room { IsNoLess self.old.room self.new.room 1 }
-        ensures full { (result ≡ Err OpenFault.Enfile) ↔ (live_count self.old.opened ≡ self.old.limits.descriptions) }
-        ensures succeeds { HasRoom self.old.room node 1 → live_count self.old.opened < self.old.limits.descriptions → IsOk result }
-        ensures tidy { OnOk result (IsTidy self.new) }
-        ensures err { OnErr result (self.new ≡ record self.old { room = self.new.room }) }
+        ensures tidy { IsTidy self.new }
     {
-        if self.is_full() {
-            return Err(OpenFault::Enfile);
-        }
-        if self.reserve(node, 1).is_err() {
-            return Err(OpenFault::NoMemory);
-        }
         let key = self.descriptions.insert_reserved(Description {
             node,
             mode,
@@ -292,7 +348,7 @@ impl<A: Allocator + Copy> Descs<A> {
             holders: 1,
         });
         self.counts.add(node, mode);
-        Ok(key)
+        key
     }
 
     /// Adds a loose hold of a description, which has fewer than 2^100 of them. It takes no memory.
@@ -358,18 +414,10 @@ impl<A: Allocator + Copy> Descs<A> {
         self.counts.at(node).writers
     }
 
-    // Whether there are as many descriptions as there may be.
-    fn is_full(&self) -> bool
-        ensures value { result ≡ nat_eq (live_count self.now.opened) self.now.limits.descriptions }
-        ensures tidy { IsTidy self.now }
-    {
-        self.live() == self.limits.descriptions
-    }
-
     // A table whose descriptors name the same keys as those of a process.
     fn copied(&self, pid: u32) -> Result<Table<A>, NoMemory>
         requires { IsTrue (is_pid self.now.tables pid) }
-        ensures { IfOk result (λ table. table ≡ rows_of self.now.tables pid) }
+        ensures { IfOk result (λ table. table.names ≡ rows_of self.now.tables pid) }
     {
         let Some(table) = self.table(pid) else {
             unreachable!()

@@ -9,12 +9,14 @@ mod ends;
 mod fault;
 mod limits;
 mod released;
+mod rows;
 mod table;
 mod tables;
 
 pub use descs::Descs;
-pub use fault::{OpenFault, StartFault};
+pub use fault::StartFault;
 pub use limits::DescLimits;
 pub use pl_model::NoMemory;
 pub use released::Released;
+pub use rows::LEAST_ROWS;
 pub use table::Table;

@@ -4,3 +4,5 @@ pub mod Forking
 pub mod Flagging
 -- What dup, dup2 and fcntl's F_DUPFD come to at the kernel's keys.
 pub mod Duplicating
+-- What dup2 comes to where its target is open.
+pub mod Replacing

@@ -60,9 +60,9 @@ fn begin<A: Allocator + Copy>(
             flags,
         } => tee(kernel, pid, from, to, len, flags),
         Call::Poll { entries, wait } => poll(kernel, pid, entries, wait),
-        Call::Dup { fd } => Ok(dup(kernel, pid, fd)),
-        Call::Dup2 { fd, target } => Ok(dup2(kernel, pid, fd, target)),
-        Call::DupFd { fd, least } => Ok(dup_fd(kernel, pid, fd, least)),
+        Call::Dup { fd } => dup(kernel, pid, fd),
+        Call::Dup2 { fd, target } => dup2(kernel, pid, fd, target),
+        Call::DupFd { fd, least } => dup_fd(kernel, pid, fd, least),
         Call::Close { fd } => Ok(close(kernel, pid, fd)),
         Call::Lseek { fd, offset, whence } => Ok(lseek(kernel, pid, fd, offset, whence)),
         Call::GetFl { fd } => Ok(get_fl(kernel, pid, fd)),
@@ -173,7 +173,7 @@ pub(crate) fn try_again<A: Allocator + Copy>(
         WaitingCall::Write { key, length, taken } => {
             resume_write(kernel, number, key, length, taken)
         }
-        WaitingCall::Open { key, pid, met } => Ok(resume_open(kernel, number, pid, key, met)),
+        WaitingCall::Open { key, pid, met } => resume_open(kernel, number, pid, key, met),
         WaitingCall::Move(waiting) => resume_move(kernel, number, waiting),
         WaitingCall::Poll => resume_poll(kernel, number),
     }

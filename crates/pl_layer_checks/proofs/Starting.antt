@@ -3,6 +3,7 @@ use Rattle.std.proofs.Common.{◌≡◌, ℕ, ◌+◌, ◌-◌, ◌<◌, Bool, t
 use Rattle.std.specs.Prelude.{if◌then◌else◌, ◌^◌}
 use Rattle.std.proofs.lemmas.Bool.{eq-eqb}
 use Rattle.pl_model.specs.Map.{set_at}
+use Rattle.pl_desc.specs.Descs.{Descs, live_count}
 use Rattle.pl_desc.specs.Rows.{Tables, is_pid, row_at, rows_in, at, count_at, change_count, one_more, one_less, more_if}
 
 -- a process that was started is there, where the tables stay
@@ -32,3 +33,13 @@ pub has_hold : (was now : ℕ → ℕ) (named : Option ℕ) (key : ℕ) → now 
 has_hold was now named key more is =
     let all : now key ≡ was key + 1 = (λ i. (more ∙ ap (λ o. more_if o was) is) i key) ∙ ap (λ b. if b then was key + 1 else was key) (eq-eqb key key refl) in
     omega (arith, all)
+
+-- nothing is open
+pub none_live : live_count [] ≡ 0
+unfolding live_count
+none_live = refl
+
+-- room that is made twice, and a description that is opened, leave the tables
+pub same_tables : (start first second opened : Descs) → first ≡ record start { room = first.room } → second ≡ record first { room = second.room }
+    → opened ≡ record second { opened = opened.opened; loose = opened.loose; room = opened.room } → opened.tables ≡ start.tables
+same_tables start first second opened one two three = ap (λ d. d.tables) three ∙ ap (λ d. d.tables) two ∙ ap (λ d. d.tables) one

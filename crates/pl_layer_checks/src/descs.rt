@@ -3,7 +3,7 @@ ghost use Rattle.std.specs.Prelude.{◌≡◌, ◌<◌, ◌^◌, [], ℕ, IsTrue
 ghost use Rattle.pl_desc.specs.Rows.{is_pid, count_at};
 
 use crate::equal::is;
-use pl_desc::{DescLimits, Descs, NoMemory, OpenFault, Released, StartFault};
+use pl_desc::{DescLimits, Descs, NoMemory, Released, StartFault};
 use pl_model::{Mode, Node, OpenFlags};
 use pl_refusing::{MOST_REQUESTS, Refusing, all_were_refused};
 use std::alloc::{Allocator, Global};
@@ -28,22 +28,9 @@ fn start_in_order<A: Allocator + Copy>(rt: &impl Abort, descs: &mut Descs<A>) {
     is(rt, "not open", descs.find(1_024, 255), None);
 }
 
-fn open_the_most<A: Allocator + Copy>(rt: &impl Abort, descs: &mut Descs<A>) {
-    for _ in 0..4_096u32 {
-        let opened = descs.open_desc(Node::Pipe(0), Mode::Both, OpenFlags::NONBLOCK);
-        is(rt, "opened", opened.is_ok(), true);
-    }
-    is(rt, "live", descs.live(), 4_096);
-    is(rt, "readers", descs.readers(Node::Pipe(0)), 4_096);
-    is(rt, "writers", descs.writers(Node::Pipe(0)), 4_096);
-    is(rt, "readers of a file", descs.readers(Node::File(0)), 0);
-    let opened = descs.open_desc(Node::Pipe(1), Mode::Read, OpenFlags::NONBLOCK);
-    is(rt, "one more", opened, Err(OpenFault::Enfile));
-}
-
-fn open_past_all_memory<A: Allocator + Copy>(rt: &impl Abort, descs: &mut Descs<A>) {
-    let opened = descs.open_desc(Node::Pipe(usize::MAX), Mode::Read, OpenFlags::NONBLOCK);
-    is(rt, "opened", opened, Err(OpenFault::NoMemory));
+fn reserve_past_all_memory<A: Allocator + Copy>(rt: &impl Abort, descs: &mut Descs<A>) {
+    let reserved = descs.reserve(Node::Pipe(usize::MAX), 1);
+    is(rt, "reserved", reserved, Err(NoMemory));
     is(rt, "live", descs.live(), 0);
     is(rt, "readers", descs.readers(Node::Pipe(usize::MAX)), 0);
 }
@@ -81,11 +68,15 @@ fn fork_with_one<A: Allocator + Copy>(
     node: Node,
     n: u64,
 ) -> Result<usize, Fail>
-    requires { descs.old ≡ record { tables = []; opened = []; loose = []; room = record { descriptions = 0; pipes = 0; files = 0 }; limits = record { descriptors = 256; descriptions = 4096; processes = 1024 } } }
+    requires { descs.old ≡ record { tables = []; opened = []; loose = []; room = record { descriptions = 0; pipes = 0; files = 0; rows = [] }; limits = record { descriptors = 256; descriptions = 4096; processes = 1024 } } }
 {
     let parent = descs.start()?;
     is(rt, "the parent", parent, 1);
-    let key = descs.open_desc(node, Mode::Read, OpenFlags::NONBLOCK)?;
+    heap.refuse(1);
+    is(rt, "no row", descs.reserve_row(parent, 0), Err(NoMemory));
+    heap.refuse(0);
+    descs.reserve_at(parent, 0, node, 1)?;
+    let key = descs.open_reserved(node, Mode::Read, OpenFlags::NONBLOCK);
     is(rt, "readers", descs.readers(node), 1);
     is(rt, "the lowest", descs.lowest(parent, 0), Some(0));
     descs.install(parent, 0, key);
@@ -107,7 +98,7 @@ fn close_twice<A: Allocator + Copy>(
     descs: &mut Descs<A>,
     n: u64,
 ) -> Result<(), Fail>
-    requires { descs.old ≡ record { tables = []; opened = []; loose = []; room = record { descriptions = 0; pipes = 0; files = 0 }; limits = record { descriptors = 256; descriptions = 4096; processes = 1024 } } }
+    requires { descs.old ≡ record { tables = []; opened = []; loose = []; room = record { descriptions = 0; pipes = 0; files = 0; rows = [] }; limits = record { descriptors = 256; descriptions = 4096; processes = 1024 } } }
 {
     let node = Node::Pipe(7);
     let key = fork_with_one(rt, heap, descs, node, n)?;
@@ -122,7 +113,7 @@ fn close_twice<A: Allocator + Copy>(
     Ok(())
 }
 
-/// Each request for memory of a start is refused, until it makes none more, and then the two of an open. They leave no process and nothing open.
+/// Each request for memory of a start is refused, until it makes none more, and then the two of room for a description. They leave no process and nothing open.
 fn refuse_each<A: Allocator + Copy>(
     rt: &impl Abort,
     heap: &Refusing<Global>,
@@ -143,36 +134,40 @@ fn refuse_each<A: Allocator + Copy>(
     let node = Node::Pipe(0);
     for request in 1..3u64 {
         heap.refuse(request);
-        let opened = descs.open_desc(node, Mode::Read, OpenFlags::NONBLOCK);
-        is(rt, "opened", opened, Err(OpenFault::NoMemory));
-        is(rt, "an open is refused", heap.refused(), true);
+        is(rt, "room", descs.reserve(node, 1), Err(NoMemory));
+        is(rt, "room is refused", heap.refused(), true);
         is(rt, "live", descs.live(), 0);
         is(rt, "readers", descs.readers(node), 0);
     }
 }
 
 /// Memory is reserved for two, which then are opened without any.
-fn reserve<A: Allocator + Copy>(rt: &impl Abort, heap: &Refusing<Global>, descs: &mut Descs<A>) {
+fn reserve<A: Allocator + Copy>(
+    rt: &impl Abort,
+    heap: &Refusing<Global>,
+    descs: &mut Descs<A>,
+) -> Result<(), Fail>
+    requires { descs.old ≡ record { tables = []; opened = []; loose = []; room = record { descriptions = 0; pipes = 0; files = 0; rows = [] }; limits = record { descriptors = 256; descriptions = 4096; processes = 1024 } } }
+{
     let node = Node::Pipe(5);
     heap.refuse(1);
     is(rt, "refused", descs.reserve(node, 2), Err(NoMemory));
     heap.refuse(0);
-    is(rt, "reserved", descs.reserve(node, 2), Ok(()));
+    descs.reserve(node, 2)?;
     heap.refuse(1);
-    let reader = descs.open_desc(node, Mode::Read, OpenFlags::NONBLOCK);
-    is(rt, "a reader", reader.is_ok(), true);
-    let writer = descs.open_desc(node, Mode::Write, OpenFlags::NONBLOCK);
-    is(rt, "a writer", writer.is_ok(), true);
+    let reader = descs.open_reserved(node, Mode::Read, OpenFlags::NONBLOCK);
+    let writer = descs.open_reserved(node, Mode::Write, OpenFlags::NONBLOCK);
+    is(rt, "another key", reader == writer, false);
     is(rt, "a request is refused", heap.refused(), false);
     is(rt, "live", descs.live(), 2);
+    Ok(())
 }
 
 /// What is tried on descriptions that are new.
 #[derive(Clone, Copy)]
 enum Trial {
     StartInOrder,
-    OpenTheMost,
-    OpenPastAllMemory,
+    ReservePastAllMemory,
     /// Where this request of a fork is refused.
     CloseTwice(u64),
     RefuseEach,
@@ -189,11 +184,10 @@ fn on_new<A: Allocator + Copy>(
     let mut descs = Descs::new(alloc, USUAL);
     match trial {
         Trial::StartInOrder => start_in_order(rt, &mut descs),
-        Trial::OpenTheMost => open_the_most(rt, &mut descs),
-        Trial::OpenPastAllMemory => open_past_all_memory(rt, &mut descs),
+        Trial::ReservePastAllMemory => reserve_past_all_memory(rt, &mut descs),
         Trial::CloseTwice(n) => close_twice(rt, heap, &mut descs, n)?,
         Trial::RefuseEach => refuse_each(rt, heap, &mut descs),
-        Trial::Reserve => reserve(rt, heap, &mut descs),
+        Trial::Reserve => reserve(rt, heap, &mut descs)?,
     }
     Ok(())
 }
@@ -209,9 +203,8 @@ fn processes_start_in_order(rt: HostRuntime) -> Result<(), Fail> {
 }
 
 #[test]
-fn descriptions_have_limits(rt: HostRuntime) -> Result<(), Fail> {
-    meets(&rt, rt.alloc(), Trial::OpenTheMost)?;
-    meets(&rt, rt.alloc(), Trial::OpenPastAllMemory)
+fn no_memory_is_enough_for_some_counts(rt: HostRuntime) -> Result<(), Fail> {
+    meets(&rt, rt.alloc(), Trial::ReservePastAllMemory)
 }
 
 /// A description is there until the last row that names it goes (POSIX.1-2017, fork and close).

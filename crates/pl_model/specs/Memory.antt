@@ -18,9 +18,9 @@ module _ {A : Type 0} where
 
   -- a call that takes no memory, whatever it answers
   abbrev pub is_frugal_call : Call A → Bool
-  is_frugal_call (Call.Dup fd) = true
-  is_frugal_call (Call.Dup2 fd target) = true
-  is_frugal_call (Call.DupFd fd least) = true
+  is_frugal_call (Call.Dup fd) = false
+  is_frugal_call (Call.Dup2 fd target) = false
+  is_frugal_call (Call.DupFd fd least) = false
   is_frugal_call (Call.Close fd) = true
   is_frugal_call (Call.GetFl fd) = true
   is_frugal_call (Call.SetFl fd flags) = true

@@ -126,9 +126,7 @@ fn park_open<A: Allocator + Copy>(
     }) else {
         return Err(NoMemory);
     };
-    let key = descs
-        .open_desc(node, end.mode, status_of(end.flags))
-        .unwrap();
+    let key = descs.open_reserved(node, end.mode, status_of(end.flags));
     kept.push_reserved(key);
     parked.set_kept(number, KeyList::from_vec(kept));
     Ok(key)
@@ -195,7 +193,7 @@ pub(crate) fn open_fifo<A: Allocator + Copy>(
         return await_other_end(kernel, pid, name, FifoEnd { pipe, mode, flags });
     }
     let node = Node::Pipe(pipe);
-    kernel.descs.reserve(node, 1)?;
+    kernel.descs.reserve_at(pid, fd, node, 1)?;
     kernel.parked.mark_met(pipe, mode);
     let gets_writer = Access::Writing.is_allowed_by(mode);
     unhang_if(&mut kernel.nodes, pipe, gets_writer);

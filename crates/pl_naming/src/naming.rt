@@ -128,7 +128,7 @@ fn open_file<A: Allocator + Copy>(
     ensures wanted { OnErr result ((name : List ℕ) → MayOpen kernel.old pid name mode flags fd (Some (Node.File file)) → MayWantAtKeys {A = A} kernel.old (Step.Begin pid (Call.OpenName name mode flags))) }
 {
     let node = Node::File(file);
-    kernel.descs.reserve(node, 1)?;
+    kernel.descs.reserve_at(pid, fd, node, 1)?;
     empty_if(&mut kernel.nodes, file, does_truncate(mode, flags));
     open_at(&mut kernel.descs, pid, fd, node, mode, status_of(flags));
     Ok(Reply::Fd(fd as i32))
@@ -154,7 +154,7 @@ fn create_file<A: Allocator + Copy>(
     }
     let node = Node::File(kernel.nodes.next_key());
     let kept = Vec::from_slice(kernel.alloc, name)?;
-    kernel.descs.reserve(node, 1)?;
+    kernel.descs.reserve_at(pid, fd, node, 1)?;
     let Ok(_) = kernel.nodes.make_file(kept) else {
         return Err(NoMemory);
     };

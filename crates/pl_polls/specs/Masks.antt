@@ -1,5 +1,5 @@
 -- What a poll looks at, at the kernel's keys.
-use Rattle.std.specs.Prelude.{◌≡◌, ℕ, ℤ, true, nat_eq, List, map, drop, Option, IsSome}
+use Rattle.std.specs.Prelude.{◌≡◌, ℕ, ℤ, true, nat_eq, List, map, drop, Option, IsSome, option_map}
 use Rattle.std.specs.Option.{option_copied}
 use Rattle.std.specs.Set.{is_member}
 use Rattle.pl_model.specs.declared.flags.PollMask.{PollMask}
@@ -15,7 +15,7 @@ use Rattle.pl_polls.specs.declared.masks.Descriptions.TheVariants.{Named, Kept}
 module _ {A : Type 0} (k : Contents A) where
   -- the table is that of the process, and what a poll keeps is open
   abbrev pub AreCurrent : Descriptions A → Type 0
-  AreCurrent (Named pid table) = option_copied table ≡ table_of k.tables pid
+  AreCurrent (Named pid table) = option_map (λ t. t.names) (option_copied table) ≡ table_of k.tables pid
   AreCurrent (Kept keys) = (key : ℕ) → is_member nat_eq keys.now key ≡ true → IsSome (at k.opened key)
 
   -- what the entries name, where so many before them had descriptors that aren't negative

@@ -1,5 +1,5 @@
 //! What a poll finds.
-ghost use Rattle.std.specs.Prelude.{◌≡◌, ◌∷◌, ◌+◌, ◌<◌, ◌≤◌, ℤ, List, length, IfOk, IfSome, IsSome, option_and_then};
+ghost use Rattle.std.specs.Prelude.{◌≡◌, ◌∷◌, ◌+◌, ◌<◌, ◌≤◌, ℤ, List, length, IfOk, IfSome, IsSome, option_and_then, option_map};
 ghost use Rattle.std.specs.List.{list_any};
 ghost use Rattle.pl_model.specs.declared.flags.PollMask.{PollMask as Mask};
 ghost use Rattle.pl_model.specs.Numbers.{most_descriptors};
@@ -96,7 +96,7 @@ fn mask_at<A: Allocator + Copy>(
 // The key that a descriptor names in a table, if there is one.
 #[inline(always)]
 fn key_in<A: Allocator>(table: Option<&Table<A>>, fd: i32) -> Option<usize>
-    ensures { result ≡ row_in (rows_in (option_copied table.entry)) fd }
+    ensures { result ≡ row_in (rows_in (option_map (λ t. t.names) (option_copied table.entry))) fd }
 {
     table?.find(fd)
 }

@@ -82,6 +82,7 @@ const AN_OPEN_WAITS: Run = Run {
         "nomem\nno process\nno process\nno process\nno process\nno call\nno process\n",
         "pid 1\nnomem\nENOENT\nENOENT\nEBADF\nno call\nEBADF\n",
         "pid 1\nok\nnomem\nparked 1\nEBADF\nparked 1\nEBADF\n",
+        "pid 1\nok\nparked 1\nnomem\nEBADF\nparked 1\nEBADF\n",
         "pid 1\nok\nparked 1\nfd 0\nnomem\nfd 1\nparked 2\n",
         "pid 1\nok\nparked 1\nfd 0\ncount 2\nfd 1\nnomem\n",
     ],

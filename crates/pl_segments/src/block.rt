@@ -79,6 +79,7 @@ impl<A: Allocator> Block<A> {
     }
 
     /// The bytes.
+    #[inline(always)]
     pub(crate) fn as_slice(&self) -> &[u8]
         ensures { result.now ≡ self.now }
     {

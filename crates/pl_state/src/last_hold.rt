@@ -96,18 +96,18 @@ pub fn release<A: Allocator + Copy>(descs: &mut Descs<A>, nodes: &mut Nodes<A>, 
     ensures stays { last_hold descs.old key ≡ false → nodes.new ≡ nodes.old }
     ensures leaves { last_hold descs.old key ≡ true → IfSome (at descs.old.opened key) (λ o. Leaves descs.old.opened descs.new.opened (nodes_of nodes.old) (nodes_of nodes.new) o.node) }
 {
-    let node = descs.node(key);
-    let had_writer = descs.writers(node) > 0;
     let Released::Gone {
+        node,
+        mode,
         readers,
         writers,
-        ..
     } = descs.release(key)
     else {
         return;
     };
     let has_reader = readers > 0;
     let has_writer = writers > 0;
+    let had_writer = has_writer || mode.writes();
     match node {
         Node::Pipe(pipe) => leave_pipe(nodes, pipe, has_reader, has_writer, had_writer),
         Node::File(file) => leave_file(nodes, file, has_reader, has_writer),

@@ -1,20 +1,15 @@
 //! Which steps are to take no memory.
-use crate::asked::Ask::{
-    self, Close, Dup, Dup2, DupFd, Exit, GetFl, GetPipeSz, Interrupt, Lseek, SetFl, Unlink,
-};
+use crate::asked::Ask::{self, Close, Exit, GetFl, GetPipeSz, Interrupt, Lseek, SetFl, Unlink};
 use crate::asked::Want::{self, CallsSpent, Fault, NoCall, NoProcess};
 
 /// Whether the step is to take no memory: a step that is refused, an interrupt, and each call on descriptors or names that neither
-/// makes something new nor moves bytes.
+/// makes a descriptor or something else new nor moves bytes.
 pub fn takes_no_memory(ask: Ask, want: Want) -> bool {
     matches!(want, Fault(_) | NoProcess | NoCall | CallsSpent)
         || matches!(
             ask,
             Interrupt(_)
                 | Close(..)
-                | Dup(..)
-                | Dup2(..)
-                | DupFd(..)
                 | Lseek(..)
                 | GetFl(..)
                 | SetFl(..)

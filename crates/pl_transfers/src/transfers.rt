@@ -78,7 +78,7 @@ pub fn pipe<A: Allocator + Copy>(
     }
     let flags = flags_of(nonblock);
     let node = Node::Pipe(kernel.nodes.next_key());
-    kernel.descs.reserve(node, 2)?;
+    kernel.descs.reserve_at(pid, second, node, 2)?;
     kernel.nodes.make(direct)?;
     open_at(&mut kernel.descs, pid, first, node, Mode::Read, flags);
     let flags_of_writer = flags_of_writer(nonblock, direct);

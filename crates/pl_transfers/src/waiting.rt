@@ -297,30 +297,33 @@ pub fn resume_write<A: Allocator + Copy>(
 }
 
 /// Tries a parked open again. Once it met its other end it gets the least free descriptor of its process (POSIX.1-2017, open), or `EMFILE`
-/// where none is free. Else the reply is its number. It takes no memory.
+/// where none is free. Else the reply is its number. The only error is want of memory, which leaves all as it was.
 pub fn resume_open<A: Allocator + Copy>(
     kernel: &mut KernelState<A>,
     number: u64,
     pid: u32,
     key: usize,
     met: bool,
-) -> Reply<A>
+) -> Result<Reply<A>, NoMemory>
     requires { OpenWaits kernel.old number pid key met }
-    ensures { MakesAtKeys kernel.old (Step.Resume number) result kernel.new }
+    ensures done { IfOk result (λ reply. MakesAtKeys kernel.old (Step.Resume number) reply kernel.new) }
+    ensures undone { OnErr result (kernel.new ≡ kernel.old) }
+    ensures wanted { OnErr result (MayWantAtKeys {A = A} kernel.old (Step.Resume number)) }
 {
     // A proof learns here what holds of the kernel.
     let _ = &kernel.descs;
     if !met {
-        return Reply::Parked(number);
+        return Ok(Reply::Parked(number));
     }
     let Some(fd) = kernel.descs.lowest(pid, 0) else {
         end_call(kernel, number);
-        return Reply::Fault(Errno::EMFILE);
+        return Ok(Reply::Fault(Errno::EMFILE));
     };
+    kernel.descs.reserve_row(pid, fd)?;
     // The hold of the call becomes that of the descriptor.
     kernel.parked.take(number);
     kernel.descs.install(pid, fd, key);
-    Reply::Fd(fd as i32)
+    Ok(Reply::Fd(fd as i32))
 }
 
 /// Ends the parked call of a number (POSIX.1-2017, read and write, EINTR). It takes no memory.

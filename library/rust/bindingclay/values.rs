@@ -80,7 +80,8 @@ pub struct Limits {
     /// The most bytes of a regular file, at most `MOST_FILE_BYTES`.
     pub file_max: u32,
     /// The most descriptors of a process, numbered from 0, at most `MOST_DESCRIPTORS`. A call that would give one from there on is EMFILE.
-    /// A poll takes as many entries, and 256 where this is less. Each process takes 8 bytes for each of them, from its start on.
+    /// A poll takes as many entries, and 256 where this is less. A process takes 8 to 16 bytes for each descriptor up to the highest
+    /// one that it opens.
     pub descriptors_max: u32,
     /// The most open file descriptions at one time, at most `MOST_DESCRIPTIONS`. One more is ENFILE.
     pub descriptions_max: u32,

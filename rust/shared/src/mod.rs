@@ -104,8 +104,8 @@ pub struct Limits {
     /// The most bytes of a regular file, at most 16,777,216.
     pub file_max: u32,
     /// The most descriptors of a process, numbered from 0, at most 65,536, and 256 by default. A call that would give one from there on is
-    /// `EMFILE`. A poll takes as many entries, and 256 where this is less. Each process takes 8 bytes of `memory` for each of them, and 4 bytes
-    /// beside it, from its start on.
+    /// `EMFILE`. A poll takes as many entries, and 256 where this is less. Each process takes 8 to 16 bytes of `memory` for each descriptor up to
+    /// the highest one that it opens, and 4 bytes beside it for each that it may have, from its start on.
     pub descriptors_max: u32,
     /// The most open file descriptions at one time, at most 1,048,576, and 4,096 by default. One more is `ENFILE`.
     pub descriptions_max: u32,

@@ -45,8 +45,8 @@ impl<A: Allocator + Copy> Kernel<A> {
     /// # Errors
     ///
     /// [`NoMemory`], which leaves the kernel as it was. It never comes where the reply would be an error, nor at the calls that take no
-    /// memory: `Close`, `Dup`, `Dup2`, `DupFd`, `Lseek`, `GetFl`, `SetFl`, `GetPipeSz`, `Unlink`, `Exit`, and at `Interrupt`. While steps are
-    /// recorded, it may come at any of them ([`record`](Self::record)).
+    /// memory: `Close`, `Lseek`, `GetFl`, `SetFl`, `GetPipeSz`, `Unlink`, `Exit`, and at `Interrupt`. While steps are recorded, it may come at
+    /// any of them ([`record`](Self::record)).
     ///
     /// ```
     /// use bindingclay::memory::Global;

@@ -1,7 +1,7 @@
 -- What dup, dup2 and fcntl's F_DUPFD come to at the kernel's keys.
-use Rattle.std.proofs.Common.{◌≡◌, ◌<◌, ◌≤◌, ◌≢◌, ℕ, Bool, true, false, cond, Option, Some, None, IsSome, refl, sym, ◌∙◌, ap, arith, ltb-true}
-use Rattle.std.specs.Prelude.{not, ℤ, pos, negsuc, option_map}
-use Rattle.std.proofs.lemmas.Bool.{le-ltb, lt-ltb}
+use Rattle.std.proofs.Common.{◌≡◌, ◌<◌, ◌≤◌, ℕ, Bool, true, false, cond, Option, Some, None, IsSome, refl, sym, ◌∙◌, ap, arith, ltb-true}
+use Rattle.std.specs.Prelude.{not, ℤ, pos, negsuc, option_map, Result, Ok, Err, IfOk, OnErr}
+use Rattle.std.proofs.lemmas.Bool.{le-ltb, lt-ltb, false≢true}
 use Rattle.std.proofs.lemmas.Bool.Decides.{nat_tests}
 use Rattle.pl_model.specs.Numbers.{most_descriptors}
 use Rattle.pl_model.specs.declared.calls.Call.{Call}
@@ -12,33 +12,38 @@ use Rattle.pl_model.specs.declared.replies.Reply.{Reply}
 use Rattle.pl_model.specs.declared.replies.Reply.TheVariants.{Fault, Fd}
 use Rattle.pl_model.specs.declared.replies.Errno.{Errno}
 use Rattle.pl_model.specs.declared.replies.Errno.TheVariants.{EBADF, EINVAL, EMFILE}
-use Rattle.pl_model.specs.Map.{kept_if}
-use Rattle.pl_model.specs.State.{Core, Description, Open}
-use Rattle.pl_model.specs.Live.{is_live}
+use Rattle.pl_model.specs.State.{Core, Open}
 use Rattle.pl_model.specs.Settle.{settle}
 use Rattle.pl_model.specs.Trial.{Begins, found, answered, refuse_if}
-use Rattle.pl_model.specs.Tables.{descriptor_limit, lowest, install, close_row}
+use Rattle.pl_model.specs.Tables.{descriptor_limit, lowest, install}
 use Rattle.pl_model.specs.Begin.{begin_dup, begin_dup2, begin_dup_fd, open_fd, is_descriptor, natural}
 use Rattle.pl_model.specs.Step.{begin, ended, stepped}
 use Rattle.pl_model.specs.Numbered.{numbers}
 use Rattle.pl_model.proofs.settling.Changes.{install-same}
-use Rattle.pl_model.proofs.settling.AtOnce.{free, still_from, instead-settled}
-use Rattle.pl_model.proofs.settling.WhoIsLive.{Row, row_live}
+use Rattle.pl_model.proofs.settling.AtOnce.{free}
 use Rattle.pl_desc.specs.Rows.{at, Tables, is_pid, row_at, row_of, lowest_of, with_row, count_at, change_count, one_more, one_less}
 use Rattle.pl_desc.specs.Descs.{Opened, Descs, IsTidy}
-use Rattle.pl_desc.proofs.RowLemmas.{row-names}
 use Rattle.pl_state.specs.Contents.{Contents, contents, description_of, core_of}
 use Rattle.pl_state.specs.Sound.{IsSound, AreCounted}
-use Rattle.pl_state.specs.Makes.{MakesAtKeys}
+use Rattle.pl_state.specs.Makes.{MakesAtKeys, MayWantAtKeys}
 use Rattle.pl_descriptors.specs.Duplicates.{Duplicates}
 use Rattle.pl_state.proofs.Known.{Known, Caller}
-use Rattle.pl_state.proofs.holders.Holding.{one_more_less, row_held}
+use Rattle.pl_state.proofs.holders.Holding.{one_more_less}
 use Rattle.pl_state.proofs.holders.Belonging.{belong-same}
 use Rattle.pl_state.proofs.holders.Staying.{stays-settled, stays-sound}
-use Rattle.pl_state.proofs.by_call.Begun.{open-none, open-is, does_plain, does_same, step-refused, step-answered}
+use Rattle.pl_state.proofs.by_call.Begun.{open-none, open-is, does_plain, does_same, wants_plain, step-refused, step-answered}
 use Rattle.pl_state.proofs.by_call.Closing.{row_there, open_here}
 use lib.Signed.{lt_z}
 use lib.IntN.{nat_abs}
+
+-- what holds of a reply, and what of an error
+pub on_reply : {T E : Type 0} {P Q : T → Type 0} (r : Result T E) → ((x : T) → P x → Q x) → IfOk r P → IfOk r Q
+on_reply (Ok x) f p = f x p
+on_reply (Err e) f p = tt
+
+pub on_want : {T E P Q : Type 0} (r : Result T E) → (P → Q) → OnErr r P → OnErr r Q
+on_want (Ok x) f p = tt
+on_want (Err e) f p = f p
 
 -- whether a table has a place for a whole number, by the tests of the code
 module _ (limits : Limits) where
@@ -64,7 +69,7 @@ module _ (limits : Limits) where
   unnamed tables pid (negsuc n) h e = absurd (cc)
 
 -- A description is held once more, and a free descriptor comes to name it by that hold.
-module _ {A : Type 0} (m : Known A) (pid fd key : ℕ) (more : Descs) (more_loose : count_at more.loose ≡ change_count key one_more (count_at m.descs.loose)) (more_rest : more ≡ record m.descs { loose = more.loose })
+module _ {A : Type 0} (m : Known A) (pid fd key : ℕ) (more : Descs) (more_loose : count_at more.loose ≡ change_count key one_more (count_at m.descs.loose)) (more_rest : more ≡ record m.descs { loose = more.loose; room = more.room })
     (new : Descs) (rows : row_at new.tables ≡ with_row (row_at more.tables) pid fd (Some key)) (pids : is_pid new.tables ≡ is_pid more.tables)
     (loose : count_at new.loose ≡ change_count key one_less (count_at more.loose)) (rest : new ≡ record more { tables = new.tables; loose = new.loose }) (tidy : IsTidy new) where
   open m use {descs, nodes, calls, limits, sound, are}
@@ -136,6 +141,16 @@ module _ {A : Type 0} (m : Caller A) (fd : ℤ) where
         by (Some free) e d = does_plain k new (Begin pid call) (ended c (stepped (install c pid free key) (Fd (pos free)))) reply
             (step-answered k pid call process (install c pid free key) (Fd (pos free)) (begins ∙ ap (names_free key) e)) d.0 (sym d.2 ∙ ap (settle c) d.1)
 
+  -- a row for the free descriptor may want memory
+  module _ (call : Call A) (least key : ℕ) (begins : begin c pid call ≡ names_free key (lowest c pid least)) where
+    may_want : IsSome (lowest_of descs.tables (descriptor_limit limits) pid least) → MayWantAtKeys k (Begin pid call)
+    unfolding lowest core_of
+    may_want some = by (lowest_of descs.tables (descriptor_limit limits) pid least) refl some
+      where
+        by : (o : Option ℕ) → lowest_of descs.tables (descriptor_limit limits) pid least ≡ o → IsSome o → MayWantAtKeys k (Begin pid call)
+        by None e s = absurd (false≢true s)
+        by (Some free) e s = wants_plain k k (Begin pid call) (ended c (stepped (install c pid free key) (Fd (pos free)))) (step-answered k pid call process (install c pid free key) (Fd (pos free)) (begins ∙ ap (names_free key) e)) refl
+
   -- dup
   abbrev dups : Open numbers → Begins A numbers
   dups o = names_free o.key (lowest c pid 0)
@@ -149,6 +164,9 @@ module _ {A : Type 0} (m : Caller A) (fd : ℤ) where
 
   pub dup-does : (key : ℕ) → row_of descs.tables pid fd ≡ Some key → (reply : Reply A) (new : Contents A) → Duplicates k pid key (lowest_of descs.tables (descriptor_limit limits) pid 0) reply new → MakesAtKeys k (Begin pid (Call.Dup fd)) reply new
   dup-does key row reply new = duplicated (Call.Dup fd) 0 key (opened (Call.Dup fd) dups dup_begins key row) reply new
+
+  pub dup-wants : (key : ℕ) → row_of descs.tables pid fd ≡ Some key → IsSome (lowest_of descs.tables (descriptor_limit limits) pid 0) → MayWantAtKeys k (Begin pid (Call.Dup fd))
+  dup-wants key row = may_want (Call.Dup fd) 0 key (opened (Call.Dup fd) dups dup_begins key row)
 
   -- fcntl, F_DUPFD
   module _ (least : ℤ) where
@@ -169,6 +187,10 @@ module _ {A : Type 0} (m : Caller A) (fd : ℤ) where
       pub dup_fd-does : is_descriptor limits least ≡ true → (reply : Reply A) (new : Contents A) → Duplicates k pid key (lowest_of descs.tables (descriptor_limit limits) pid (natural least)) reply new → MakesAtKeys k (Begin pid (Call.DupFd fd least)) reply new
       dup_fd-does within reply new = duplicated (Call.DupFd fd least) (natural least) key
           (opened (Call.DupFd fd least) dups_from dup_fd_begins key row ∙ ap (λ b. refuse_if (not b) EINVAL (names_free key (lowest c pid (natural least)))) within) reply new
+
+      pub dup_fd-wants : is_descriptor limits least ≡ true → IsSome (lowest_of descs.tables (descriptor_limit limits) pid (natural least)) → MayWantAtKeys k (Begin pid (Call.DupFd fd least))
+      dup_fd-wants within = may_want (Call.DupFd fd least) (natural least) key
+          (opened (Call.DupFd fd least) dups_from dup_fd_begins key row ∙ ap (λ b. refuse_if (not b) EINVAL (names_free key (lowest c pid (natural least)))) within)
 
   -- dup2
   module _ (target : ℤ) where
@@ -192,8 +214,12 @@ module _ {A : Type 0} (m : Caller A) (fd : ℤ) where
       pub dup2-refused : is_descriptor limits target ≡ false → MakesAtKeys k x (Fault EBADF) k
       dup2-refused out = refused (Call.Dup2 fd target) replaces dup2_begins key row EBADF (answered (install c pid (natural target) key) (Fd target)) (ap checked out)
 
+      pub dup2-wants : is_descriptor limits target ≡ true → MayWantAtKeys k x
+      dup2-wants within = wants_plain k k x (ended c (stepped (install c pid (natural target) key) (Fd target)))
+          (step-answered k pid (Call.Dup2 fd target) process (install c pid (natural target) key) (Fd target) (opened (Call.Dup2 fd target) replaces dup2_begins key row ∙ ap checked within)) refl
+
       module _ (within : is_descriptor limits target ≡ true) (new : Contents A) where
-        dup2-does : core_of new ≡ settle c (install c pid (natural target) key) → MakesAtKeys k x (Fd target) new
+        pub dup2-does : core_of new ≡ settle c (install c pid (natural target) key) → MakesAtKeys k x (Fd target) new
         dup2-does is = does_plain k new x (ended c (stepped (install c pid (natural target) key) (Fd target))) (Fd target)
             (step-answered k pid (Call.Dup2 fd target) process (install c pid (natural target) key) (Fd target) (opened (Call.Dup2 fd target) replaces dup2_begins key row ∙ ap checked within)) refl is
 
@@ -205,41 +231,3 @@ module _ {A : Type 0} (m : Caller A) (fd : ℤ) where
         -- it names none
         pub dup2-free : core_of new ≡ install c pid (natural target) key → settle c (core_of new) ≡ core_of new → MakesAtKeys k x (Fd target) new
         dup2-free is settles = dup2-does (sym settles ∙ ap (settle c) is)
-
-      -- It names another, and is closed first.
-      module _ (other : ℕ) (named : row_of descs.tables pid target ≡ Some other) (apart : key ≢ other) where
-        other_row : c.rows pid (natural target) ≡ Some other
-        unfolding core_of
-        other_row = row_there descs.tables pid target other named
-
-        from : Row c key
-        unfolding core_of
-        from = row_held c descs.tables calls.calls refl refl refl descs.limits are.bounds are.tidy.few are.tidy.wide key (row-names descs.tables pid (natural fd) key (row_there descs.tables pid fd key row))
-
-        -- what the close leaves
-        module _ (mid : Contents A) (closes : core_of mid ≡ settle c (close_row c pid (natural target))) where
-          pub mid_process : is_pid mid.tables pid ≡ true
-          unfolding core_of settle
-          mid_process = (λ i. (closes i).processes pid) ∙ process
-
-          pub mid_limits : mid.limits ≡ limits
-          unfolding core_of settle
-          mid_limits = (λ i. (closes i).limits)
-
-          pub mid_free : row_at mid.tables pid (natural target) ≡ None
-          unfolding core_of settle
-          mid_free = (λ i. (closes i).rows pid (natural target)) ∙ free c pid (natural target) key other other_row apart from
-
-          pub mid_here : IsSome (at mid.opened key)
-          unfolding core_of settle
-          mid_here = (
-              let live : is_live (close_row c pid (natural target)) key ≡ true = row_live (close_row c pid (natural target)) key (still_from c pid (natural target) key other other_row apart from) in
-              let o = here key row in
-              described (at mid.opened key) ((λ i. (closes i).descriptions key) ∙ (λ i. kept_if (live i) (option_map description_of (o.1 i)))))
-            where
-              described : {x : Description numbers} (o : Option Opened) → option_map description_of o ≡ Some x → IsSome o
-              described None e = absurd (cc)
-              described (Some y) e = refl
-
-          pub dup2-instead : is_descriptor limits target ≡ true → (new : Contents A) → core_of new ≡ install (core_of mid) pid (natural target) key → MakesAtKeys k x (Fd target) new
-          dup2-instead within new is = dup2-does within new (is ∙ ap (λ z. install z pid (natural target) key) closes ∙ sym (instead-settled c pid (natural target) key other other_row apart from))

@@ -58,7 +58,7 @@ module _ {A : Type 0} (m : Caller A) where
       by (Some child) e = wants_plain k k x _ (step-answered k pid call process (fork c pid child) (Pid child) (came (Some child) e)) refl
 
   module _ (child : ℕ) (free : free_pid descs.tables descs.limits.processes ≡ Some child) (descs' : Descs) (pids : is_pid descs'.tables ≡ set_at nat_eq (is_pid descs.tables) child true)
-      (rows : row_at descs'.tables ≡ with_rows_of (row_at descs.tables) pid child) (rest : descs' ≡ record descs { tables = descs'.tables }) (tidy : IsTidy descs') where
+      (rows : row_at descs'.tables ≡ with_rows_of (row_at descs.tables) pid child) (rest : descs' ≡ record descs { tables = descs'.tables; room = descs'.room }) (tidy : IsTidy descs') where
     abbrev new : Contents A
     new = contents descs' nodes calls limits
 

@@ -114,6 +114,8 @@ const FIFOS: &[Steps] = &[
                 2,
                 &[NO_READER, NOT_OPEN, NoCall, NOT_OPEN, NOT_OPEN, Parked(1)],
             ),
+            // The first row of the process finds no memory, and the open that waits is not met.
+            (3, &[NOT_OPEN, Parked(1), NOT_OPEN, NOT_OPEN, Parked(2)]),
             // Nothing was written, and the read waits for the writer.
             (4, &[Fd(1), Parked(2), Unit, Parked(3)]),
             (6, &[Unit, Parked(2)]),

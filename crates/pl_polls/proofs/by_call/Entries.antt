@@ -12,7 +12,7 @@ use Rattle.pl_model.specs.Keys.{Keys}
 use Rattle.pl_model.specs.State.{Core, Open, described}
 use Rattle.pl_model.specs.Begin.{named_by}
 use Rattle.pl_model.specs.Poll.{masks, mask_at}
-use Rattle.pl_desc.specs.Rows.{at, row_of}
+use Rattle.pl_desc.specs.Rows.{at, row_of, Tabled}
 use Rattle.pl_state.specs.Contents.{Contents, core_of}
 use Rattle.pl_state.proofs.Known.{Known}
 use Rattle.pl_state.proofs.by_call.Begun.{row-is}
@@ -48,7 +48,7 @@ module _ {A : Type 0} (k : Contents A) where
   abbrev pub mask_of_key : Option ℕ → PollMask → PollMask
   mask_of_key key asked = mask_at (core_of k) (option_and_then (described (core_of k)) key) asked
 
-  pub named_first : (pid : ℕ) (table : Option (Bor (List (Option ℕ)))) (fd : ℤ) → lt_z fd (pos 0) ≡ false → (asked : PollMask) (key : Option ℕ) → row_of k.tables pid fd ≡ key → (before next : ℕ) (entries : List (ℤ × PollMask))
+  pub named_first : (pid : ℕ) (table : Option (Bor Tabled)) (fd : ℤ) → lt_z fd (pos 0) ≡ false → (asked : PollMask) (key : Option ℕ) → row_of k.tables pid fd ≡ key → (before next : ℕ) (entries : List (ℤ × PollMask))
       → masks_from k (Named pid table) before ((fd, asked) ∷ entries) ≡ mask_of_key key asked ∷ masks_from k (Named pid table) next entries
   named_first pid table (negsuc n) above asked key is before next entries = absurd (cc)
   named_first pid table (pos n) above asked key is before next entries = ap (λ d. mask_of_key d asked ∷ masks (core_of k) entries (named_by (core_of k) pid entries)) (row-is k pid (pos n) ∙ is)

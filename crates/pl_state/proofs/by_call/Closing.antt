@@ -62,7 +62,7 @@ module _ {A : Type 0} (m : Known A) (pid fd d : ℕ) where
     opened = same;
     tidy = tidy;
     bounds = bounds;
-    held_as_before = λ q. (λ i. holds i q);
+    held_as_before = λ q. (λ i. nat_lt 0 (holds i q));
     loose = λ q. (λ i. loose i q) ∙ more (nat_eq d q) (count_at descs.loose q) (keeping calls.calls q) (are.counted q);
     rise = sound.rise;
     numbered = sound.numbered;

@@ -185,7 +185,7 @@ module _ {A : Type 0} (k new : Contents A) (n : ℕ) (drops : core_of new ≡ se
 -- the process ends, of which nothing is left
 module _ {A : Type 0} (old : Contents A) (pid : ℕ) (process : is_pid old.tables pid ≡ true) (m : Known A)
     (closed : (fd : ℕ) → row_at m.descs.tables pid fd ≡ None) (dropped : list_any (λ e. nat_eq e.1.pid pid) (parked_of m.calls.calls) ≡ false) (leaving : IsExiting (core_of old) pid (core_of (contents m.descs m.nodes m.calls m.limits)))
-    (descs' : Descs) (pids : is_pid descs'.tables ≡ set_at nat_eq (is_pid m.descs.tables) pid false) (rows : row_at descs'.tables ≡ row_at m.descs.tables) (rest : descs' ≡ record m.descs { tables = descs'.tables }) (tidy : IsTidy descs') where
+    (descs' : Descs) (pids : is_pid descs'.tables ≡ set_at nat_eq (is_pid m.descs.tables) pid false) (rows : row_at descs'.tables ≡ row_at m.descs.tables) (rest : descs' ≡ record m.descs { tables = descs'.tables; room = descs'.room }) (tidy : IsTidy descs') where
   open m use {descs, nodes, calls, limits, are}
 
   abbrev new : Contents A

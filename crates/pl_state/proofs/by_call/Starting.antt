@@ -57,7 +57,7 @@ module _ {A : Type 0} (m : Known A) where
 
   module _ (pid : ℕ) (free : free_pid descs.tables descs.limits.processes ≡ Some pid) where
     module _ (descs' : Descs) (pids : is_pid descs'.tables ≡ set_at nat_eq (is_pid descs.tables) pid true) (rows : row_at descs'.tables ≡ row_at descs.tables)
-        (rest : descs' ≡ record descs { tables = descs'.tables }) (tidy : IsTidy descs') where
+        (rest : descs' ≡ record descs { tables = descs'.tables; room = descs'.room }) (tidy : IsTidy descs') where
       abbrev new : Contents A
       new = contents descs' nodes calls limits
 

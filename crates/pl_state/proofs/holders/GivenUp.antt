@@ -1,7 +1,7 @@
 -- A hold of a description is given up, at the kernel's keys.
 use Rattle.std.proofs.Common.{◌≡◌, ◌≢◌, ℕ, ◌+◌, ◌-◌, ◌<◌, ◌≤◌, Bool, true, false, cond, List, map, Option, Some, None, IfSome, IsSome, refl, sym, ◌∙◌, ap, subst, inl, inr, nat_eq, nat_lt, arith}
 use Rattle.std.specs.Prelude.{if◌then◌else◌, option_map}
-use Rattle.std.proofs.lemmas.Bool.{eq-eqb, ne_eqb}
+use Rattle.std.proofs.lemmas.Bool.{false≢true, eq-eqb, ne_eqb}
 use Rattle.std.proofs.lemmas.Bool.Decides.{eqb_tells}
 use Rattle.pl_model.specs.declared.node.Node.{Node}
 use Rattle.pl_model.specs.Map.{set_at, EachOnce}
@@ -34,7 +34,7 @@ pub record GivesUp {A : Type 0} (m : Parts A) (u : Core A numbers) (key : ℕ) (
   pub opened : loosed.opened ≡ m.descs.opened
   pub tidy : IsTidy loosed
   pub bounds : loosed.limits ≡ m.descs.limits
-  pub held_as_before : (q : ℕ) → holders loosed q ≡ holders m.descs q
+  pub held_as_before : (q : ℕ) → nat_lt 0 (holders loosed q) ≡ nat_lt 0 (holders m.descs q)
   pub loose : (q : ℕ) → count_at loosed.loose q ≡ keeping left.calls q + cond (nat_eq key q) 1 0
   pub rise : Rise 0 left.next left.calls
   pub numbered : left.next ≤ last_call
@@ -70,11 +70,10 @@ module _ {A : Type 0} (m : Parts A) (u : Core A numbers) (key : ℕ) (loosed : D
   others : (q : ℕ) → q ≢ key → is_live u q ≡ is_live c q
   others q other =
       live_after q ∙ ap (nat_lt 0) (
-      let same : holders loosed q ≡ holders descs q = gives.held_as_before q in
       let l : count_at loosed.loose q ≡ keeping left.calls q + 0 = gives.loose q ∙ ap (λ b. keeping left.calls q + cond b 1 0) (ne_eqb key q (λ s. other (sym s))) in
-      let all : naming loosed.tables q + keeping left.calls q ≡ holders descs q = omega (arith, same, l) in
+      let all : naming loosed.tables q + keeping left.calls q ≡ holders loosed q = omega (arith, l) in
       all)
-      ∙ sym (live_before q)
+      ∙ gives.held_as_before q ∙ sym (live_before q)
 
   abbrev loose_one : count_at loosed.loose key ≡ keeping left.calls key + 1
   loose_one = loose_key m u key loosed left gives
@@ -85,7 +84,7 @@ module _ {A : Type 0} (m : Parts A) (u : Core A numbers) (key : ℕ) (loosed : D
     where
       by : (o : Option Opened) → at descs.opened key ≡ o → IsSome o
       by (Some o) e = refl
-      by None e = absurd (let none : holders descs key ≡ 0 = are.tidy.bare key e in let same = gives.held_as_before key in omega (arith, none, same, loose_one))
+      by None e = absurd (let none : holders descs key ≡ 0 = are.tidy.bare key e in false≢true (sym (ap (nat_lt 0) none) ∙ sym (gives.held_as_before key) ∙ above (holders loosed key) (omega (arith, loose_one))))
 
   agrees : Agrees new u
   agrees = record {
@@ -122,7 +121,7 @@ module _ {A : Type 0} (m : Parts A) (u : Core A numbers) (key : ℕ) (loosed : D
         ]
 
     was_live : is_live c key ≡ true
-    was_live = live_before key ∙ above _ (let same = gives.held_as_before key in omega (arith, same, loose_one))
+    was_live = live_before key ∙ sym (gives.held_as_before key) ∙ above (holders loosed key) (omega (arith, loose_one))
 
     same_live : (q : ℕ) → is_live u q ≡ is_live c q
     same_live q = elim (eqb_tells q key) as (λ _. is_live u q ≡ is_live c q) [

@@ -1,8 +1,8 @@
 -- What is left of a node, from the flags that the kernel read.
-use Rattle.std.proofs.Common.{◌≡◌, ℕ, Bool, true, false, List, Option, Some, None, IfSome, refl, sym, ◌∙◌, ap, subst, inl, inr, nat_eq}
+use Rattle.std.proofs.Common.{◌≡◌, ◌≢◌, ◌+◌, ℕ, arith, nat_lt, Bool, true, false, List, Option, Some, None, IfSome, refl, sym, ◌∙◌, ap, subst, inl, inr, nat_eq}
 use Rattle.std.proofs.Math.Path.{fun_ext}
 use Rattle.std.proofs.lemmas.Bool.Decides.{eqb_tells}
-use Rattle.std.specs.Prelude.{if◌then◌else◌, ◌||◌, option_map}
+use Rattle.std.specs.Prelude.{if◌then◌else◌, ◌||◌, ◌&&◌, option_map}
 use Rattle.pl_model.specs.Map.{kept_if, set_at, change_at}
 use Rattle.pl_model.specs.State.{Pipe, empty_pipe}
 use Rattle.pl_model.specs.Nodes.{has_name}
@@ -14,7 +14,11 @@ use Rattle.pl_model.specs.declared.node.Node.TheVariants as node
 use Rattle.pl_model.specs.Modes.{reads, writes}
 use Rattle.pl_model.specs.Settle.{hangs, with_ends}
 use Rattle.pl_desc.specs.declared.released.Released.TheVariants.{Still, Gone}
-use Rattle.pl_desc.specs.Descs.{Opened, Descs, ends_on, last_hold, gone, released}
+use Rattle.pl_desc.specs.Ends.{one_if}
+use Rattle.pl_desc.specs.Descs.{Opened, Descs, is_end_on, ends_on, last_hold, gone, released}
+use Rattle.pl_desc.proofs.Sound.{ends-change}
+use Rattle.pl_model.proofs.Nodes.{same_node-refl}
+use Rattle.std.proofs.lemmas.Bool.{eq-eqb, ne_eqb, lt-ltb}
 use Rattle.pl_nodes.specs.Nodes.{Nodes as KeptNodes}
 use Rattle.pl_state.specs.LastHold.{has_reader, has_writer, is_open_on, with_these_ends, Leaves}
 use Rattle.pl_state.specs.Contents.{Nodes, nodes_of}
@@ -98,20 +102,54 @@ pub leaves_at : (before after : List (Option Opened)) (key : ℕ) (n : Node) (ol
 leaves_at before after key n old new is left = IfSome_by (at before key) (λ o. Leaves before after old new o.node)
     (λ o here. let is_on : Some o.node ≡ Some n = sym (ap (option_map (λ (o : Opened). o.node)) here) ∙ is in let same : o.node ≡ n = cc in subst (Leaves before after old new) (sym same) left)
 
--- the counts that a release told are those of the descriptions that are left
-pub counts_left : (descs : Descs) (key : ℕ) (on : Node) → option_map (λ (o : Opened). o.node) (at descs.opened key) ≡ Some on → (after : List (Option Opened)) (n : Node) (m : Mode) (readers writers : ℕ)
-    → option_map (released (last_hold descs key) after) (at descs.opened key) ≡ Some (Gone n m readers writers) → (readers ≡ ends_on reads after on) × (writers ≡ ends_on writes after on)
-counts_left descs key on is after n m readers writers told = by (at descs.opened key) (last_hold descs key) is told
+-- What a release told of a description that is gone: its node, what is left there, and whether it or another wrote there before.
+pub record Told (before after : List (Option Opened)) (key : ℕ) (n : Node) (m : Mode) (readers writers : ℕ) : Type 0 where
+  pub on : option_map (λ (o : Opened). o.node) (at before key) ≡ Some n
+  pub reads_left : nat_lt 0 readers ≡ nat_lt 0 (ends_on reads after n)
+  pub writes_left : nat_lt 0 writers ≡ nat_lt 0 (ends_on writes after n)
+  pub wrote : (nat_lt 0 writers || writes m) ≡ nat_lt 0 (ends_on writes before n)
+
+pub told : (descs : Descs) (key : ℕ) (after : List (Option Opened)) (n : Node) (m : Mode) (readers writers : ℕ)
+    → option_map (released (last_hold descs key) after) (at descs.opened key) ≡ Some (Gone n m readers writers)
+    → at after ≡ (if last_hold descs key then set_at nat_eq (at descs.opened) key None else at descs.opened) → Told descs.opened after key n m readers writers
+told descs key after n m readers writers said left = by (at descs.opened key) refl (last_hold descs key) said left
   where
-    by : (o : Option Opened) (last : Bool) → option_map (λ (o : Opened). o.node) o ≡ Some on → option_map (released last after) o ≡ Some (Gone n m readers writers) → (readers ≡ ends_on reads after on) × (writers ≡ ends_on writes after on)
-    by None last i t = absurd (cc)
-    by (Some o) false i t = absurd (let s : Some Still ≡ Some (Gone n m readers writers) = t in cc)
-    by (Some o) true i t = (
-        let same : o.node ≡ on = cc in
+    before : List (Option Opened)
+    before = descs.opened
+
+    by : (o : Option Opened) → at before key ≡ o → (last : Bool) → option_map (released last after) o ≡ Some (Gone n m readers writers)
+        → at after ≡ (if last then set_at nat_eq (at before) key None else at before) → Told before after key n m readers writers
+    by None here last t is = absurd (cc)
+    by (Some o) here false t is = absurd (let s : Some Still ≡ Some (Gone n m readers writers) = t in cc)
+    by (Some o) here true t is =
         let s : Some (gone after o) ≡ Some (Gone n m readers writers) = t in
+        let same : o.node ≡ n = cc in
+        let mode : o.mode ≡ m = cc in
         let r : ends_on reads after o.node ≡ readers = cc in
         let w : ends_on writes after o.node ≡ writers = cc in
-        (sym r ∙ ap (ends_on reads after) same, sym w ∙ ap (ends_on writes after) same))
+        let others : (q : ℕ) → q ≢ key → at after q ≡ at before q = λ q other. ap (λ f. f q) is ∙ ap (λ b. if b then None else at before q) (ne_eqb key q (λ e. other (sym e))) in
+        let now : at after key ≡ None = ap (λ f. f key) is ∙ ap (λ b. if b then None else at before key) (eq-eqb key key refl) in
+        let was : one_if (is_end_on writes o.node (at before key)) ≡ one_if (writes o.mode) = ap (λ x. one_if (is_end_on writes o.node x)) here ∙ ap (λ b. one_if (b && writes o.mode)) (same_node-refl o.node) in
+        let none : one_if (is_end_on writes o.node (at after key)) ≡ 0 = ap (λ x. one_if (is_end_on writes o.node x)) now in
+        let counts : writers + one_if (writes o.mode) ≡ ends_on writes before o.node = omega (arith, ends-change key before after others writes o.node, was, none, w) in
+        record {
+          on = ap (option_map (λ (o : Opened). o.node)) here ∙ ap (λ n. Some n) same;
+          reads_left = ap (nat_lt 0) (sym r ∙ ap (ends_on reads after) same);
+          writes_left = ap (nat_lt 0) (sym w ∙ ap (ends_on writes after) same);
+          wrote = ap (λ m. nat_lt 0 writers || writes m) (sym mode) ∙ or_one writers (writes o.mode) ∙ ap (nat_lt 0) (counts ∙ ap (ends_on writes before) same);
+        }
+      where
+        or_true : (x : Bool) → (x || true) ≡ true
+        or_true true = refl
+        or_true false = refl
+
+        or_false : (x : Bool) → (x || false) ≡ x
+        or_false true = refl
+        or_false false = refl
+
+        or_one : (k : ℕ) (b : Bool) → (nat_lt 0 k || b) ≡ nat_lt 0 (k + one_if b)
+        or_one k true = or_true (nat_lt 0 k) ∙ sym (lt-ltb 0 (k + 1) (omega arith))
+        or_one k false = or_false (nat_lt 0 k) ∙ ap (nat_lt 0) (let e : k ≡ k + 0 = omega arith in e)
 
 -- what is told of the node of a key's description
 pub node_told : (P : Node → Type 0) (o : Option Opened) (n : Node) → IfSome o (λ o. P o.node) → option_map (λ (o : Opened). o.node) o ≡ Some n → P n

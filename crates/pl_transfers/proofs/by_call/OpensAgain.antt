@@ -20,7 +20,7 @@ use Rattle.pl_desc.proofs.RowLemmas.{pid_in}
 use Rattle.pl_state.specs.Contents.{Contents, contents, waiting_of, description_of, core_of}
 use Rattle.pl_state.specs.Parking.{OpenWaits}
 use Rattle.pl_state.specs.Sound.{IsSound, IsWaiting, AreThere, AreCounted, KeepsNodes, keeping, times}
-use Rattle.pl_state.specs.Makes.{MakesAtKeys}
+use Rattle.pl_state.specs.Makes.{MakesAtKeys, MayWantAtKeys}
 use Rattle.pl_state.proofs.Known.{Known, parts_of}
 use Rattle.pl_state.proofs.waiting.Calls.{get_without, without-parked, Rise-without}
 use Rattle.pl_state.proofs.waiting.Ending.{kept_there}
@@ -28,7 +28,7 @@ use Rattle.pl_state.proofs.waiting.InOrder.{rise_once}
 use Rattle.pl_state.proofs.holders.Belonging.{belong-same}
 use Rattle.pl_state.proofs.holders.Holding.{keeping_without, times_one}
 use Rattle.pl_state.proofs.holders.There.{settled_after}
-use Rattle.pl_state.proofs.by_call.Begun.{does_plain, there}
+use Rattle.pl_state.proofs.by_call.Begun.{does_plain, wants_plain, there}
 use Rattle.pl_state.proofs.by_call.Resumed.{parked-is, came, ends_still, waits_still}
 use Rattle.pl_state.proofs.by_call.Piping.{lowest_found, lowest-limit}
 use Rattle.pl_desc.specs.declared.limits.DescLimits.{DescLimits}
@@ -72,6 +72,10 @@ module _ {A : Type 0} (m : Known A) (n pid d : ℕ) (met : Bool) (waits : OpenWa
 
     pub open-many : lowest_of descs.tables descs.limits.descriptors pid 0 ≡ None → (new : Contents A) → core_of new ≡ settle c (without_call c n) → MakesAtKeys k (Resume n) (Fault EMFILE) new
     open-many none new is = ends_still k sound n w here (Fault EMFILE) new (came k sound n w here _ (placed None none)) is
+
+    -- a row for the descriptor may want memory
+    pub open-wants : (fd : ℕ) → lowest_of descs.tables descs.limits.descriptors pid 0 ≡ Some fd → MayWantAtKeys k (Resume n)
+    open-wants fd least = wants_plain k k (Resume n) _ (came k sound n w here _ (placed (Some fd) least)) refl
 
     -- the descriptor comes to name the description, and the call is gone
     module _ (fd : ℕ) (least : lowest_of descs.tables descs.limits.descriptors pid 0 ≡ Some fd)

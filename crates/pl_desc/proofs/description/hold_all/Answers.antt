@@ -9,8 +9,8 @@ use Rattle.pl_desc.proofs.description.hold_all.Goals as goal
 
 -- the next open descriptor
 module _ (g : Over) (c : In-Some g) where
-  found : (at c.args.table.now c.in-Some.fd ≡ Some c.in-Some.key) × (c.loop-fd.from ≤ c.in-Some.fd) × (c.in-Some.fd < length c.args.table.now) × ((fd : ℕ) → c.loop-fd.from ≤ fd → fd < c.in-Some.fd → at c.args.table.now fd ≡ None)
-  found = open-found c.args.table.now c.loop-fd.from c.in-Some.fd c.in-Some.key (sym c.in-Some.ensures)
+  found : (at c.args.table.now.names c.in-Some.fd ≡ Some c.in-Some.key) × (c.loop-fd.from ≤ c.in-Some.fd) × (c.in-Some.fd < length c.args.table.now.names) × ((fd : ℕ) → c.loop-fd.from ≤ fd → fd < c.in-Some.fd → at c.args.table.now.names fd ≡ None)
+  found = open-found c.args.table.now.names c.loop-fd.from c.in-Some.fd c.in-Some.key (sym c.in-Some.ensures)
 
 pub index_mut-held-requires : goal.index_mut-held-requires
 index_mut-held-requires g c =
@@ -20,7 +20,7 @@ index_mut-held-requires g c =
 pub loop-fd-preserved : goal.loop-fd-preserved
 loop-fd-preserved g c =
     let fd = c.in-Some.fd in
-    let rows = c.args.table.now in
+    let rows = c.args.table.now.names in
     let slots = c.loop-fd.descriptions.slots in
     let key = c.in-Some.key in
     let x = c.index_mut-held.result.now in
@@ -42,7 +42,7 @@ loop-fd-smaller g c = (let next = found g (goal.at.loop-fd-smaller g c).In-Some 
 
 pub returns : goal.returns
 returns g c =
-    let rows = c.args.table.now in
+    let rows = c.args.table.now.names in
     let slots = c.loop-fd.descriptions.slots in
     let low = c.loop-fd.invariant.low in
     let passed = all-none rows slots c.loop-fd.from (length rows) low (omega arith) (λ fd l m. open-none rows c.loop-fd.from (sym c.in_default.ensures) fd l) in

@@ -36,4 +36,8 @@ returns g c =
     let d = there c.find.result c.if-is_none.ensures in
     let settles : core_of c.close_open.new.kernel ≡ settle (core_of k) (close_row (core_of k) c.args.pid (natural c.args.fd)) =
     c.close_open.ensures ∙ ap (λ (z : Contents g.row.A.Denot). settle (core_of z) (close_row (core_of z) c.args.pid (natural (to_z w32 (of_z w32 c.args.fd))))) (sym c.kernel.view_is) ∙ ap (λ z. settle (core_of k) (close_row (core_of k) c.args.pid (natural z))) (to_z-of_z w32 c.args.fd c.ranges.fd) in
-    rw (← c.kernel.view_is) (close-closes (calls g w) c.args.fd d.0 (named g w ∙ d.1) c.close_open.new.kernel settles)
+    rw (← c.kernel.view_is) (close-closes (calls g w) c.args.fd d.0 (named g w ∙ d.1) c.trim.new.kernel (ap (λ (z : Contents g.row.A.Denot). core_of z) c.trim.ensures ∙ settles))
+
+pub trim-requires : goal.trim-requires
+unfolding core_of settle
+trim-requires g c = (λ i. (c.close_open.ensures i).processes c.args.pid) ∙ c.requires

@@ -27,15 +27,15 @@ assign-requires-clause-free g c = ap (λ (z : Contents g.row.A.Denot). row_at z.
 pub overflow_cast-result : goal.overflow_cast-result
 overflow_cast-result g c = fits_place c.in-Some.free (small g (goal.at.overflow_cast-result g c).In-Some)
 
-pub returns : goal.returns
-returns g c =
+pub returns-clause-done : goal.returns-clause-done
+returns-clause-done g c =
     let A = g.row.A.Denot in
-    let w = (goal.at.returns g c).In-Some in
+    let w = (goal.at.returns-clause-done g c).In-Some in
     let is : lowest_of c.args.kernel.now.tables (descriptor_limit c.args.kernel.now.limits) c.args.pid c.args.least ≡ Some c.in-Some.free = ap (λ (z : Contents A). lowest_of z.tables (descriptor_limit z.limits) c.args.pid c.args.least) (sym c.kernel.view_is) ∙ lowest g w in
-    rw (is, to_z_place c.in-Some.free (small g w)) (refl, c.assign.ensures.named, c.assign.ensures.settled)
+    rw (is, to_z_place c.in-Some.free (small g w)) (refl, c.in_ok-assign.ensures.named, c.in_ok-assign.ensures.settled)
 
-pub returns-in_default : goal.returns-in_default
-returns-in_default g c =
+pub returns-in_default-clause-done : goal.returns-in_default-clause-done
+returns-in_default-clause-done g c =
     let A = g.row.A.Denot in
     let is : lowest_of c.args.kernel.now.tables (descriptor_limit c.args.kernel.now.limits) c.args.pid c.args.least ≡ None =
     ap (λ (z : Contents A). lowest_of z.tables (descriptor_limit z.limits) c.args.pid c.args.least) (sym c.kernel.view_is)

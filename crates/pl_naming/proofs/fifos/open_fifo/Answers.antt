@@ -47,22 +47,29 @@ await_other_end-requires-clause-waits g c =
     let v = (goal.at.await_other_end-requires-clause-waits g c).After-can_open in
     rw (← c.kernel.view_is) (fifo-waits m c.args.mode c.args.flags c.args.fd c.args.pipe c.args.name (may g v) (asked g v ∙ c.if-not-can_open.true) (sym (c.contains.ensures tt) ∙ c.if-contains.false))
 
-pub returns-in_err-reserve-clause-wanted : goal.returns-in_err-reserve-clause-wanted
-returns-in_err-reserve-clause-wanted g c =
+pub returns-in_err-reserve_at-clause-wanted : goal.returns-in_err-reserve_at-clause-wanted
+returns-in_err-reserve_at-clause-wanted g c =
     let m = caller c.kernel.inside c.kernel.invariant c.args.kernel.now c.kernel.view_is c.args.pid c.requires.process in
-    let v = (goal.at.returns-in_err-reserve-clause-wanted g c).After-can_open in
+    let v = (goal.at.returns-in_err-reserve_at-clause-wanted g c).After-can_open in
     on_err c.from_residual.result _ (rw (← c.kernel.view_is) (fifo-wants m c.args.mode c.args.flags c.args.fd c.args.pipe c.args.name (may g v) (asked g v ∙ c.if-not-can_open.false)))
+
+pub reserve_at-requires-clause-place : goal.reserve_at-requires-clause-place
+reserve_at-requires-clause-place g c =
+    let within = (lowest_found c.args.kernel.now.tables (descriptor_limit c.args.kernel.now.limits) c.args.pid 0 c.args.fd c.requires.may.lowest).1 in
+    let same = ap (λ (z : Contents g.row.A.Denot). descriptor_limit z.limits) c.kernel.view_is in
+    let width = ap (λ (b : DescLimits). b.descriptors) c.kernel.invariant.1.bounds in
+    omega (arith, within, same, width)
 
 pub open_at-requires-clause-place : goal.open_at-requires-clause-place
 open_at-requires-clause-place g c =
     let within = (lowest_found c.args.kernel.now.tables (descriptor_limit c.args.kernel.now.limits) c.args.pid 0 c.args.fd c.requires.may.lowest).1 in
     let same = ap (λ (z : Contents g.row.A.Denot). descriptor_limit z.limits) c.kernel.view_is in
-    let width = ap (λ (b : DescLimits). b.descriptors) (ap (λ (z : Descs). z.limits) c.reserve.ensures.kept ∙ c.kernel.invariant.1.bounds) in
+    let width = ap (λ (b : DescLimits). b.descriptors) (ap (λ (z : Descs). z.limits) c.reserve_at.ensures.kept ∙ c.kernel.invariant.1.bounds) in
     omega (arith, within, same, width)
 
 pub open_at-requires-clause-free : goal.open_at-requires-clause-free
 open_at-requires-clause-free g c =
-    ap (λ (z : Descs). row_at z.tables c.args.pid c.args.fd) c.reserve.ensures.kept ∙ ap (λ (z : Contents g.row.A.Denot). row_at z.tables c.args.pid c.args.fd) c.kernel.view_is
+    ap (λ (z : Descs). row_at z.tables c.args.pid c.args.fd) c.reserve_at.ensures.kept ∙ ap (λ (z : Contents g.row.A.Denot). row_at z.tables c.args.pid c.args.fd) c.kernel.view_is
     ∙ (lowest_found c.args.kernel.now.tables (descriptor_limit c.args.kernel.now.limits) c.args.pid 0 c.args.fd c.requires.may.lowest).0
 
 pub overflow_cast-result : goal.overflow_cast-result
@@ -77,7 +84,7 @@ made g c can =
     let m = caller c.kernel.inside c.kernel.invariant c.args.kernel.now c.kernel.view_is c.args.pid c.requires.process in
     let may = subst (λ (k : Contents A). MayOpen k c.args.pid c.args.name c.args.mode c.args.flags c.args.fd (Some (node.Pipe c.args.pipe))) (sym c.kernel.view_is) c.requires.may in
     let held = there (at m.nodes.pipes c.args.pipe) (subst (λ (k : Contents A). IsSome (at k.nodes.pipes c.args.pipe)) (sym c.kernel.view_is) c.requires.there) in
-    let kept = c.reserve.ensures.kept in
+    let kept = c.reserve_at.ensures.kept in
     let d = c.open_at.result in
     let pipes = c.unhang_if.ensures.pipes ∙ (λ i. change_at c.args.pipe (λ (x : Pipe). record x { hung = cond (c.is_allowed_by-gets_writer.ensures i) false x.hung }) (at m.nodes.pipes)) in
     let vacant : at m.descs.opened d ≡ None = ap (λ (z : Descs). at z.opened d) (sym kept) ∙ c.open_at.ensures.vacant in

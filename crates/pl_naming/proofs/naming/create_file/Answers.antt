@@ -37,11 +37,11 @@ returns-in_err-kept-clause-wanted g c =
     let may = subst (λ (k : Contents g.row.A.Denot). MayOpen k c.args.pid c.args.name.now c.args.mode c.args.flags c.args.fd None) (sym c.kernel.view_is) c.requires.may in
     on_err c.from_residual.result _ (rw (← c.kernel.view_is) (new-wants m c.args.name.now c.args.mode c.args.flags c.args.fd may (ap lets_name c.kernel.view_is ∙ sym c.can_name.ensures ∙ c.if-not-can_name.false)))
 
-pub returns-in_err-reserve-clause-wanted : goal.returns-in_err-reserve-clause-wanted
-returns-in_err-reserve-clause-wanted g c =
+pub returns-in_err-reserve_at-clause-wanted : goal.returns-in_err-reserve_at-clause-wanted
+returns-in_err-reserve_at-clause-wanted g c =
     let m = caller c.kernel.inside c.kernel.invariant c.args.kernel.now c.kernel.view_is c.args.pid c.requires.process in
     let may = subst (λ (k : Contents g.row.A.Denot). MayOpen k c.args.pid c.args.name.now c.args.mode c.args.flags c.args.fd None) (sym c.kernel.view_is) c.requires.may in
-    on_err c.from_residual-in_err-reserve.result _ (rw (← c.kernel.view_is) (new-wants m c.args.name.now c.args.mode c.args.flags c.args.fd may (ap lets_name c.kernel.view_is ∙ sym c.can_name.ensures ∙ c.if-not-can_name.false)))
+    on_err c.from_residual-in_err-reserve_at.result _ (rw (← c.kernel.view_is) (new-wants m c.args.name.now c.args.mode c.args.flags c.args.fd may (ap lets_name c.kernel.view_is ∙ sym c.can_name.ensures ∙ c.if-not-can_name.false)))
 
 pub returns-in_default-clause-wanted : goal.returns-in_default-clause-wanted
 returns-in_default-clause-wanted g c =
@@ -49,16 +49,23 @@ returns-in_default-clause-wanted g c =
     let may = subst (λ (k : Contents g.row.A.Denot). MayOpen k c.args.pid c.args.name.now c.args.mode c.args.flags c.args.fd None) (sym c.kernel.view_is) c.requires.may in
     rw (← c.kernel.view_is) (new-wants m c.args.name.now c.args.mode c.args.flags c.args.fd may (ap lets_name c.kernel.view_is ∙ sym c.can_name.ensures ∙ c.if-not-can_name.false))
 
+pub reserve_at-requires-clause-place : goal.reserve_at-requires-clause-place
+reserve_at-requires-clause-place g c =
+    let within = (lowest_found c.args.kernel.now.tables (descriptor_limit c.args.kernel.now.limits) c.args.pid 0 c.args.fd c.requires.may.lowest).1 in
+    let same = ap (λ (z : Contents g.row.A.Denot). descriptor_limit z.limits) c.kernel.view_is in
+    let width = ap (λ (b : DescLimits). b.descriptors) c.kernel.invariant.1.bounds in
+    omega (arith, within, same, width)
+
 pub open_at-requires-clause-place : goal.open_at-requires-clause-place
 open_at-requires-clause-place g c =
     let within = (lowest_found c.args.kernel.now.tables (descriptor_limit c.args.kernel.now.limits) c.args.pid 0 c.args.fd c.requires.may.lowest).1 in
     let same = ap (λ (z : Contents g.row.A.Denot). descriptor_limit z.limits) c.kernel.view_is in
-    let width = ap (λ (b : DescLimits). b.descriptors) (ap (λ (z : Descs). z.limits) c.reserve.ensures.kept ∙ c.kernel.invariant.1.bounds) in
+    let width = ap (λ (b : DescLimits). b.descriptors) (ap (λ (z : Descs). z.limits) c.reserve_at.ensures.kept ∙ c.kernel.invariant.1.bounds) in
     omega (arith, within, same, width)
 
 pub open_at-requires-clause-free : goal.open_at-requires-clause-free
 open_at-requires-clause-free g c =
-    ap (λ (z : Descs). row_at z.tables c.args.pid c.args.fd) c.reserve.ensures.kept ∙ ap (λ (z : Contents g.row.A.Denot). row_at z.tables c.args.pid c.args.fd) c.kernel.view_is
+    ap (λ (z : Descs). row_at z.tables c.args.pid c.args.fd) c.reserve_at.ensures.kept ∙ ap (λ (z : Contents g.row.A.Denot). row_at z.tables c.args.pid c.args.fd) c.kernel.view_is
     ∙ (lowest_found c.args.kernel.now.tables (descriptor_limit c.args.kernel.now.limits) c.args.pid 0 c.args.fd c.requires.may.lowest).0
 
 pub overflow_cast-result : goal.overflow_cast-result
@@ -71,7 +78,7 @@ made : (g : Over) (c : After-open_at g) (can : lets_name (view_of c.kernel.insid
 made g c can =
     let m = caller c.kernel.inside c.kernel.invariant c.args.kernel.now c.kernel.view_is c.args.pid c.requires.process in
     let may = subst (λ (k : Contents g.row.A.Denot). MayOpen k c.args.pid c.args.name.now c.args.mode c.args.flags c.args.fd None) (sym c.kernel.view_is) c.requires.may in
-    let kept = c.reserve.ensures.kept in
+    let kept = c.reserve_at.ensures.kept in
     let d = c.open_at.result in
     let f = c.next_key.result in
     let same : c.in-Ok.field-0 ≡ f = c.in-Ok.ensures.key ∙ sym c.next_key.ensures in

@@ -24,22 +24,29 @@ use Rattle.pl_naming.proofs.naming.open_file.Goals as goal
 use Rattle.pl_model.specs.Tables.{descriptor_limit}
 use Rattle.pl_desc.specs.declared.limits.DescLimits.{DescLimits}
 
-pub returns-in_err-reserve-clause-wanted : goal.returns-in_err-reserve-clause-wanted
-returns-in_err-reserve-clause-wanted g c =
+pub returns-in_err-reserve_at-clause-wanted : goal.returns-in_err-reserve_at-clause-wanted
+returns-in_err-reserve_at-clause-wanted g c =
     let m = caller c.kernel.inside c.kernel.invariant c.args.kernel.now c.kernel.view_is c.args.pid c.requires.process in
     on_err c.from_residual.result _ (λ name may. rw (← c.kernel.view_is) (file-wants m name c.args.mode c.args.flags c.args.fd c.args.file
     (subst (λ (k : Contents g.row.A.Denot). MayOpen k c.args.pid name c.args.mode c.args.flags c.args.fd (Some (node.File c.args.file))) (sym c.kernel.view_is) may)))
+
+pub reserve_at-requires-clause-place : goal.reserve_at-requires-clause-place
+reserve_at-requires-clause-place g c =
+    let within = (lowest_found c.args.kernel.now.tables (descriptor_limit c.args.kernel.now.limits) c.args.pid 0 c.args.fd c.requires.lowest).1 in
+    let same = ap (λ (z : Contents g.row.A.Denot). descriptor_limit z.limits) c.kernel.view_is in
+    let width = ap (λ (b : DescLimits). b.descriptors) c.kernel.invariant.1.bounds in
+    omega (arith, within, same, width)
 
 pub open_at-requires-clause-place : goal.open_at-requires-clause-place
 open_at-requires-clause-place g c =
     let within = (lowest_found c.args.kernel.now.tables (descriptor_limit c.args.kernel.now.limits) c.args.pid 0 c.args.fd c.requires.lowest).1 in
     let same = ap (λ (z : Contents g.row.A.Denot). descriptor_limit z.limits) c.kernel.view_is in
-    let width = ap (λ (b : DescLimits). b.descriptors) (ap (λ (z : Descs). z.limits) c.reserve.ensures.kept ∙ c.kernel.invariant.1.bounds) in
+    let width = ap (λ (b : DescLimits). b.descriptors) (ap (λ (z : Descs). z.limits) c.reserve_at.ensures.kept ∙ c.kernel.invariant.1.bounds) in
     omega (arith, within, same, width)
 
 pub open_at-requires-clause-free : goal.open_at-requires-clause-free
 open_at-requires-clause-free g c =
-    ap (λ (z : Descs). row_at z.tables c.args.pid c.args.fd) c.reserve.ensures.kept ∙ ap (λ (z : Contents g.row.A.Denot). row_at z.tables c.args.pid c.args.fd) c.kernel.view_is
+    ap (λ (z : Descs). row_at z.tables c.args.pid c.args.fd) c.reserve_at.ensures.kept ∙ ap (λ (z : Contents g.row.A.Denot). row_at z.tables c.args.pid c.args.fd) c.kernel.view_is
     ∙ (lowest_found c.args.kernel.now.tables (descriptor_limit c.args.kernel.now.limits) c.args.pid 0 c.args.fd c.requires.lowest).0
 
 pub overflow_cast-result : goal.overflow_cast-result
@@ -54,7 +61,7 @@ made g c =
     let m = caller c.kernel.inside c.kernel.invariant c.args.kernel.now c.kernel.view_is c.args.pid c.requires.process in
     let least = subst (λ (k : Contents g.row.A.Denot). lowest_of k.tables (descriptor_limit k.limits) c.args.pid 0 ≡ Some c.args.fd) (sym c.kernel.view_is) c.requires.lowest in
     let held = there (at m.nodes.files c.args.file) (subst (λ (k : Contents g.row.A.Denot). IsSome (at k.nodes.files c.args.file)) (sym c.kernel.view_is) c.requires.there) in
-    let kept = c.reserve.ensures.kept in
+    let kept = c.reserve_at.ensures.kept in
     let d = c.open_at.result in
     let files = c.empty_if.ensures.files ∙ (λ i. change_at c.args.file (λ (bytes : List ℕ). cond (c.does_truncate.ensures i) [] bytes) (at m.nodes.files)) in
     let vacant : at m.descs.opened d ≡ None = ap (λ (z : Descs). at z.opened d) (sym kept) ∙ c.open_at.ensures.vacant in

@@ -1,10 +1,10 @@
-use Rattle.std.proofs.Common.{◌≡◌, ◌∷◌, ◌+◌, ℕ, ℤ, List, Option, Bor, pos, false, true, sym, ap, subst, ◌∙◌, w32, to_z, of_z, nat_eq, IfSome, IsSome}
-use Rattle.std.specs.Prelude.{FitsSigned}
+use Rattle.std.proofs.Common.{◌≡◌, ◌∷◌, ◌+◌, ℕ, ℤ, Option, Bor, pos, false, true, sym, ap, subst, ◌∙◌, w32, to_z, of_z, nat_eq, IfSome, IsSome}
+use Rattle.std.specs.Prelude.{FitsSigned, option_map}
 use Rattle.std.specs.Option.{option_copied}
 use Rattle.std.specs.Int.Signed.{lt_z}
 use Rattle.std.proofs.lemmas.Int.{to_z-of_z}
 use Rattle.std.specs.Set.{is_member}
-use Rattle.pl_desc.specs.Rows.{at, row_in, row_of, rows_in}
+use Rattle.pl_desc.specs.Rows.{at, row_in, row_of, rows_in, Tabled}
 use Rattle.pl_state.specs.Contents.{Contents}
 use Rattle.pl_state.proofs.Known.{known}
 use Rattle.pl_state.proofs.by_call.Closing.{row_found}
@@ -15,7 +15,7 @@ use Rattle.pl_polls.proofs.masks.next_mask.Goals.{in-Named, in-Kept}
 use Rattle.pl_polls.proofs.masks.next_mask.Goals as goal
 
 -- what the table of the process has for the descriptor
-row_is : {A : Type 0} (k : Contents A) (pid : ℕ) (table : Option (Bor (List (Option ℕ)))) → AreCurrent k (Named pid table) → (fd : ℤ) → FitsSigned w32 fd → (key : Option ℕ) → key ≡ row_in (rows_in (option_copied table)) (to_z w32 (of_z w32 fd)) → row_of k.tables pid fd ≡ key
+row_is : {A : Type 0} (k : Contents A) (pid : ℕ) (table : Option (Bor Tabled)) → AreCurrent k (Named pid table) → (fd : ℤ) → FitsSigned w32 fd → (key : Option ℕ) → key ≡ row_in (rows_in (option_map (λ (t : Tabled). t.names) (option_copied table))) (to_z w32 (of_z w32 fd)) → row_of k.tables pid fd ≡ key
 row_is k pid table current fd fits key is = row_found k.tables pid fd fits key (is ∙ ap (λ t. row_in (rows_in t) (to_z w32 (of_z w32 fd))) current)
 
 pub mask_at-requires : goal.mask_at-requires

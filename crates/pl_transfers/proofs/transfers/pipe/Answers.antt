@@ -18,7 +18,7 @@ use Rattle.pl_state.proofs.holders.There.{vacant_other}
 use Rattle.pl_state.proofs.by_call.Piping.{pipe-none, pipe-one, pipe-many, pipe-wants, pipe-made, first_free, second_free, with_row-other, fits_place, to_z_place}
 use Rattle.pl_state.proofs.Known.{Caller, caller}
 use Rattle.pl_transfers.proofs.transfers.pipe.Given.{Over}
-use Rattle.pl_transfers.proofs.transfers.pipe.Goals.{After-kernel, After-lowest, In-Some, In-Some-lowest, Else-descriptions-live, After-reserve, After-open_at-2}
+use Rattle.pl_transfers.proofs.transfers.pipe.Goals.{After-kernel, After-lowest, In-Some, In-Some-lowest, Else-descriptions-live, After-reserve_at, After-open_at-2}
 use Rattle.pl_transfers.proofs.transfers.pipe.Goals as goal
 use Rattle.pl_desc.specs.declared.limits.DescLimits.{DescLimits}
 
@@ -80,9 +80,9 @@ returns-then-descriptions-live-clause-done g c =
     let many : c.kernel.inside.descs.limits.descriptions < live_count c.kernel.inside.descs.opened + 2 = omega (arith, c.live.ensures.value, c.descriptions.ensures, c.if-descriptions-live.true, most) in
     rw (← c.kernel.view_is) (pipe-many (caller_first g v) c.args.nonblock c.args.direct c.in-Some.first (at_first g v) c.in-Some-lowest.second (at_second g w) many)
 
-pub returns-in_err-reserve-clause-wanted : goal.returns-in_err-reserve-clause-wanted
-returns-in_err-reserve-clause-wanted g c =
-    let w = (goal.at.returns-in_err-reserve-clause-wanted g c).Else-descriptions-live in
+pub returns-in_err-reserve_at-clause-wanted : goal.returns-in_err-reserve_at-clause-wanted
+returns-in_err-reserve_at-clause-wanted g c =
+    let w = (goal.at.returns-in_err-reserve_at-clause-wanted g c).Else-descriptions-live in
     on_err c.from_residual.result _ (rw (← c.kernel.view_is) (wants g w).1)
 
 pub returns-in_err-make-clause-wanted : goal.returns-in_err-make-clause-wanted
@@ -90,33 +90,42 @@ returns-in_err-make-clause-wanted g c =
     let w = (goal.at.returns-in_err-make-clause-wanted g c).Else-descriptions-live in
     on_err c.from_residual-in_err-make.result _ (rw (← c.kernel.view_is) (wants g w).1)
 
+pub reserve_at-requires-clause-place : goal.reserve_at-requires-clause-place
+reserve_at-requires-clause-place g c = (free_second g (goal.at.reserve_at-requires-clause-place g c).In-Some-lowest).1
+
+pub open_at-requires-clause-row : goal.open_at-requires-clause-row
+open_at-requires-clause-row g c = let free = free_second g (goal.at.open_at-requires-clause-row g c).In-Some-lowest in omega (arith, free.2, c.in_ok-reserve_at.ensures.row)
+
+pub open_at-requires-2-clause-row : goal.open_at-requires-2-clause-row
+open_at-requires-2-clause-row g c = omega (arith, c.in_ok-reserve_at.ensures.row, c.open_at.ensures.room.rows c.args.pid)
+
 pub open_at-requires-clause-place : goal.open_at-requires-clause-place
 open_at-requires-clause-place g c =
     let free = free_first g (goal.at.open_at-requires-clause-place g c).In-Some in
-    let width = ap (λ (z : Descs). z.limits.descriptors) c.reserve.ensures.kept in
+    let width = ap (λ (z : Descs). z.limits.descriptors) c.reserve_at.ensures.kept in
     omega (arith, free.1, width)
 
 pub open_at-requires-clause-free : goal.open_at-requires-clause-free
 open_at-requires-clause-free g c =
     let free = free_first g (goal.at.open_at-requires-clause-free g c).In-Some in
-    ap (λ (z : Descs). row_at z.tables c.args.pid c.in-Some.first) c.reserve.ensures.kept ∙ free.0
+    ap (λ (z : Descs). row_at z.tables c.args.pid c.in-Some.first) c.reserve_at.ensures.kept ∙ free.0
 
 pub open_at-requires-2-clause-process : goal.open_at-requires-2-clause-process
 open_at-requires-2-clause-process g c =
     let m = caller_first g (goal.at.open_at-requires-2-clause-process g c).In-Some in
-    ap (λ ps. ps c.args.pid) c.open_at.ensures.pids ∙ ap (λ (z : Descs). is_pid z.tables c.args.pid) c.reserve.ensures.kept ∙ m.process
+    ap (λ ps. ps c.args.pid) c.open_at.ensures.pids ∙ ap (λ (z : Descs). is_pid z.tables c.args.pid) c.reserve_at.ensures.kept ∙ m.process
 
 pub open_at-requires-2-clause-place : goal.open_at-requires-2-clause-place
 open_at-requires-2-clause-place g c =
     let free = free_second g (goal.at.open_at-requires-2-clause-place g c).In-Some-lowest in
-    let width = ap (λ (b : DescLimits). b.descriptors) (c.open_at.ensures.limits ∙ ap (λ (z : Descs). z.limits) c.reserve.ensures.kept) in
+    let width = ap (λ (b : DescLimits). b.descriptors) (c.open_at.ensures.limits ∙ ap (λ (z : Descs). z.limits) c.reserve_at.ensures.kept) in
     omega (arith, free.1, width)
 
 pub open_at-requires-2-clause-free : goal.open_at-requires-2-clause-free
 open_at-requires-2-clause-free g c =
     let free = free_second g (goal.at.open_at-requires-2-clause-free g c).In-Some-lowest in
-    (λ i. c.open_at.ensures.rows i c.args.pid c.in-Some-lowest.second) ∙ with_row-other (row_at c.reserve.new.self.tables) c.args.pid c.in-Some.first c.in-Some-lowest.second _ (λ e. absurd (omega (arith, free.2, e)))
-    ∙ ap (λ (z : Descs). row_at z.tables c.args.pid c.in-Some-lowest.second) c.reserve.ensures.kept ∙ free.0
+    (λ i. c.open_at.ensures.rows i c.args.pid c.in-Some-lowest.second) ∙ with_row-other (row_at c.reserve_at.new.self.tables) c.args.pid c.in-Some.first c.in-Some-lowest.second _ (λ e. absurd (omega (arith, free.2, e)))
+    ∙ ap (λ (z : Descs). row_at z.tables c.args.pid c.in-Some-lowest.second) c.reserve_at.ensures.kept ∙ free.0
 
 pub overflow_cast-result : goal.overflow_cast-result
 overflow_cast-result g c = fits_place c.in-Some.first (omega (arith, (free_first g (goal.at.overflow_cast-result g c).In-Some).1, c.kernel.invariant.1.tidy.limited.descriptors))
@@ -131,7 +140,7 @@ made : (g : Over) (c : After-open_at-2 g) → lowest_of c.kernel.inside.descs.ta
     × (MakesAtKeys (view_of c.kernel.inside) (Begin c.args.pid (Call.Pipe c.args.nonblock c.args.direct)) (Fds (pos c.in-Some.first) (pos c.in-Some-lowest.second)) (contents c.open_at-2.new.descs (nodes_of c.make.new.self) c.kernel.inside.parked c.kernel.inside.limits))
 made g c first second few =
     let m = caller c.kernel.inside c.kernel.invariant c.args.kernel.now c.kernel.view_is c.args.pid c.requires in
-    let kept = c.reserve.ensures.kept in
+    let kept = c.reserve_at.ensures.kept in
     let d = c.open_at.result in
     let d' = c.open_at-2.result in
     let p = c.next_key.result in

@@ -35,7 +35,7 @@ returns-clause-rest g c =
     let x = c.index_mut-held.result.now in
     let after = slice_set k.descriptions.slots c.args.key (Some (record x { holders = x.holders + 1 })) in
     view-held k after (opened-lent k.descriptions.slots c.args.key x (record x { holders = x.holders + 1 }) c.index_mut-held.ensures.value refl)
-    ∙ (let f : Descs → Descs = λ d. record d { loose = loose_from 0 k.tables after } in ap f c.self.view_is)
+    ∙ (let f : Descs → Descs = λ d. record d { loose = loose_from 0 k.tables.tables after } in ap f c.self.view_is)
 
 pub returns-clause-tidy : goal.returns-clause-tidy
 returns-clause-tidy g c = tidy _ _ _ (invariant_of-self g c) _

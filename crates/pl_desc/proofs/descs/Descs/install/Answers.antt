@@ -24,10 +24,10 @@ module _ (g : Over) (c : After-put g) where
   place : c.args.fd < m.limits.descriptors
   place = subst (λ d. c.args.fd < d.limits.descriptors) (sym c.self.view_is) c.requires.place
 
-  installed : IsSound m.limits c.put.new.self m.slots m.ends
+  installed : IsSound m.limits c.put.new.self.tables m.slots m.ends
   installed =
       let held = subst (λ d. 0 < count_at d.loose c.args.key) (sym c.self.view_is) c.requires.held in
-      subst (λ ts. IsSound m.limits ts m.slots m.ends) (sym c.put.ensures) (sound-installed m c.args.pid c.args.fd process place c.args.key free held)
+      subst (λ ts. IsSound m.limits ts m.slots m.ends) (sym (ap (λ t. t.tables) c.put.ensures)) (sound-installed m c.args.pid c.args.fd process place c.args.key free held)
 
 pub prove-unreachable-requires : goal.prove-unreachable-requires
 prove-unreachable-requires g c =
@@ -39,15 +39,15 @@ invariant_of-self g c = installed g c
 
 pub returns-clause-rows : goal.returns-clause-rows
 returns-clause-rows g c =
-    ap row_at c.put.ensures ∙ rows-put (m g c) c.args.pid c.args.fd (process g c) (place g c) (Some c.args.key)
+    ap (λ t. row_at t.tables) c.put.ensures ∙ rows-put (m g c) c.args.pid c.args.fd (process g c) (place g c) (Some c.args.key)
     ∙ ap (λ d. with_row (row_at d.tables) c.args.pid c.args.fd (Some c.args.key)) c.self.view_is
 
 pub returns-clause-pids : goal.returns-clause-pids
-returns-clause-pids g c = ap is_pid c.put.ensures ∙ pids-put (m g c) c.args.pid c.args.fd (process g c) (place g c) (Some c.args.key) ∙ ap (λ d. is_pid d.tables) c.self.view_is
+returns-clause-pids g c = ap (λ t. is_pid t.tables) c.put.ensures ∙ pids-put (m g c) c.args.pid c.args.fd (process g c) (place g c) (Some c.args.key) ∙ ap (λ d. is_pid d.tables) c.self.view_is
 
 pub returns-clause-loose : goal.returns-clause-loose
 returns-clause-loose g c =
-    ap (λ ts. count_at (loose_from 0 ts c.self.inside.descriptions.slots)) c.put.ensures ∙ loose-installed (m g c) c.args.pid c.args.fd (process g c) (place g c) c.args.key (free g c)
+    ap (λ t. count_at (loose_from 0 t.tables c.self.inside.descriptions.slots)) c.put.ensures ∙ loose-installed (m g c) c.args.pid c.args.fd (process g c) (place g c) c.args.key (free g c)
     ∙ ap (λ d. change_count c.args.key one_less (count_at d.loose)) c.self.view_is
 
 pub returns-clause-holders : goal.returns-clause-holders

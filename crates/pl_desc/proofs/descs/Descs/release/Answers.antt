@@ -6,7 +6,7 @@ use Rattle.pl_model.specs.Map.{set_at}
 use Rattle.pl_model.specs.Modes.{reads, writes}
 use Rattle.pl_desc.specs.declared.description.Description.{Description}
 use Rattle.pl_desc.specs.declared.released.Released.TheVariants.{Gone}
-use Rattle.pl_desc.specs.Rows.{at, naming, count_at, change_count, one_less}
+use Rattle.pl_desc.specs.Rows.{at, naming, count_at, change_count, one_less, rows_at}
 use Rattle.pl_desc.specs.Descs.{Descs, live_count, last_hold, released}
 use Rattle.pl_desc.specs.Ends.{ends_at}
 use Rattle.pl_desc.specs.Slots.{opened_in, opened_of, holders_of, IsSound}
@@ -103,7 +103,7 @@ returns-then-description-gt1-clause-room g c =
     let d = ap (λ d. d.room.descriptions) c.self.view_is in
     let p = ap (λ d. d.room.pipes) c.self.view_is in
     let f = ap (λ d. d.room.files) c.self.view_is in
-    record { descriptions = omega (arith, len, d); pipes = omega (arith, p); files = omega (arith, f) }
+    record { descriptions = omega (arith, len, d); pipes = omega (arith, p); files = omega (arith, f); rows = λ pid. omega (arith, ap (λ d. rows_at d.room.rows pid) c.self.view_is) }
 
 pub remove-requires-clause-readers : goal.remove-requires-clause-readers
 remove-requires-clause-readers g c =
@@ -149,15 +149,15 @@ returns-clause-loose g c =
     let none : holders_of (at left c.args.key) ≡ 0 = ap holders_of updates.changed in
     let is : holders_of (at k.descriptions.slots c.args.key) ≡ 1 = ap holders_of c.index-description.ensures ∙ (one g c).0 in
     let bare = (one g c).1 in
-    let here : holders_of (at left c.args.key) - naming k.tables c.args.key ≡ (holders_of (at k.descriptions.slots c.args.key) - naming k.tables c.args.key) - 1 = omega (arith, none, is, bare) in
-    loose-change k.tables k.tables k.descriptions.slots left c.args.key one_less here (λ q n. ap (λ o. holders_of o - naming k.tables q) (updates.others q n))
+    let here : holders_of (at left c.args.key) - naming k.tables.tables c.args.key ≡ (holders_of (at k.descriptions.slots c.args.key) - naming k.tables.tables c.args.key) - 1 = omega (arith, none, is, bare) in
+    loose-change k.tables.tables k.tables.tables k.descriptions.slots left c.args.key one_less here (λ q n. ap (λ o. holders_of o - naming k.tables.tables q) (updates.others q n))
     ∙ ap (λ d. change_count c.args.key one_less (count_at d.loose)) c.self.view_is
 
 pub returns-clause-live : goal.returns-clause-live
 returns-clause-live g c =
     let k = c.self.inside in
     ap (λ b. live_count (opened_in c.try_remove-gone.new.self.slots) + (if b then 1 else 0)) (last g c)
-    ∙ live-less k.tables k.descriptions c.try_remove-gone.new.self (ends_at k.counts) (ends_at c.remove.new.self) c.args.key (x g c) c.self.invariant c.try_remove-gone.ensures.updates c.index-description.ensures (one g c).1 ∙ ap (λ d. live_count d.opened) c.self.view_is
+    ∙ live-less k.tables.tables k.descriptions c.try_remove-gone.new.self (ends_at k.counts) (ends_at c.remove.new.self) c.args.key (x g c) c.self.invariant c.try_remove-gone.ensures.updates c.index-description.ensures (one g c).1 ∙ ap (λ d. live_count d.opened) c.self.view_is
 
 pub returns-then-description-gt1-clause-tidy : goal.returns-then-description-gt1-clause-tidy
 returns-then-description-gt1-clause-tidy g c = tidy _ _ _ (invariant_of-self g c) _

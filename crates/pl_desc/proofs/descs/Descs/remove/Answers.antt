@@ -18,10 +18,10 @@ use Rattle.pl_desc.proofs.descs.Descs.remove.Goals.{After-clear-arg-1, After-cle
 use Rattle.pl_desc.proofs.descs.Descs.remove.Goals as goal
 
 -- an open descriptor has a place
-found : (g : Over) (c : After-clear-arg-1 g) → (nat_abs (to_z w32 (of_z w32 c.args.fd)) < most_descriptors) × (row_at c.self.inside.tables c.args.pid (nat_abs (to_z w32 (of_z w32 c.args.fd))) ≡ Some c.in_ok-key.key) × (to_z w32 (of_z w32 c.args.fd) ≡ pos (nat_abs (to_z w32 (of_z w32 c.args.fd)))) × (is_pid c.self.inside.tables c.args.pid ≡ true)
+found : (g : Over) (c : After-clear-arg-1 g) → (nat_abs (to_z w32 (of_z w32 c.args.fd)) < most_descriptors) × (row_at c.self.inside.tables.tables c.args.pid (nat_abs (to_z w32 (of_z w32 c.args.fd))) ≡ Some c.in_ok-key.key) × (to_z w32 (of_z w32 c.args.fd) ≡ pos (nat_abs (to_z w32 (of_z w32 c.args.fd)))) × (is_pid c.self.inside.tables.tables c.args.pid ≡ true)
 found g c =
     let z = to_z w32 (of_z w32 c.args.fd) in
-    row_of-some c.self.inside.tables c.args.pid c.in_ok-key.key z (ap (λ d. row_of d.tables c.args.pid z) c.self.view_is ∙ sym c.in_ok-key.ensures)
+    row_of-some c.self.inside.tables.tables c.args.pid c.in_ok-key.key z (ap (λ d. row_of d.tables c.args.pid z) c.self.view_is ∙ sym c.in_ok-key.ensures)
 
 -- an open descriptor is closed
 module _ (g : Over) (c : After-clear g) where
@@ -39,18 +39,18 @@ module _ (g : Over) (c : After-clear g) where
       let row = row_of-some m.tables c.args.pid c.in_ok-key.key z named in
       subst (λ n. nat_abs z < n) (rows-length m.tables c.args.pid row.3 m.sound.wide) (within (rows_of m.tables c.args.pid) (nat_abs z) (ap is_some row.1))
 
-  closed : IsSound m.limits c.clear.new.self m.slots m.ends
+  closed : IsSound m.limits c.clear.new.self.tables m.slots m.ends
   closed =
       let row = row_of-some m.tables c.args.pid c.in_ok-key.key z named in
-      subst (λ ts. IsSound m.limits ts m.slots m.ends) (sym c.clear.ensures) (sound-closed m c.args.pid (nat_abs z) row.3 place c.in_ok-key.key row.1)
+      subst (λ ts. IsSound m.limits ts m.slots m.ends) (sym (ap (λ t. t.tables) c.clear.ensures)) (sound-closed m c.args.pid (nat_abs z) row.3 place c.in_ok-key.key row.1)
 
 pub invariant_of-self : goal.invariant_of-self
 invariant_of-self g c = closed g c
 
 pub returns-clause-rows : goal.returns-clause-rows
 returns-clause-rows g c =
-    let row = row_of-some c.self.inside.tables c.args.pid c.in_ok-key.key (z g c) (named g c) in
-    ap row_at c.clear.ensures ∙ rows-put (m g c) c.args.pid (nat_abs (z g c)) row.3 (place g c) None
+    let row = row_of-some c.self.inside.tables.tables c.args.pid c.in_ok-key.key (z g c) (named g c) in
+    ap (λ t. row_at t.tables) c.clear.ensures ∙ rows-put (m g c) c.args.pid (nat_abs (z g c)) row.3 (place g c) None
     ∙ ap (λ d. with_row (row_at d.tables) c.args.pid (nat_abs (z g c)) None) c.self.view_is
     ∙ ap (without_row (row_at c.args.self.now.tables) c.args.pid) (sym row.2 ∙ to_z-of_z w32 c.args.fd c.ranges.fd)
 
@@ -58,13 +58,13 @@ pub returns-clause-pids : goal.returns-clause-pids
 returns-clause-pids g c =
     let m = m g c in
     let row = row_of-some m.tables c.args.pid c.in_ok-key.key (z g c) (named g c) in
-    ap is_pid c.clear.ensures ∙ pids-put m c.args.pid (nat_abs (z g c)) row.3 (place g c) None ∙ ap (λ d. is_pid d.tables) c.self.view_is
+    ap (λ t. is_pid t.tables) c.clear.ensures ∙ pids-put m c.args.pid (nat_abs (z g c)) row.3 (place g c) None ∙ ap (λ d. is_pid d.tables) c.self.view_is
 
 pub returns-clause-loose : goal.returns-clause-loose
 returns-clause-loose g c =
     let k = c.self.inside in
-    let row = row_of-some k.tables c.args.pid c.in_ok-key.key (z g c) (named g c) in
-    ap (λ ts. count_at (loose_from 0 ts k.descriptions.slots)) c.clear.ensures
+    let row = row_of-some k.tables.tables c.args.pid c.in_ok-key.key (z g c) (named g c) in
+    ap (λ t. count_at (loose_from 0 t.tables k.descriptions.slots)) c.clear.ensures
     ∙ loose-closed (m g c) c.args.pid (nat_abs (z g c)) row.3 (place g c) c.in_ok-key.key row.1
     ∙ ap (λ d. change_count c.in_ok-key.key one_more (count_at d.loose)) c.self.view_is
 
@@ -76,10 +76,10 @@ returns-clause-holders g c =
 pub returns-clause-tidy : goal.returns-clause-tidy
 returns-clause-tidy g c = tidy _ _ _ (invariant_of-self g c) _
 
-pub clear-requires-clause-place : goal.clear-requires-clause-place
-clear-requires-clause-place g c =
+pub clear-requires-clause-open : goal.clear-requires-clause-open
+clear-requires-clause-open g c =
     let f = found g c in
-    within (rows_of c.self.inside.tables c.args.pid) (nat_abs (to_z w32 (of_z w32 c.args.fd))) (ap is_some f.1)
+    ap is_some f.1
 
 pub overflow_cast-fd : goal.overflow_cast-fd
 overflow_cast-fd g c =

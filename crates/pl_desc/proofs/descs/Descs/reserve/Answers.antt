@@ -10,12 +10,12 @@ use Rattle.pl_desc.proofs.descs.Descs.reserve.Goals as goal
 pub invariant_of-self : goal.invariant_of-self
 invariant_of-self g c =
     let k = c.self.inside in
-    sound-ends k.tables k.descriptions.slots (ends_at k.counts) c.self.invariant (ends_at c.reserve.new.self) c.reserve.ensures.kept
+    sound-ends k.tables.tables k.descriptions.slots (ends_at k.counts) c.self.invariant (ends_at c.reserve.new.self) c.reserve.ensures.kept
 
 pub invariant_of-self-in_err-reserve-2 : goal.invariant_of-self-in_err-reserve-2
 invariant_of-self-in_err-reserve-2 g c =
     let k = c.self.inside in
-    subst (λ slots. IsSound k.limits k.tables slots (ends_at c.reserve.new.self)) (sym (ap (λ s. s.slots) c.reserve-2.ensures.rest_kept)) (sound-ends k.tables k.descriptions.slots (ends_at k.counts) c.self.invariant (ends_at c.reserve.new.self) c.reserve.ensures.kept)
+    subst (λ slots. IsSound k.limits k.tables.tables slots (ends_at c.reserve.new.self)) (sym (ap (λ s. s.slots) c.reserve-2.ensures.rest_kept)) (sound-ends k.tables.tables k.descriptions.slots (ends_at k.counts) c.self.invariant (ends_at c.reserve.new.self) c.reserve.ensures.kept)
 
 pub returns-in_err-reserve-2-clause-succeeds : goal.returns-in_err-reserve-2-clause-succeeds
 returns-in_err-reserve-2-clause-succeeds g c = λ room.
@@ -29,4 +29,4 @@ returns-in_err-reserve-2-clause-succeeds g c = λ room.
 pub invariant_of-self-2 : goal.invariant_of-self-2
 invariant_of-self-2 g c =
     let k = c.self.inside in
-    subst (λ slots. IsSound k.limits k.tables slots (ends_at c.reserve.new.self)) (sym (ap (λ s. s.slots) c.reserve-2.ensures.rest_kept)) (sound-ends k.tables k.descriptions.slots (ends_at k.counts) c.self.invariant (ends_at c.reserve.new.self) c.reserve.ensures.kept)
+    subst (λ slots. IsSound k.limits k.tables.tables slots (ends_at c.reserve.new.self)) (sym (ap (λ s. s.slots) c.reserve-2.ensures.rest_kept)) (sound-ends k.tables.tables k.descriptions.slots (ends_at k.counts) c.self.invariant (ends_at c.reserve.new.self) c.reserve.ensures.kept)

@@ -1,6 +1,6 @@
 use Rattle.std.proofs.Common.{◌≡◌, ◌<◌, ◌≤◌, ℕ, true, ap, ◌∙◌, sym, subst, Some, None}
 use Rattle.std.proofs.Math.Path.{fun_ext}
-use Rattle.std.specs.Prelude.{IfNone}
+use Rattle.std.specs.Prelude.{IfNone, is_some}
 use Rattle.pl_desc.specs.Descs.{IsTidy, holders}
 use Rattle.pl_desc.specs.Rows.{is_pid, rows_of, row_at, with_row, next_open, count_at, change_count, one_more}
 use Rattle.pl_desc.specs.Slots.{loose_from, IsSound}
@@ -25,23 +25,23 @@ module _ (g : Over) (c : After-clear g) where
       let f = open-found (rows_of m.tables c.args.pid) c.args.least c.in_ok-fd.fd c.in_ok-fd.key (ap (λ d. next_open (rows_of d.tables c.args.pid) c.args.least) c.self.view_is ∙ sym c.in_ok-fd.ensures) in
       (f.0, subst (λ n. c.in_ok-fd.fd < n) (rows-length m.tables c.args.pid process m.sound.wide) f.2)
 
-  closed : IsSound m.limits c.clear.new.self m.slots m.ends
-  closed = subst (λ ts. IsSound m.limits ts m.slots m.ends) (sym c.clear.ensures) (sound-closed m c.args.pid c.in_ok-fd.fd process found.1 c.in_ok-fd.key found.0)
+  closed : IsSound m.limits c.clear.new.self.tables m.slots m.ends
+  closed = subst (λ ts. IsSound m.limits ts m.slots m.ends) (sym (ap (λ t. t.tables) c.clear.ensures)) (sound-closed m c.args.pid c.in_ok-fd.fd process found.1 c.in_ok-fd.key found.0)
 
 pub invariant_of-self : goal.invariant_of-self
 invariant_of-self g c = closed g c
 
 pub returns-clause-rows : goal.returns-clause-rows
 returns-clause-rows g c =
-    ap row_at c.clear.ensures ∙ rows-put (m g c) c.args.pid c.in_ok-fd.fd (process g c) (found g c).1 None
+    ap (λ t. row_at t.tables) c.clear.ensures ∙ rows-put (m g c) c.args.pid c.in_ok-fd.fd (process g c) (found g c).1 None
     ∙ ap (λ d. with_row (row_at d.tables) c.args.pid c.in_ok-fd.fd None) c.self.view_is
 
 pub returns-clause-pids : goal.returns-clause-pids
-returns-clause-pids g c = ap is_pid c.clear.ensures ∙ pids-put (m g c) c.args.pid c.in_ok-fd.fd (process g c) (found g c).1 None ∙ ap (λ d. is_pid d.tables) c.self.view_is
+returns-clause-pids g c = ap (λ t. is_pid t.tables) c.clear.ensures ∙ pids-put (m g c) c.args.pid c.in_ok-fd.fd (process g c) (found g c).1 None ∙ ap (λ d. is_pid d.tables) c.self.view_is
 
 pub returns-clause-loose : goal.returns-clause-loose
 returns-clause-loose g c =
-    ap (λ ts. count_at (loose_from 0 ts c.self.inside.descriptions.slots)) c.clear.ensures
+    ap (λ t. count_at (loose_from 0 t.tables c.self.inside.descriptions.slots)) c.clear.ensures
     ∙ loose-closed (m g c) c.args.pid c.in_ok-fd.fd (process g c) (found g c).1 c.in_ok-fd.key (found g c).0
     ∙ ap (λ d. change_count c.in_ok-fd.key one_more (count_at d.loose)) c.self.view_is
 
@@ -60,3 +60,8 @@ pub returns-in_err-fd-clause-closed : goal.returns-in_err-fd-clause-closed
 returns-in_err-fd-clause-closed g c =
     subst (λ o. IfNone o ((fd : ℕ) → c.args.least ≤ fd → row_at c.args.self.now.tables c.args.pid fd ≡ None)) (sym c.from_residual.ensures)
     (open-none (rows_of c.args.self.now.tables c.args.pid) c.args.least (sym c.in_err-fd.ensures))
+
+pub clear-requires-clause-open : goal.clear-requires-clause-open
+clear-requires-clause-open g c =
+    let found = open-found (rows_of c.self.inside.tables.tables c.args.pid) c.args.least c.in_ok-fd.fd c.in_ok-fd.key (ap (λ d. next_open (rows_of d.tables c.args.pid) c.args.least) c.self.view_is ∙ sym c.in_ok-fd.ensures) in
+    ap is_some found.0

@@ -1,23 +1,37 @@
-use Rattle.std.proofs.Common.{◌<◌, ◌∙◌, ap, sym, subst, arith, length, slice_set, None}
-use Rattle.std.proofs.lemmas.List.{map-set, length-set}
-use Rattle.pl_desc.specs.Rows.{no_key}
-use Rattle.pl_desc.specs.TableView.{named, view_of, IsTable}
-use Rattle.pl_desc.proofs.Vacant.{vacant-put}
+use Rattle.std.proofs.Common.{◌<◌, arith, length, rules, ◌∙◌, ap, sym, subst, refl, None}
+use Rattle.std.specs.Prelude.{slice_set, IsSome}
+use Rattle.pl_desc.specs.Rows.{at, Tabled, no_key}
+use Rattle.std.proofs.lemmas.List.{length-set}
+use Rattle.pl_desc.proofs.TableLemmas.{named-none}
+use Rattle.pl_desc.proofs.TableSteps.{has-row, table-put, names-put, length-named}
 use Rattle.pl_desc.proofs.table.Table.clear.Goals as goal
 
 pub invariant_of-self : goal.invariant_of-self
 invariant_of-self g c =
-    let rows = view_of c.self.inside in
-    let place : c.args.fd < length rows = subst (λ xs. c.args.fd < length xs) (sym c.self.view_is) c.requires in
-    let is = map-set named c.self.inside.keys.items c.args.fd no_key in
-    subst (λ xs. IsTable xs c.insert.new.self) (sym is)
-    (record {
-      free = vacant-put rows c.self.inside.free c.self.invariant.free c.args.fd (None) c.insert.new.self place c.insert.ensures.value c.insert.ensures.places;
-      few = omega (arith, c.self.invariant.few, length-set rows c.args.fd (None));
-    })
+    let t = c.self.inside in
+    let row = has-row t.keys.items t.most t.free c.self.invariant c.args.fd (subst (λ t. IsSome (at t.names c.args.fd)) (sym c.self.view_is) c.requires) in
+    table-put t.keys.items t.most t.free c.self.invariant c.args.fd no_key None (named-none no_key refl) row
+    c.insert.new.self c.insert.ensures.value c.insert.ensures.places
 
 pub returns : goal.returns
 returns g c =
-    let rows = view_of c.self.inside in
-    map-set named c.self.inside.keys.items c.args.fd no_key
-    ∙ ap (λ rows. slice_set rows c.args.fd (None)) c.self.view_is
+    let t = c.self.inside in
+    let row = has-row t.keys.items t.most t.free c.self.invariant c.args.fd (subst (λ t. IsSome (at t.names c.args.fd)) (sym c.self.view_is) c.requires) in
+    let put : Tabled → Tabled = λ t. record t { names = slice_set t.names c.args.fd None } in
+    (λ i. record {
+      names = names-put t.keys.items t.most t.free c.self.invariant c.args.fd no_key None (named-none no_key refl) row i;
+      rows = length-set t.keys.items c.args.fd no_key i;
+    })
+    ∙ ap put c.self.view_is
+
+pub index_mut-requires : goal.index_mut-requires
+index_mut-requires g c =
+    let t = c.self.inside in
+    let row : c.args.fd < length t.keys.items = has-row t.keys.items t.most t.free c.self.invariant c.args.fd (subst (λ t. IsSome (at t.names c.args.fd)) (sym c.self.view_is) c.requires) in
+    search rules
+
+pub insert-requires : goal.insert-requires
+insert-requires g c =
+    let t = c.self.inside in
+    let row : c.args.fd < length t.keys.items = has-row t.keys.items t.most t.free c.self.invariant c.args.fd (subst (λ t. IsSome (at t.names c.args.fd)) (sym c.self.view_is) c.requires) in
+    c.self.invariant.free.places c.args.fd (omega (arith, row, length-named t.keys.items))

@@ -1,23 +1,24 @@
-use Rattle.std.proofs.Common.{◌<◌, ◌∙◌, ap, sym, subst, arith, length, slice_set, Some}
-use Rattle.std.proofs.lemmas.List.{map-set, length-set}
-use Rattle.pl_desc.specs.TableView.{named, view_of, IsTable}
+use Rattle.std.proofs.Common.{◌<◌, ◌∙◌, ap, sym, subst, Some}
+use Rattle.std.specs.Prelude.{slice_set, length}
+use Rattle.pl_desc.specs.Rows.{Tabled}
+use Rattle.std.proofs.lemmas.List.{length-set}
 use Rattle.pl_desc.proofs.TableLemmas.{named-key}
-use Rattle.pl_desc.proofs.Vacant.{vacant-put}
+use Rattle.pl_desc.proofs.TableSteps.{table-put, names-put}
 use Rattle.pl_desc.proofs.table.Table.put.Goals as goal
 
 pub invariant_of-self : goal.invariant_of-self
 invariant_of-self g c =
-    let rows = view_of c.self.inside in
-    let place : c.args.fd < length rows = subst (λ xs. c.args.fd < length xs) (sym c.self.view_is) c.requires.place in
-    let is = map-set named c.self.inside.keys.items c.args.fd c.args.key ∙ ap (slice_set rows c.args.fd) (named-key c.args.key c.requires.key) in
-    subst (λ xs. IsTable xs c.remove.new.self) (sym is)
-    (record {
-      free = vacant-put rows c.self.inside.free c.self.invariant.free c.args.fd (Some c.args.key) c.remove.new.self place c.remove.ensures.value c.remove.ensures.places;
-      few = omega (arith, c.self.invariant.few, length-set rows c.args.fd (Some c.args.key));
-    })
+    let t = c.self.inside in
+    table-put t.keys.items t.most t.free c.self.invariant c.args.fd c.args.key (Some c.args.key) (named-key c.args.key c.requires.key)
+    (subst (λ t. c.args.fd < t.rows) (sym c.self.view_is) c.requires.row) c.remove.new.self c.remove.ensures.value c.remove.ensures.places
 
 pub returns : goal.returns
 returns g c =
-    let rows = view_of c.self.inside in
-    map-set named c.self.inside.keys.items c.args.fd c.args.key ∙ ap (slice_set rows c.args.fd) (named-key c.args.key c.requires.key)
-    ∙ ap (λ rows. slice_set rows c.args.fd (Some c.args.key)) c.self.view_is
+    let t = c.self.inside in
+    let row : c.args.fd < length t.keys.items = subst (λ t. c.args.fd < t.rows) (sym c.self.view_is) c.requires.row in
+    let put : Tabled → Tabled = λ t. record t { names = slice_set t.names c.args.fd (Some c.args.key) } in
+    (λ i. record {
+      names = names-put t.keys.items t.most t.free c.self.invariant c.args.fd c.args.key (Some c.args.key) (named-key c.args.key c.requires.key) row i;
+      rows = length-set t.keys.items c.args.fd c.args.key i;
+    })
+    ∙ ap put c.self.view_is

@@ -1,6 +1,4 @@
-use Rattle.std.proofs.Common.{◌≡◌, ℕ, ◌+◌, ◌-◌, ◌<◌, ap, ◌∙◌, sym, subst, refl, arith, Some, nat_eq, ◌≤◌, false, inl, inr}
-use Rattle.std.proofs.lemmas.Bool.{false≢true}
-use Rattle.std.proofs.lemmas.Bool.Decides.{eqb_tells}
+use Rattle.std.proofs.Common.{◌≡◌, ℕ, ◌+◌, ◌-◌, ◌<◌, ap, ◌∙◌, sym, subst, refl, arith, Some, nat_eq}
 use Rattle.std.specs.Prelude.{option_map}
 use Rattle.slab.specs.Slab.{Slab}
 use Rattle.pl_model.specs.Map.{set_at}
@@ -13,9 +11,9 @@ use Rattle.pl_desc.specs.Slots.{opened_in, opened_of, holders_of}
 use Rattle.pl_desc.proofs.SlotLemmas.{at-opened, opened-updates, loose-change}
 use Rattle.pl_desc.proofs.Sound.{ends-few, sound-opened, live-more, tidy}
 use Rattle.pl_desc.proofs.Known.{Known, known}
-use Rattle.pl_desc.proofs.descs.Descs.open_desc.Given.{Over}
-use Rattle.pl_desc.proofs.descs.Descs.open_desc.Goals.{After-add}
-use Rattle.pl_desc.proofs.descs.Descs.open_desc.Goals as goal
+use Rattle.pl_desc.proofs.descs.Descs.open_reserved.Given.{Over}
+use Rattle.pl_desc.proofs.descs.Descs.open_reserved.Goals.{After-add}
+use Rattle.pl_desc.proofs.descs.Descs.open_reserved.Goals as goal
 
 -- a description is opened, under a vacant key
 module _ (g : Over) (c : After-add g) where
@@ -32,13 +30,7 @@ module _ (g : Over) (c : After-add g) where
   added = record { node = c.args.node; mode = c.args.mode; flags = c.args.flags; offset = 0; holders = 1 }
 
   same : opened_in m.slots ≡ c.args.self.now.opened
-  same = ap (λ d. d.opened) c.self.view_is ∙ ap (λ d. d.opened) c.reserve.ensures.kept
-
-less : (n most : ℕ) → nat_eq n most ≡ false → n ≤ most → n < most
-less n most other few = elim (eqb_tells n most) as (λ _. n < most) [
-  | inl e ↦ absurd (false≢true (sym other ∙ e.0))
-  | inr e ↦ omega (arith, few, e.1)
-]
+  same = ap (λ d. d.opened) c.self.view_is
 
 pub add-requires-clause-readers : goal.add-requires-clause-readers
 add-requires-clause-readers g c =
@@ -53,8 +45,8 @@ add-requires-clause-writers g c =
 pub invariant_of-self : goal.invariant_of-self
 invariant_of-self g c =
     let k = c.self.inside in
-    let few : live_count (opened_in k.descriptions.slots) < k.limits.descriptions = subst (λ d. live_count d.opened < d.limits.descriptions) (sym (c.self.view_is ∙ c.reserve.ensures.kept)) (less (live_count c.args.self.now.opened) c.args.self.now.limits.descriptions (sym c.is_full.ensures.value ∙ c.if-is_full.false) c.is_full.ensures.tidy.most) in
-    sound-opened k.tables k.descriptions (new g c) (ends_at k.counts) (ends_at c.add.new.self) (key g c) (added g c) c.self.invariant c.insert_reserved-key.ensures.updates c.insert_reserved-key.ensures.was_vacant refl few c.add.ensures.counts
+    let few : live_count (opened_in k.descriptions.slots) < k.limits.descriptions = subst (λ d. live_count d.opened < d.limits.descriptions) (sym c.self.view_is) c.requires.few in
+    sound-opened k.tables.tables k.descriptions (new g c) (ends_at k.counts) (ends_at c.add.new.self) (key g c) (added g c) c.self.invariant c.insert_reserved-key.ensures.updates c.insert_reserved-key.ensures.was_vacant refl few c.add.ensures.counts
 
 pub returns-clause-vacant : goal.returns-clause-vacant
 returns-clause-vacant g c = ap (λ os. at os (key g c)) (sym (same g c)) ∙ at-opened c.self.inside.descriptions.slots (key g c) ∙ ap (option_map opened_of) c.insert_reserved-key.ensures.was_vacant
@@ -75,12 +67,12 @@ returns-clause-loose g c =
     let one : holders_of (at slots key) ≡ 1 = ap holders_of updates.changed in
     let here : holders_of (at slots key) - naming m.tables key ≡ (holders_of (at m.slots key) - naming m.tables key) + 1 = omega (arith, bare, named, one) in
     loose-change m.tables m.tables m.slots slots key one_more here (λ q n. ap (λ o. holders_of o - naming m.tables q) (updates.others q n))
-    ∙ ap (λ d. change_count key one_more (count_at d.loose)) c.self.view_is ∙ ap (λ d. change_count key one_more (count_at d.loose)) c.reserve.ensures.kept
+    ∙ ap (λ d. change_count key one_more (count_at d.loose)) c.self.view_is
 
 pub returns-clause-live : goal.returns-clause-live
 returns-clause-live g c =
     let k = c.self.inside in
-    live-more k.tables k.descriptions (new g c) (ends_at k.counts) (ends_at c.add.new.self) (key g c) (added g c) c.self.invariant c.insert_reserved-key.ensures.updates c.insert_reserved-key.ensures.was_vacant refl
+    live-more k.tables.tables k.descriptions (new g c) (ends_at k.counts) (ends_at c.add.new.self) (key g c) (added g c) c.self.invariant c.insert_reserved-key.ensures.updates c.insert_reserved-key.ensures.was_vacant refl
     ∙ ap (λ os. live_count os + 1) (same g c)
 
 pub returns-clause-tidy : goal.returns-clause-tidy
