@@ -15,8 +15,8 @@
  * except that bc_readv and bc_writev of more than 4,096 bytes take a buffer for all of them until they return. No limit of the kernel counts it.
  *
  * Each function names its own errors here. Each can fail with ESRCH if the process exited, and with ENOMEM. A call that may wait can fail with
- * EINTR, ETIMEDOUT, and with EAGAIN if as many calls wait as the limit waiting_calls allows. All other errors are those of the function of
- * bindingclay.h that it is named for.
+ * EINTR, ETIMEDOUT, and with EAGAIN if as many calls wait as the limit waiting_calls allows, or as many of the process as waiting_of_each allows.
+ * All other errors are those of the function of bindingclay.h that it is named for.
  *
  * A size above 2,147,479,552 (BINDINGCLAY_MOST_SIZE) fails with EINVAL before all else, and nothing is read or written.
  *

@@ -9,11 +9,11 @@
  * anything except memory.
  *
  * Waiting. A call that would wait answers BINDINGCLAY_PARKED. That is an answer, and its value is the call's number. If as many calls
- * already wait as the limit waiting_calls allows, the call answers EAGAIN instead, and has taken and given nothing. Keep the number.
- * bindingclay_can_progress tells whether trying the call again gets it on: whether it would be answered, or a write would put in more of its
- * bytes. bindingclay_next_ready tells the number of a call that can. So after any call, try again the call that it names, with
- * bindingclay_resume, or a poll with bindingclay_resume_poll. Do so until it names none: a call that is tried again can help another. Then no
- * call waits that could go on, and none was tried in vain. bindingclay_interrupt ends a call that waits.
+ * already wait as the limit waiting_calls allows, or as many of the process as waiting_of_each allows, the call answers EAGAIN instead, and has
+ * taken and given nothing. Keep the number. bindingclay_can_progress tells whether trying the call again gets it on: whether it would be
+ * answered, or a write would put in more of its bytes. bindingclay_next_ready tells the number of a call that can. So after any call, try again
+ * the call that it names, with bindingclay_resume, or a poll with bindingclay_resume_poll. Do so until it names none: a call that is tried
+ * again can help another. Then no call waits that could go on, and none was tried in vain. bindingclay_interrupt ends a call that waits.
  *
  * A parked call keeps open what it found open, until it is answered, it is interrupted, or its process exits. An open of a FIFO keeps the
  * end that it makes, which counts as an end from then on.
@@ -203,12 +203,15 @@ typedef struct {
     uint64_t descriptions_max;
     /* The most processes at one time, with pids from 1 to this number. One more fails with EAGAIN. At most BINDINGCLAY_MOST_PROCESSES. */
     uint64_t processes_max;
+    /* The most calls of one process that wait at one time. One more of it fails as above waiting_calls, and the calls of other processes may still
+     * wait. UINT64_MAX: no limit. */
+    uint64_t waiting_of_each;
 } bindingclay_limits;
 
 /* The limits if nobody sets any: bindingclay_limits limits = BINDINGCLAY_LIMITS; */
 #define BINDINGCLAY_LIMITS \
     { sizeof(bindingclay_limits), 1, UINT64_MAX, UINT64_MAX, UINT64_MAX, BINDINGCLAY_MOST_CAPACITY, BINDINGCLAY_MOST_FILE_BYTES, \
-        BINDINGCLAY_USUAL_DESCRIPTORS, UINT64_MAX, BINDINGCLAY_USUAL_DESCRIPTIONS, BINDINGCLAY_USUAL_PROCESSES }
+        BINDINGCLAY_USUAL_DESCRIPTORS, UINT64_MAX, BINDINGCLAY_USUAL_DESCRIPTIONS, BINDINGCLAY_USUAL_PROCESSES, UINT64_MAX }
 
 /* How much memory a kernel takes, in bytes as they were asked of malloc and realloc. The block that holds the kernel itself and the block
  * that holds this count, about a kilobyte together, are no part of it. */
@@ -585,6 +588,14 @@ typedef struct {
     int32_t second;
 } bindingclay_waiting_facts;
 
+/* What a process holds. */
+typedef struct {
+    /* How many of its descriptors are open. */
+    uint64_t descriptors;
+    /* How many of its calls wait. */
+    uint64_t waiting_calls;
+} bindingclay_process;
+
 /* In how many segments, each of 4,096 bytes of memory, a kernel keeps the bytes of its pipes and files. */
 typedef struct {
     /* Those in which bytes are. If there is no process and no name, there are none. */
@@ -608,6 +619,10 @@ bindingclay_answer bindingclay_name_facts(
 /* Tells of the call that waits under a number, and writes it to *facts if it is done. If no call of this number waits, the answer is
  * BINDINGCLAY_NO_CALL. */
 bindingclay_answer bindingclay_call_facts(bindingclay clay, uint64_t number, bindingclay_waiting_facts *facts);
+
+/* Tells what a process holds of what the limits descriptors_max and waiting_of_each bound, and writes it to *process if it is done. If there is no
+ * process of this pid, the answer is BINDINGCLAY_NO_PROCESS. */
+bindingclay_answer bindingclay_process_facts(bindingclay clay, uint32_t pid, bindingclay_process *process);
 
 /* Tells in how many segments a kernel keeps bytes, and writes it to *segments. */
 void bindingclay_stats(bindingclay clay, bindingclay_segment_use *segments);

@@ -39,7 +39,7 @@ use self::raw::{Handle, bindingclay_end, bindingclay_version, free};
 #[allow(unused_imports)]
 pub use self::{
     answers::{Answer, Done, NotDone, ParkedCall, Result},
-    facts::{CallFacts, CallKind, Memory, NodeFacts, NodeKind, SegmentUse},
+    facts::{CallFacts, CallKind, Memory, NodeFacts, NodeKind, ProcessFacts, SegmentUse},
     values::*,
 };
 

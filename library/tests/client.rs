@@ -515,6 +515,7 @@ fn limits(checks: &mut Checks) {
         first_call: 7,
         names: 1,
         waiting_calls: 1,
+        waiting_of_each: 1,
         capacity: 65_536,
         file_max: 3,
         descriptors_max: 4,
@@ -546,10 +547,15 @@ fn limits(checks: &mut Checks) {
     let mut clay = Clay::open_within(&Limits {
         descriptors_max: 1_000,
         descriptions_max: 3,
+        waiting_of_each: 1,
         ..default
     })
     .expect("memory for a kernel");
     checks.is(clay.start(), Ok(1));
+    checks.is(clay.start(), Ok(2));
+    checks.is(clay.poll(1, &mut [], true), parked(1));
+    checks.is(clay.poll(1, &mut [], true), Err(NotDone::Fault(EAGAIN)));
+    checks.is(clay.poll(2, &mut [], true), parked(2));
     checks.is(clay.pipe(1, false).map(|ends| ends.write_end), Ok(1));
     checks.is(clay.pipe(1, false), Err(NotDone::Fault(ENFILE)));
     checks.is(clay.dup_fd(1, 0, 999), Ok(999));
@@ -670,6 +676,14 @@ fn facts(checks: &mut Checks) {
         }),
     );
     checks.is(clay.call_facts(&call(4)), Err(NotDone::NoCall));
+    checks.is(
+        clay.process_facts(1),
+        Ok(ProcessFacts {
+            descriptors: 5,
+            waiting_calls: 3,
+        }),
+    );
+    checks.is(clay.process_facts(2), Err(NotDone::NoProcess));
 }
 
 /// A kernel that moves to another thread, and one that two threads share under a lock.

@@ -1,5 +1,5 @@
-/* What is told without a step: bytes held, what descriptors and names stand for, calls that wait, and segments (pipe(7), FIONREAD; fstat;
- * stat; the header). */
+/* What is told without a step: bytes held, what descriptors and names stand for, calls that wait, processes, and segments (pipe(7), FIONREAD;
+ * fstat; stat; the header). */
 #define _GNU_SOURCE
 #include "check.h"
 
@@ -257,6 +257,66 @@ static void calls(void)
     bindingclay_free(clay);
 }
 
+static void no_process(bindingclay clay, uint32_t pid)
+{
+    bindingclay_process process;
+    memset(&process, UNTOUCHED, sizeof process);
+    OTHER(bindingclay_process_facts(clay, pid, &process), BINDINGCLAY_NO_PROCESS);
+    HOLDS(is_untouched(&process, sizeof process));
+}
+
+static void holds_of(bindingclay clay, uint32_t pid, uint64_t descriptors, uint64_t waiting_calls)
+{
+    bindingclay_process process;
+    memset(&process, UNTOUCHED, sizeof process);
+    DONE(bindingclay_process_facts(clay, pid, &process), 0);
+    HOLDS(process.descriptors == descriptors && process.waiting_calls == waiting_calls);
+}
+
+static void processes(void)
+{
+    bindingclay clay = kernel_with_process();
+    no_process(clay, 0);
+    no_process(clay, 2);
+    no_process(clay, UINT32_MAX);
+    holds_of(clay, 1, 0, 0);
+    NEW_PIPE(clay, 1, false);
+    DONE(bindingclay_dup_fd(clay, 1, PIPE_READ, 200), 200);
+    DONE(bindingclay_dup2(clay, 1, PIPE_READ, 200), 200);
+    holds_of(clay, 1, 3, 0);
+    /* a child has its parent's descriptors, and none of its calls */
+    PARKED(take(clay, 1, PIPE_READ, 1), 1);
+    PARKED(take(clay, 1, PIPE_READ, 1), 2);
+    DONE(bindingclay_fork(clay, 1), 2);
+    holds_of(clay, 1, 3, 2);
+    holds_of(clay, 2, 3, 0);
+    /* an open that waits has no descriptor yet */
+    DONE(mkfifo_text(clay, 1, "p"), 0);
+    PARKED(open_text(clay, 2, "p", O_RDONLY), 3);
+    holds_of(clay, 2, 3, 1);
+    DONE(open_text(clay, 1, "p", O_WRONLY), NEXT);
+    DONE(again(clay, 3), NEXT);
+    holds_of(clay, 1, 4, 2);
+    holds_of(clay, 2, 4, 0);
+    /* what a call keeps is no descriptor once that is closed */
+    DONE(bindingclay_close(clay, 1, PIPE_READ), 0);
+    DONE(bindingclay_close(clay, 1, 200), 0);
+    FAULT(bindingclay_close(clay, 1, 200), EBADF);
+    holds_of(clay, 1, 2, 2);
+    FAULT(bindingclay_interrupt(clay, 2), EINTR);
+    holds_of(clay, 1, 2, 1);
+    DONE(put(clay, 1, PIPE_WRITE, "a"), 1);
+    holds_of(clay, 1, 2, 1);
+    RESUMES(clay, 1, 9, "a");
+    holds_of(clay, 1, 2, 0);
+    DONE(bindingclay_exit(clay, 1), 0);
+    no_process(clay, 1);
+    holds_of(clay, 2, 4, 0);
+    DONE(bindingclay_start(clay), 1);
+    holds_of(clay, 1, 0, 0);
+    bindingclay_free(clay);
+}
+
 static bindingclay_segment_use segments(bindingclay clay)
 {
     bindingclay_segment_use use;
@@ -304,6 +364,7 @@ int main(void)
     names();
     long_names();
     calls();
+    processes();
     segment_counts();
     return end();
 }

@@ -34,9 +34,9 @@ static uint64_t spare_within(const bindingclay_limits *limits)
 /* An earlier version's struct: what it doesn't have is as if nobody had set it. */
 static void structs_that_are_smaller(void)
 {
-    HOLDS(sizeof(bindingclay_limits) == 80);
+    HOLDS(sizeof(bindingclay_limits) == 88);
     bindingclay_limits limits = { .size = 16, .first_call = 7, .memory = 0, .names = 0, .waiting_calls = 0, .capacity = 0, .file_max = 0,
-        .descriptors_max = 0, .spare_max = 0, .descriptions_max = 0, .processes_max = 0 };
+        .descriptors_max = 0, .spare_max = 0, .descriptions_max = 0, .processes_max = 0, .waiting_of_each = 0 };
     bindingclay clay = kernel_within(&limits);
     DONE(mkfifo_text(clay, 1, "a"), 0);
     bindingclay_ends ends = NEW_PIPE(clay, 1, false);
@@ -76,7 +76,7 @@ static void structs_that_are_smaller(void)
     limits.spare_max = 0;
     HOLDS(spare_within(&limits) >= BINDINGCLAY_MOST_CAPACITY);
 
-    /* without the last two: there are descriptions and processes as if nobody had said how many */
+    /* without the last three: there are descriptions and processes as if nobody had said how many */
     limits.size = 64;
     limits.descriptors_max = 3;
     limits.descriptions_max = limits.processes_max = 0;
@@ -90,6 +90,18 @@ static void structs_that_are_smaller(void)
     clay = kernel_within(&limits);
     FAULT(open_text(clay, 1, "f", O_RDONLY | O_CREAT), ENFILE);
     DONE(bindingclay_fork(clay, 1), 2);
+    bindingclay_free(clay);
+
+    /* without the last one: as many calls of a process wait as of all */
+    limits = (bindingclay_limits)BINDINGCLAY_LIMITS;
+    limits.size = 80;
+    limits.waiting_calls = 3;
+    limits.waiting_of_each = 0;
+    clay = kernel_within(&limits);
+    NEW_PIPE(clay, 1, false);
+    for (uint64_t i = 1; i <= 3; i++)
+        PARKED(take(clay, 1, 0, 1), i);
+    FAULT(take(clay, 1, 0, 1), EAGAIN);
     bindingclay_free(clay);
 }
 
@@ -191,22 +203,28 @@ static void no_names(void)
 
 enum { EMPTY_READ = 0, EMPTY_WRITE, FULL_READ, FULL_WRITE, FILE_END, FREE_PIPE, FREE_WRITE };
 
-/* A kernel in which so many calls may wait and all these do, with an empty pipe 0 1, a pipe 2 3 that is full but for 10 bytes, a file 4 of
- * 5 bytes, and a FIFO "q". */
-static bindingclay full_of_calls(uint64_t waiting_calls)
+/* A kernel within limits, in which so many calls of process 1 wait, with an empty pipe 0 1, a pipe 2 3 that is full but for 10 bytes, a file 4
+ * of 5 bytes, and a FIFO "q". */
+static bindingclay waiting_within(const bindingclay_limits *limits, uint64_t waiting)
 {
-    bindingclay_limits limits = BINDINGCLAY_LIMITS;
-    limits.waiting_calls = waiting_calls;
-    bindingclay clay = kernel_within(&limits);
+    bindingclay clay = kernel_within(limits);
     NEW_PIPE(clay, 1, false);
     NEW_PIPE(clay, 1, false);
     DONE(put_many(clay, 1, FULL_WRITE, 65526), 65526);
     DONE(open_text(clay, 1, "f", O_RDWR | O_CREAT), FILE_END);
     DONE(put(clay, 1, FILE_END, "hello"), 5);
     DONE(mkfifo_text(clay, 1, "q"), 0);
-    for (uint64_t i = 1; i <= waiting_calls; i++)
-        PARKED(take(clay, 1, EMPTY_READ, 1), i);
+    for (uint64_t i = 1; i <= waiting; i++)
+        PARKED(take(clay, 1, EMPTY_READ, 1), limits->first_call + i - 1);
     return clay;
+}
+
+/* One in which so many calls may wait, and all these do. */
+static bindingclay full_of_calls(uint64_t waiting_calls)
+{
+    bindingclay_limits limits = BINDINGCLAY_LIMITS;
+    limits.waiting_calls = waiting_calls;
+    return waiting_within(&limits, waiting_calls);
 }
 
 /* Each call that would wait, where no more may: it has taken nothing. */
@@ -304,6 +322,86 @@ static void none_may_wait(void)
 {
     bindingclay clay = full_of_calls(0);
     refuses_each_call(clay);
+    bindingclay_free(clay);
+}
+
+/* A process of which as many calls wait as may: those of another process still do. */
+static void calls_of_each_process(void)
+{
+    bindingclay_limits limits = BINDINGCLAY_LIMITS;
+    limits.waiting_of_each = 2;
+    bindingclay clay = waiting_within(&limits, 2);
+    DONE(bindingclay_fork(clay, 1), 2);
+    refuses_each_call(clay);
+    PARKED(take(clay, 2, EMPTY_READ, 1), 3);
+    PARKED(open_text(clay, 2, "q", O_RDONLY), 4);
+    FAULT(take(clay, 2, EMPTY_READ, 1), EAGAIN);
+    FAULT(take(clay, 1, EMPTY_READ, 1), EAGAIN);
+    /* a call that ends makes place for one of its own process */
+    FAULT(bindingclay_interrupt(clay, 3), EINTR);
+    FAULT(take(clay, 1, EMPTY_READ, 1), EAGAIN);
+    PARKED(take(clay, 2, EMPTY_READ, 1), 5);
+    /* one that is tried again, and waits on, needs no other place */
+    PARKED(again(clay, 1), 1);
+    DONE(bindingclay_exit(clay, 1), 0);
+    FAULT(take(clay, 2, EMPTY_READ, 1), EAGAIN);
+    /* a child and a process that has the pid again begin with none */
+    DONE(bindingclay_fork(clay, 2), 1);
+    PARKED(take(clay, 1, EMPTY_READ, 1), 6);
+    PARKED(take(clay, 1, EMPTY_READ, 1), 7);
+    FAULT(take(clay, 1, EMPTY_READ, 1), EAGAIN);
+    bindingclay_free(clay);
+
+    limits.waiting_of_each = 0;
+    clay = waiting_within(&limits, 0);
+    refuses_each_call(clay);
+    bindingclay_free(clay);
+
+    /* no bit of the word is lost */
+    limits.waiting_of_each = (uint64_t)1 << 32;
+    bindingclay_free(waiting_within(&limits, 3));
+}
+
+/* Where both limits are set, each refuses what is above it. */
+static void calls_of_all_and_of_each(void)
+{
+    bindingclay_limits limits = BINDINGCLAY_LIMITS;
+    limits.waiting_calls = 3;
+    limits.waiting_of_each = 2;
+    bindingclay clay = waiting_within(&limits, 2);
+    DONE(bindingclay_fork(clay, 1), 2);
+    refuses_each_call(clay);
+    PARKED(take(clay, 2, EMPTY_READ, 1), 3);
+    FAULT(take(clay, 2, EMPTY_READ, 1), EAGAIN);
+    FAULT(bindingclay_interrupt(clay, 1), EINTR);
+    PARKED(take(clay, 2, EMPTY_READ, 1), 4);
+    /* one of process 1 waits, and three in all */
+    FAULT(take(clay, 1, EMPTY_READ, 1), EAGAIN);
+    bindingclay_free(clay);
+}
+
+/* It is looked at before whether a number is left, and before memory is asked for. */
+static void calls_of_each_come_first(void)
+{
+    bindingclay_limits limits = BINDINGCLAY_LIMITS;
+    limits.first_call = UINT64_MAX - 1;
+    limits.waiting_of_each = 1;
+    bindingclay clay = waiting_within(&limits, 1);
+    FAULT(take(clay, 1, EMPTY_READ, 1), EAGAIN);
+    FAULT(bindingclay_interrupt(clay, UINT64_MAX - 1), EINTR);
+    OTHER(take(clay, 1, EMPTY_READ, 1), BINDINGCLAY_CALLS_SPENT);
+    bindingclay_free(clay);
+
+    limits.first_call = 1;
+    clay = waiting_within(&limits, 1);
+    limits.memory = bindingclay_memory(clay).peak;
+    bindingclay_free(clay);
+    clay = waiting_within(&limits, 1);
+    FAULT(put_many(clay, 1, FULL_WRITE, BINDINGCLAY_MOST_CAPACITY), EAGAIN);
+    bindingclay_free(clay);
+    limits.waiting_of_each = 2;
+    clay = waiting_within(&limits, 1);
+    OTHER(put_many(clay, 1, FULL_WRITE, BINDINGCLAY_MOST_CAPACITY), BINDINGCLAY_NO_MEMORY);
     bindingclay_free(clay);
 }
 
@@ -491,6 +589,9 @@ int main(void)
     calls_that_wait();
     the_last_that_may_wait();
     none_may_wait();
+    calls_of_each_process();
+    calls_of_all_and_of_each();
+    calls_of_each_come_first();
     capacities();
     files();
     numbers();

@@ -19,7 +19,7 @@ bool bindingclay_open_words(const uint64_t *limits, size_t count, void **kernel,
 /* Makes a kernel within limits, and tells whether that handed on the words of the first fields, and answered as the library did. */
 static bool hands_on(const bindingclay_limits *limits, size_t count)
 {
-    const uint64_t wanted[] = { limits->size, 11, 22, 33, 44, (uint64_t)0x00123456 << 32 | 0x000abcde, 77, 88, 99, 111 };
+    const uint64_t wanted[] = { limits->size, 11, 22, 33, 44, (uint64_t)0x00123456 << 32 | 0x000abcde, 77, 88, 99, 111, 122 };
     void *kernel = NULL;
     memset(words, UNTOUCHED, sizeof words);
     word_count = 0;
@@ -30,7 +30,7 @@ static bool hands_on(const bindingclay_limits *limits, size_t count)
 static void each_size(void)
 {
     bindingclay_limits limits = { .first_call = 11, .memory = 22, .names = 33, .waiting_calls = 44, .capacity = 0x000abcde, .file_max = 0x00123456,
-        .descriptors_max = 77, .spare_max = 88, .descriptions_max = 99, .processes_max = 111 };
+        .descriptors_max = 77, .spare_max = 88, .descriptions_max = 99, .processes_max = 111, .waiting_of_each = 122 };
     for (size_t count = 1; count <= sizeof limits / 8; count++) {
         limits.size = 8 * count;
         HOLDS(hands_on(&limits, count));

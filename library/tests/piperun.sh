@@ -397,11 +397,13 @@ piperun_keeps_within_limits() {
 # Whether piperun refuses limits that are out of their range.
 piperun_refuses_limits() {
     for limit in --file-max=16777217 --capacity-max=1048577 --descriptors-max=65537 --descriptions-max=1048577 --processes-max=65537 \
-        --names-max=18446744073709551616 --spare-max=18446744073709551616 --waiting-max=-1 --waiting-max=two --processes-max=two; do
+        --names-max=18446744073709551616 --spare-max=18446744073709551616 --waiting-max=-1 --waiting-max=two --processes-max=two \
+        --waiting-of-each=18446744073709551616 --waiting-of-each=-1 --waiting-of-each; do
         piperun_answers 2 /dev/null 'piperun: bad command line' "$limit" "$examples/session.script" || return 1
     done
     piperun_answers 0 "$examples/session.out" '' --file-max 16777216 --capacity-max=1048576 --descriptors-max=65536 \
-        --descriptions-max 1048576 --processes-max=65536 --names-max 18446744073709551615 "$examples/session.script"
+        --descriptions-max 1048576 --processes-max=65536 --names-max 18446744073709551615 --waiting-of-each=18446744073709551615 \
+        "$examples/session.script"
 }
 
 # piperun_within_other_limits OPTION..: whether piperun prints of each script of tests/other_limits what stands beside it, by the options of
@@ -425,6 +427,20 @@ piperun_checks_within_limits_of_tables() {
     piperun_answers 0 "$work/as_recorded" '' --check --descriptors-max 9 --descriptions-max 9 --processes-max 9 "$work/named.record" || return 1
     for limit in '--descriptors-max 65537' '--descriptions-max 1048577' '--processes-max 65537' '--processes-max'; do
         { echo "# piperun $limit"; cat "$work/tables.record"; } > "$work/named.record"
+        piperun_answers 3 /dev/null 'piperun: line 1: not a command' --check "$work/named.record" || return 1
+    done
+}
+
+# The same of the limit on the waiting calls of each process.
+piperun_checks_within_limits_of_waiting() {
+    printf 'start\n# => pid 1\n1 fork\n# => pid 2\n1 poll wait\n# => parked 1\n1 poll wait\n# => EAGAIN\n2 poll wait\n# => parked 2\n' \
+        > "$work/waiting.record"
+    echo '5 replies as recorded' > "$work/as_recorded"
+    piperun_answers 0 "$work/as_recorded" '' --check --waiting-of-each 1 "$work/waiting.record" || return 1
+    { echo '# piperun --waiting-of-each 1'; cat "$work/waiting.record"; } > "$work/named.record"
+    piperun_answers 0 "$work/as_recorded" '' --check --waiting-of-each=2 "$work/named.record" || return 1
+    for limit in '--waiting-of-each' '--waiting-of-each -1' '--waiting-of-each 18446744073709551616'; do
+        { echo "# piperun $limit"; cat "$work/waiting.record"; } > "$work/named.record"
         piperun_answers 3 /dev/null 'piperun: line 1: not a command' --check "$work/named.record" || return 1
     done
 }
@@ -546,6 +562,7 @@ try_piperun() {
     check "piperun with limits out of range" piperun_refuses_limits
     check "piperun within other limits" piperun_within_other_limits
     check "piperun on records within other limits" piperun_checks_within_limits_of_tables
+    check "piperun on records within limits on waiting calls" piperun_checks_within_limits_of_waiting
     check "the version of piperun" piperun_tells_its_version
     check "piperun that is to tell all of no record" piperun_answers 2 /dev/null 'piperun: bad command line' --all "$examples/session.script"
     check "piperun on a live run" piperun_runs_live

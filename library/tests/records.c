@@ -234,6 +234,7 @@ static void calls_without_a_step(bindingclay clay)
     bindingclay_ends ends;
     bindingclay_node_facts node;
     bindingclay_waiting_facts waiting;
+    bindingclay_process process;
     bindingclay_segment_use segments;
     uint8_t byte;
     FAULT(bindingclay_pipe2(clay, 1, O_APPEND, &ends), EINVAL);
@@ -246,6 +247,8 @@ static void calls_without_a_step(bindingclay clay)
     FAULT(bindingclay_name_facts(clay, bytes_of("x"), 1, &node), ENOENT);
     FAULT(bindingclay_file_bytes(clay, bytes_of("x"), 1, &byte, 1), ENOENT);
     OTHER(bindingclay_call_facts(clay, 9, &waiting), BINDINGCLAY_NO_CALL);
+    DONE(bindingclay_process_facts(clay, 1, &process), 0);
+    OTHER(bindingclay_process_facts(clay, 0, &process), BINDINGCLAY_NO_PROCESS);
     OTHER(bindingclay_owner(clay, 9), BINDINGCLAY_NO_CALL);
     OTHER(bindingclay_taken(clay, 9), BINDINGCLAY_NO_CALL);
     OTHER(bindingclay_next_ready(clay, 0), BINDINGCLAY_NO_CALL);
@@ -301,19 +304,21 @@ static void limits_are_told(void)
     end_record(clay, "limits");
 }
 
-/* Of descriptions and processes a header tells the limits that aren't the usual ones. */
+/* Of descriptions, processes and the waiting calls of each a header tells the limits that aren't the usual ones. */
 static void limits_that_are_not_the_usual_ones(void)
 {
     static const struct {
-        uint64_t descriptors, descriptions, processes;
+        uint64_t descriptors, descriptions, processes, waiting_of_each;
         const char *told;
     } ROWS[] = {
-        { 1000, BINDINGCLAY_USUAL_DESCRIPTIONS, BINDINGCLAY_USUAL_PROCESSES, "1000" },
-        { BINDINGCLAY_USUAL_DESCRIPTORS, 3, BINDINGCLAY_USUAL_PROCESSES, "256 --descriptions-max 3" },
-        { BINDINGCLAY_USUAL_DESCRIPTORS, BINDINGCLAY_USUAL_DESCRIPTIONS, 2, "256 --processes-max 2" },
-        { BINDINGCLAY_MOST_DESCRIPTORS, BINDINGCLAY_MOST_DESCRIPTIONS, BINDINGCLAY_MOST_PROCESSES,
-            "65536 --descriptions-max 1048576 --processes-max 65536" },
-        { 2, 3, 2, "2 --descriptions-max 3 --processes-max 2" },
+        { 1000, BINDINGCLAY_USUAL_DESCRIPTIONS, BINDINGCLAY_USUAL_PROCESSES, UINT64_MAX, "1000" },
+        { BINDINGCLAY_USUAL_DESCRIPTORS, 3, BINDINGCLAY_USUAL_PROCESSES, UINT64_MAX, "256 --descriptions-max 3" },
+        { BINDINGCLAY_USUAL_DESCRIPTORS, BINDINGCLAY_USUAL_DESCRIPTIONS, 2, UINT64_MAX, "256 --processes-max 2" },
+        { BINDINGCLAY_USUAL_DESCRIPTORS, BINDINGCLAY_USUAL_DESCRIPTIONS, BINDINGCLAY_USUAL_PROCESSES, UINT64_MAX - 1,
+            "256 --waiting-of-each 18446744073709551614" },
+        { BINDINGCLAY_MOST_DESCRIPTORS, BINDINGCLAY_MOST_DESCRIPTIONS, BINDINGCLAY_MOST_PROCESSES, 0,
+            "65536 --descriptions-max 1048576 --processes-max 65536 --waiting-of-each 0" },
+        { 2, 3, 2, 1, "2 --descriptions-max 3 --processes-max 2 --waiting-of-each 1" },
     };
     bindingclay_limits limits = BINDINGCLAY_LIMITS;
     bindingclay clay = { NULL };
@@ -322,6 +327,7 @@ static void limits_that_are_not_the_usual_ones(void)
         limits.descriptors_max = ROWS[i].descriptors;
         limits.descriptions_max = ROWS[i].descriptions;
         limits.processes_max = ROWS[i].processes;
+        limits.waiting_of_each = ROWS[i].waiting_of_each;
         HOLDS(bindingclay_open_within(&limits, &clay.kernel));
         begin_record();
         DONE(bindingclay_record(clay, true), 0);
@@ -342,8 +348,12 @@ static void limits_that_are_not_the_usual_ones(void)
     DONE(bindingclay_close(clay, 2, 1), 0);
     FAULT(open_text(clay, 2, "f", O_RDWR), ENFILE);
     FAULT(bindingclay_start(clay), EAGAIN);
+    PARKED(bindingclay_poll(clay, 2, NULL, 0, true), 1);
+    FAULT(bindingclay_poll(clay, 2, NULL, 0, true), EAGAIN);
+    PARKED(bindingclay_poll(clay, 1, NULL, 0, true), 2);
     TELLS("start\n# => pid 1\n1 pipe\n# => fds 0 1\n1 dup 0\n# => EMFILE\n1 close 0\n# => ok\n1 open f rw creat\n# => fd 0\n1 fork\n# => pid 2\n"
-          "2 close 0\n# => ok\n2 open f rw\n# => fd 0\n2 close 1\n# => ok\n2 open f rw\n# => ENFILE\nstart\n# => EAGAIN\n");
+          "2 close 0\n# => ok\n2 open f rw\n# => fd 0\n2 close 1\n# => ok\n2 open f rw\n# => ENFILE\nstart\n# => EAGAIN\n"
+          "2 poll wait\n# => parked 1\n2 poll wait\n# => EAGAIN\n1 poll wait\n# => parked 2\n");
     end_record(clay, "tables");
 }
 

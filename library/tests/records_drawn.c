@@ -287,6 +287,7 @@ static bindingclay drawn_kernel(void)
     limits.first_call = next_number = first_number;
     limits.names = one_in(3) ? drawn(4) : UINT64_MAX;
     limits.waiting_calls = one_in(3) ? drawn(4) : UINT64_MAX;
+    limits.waiting_of_each = one_in(3) ? drawn(3) : UINT64_MAX;
     limits.capacity = one_in(3) ? 65536 : BINDINGCLAY_MOST_CAPACITY;
     limits.file_max = one_in(3) ? 5000 : BINDINGCLAY_MOST_FILE_BYTES;
     limits.descriptors_max = one_in(3) ? 3 + drawn(4) : BINDINGCLAY_USUAL_DESCRIPTORS;

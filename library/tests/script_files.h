@@ -220,7 +220,9 @@ static const struct {
 } LIMITS[] = { { "--first-call", offsetof(bindingclay_limits, first_call) },
     { "--descriptors-max", offsetof(bindingclay_limits, descriptors_max) },
     { "--descriptions-max", offsetof(bindingclay_limits, descriptions_max) },
-    { "--processes-max", offsetof(bindingclay_limits, processes_max) } };
+    { "--processes-max", offsetof(bindingclay_limits, processes_max) },
+    { "--waiting-max", offsetof(bindingclay_limits, waiting_calls) },
+    { "--waiting-of-each", offsetof(bindingclay_limits, waiting_of_each) } };
 
 /* The limit that an option sets, or null. */
 static uint64_t *limit_of(bindingclay_limits *limits, const char *option)

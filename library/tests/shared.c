@@ -239,6 +239,13 @@ static void limits(void)
     FAILS(bc_read(&process, 0, &byte, 1), EAGAIN);
     HOLDS(bc_memory(bounded).held > 0);
     HOLDS(bc_shared_close(bounded) == 0);
+    few = (bindingclay_limits)BINDINGCLAY_LIMITS;
+    few.waiting_of_each = 0;
+    need(bc_shared_open(&few, &bounded) == 0, "bc_shared_open");
+    process = new_process(bounded);
+    HOLDS(bc_pipe2(&process, ends, 0) == 0);
+    FAILS(bc_read(&process, 0, &byte, 1), EAGAIN);
+    HOLDS(bc_waiting(&process) == 0 && bc_shared_close(bounded) == 0);
     few.file_max = BINDINGCLAY_MOST_FILE_BYTES + 1;
     FAILS(bc_shared_open(&few, &bounded), ENOMEM);
 }

@@ -90,6 +90,7 @@ impl Clay {
             file_max: limits.file_max,
             names_max: limits.names,
             waiting_max: limits.waiting_calls,
+            waiting_of_each: limits.waiting_of_each,
             capacity_max: limits.capacity,
             descriptors_max: limits.descriptors_max,
             descriptions_max: limits.descriptions_max,

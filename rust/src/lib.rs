@@ -96,7 +96,7 @@ pub use answers::{Answer, ParkedCall};
 use clay::Clay;
 pub use faults::{FileMaxFault, NotDone};
 pub use kernel::Kernel;
-pub use parts::kernel::{CallFacts, CallKind, NodeFacts, NodeKind, PollEntry, Stats};
+pub use parts::kernel::{CallFacts, CallKind, NodeFacts, NodeKind, PollEntry, ProcessFacts, Stats};
 pub use parts::model::{
     Bytes8, Call, Errno, Limits, MaskList, Mode, Name, OpenFlags, Outcome, PollList, PollMask,
     Reply, SpliceFlags, Step, Whence,

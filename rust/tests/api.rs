@@ -114,6 +114,42 @@ fn a_greater_limit_on_a_table_counts_as_the_greatest() {
 }
 
 #[test]
+fn as_many_calls_of_each_process_wait_as_may() {
+    let limits = Limits {
+        waiting_of_each: 1,
+        waiting_max: 2,
+        ..Limits::DEFAULT
+    };
+    let mut kernel = kernel_within(limits);
+    let pipe = Call::Pipe {
+        nonblock: false,
+        direct: false,
+    };
+    assert_eq!(kernel.step(Step::Begin(1, pipe)), Ok(Reply::Fds(0, 1)));
+    for pid in 2..=3 {
+        let fork = Step::Begin(1, Call::Fork);
+        assert_eq!(kernel.step(fork), Ok(Reply::Pid(pid)));
+    }
+    let read = |pid| Step::Begin(pid, Call::Read { fd: 0, n: 1 });
+    let refused = Ok(Reply::Fault(Errno::EAGAIN));
+    assert_eq!(kernel.step(read(1)), Ok(Reply::Parked(1)));
+    assert_eq!(kernel.step(read(1)), refused);
+    assert_eq!(
+        kernel.poll_into(1, &mut [], true),
+        Err(NotDone::Fault(Errno::EAGAIN))
+    );
+    assert_eq!(kernel.step(read(2)), Ok(Reply::Parked(2)));
+    // two wait in all
+    assert_eq!(kernel.step(read(3)), refused);
+    assert_eq!(
+        kernel.step(Step::Interrupt(1)),
+        Ok(Reply::Fault(Errno::EINTR))
+    );
+    assert_eq!(kernel.step(read(2)), refused);
+    assert_eq!(kernel.step(read(3)), Ok(Reply::Parked(3)));
+}
+
+#[test]
 fn the_greatest_limit_is_the_last_that_is_taken() {
     let of = |file_max| {
         Kernel::new(

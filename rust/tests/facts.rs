@@ -1,9 +1,9 @@
-//! What a kernel tells without a step: the bytes of pipes, what descriptors and names stand for, and calls that wait.
+//! What a kernel tells without a step: the bytes of pipes, what descriptors and names stand for, calls that wait, and processes.
 
 use bindingclay::memory::{Global, Vec};
 use bindingclay::{
     Answer, Bytes8, Call, CallFacts, CallKind, Kernel, Limits, Mode, Name, NodeKind, OpenFlags,
-    ParkedCall, PollList, PollMask, Reply, SpliceFlags, Step,
+    ParkedCall, PollList, PollMask, ProcessFacts, Reply, SpliceFlags, Step,
 };
 
 fn name(bytes: &[u8]) -> Name {
@@ -263,4 +263,49 @@ fn calls_that_wait() {
     assert_eq!(kernel.write_from(1, writer, b"a"), Ok(Answer::Done(1)));
     assert!(matches!(kernel.step(Step::Resume(1)), Ok(Reply::Bytes(_))));
     assert_eq!(kernel.call_facts(&ParkedCall::from_number(1)), None);
+}
+
+#[test]
+fn what_processes_hold() {
+    let mut kernel = kernel();
+    let holds = |kernel: &Kernel, pid, descriptors, waiting_calls| {
+        let facts = ProcessFacts {
+            descriptors,
+            waiting_calls,
+        };
+        assert_eq!(kernel.process_facts(pid), Some(facts));
+    };
+    holds(&kernel, 1, 0, 0);
+    let (reader, writer) = pipe(&mut kernel, false);
+    begin(
+        &mut kernel,
+        Call::DupFd {
+            fd: reader,
+            least: 200,
+        },
+    );
+    holds(&kernel, 1, 3, 0);
+    // a child has the descriptors of its parent, and none of its calls
+    let first = parked(begin(&mut kernel, Call::Read { fd: reader, n: 1 }));
+    assert_eq!(begin(&mut kernel, Call::Fork), Reply::Pid(2));
+    holds(&kernel, 1, 3, 1);
+    holds(&kernel, 2, 3, 0);
+    // a call keeps what its descriptor named, which is no descriptor then
+    begin(&mut kernel, Call::Close { fd: 200 });
+    begin(&mut kernel, Call::Close { fd: reader });
+    holds(&kernel, 1, 1, 1);
+    assert_eq!(kernel.write_from(1, writer, b"a"), Ok(Answer::Done(1)));
+    holds(&kernel, 1, 1, 1);
+    assert_eq!(
+        kernel.resume_read(first, &mut [0]).expect("memory"),
+        Answer::Done(1)
+    );
+    holds(&kernel, 1, 1, 0);
+    begin(&mut kernel, Call::Exit);
+    for pid in [0, 1, 3, u32::MAX] {
+        assert_eq!(kernel.process_facts(pid), None);
+    }
+    holds(&kernel, 2, 3, 0);
+    assert_eq!(kernel.step(Step::Start), Ok(Reply::Pid(1)));
+    holds(&kernel, 1, 0, 0);
 }

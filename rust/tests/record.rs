@@ -217,23 +217,31 @@ fn act(draws: &mut Draws, kernel: &mut Kernel) {
 #[test]
 fn a_header_names_the_limits_that_are_not_the_usual_ones() {
     let rows = [
-        ((256, 4_096, 1_024), "--descriptors-max 256"),
-        ((1_000, 4_096, 1_024), "--descriptors-max 1000"),
+        ((256, 4_096, 1_024, u64::MAX), "--descriptors-max 256"),
+        ((1_000, 4_096, 1_024, u64::MAX), "--descriptors-max 1000"),
         (
-            (256, 3, 1_024),
+            (256, 3, 1_024, u64::MAX),
             "--descriptors-max 256 --descriptions-max 3",
         ),
-        ((256, 4_096, 2), "--descriptors-max 256 --processes-max 2"),
         (
-            (7, 3, 2),
-            "--descriptors-max 7 --descriptions-max 3 --processes-max 2",
+            (256, 4_096, 2, u64::MAX),
+            "--descriptors-max 256 --processes-max 2",
+        ),
+        (
+            (256, 4_096, 1_024, 0),
+            "--descriptors-max 256 --waiting-of-each 0",
+        ),
+        (
+            (7, 3, 2, 1),
+            "--descriptors-max 7 --descriptions-max 3 --processes-max 2 --waiting-of-each 1",
         ),
     ];
-    for ((descriptors_max, descriptions_max, processes_max), told) in rows {
+    for ((descriptors_max, descriptions_max, processes_max, waiting_of_each), told) in rows {
         let record = handed_out(&mut recorded_kernel(Limits {
             descriptors_max,
             descriptions_max,
             processes_max,
+            waiting_of_each,
             ..Limits::DEFAULT
         }));
         let header = record.lines().nth(1).expect("a header");
@@ -254,6 +262,7 @@ fn drawn_runs_replay() {
             file_max: draws.one_of(&[3_000, 16_777_216]),
             names_max: draws.one_of(&[1, u64::MAX]),
             waiting_max: draws.one_of(&[2, u64::MAX]),
+            waiting_of_each: draws.one_of(&[1, u64::MAX]),
             descriptors_max: draws.one_of(&[5, 7, 256, 1_000]),
             descriptions_max: draws.one_of(&[4, 6, 4_096]),
             processes_max: draws.one_of(&[1, 2, 1_024]),

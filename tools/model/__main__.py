@@ -1,6 +1,7 @@
 """Prints what piperun prints of a script, by the model of the rules.
 
-  python3 tools/model [--first-call N] [--descriptors-max N] [--descriptions-max N] [--processes-max N] SCRIPT
+  python3 tools/model [--first-call N] [--descriptors-max N] [--descriptions-max N] [--processes-max N]
+                      [--waiting-max N] [--waiting-of-each N] SCRIPT
 
 It ends with the status of piperun for a script without a fault (0), one that can't be read (1), and one that is too long or has a bad
 line (3). The model has memory without end, so it knows no other fault.

@@ -34,7 +34,10 @@ from state import (
 
 FIRST_CALLS = (1, 1, 1, 0, 5, NEVER_A_CALL, NEVER_A_CALL - 1, NEVER_A_CALL - 3)
 # Limits that aren't the usual ones. Each is drawn of this part of the scripts.
-OTHER_LIMITS: Dict[str, Tuple[int, ...]] = {"descriptors": (3, 5, 8, 300), "descriptions": (3, 5, 8, 12), "processes": (1, 2, 3)}
+OTHER_LIMITS: Dict[str, Tuple[int, ...]] = {
+    **{"descriptors": (3, 5, 8, 300), "descriptions": (3, 5, 8, 12), "processes": (1, 2, 3)},
+    **{"waiting": (0, 1, 2, 3), "waiting_of_each": (0, 1, 2)},
+}
 PART_OTHER = 0.1
 LENGTHS = (30, 100, 250)
 SIZES = (0, 1, 2, 10, PIPE_BUF - 1, PIPE_BUF, PIPE_BUF, PIPE_BUF, PIPE_BUF + 1, 5000, FIRST_CAPACITY - 1, FIRST_CAPACITY, 70000)

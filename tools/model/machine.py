@@ -227,7 +227,13 @@ class Machine:
         return self._park(call)
 
     def _park(self, call: Call) -> Reply:
-        """Parks a call under the next number. If none is left, nothing is taken."""
+        """Parks a call under the next number. If no number is left, nothing is taken.
+
+        Nor is anything if as many calls as may already wait, of its process or of all (EAGAIN: our own).
+        """
+        of_process = sum(other.process is call.process for other in self.waiting.values())
+        if of_process >= self.limits.waiting_of_each or len(self.waiting) >= self.limits.waiting:
+            raise Refused(Errno.EAGAIN)
         if self.next_call == NEVER_A_CALL:
             return Plain.CALLS_SPENT
         number = self.next_call

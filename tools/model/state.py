@@ -24,8 +24,9 @@ GREATEST_DESCRIPTORS = 65536
 GREATEST_DESCRIPTIONS = 1048576
 GREATEST_PROCESSES = 65536
 MOST_FILE_BYTES = 16777216
-# a number that no waiting call gets
+# a number that no waiting call gets, and a limit that is never reached
 NEVER_A_CALL = 2**64 - 1
+NO_LIMIT = 2**64 - 1
 
 
 @dataclass(frozen=True)
@@ -36,6 +37,8 @@ class Limits:
     descriptors: int = OPEN_MAX
     descriptions: int = USUAL_DESCRIPTIONS
     processes: int = USUAL_PROCESSES
+    waiting: int = NO_LIMIT
+    waiting_of_each: int = NO_LIMIT
 
     @property
     def entries(self) -> int:
@@ -62,6 +65,8 @@ OPTIONS: Dict[str, Option] = {
     "descriptors": Option("--descriptors-max", GREATEST_DESCRIPTORS),
     "descriptions": Option("--descriptions-max", GREATEST_DESCRIPTIONS),
     "processes": Option("--processes-max", GREATEST_PROCESSES),
+    "waiting": Option("--waiting-max", NO_LIMIT),
+    "waiting_of_each": Option("--waiting-of-each", NO_LIMIT),
 }
 USUAL = Limits()
 

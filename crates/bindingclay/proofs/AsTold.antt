@@ -192,7 +192,7 @@ module _ {A : Type 0} where
     begun_told new pid call (Answered u reply) k at_once = λ n r. absurd (let says : true ≡ false = sym (ap says_parked r) ∙ at_once in cc)
     begun_told new pid call (Tried u kept met may_wait) k at_once =
         let w = waiting pid call kept met in
-        first_told w call (may_wait && can_wait s) (try u w call may_wait) (try_told u w call may_wait (has_none call) (λ e. refl)) (try-keeps (among_changes new s) u w call may_wait k)
+        first_told w call (may_wait && can_wait s pid) (try u w call may_wait) (try_told u w call may_wait (has_none call) (λ e. refl)) (try-keeps (among_changes new s) u w call may_wait k)
         (try_fine u w call may_wait (has_none call) (λ e. refl))
 
     again_told : (c : ℕ) (w : Waiting A numbers) (x : Trial A numbers) → Told w.taken x → TrialFine w.call x → StepTold w.taken (tried_again c w x)

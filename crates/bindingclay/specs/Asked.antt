@@ -37,6 +37,7 @@ asked_by words = record {
     file_max = sizes words / 2 ^ 32;
     names_max = get_or words 3 no_limit;
     waiting_max = get_or words 4 no_limit;
+    waiting_of_each = get_or words 10 no_limit;
     capacity_max = sizes words % 2 ^ 32;
     descriptors_max = descriptors words;
     descriptions_max = descriptions words;
@@ -48,7 +49,7 @@ asked_by words = record {
 
 -- there are none of them, or more than are known
 abbrev pub AreMiscounted : List ℕ → Type 0
-AreMiscounted words = (length words ≡ 0) ⊎ (10 < length words)
+AreMiscounted words = (length words ≡ 0) ⊎ (11 < length words)
 
 -- a pipe or a file might have more bytes than any may
 abbrev pub AskForTooManyBytes : List ℕ → Type 0

@@ -1,13 +1,26 @@
-//! What is told of pipes, files and parked calls, and of the segments of a kernel, without a step.
+//! What is told of processes, pipes, files and parked calls, and of the segments of a kernel, without a step.
 ghost use Rattle.std.specs.Prelude.{◌≡◌, ◌≤◌, ◌/◌};
 ghost use Rattle.pl_kernel.specs.ToldSegments.{TellsUsed, TellsNone};
 ghost use Rattle.pl_kernel.specs.ToldNodes.{OfFd, OfName, facts_named, TellsShape, TellsWhich};
 ghost use Rattle.bindingclay.specs.Heap.{InBudget};
-ghost use Rattle.bindingclay.specs.Facts.{node_after, Holds, Finds, Names, Waits, Tells};
+ghost use Rattle.bindingclay.specs.Facts.{node_after, IsFound, TellsOf, Holds, Finds, Names, Waits, Tells};
 
 use crate::handle::Handle;
-use crate::layer::{SegmentUse, ToldCall, ToldNode};
+use crate::layer::{SegmentUse, ToldCall, ToldNode, ToldProcess};
 use pl_numbers::Answer;
+
+/// Tells how many descriptors and how many waiting calls a process has.
+#[unsafe(no_mangle)]
+pub extern "C" fn bindingclay_process_facts(
+    handle: Handle,
+    pid: u32,
+    process: &mut ToldProcess,
+) -> Answer
+    ensures says { IsFound handle.layer.kernel pid result }
+    ensures process { TellsOf handle.layer.kernel pid process.old process.new }
+{
+    handle.layer().process_facts(pid, process)
+}
 
 /// Tells how many bytes the pipe holds that a descriptor is open on: the value is how many (pipe(7), FIONREAD).
 #[unsafe(no_mangle)]

@@ -21,7 +21,7 @@ ghost use Rattle.bindingclay.specs.Made.{Makes, Wants, Replied};
 ghost use Rattle.bindingclay.specs.Opened.{StaysAsOpened};
 ghost use Rattle.bindingclay.specs.Recorded.{Records};
 
-pub use facts::{SegmentUse, ToldCall, ToldNode};
+pub use facts::{SegmentUse, ToldCall, ToldNode, ToldProcess};
 pub use memory::{Memory, address};
 use pl_budget::Budget;
 use pl_kernel::{Kernel, NoMemory};

@@ -9,7 +9,7 @@ use pl_model::numbers::{
 };
 
 /// The words of `bindingclay_limits`, whose sixth one holds two fields.
-const WORDS: usize = 10;
+const WORDS: usize = 11;
 
 /// One and the greatest number of 32 bits: how many times the upper half of a word counts.
 const HALF: u64 = 4_294_967_296;
@@ -72,6 +72,7 @@ pub fn asked_by(words: &[u64]) -> Option<Asked>
             file_max,
             names_max: word(words, 3, NO_LIMIT),
             waiting_max: word(words, 4, NO_LIMIT),
+            waiting_of_each: word(words, 10, NO_LIMIT),
             capacity_max,
             descriptors_max,
             descriptions_max,

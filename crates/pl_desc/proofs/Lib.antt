@@ -2,6 +2,7 @@ pub mod First
 pub mod Vacant
 pub mod TableLemmas
 pub mod Padding
+pub mod OpenCounts
 pub mod RowLemmas
 pub mod SlotLemmas
 pub mod Sound

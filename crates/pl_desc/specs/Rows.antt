@@ -64,6 +64,10 @@ open_from table least = first_from (λ fd. is_some (at table fd)) (length table 
 abbrev pub next_open : List (Option ℕ) → (least : ℕ) → Option (ℕ × ℕ)
 next_open table least = option_and_then (λ fd. option_map (λ key. (fd, key)) (at table fd)) (open_from table least)
 
+-- how many descriptors of a table are open
+abbrev pub open_in : List (Option ℕ) → ℕ
+open_in table = count_by is_some table
+
 -- the number that a list of them has at a key
 abbrev pub count_at : List ℕ → ℕ → ℕ
 count_at xs key = slice_index_or xs key 0

@@ -1,9 +1,9 @@
 -- The fields of a table, as what its descriptors name.
-use Rattle.std.specs.Prelude.{◌≤◌, ℕ, ◌-◌, List, map, length, ◌++◌, replicate, Option, Some, None, nat_eq, if◌then◌else◌}
+use Rattle.std.specs.Prelude.{◌≡◌, ◌≤◌, ℕ, ◌-◌, List, map, length, ◌++◌, replicate, Option, Some, None, nat_eq, if◌then◌else◌}
 use Rattle.pl_masks.specs.declared.masks.Masks.{Masks}
 use Rattle.pl_model.specs.Numbers.{most_descriptors}
 use Rattle.pl_desc.specs.declared.table.Table.TheInside.{Inside}
-use Rattle.pl_desc.specs.Rows.{Tabled, no_key}
+use Rattle.pl_desc.specs.Rows.{Tabled, no_key, open_in}
 use Rattle.pl_desc.specs.Vacant.{AreVacant}
 
 -- what stands in a row, as what the descriptor names
@@ -22,8 +22,9 @@ padded most names = names ++ replicate (most - length names) None
 abbrev pub view_of : {A : Type 0} → Inside A → Tabled
 view_of t = record { names = padded t.most (named_all t.keys.items); rows = length t.keys.items }
 
--- the set has the free descriptors that have a row, and there are no more of them than there may be descriptors
-pub record IsTable {A : Type 0} (keys : List ℕ) (most : ℕ) (set : Masks A) : Type 0 where
+-- the set has the free descriptors that have a row, there are no more of them than there may be descriptors, and so many are open
+pub record IsTable {A : Type 0} (keys : List ℕ) (most in_use : ℕ) (set : Masks A) : Type 0 where
   pub free : AreVacant (named_all keys) set
+  pub counted : in_use ≡ open_in (padded most (named_all keys))
   pub few : length keys ≤ most
   pub within : most ≤ most_descriptors

@@ -1,7 +1,7 @@
 //! The table of descriptors of one process.
 ghost use Rattle.std.specs.Prelude.{◌≡◌, ℕ, ◌-◌, ◌<◌, ◌≤◌, length, IfOk, IsOk, IsSome, OnOk, Some, None, replicate, slice_set, is_none};
 ghost use Rattle.pl_model.specs.Numbers.{most_descriptors, first_from};
-ghost use Rattle.pl_desc.specs.Rows.{at, row_in, next_open, no_key};
+ghost use Rattle.pl_desc.specs.Rows.{at, row_in, next_open, open_in, no_key};
 
 use crate::rows::{grow, trim};
 use pl_masks::Masks;
@@ -20,6 +20,8 @@ pub struct Table<A: Allocator> {
     free: Masks<A>,
     /// How many descriptors there may be.
     most: usize,
+    /// How many are open.
+    in_use: usize,
     /// How many were closed since the rows were last looked through for such as can be given back.
     closed: usize,
 }
@@ -33,7 +35,7 @@ impl<A: Allocator> Model for Table<A> {
 
     ghost view = { view_of };
 
-    ghost invariant = { λ t. IsTable t.keys.items t.most t.free };
+    ghost invariant = { λ t. IsTable t.keys.items t.most t.in_use t.free };
 }
 
 impl<A: Allocator + Copy> Table<A> {
@@ -46,6 +48,7 @@ impl<A: Allocator + Copy> Table<A> {
             keys: Vec::new(alloc),
             free: Masks::new(alloc),
             most,
+            in_use: 0,
             closed: 0,
         }
     }
@@ -60,6 +63,7 @@ impl<A: Allocator + Copy> Table<A> {
             keys,
             free,
             most: self.most,
+            in_use: self.in_use,
             closed: 0,
         })
     }
@@ -108,15 +112,17 @@ impl<A: Allocator> Table<A> {
         trim(&mut self.keys, &mut self.free);
     }
 
-    /// Lets a descriptor that has a row name a key.
+    /// Lets a free descriptor that has a row name a key.
     #[inline(always)]
     pub(crate) fn put(&mut self, fd: usize, key: usize)
         requires row { fd < self.old.rows }
+        requires free { at self.old.names fd ≡ None }
         requires key { key < no_key }
         ensures { self.new ≡ record self.old { names = slice_set self.old.names fd (Some key) } }
     {
         self.keys[fd] = key;
         self.free.remove(fd);
+        self.in_use += 1;
     }
 
     /// Lets an open descriptor name another key, and answers the one that it named.
@@ -139,6 +145,7 @@ impl<A: Allocator> Table<A> {
     {
         self.keys[fd] = FREE;
         self.free.insert(fd);
+        self.in_use -= 1;
     }
 
     /// The least free descriptor, from `least` on (POSIX.1-2017, File Descriptor Allocation).
@@ -149,6 +156,13 @@ impl<A: Allocator> Table<A> {
         // All without a row are free.
         let free = (self.free.next(least)).unwrap_or(least.max(self.keys.len()));
         if free < self.most { Some(free) } else { None }
+    }
+
+    /// How many descriptors are open.
+    pub fn open_count(&self) -> usize
+        ensures { result ≡ open_in self.now.names }
+    {
+        self.in_use
     }
 
     /// The least open descriptor, from `least` on, with the key that it names.

@@ -165,11 +165,12 @@ impl<A: Allocator> ProcessTables<A> {
         }
     }
 
-    /// Lets a descriptor of a process that has a row name a key.
+    /// Lets a free descriptor of a process, which has a row, name a key.
     #[inline(always)]
     pub(crate) fn put(&mut self, pid: u32, fd: usize, key: usize)
         requires process { IsTrue (is_pid self.old.tables pid) }
         requires row { fd < rows_at self.old.rows pid }
+        requires free { row_at self.old.tables pid fd ≡ None }
         requires key { key < no_key }
         ensures { self.new ≡ record self.old { tables = with_table self.old.tables pid (Some (slice_set (rows_of self.old.tables pid) fd (Some key))) } }
     {

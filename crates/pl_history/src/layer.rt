@@ -24,7 +24,7 @@ impl Layer for Brand {
 
     ghost table = { record { word = record { words = 1; slots = 0; views_name = 0; atom = 0; block = 0; offset = 0; slot_names = [] }; handed = 0 } };
 
-    ghost limits = { record { first_call = 0; file_max = 0; names_max = 0; waiting_max = 0; capacity_max = 0; descriptors_max = 0; descriptions_max = 0; processes_max = 0; spare_max = 0 } };
+    ghost limits = { record { first_call = 0; file_max = 0; names_max = 0; waiting_max = 0; waiting_of_each = 0; capacity_max = 0; descriptors_max = 0; descriptions_max = 0; processes_max = 0; spare_max = 0 } };
 
     ghost callers = { 0 };
 

@@ -227,7 +227,7 @@ module _ {A : Type 0} {K : Keys} where
   tries-bare : (s u : Core A K) (pid : ℕ) (call : Call A) (kept : List K.Description) (met may_wait : Bool) → IsOther call → AnswersBare s pid call (Tried u kept met may_wait)
   tries-bare s u pid call kept met may_wait other =
       let w = waiting pid call kept met in
-      first-sizes s w (may_wait && can_wait s) (try u w call may_wait) ∙ try-bare u w call may_wait other
+      first-sizes s w (may_wait && can_wait s pid) (try u w call may_wait) ∙ try-bare u w call may_wait other
 
   open_named-bare : (new : NewKeys K) (s : Core A K) (pid fd : ℕ) (name : List ℕ) (node : Option (Node K)) (mode : Mode) (flags : OpenFlags) → LeadsTo new (AnswersBare s pid (Call.OpenName name mode flags)) (open_named s pid fd name node mode flags)
   open_named-bare new s pid fd name None mode flags = search ways
@@ -271,7 +271,7 @@ module _ {A : Type 0} {K : Keys} where
           let none : n ≡ 0 = grind (arith, e) in
           sym (ap (λ m. only_bytes (min m (readable s (Some o)))) none ∙ ap only_bytes (zero-min (readable s (Some o))))
       tried_at o here false e =
-          first-sizes s (waiting pid (Call.Read fd n) (o.key ∷ []) false) (may_block o.description && can_wait s) _
+          first-sizes s (waiting pid (Call.Read fd n) (o.key ∷ []) false) (may_block o.description && can_wait s pid) _
           ∙ read_kept-sizes s (described s o.key) n
           ∙ ap (λ z. only_bytes (min n (readable s z))) here
 
@@ -294,7 +294,7 @@ module _ {A : Type 0} {K : Keys} where
           ∙ ap only_masks (masks-each s entries (named_by s pid entries))
       ready false true w few e =
           ap (λ z. sizes_of (drawn {X = Stepped A K} new z).reply) (poll-waits s pid entries wait process few e w)
-          ∙ first-sizes s (waiting pid (Call.Poll entries wait) (kept_now s pid entries) false) (can_wait s) (Wait s still 0)
+          ∙ first-sizes s (waiting pid (Call.Poll entries wait) (kept_now s pid entries) false) (can_wait s pid) (Wait s still 0)
 
       over : (b : Bool) → nat_lt (entry_limit s.limits) (length entries) ≡ b →
           sizes_of (drawn new (core_step s (Begin pid (Call.Poll entries wait)))).reply ≡ only_masks (cond b 0 (masks_if_ready (masks s entries (named_by s pid entries)) wait (length entries)))

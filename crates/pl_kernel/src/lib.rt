@@ -15,6 +15,7 @@ mod stats;
 mod steps;
 mod told_calls;
 mod told_nodes;
+mod told_processes;
 mod touch;
 
 pub use kernel::{Kernel, Resumed};
@@ -24,3 +25,4 @@ pub use pl_transfers::{Written, reply_of_write};
 pub use stats::Stats;
 pub use told_calls::{CallFacts, CallKind};
 pub use told_nodes::{NodeFacts, NodeKind};
+pub use told_processes::ProcessFacts;

@@ -138,16 +138,16 @@ module _ {A : Type 0} {K : Keys} where
 
   -- The call waits, with the description that it opens, which counts as an end (our own). It meets the opens that wait for that end;
   -- where no number is left for it, or too many calls wait, it meets none.
-  abbrev pub await_other_end : Core A K → K.Pipe → Mode → OpenFlags → Begins A K
-  await_other_end s p mode flags =
-      if s.next_call == last_call || not (can_wait s) then tried s [] false true
+  abbrev pub await_other_end : Core A K → ℕ → K.Pipe → Mode → OpenFlags → Begins A K
+  await_other_end s pid p mode flags =
+      if s.next_call == last_call || not (can_wait s pid) then tried s [] false true
       else Draws (λ new. Tried (describe (meet s p mode) new.description (PipeNode p) mode (status_flags flags)) (new.description ∷ []) false true)
 
   -- POSIX.1-2017, open: a FIFO without the other end that this open needs is waited for, or ENXIO with O_NONBLOCK.
   abbrev pub open_fifo : Core A K → ℕ → ℕ → K.Pipe → Mode → OpenFlags → Begins A K
   open_fifo s pid fd p mode flags =
       if can_open s p mode flags then Draws (λ new. open_at (meet s p mode) new.description pid fd (PipeNode p) mode flags)
-      else refuse_if (has flags.0 nonblock) ENXIO (await_other_end s p mode flags)
+      else refuse_if (has flags.0 nonblock) ENXIO (await_other_end s pid p mode flags)
 
   -- What a name stands for is opened, or made where it stands for nothing (POSIX.1-2017, open, ENOSPC).
   abbrev pub open_named : Core A K → ℕ → ℕ → List ℕ → Option (Node K) → Mode → OpenFlags → Begins A K

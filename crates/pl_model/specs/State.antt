@@ -1,5 +1,5 @@
 -- What the machine holds.
-use Rattle.std.specs.Prelude.{ℕ, ℤ, pos, negsuc, Bool, false, List, [], length, nat_eq, nat_lt, ◌&&◌, Option, option_map, if◌then◌else◌}
+use Rattle.std.specs.Prelude.{count_by, ℕ, ℤ, pos, negsuc, Bool, false, List, [], length, nat_eq, nat_lt, ◌&&◌, Option, option_map, if◌then◌else◌}
 use Rattle.std.specs.Cmp.Lexicographic.{pointwise}
 use Rattle.std.specs.declared.option.Option.TheVariants.{None, Some}
 use Rattle.pl_model.specs.declared.calls.Mode.{Mode}
@@ -97,9 +97,13 @@ module _ {A : Type 0} {K : Keys} where
   abbrev pub can_name : Core A K → Bool
   can_name s = nat_lt (length s.names) s.limits.names_max
 
-  -- Our own: fewer calls wait than the limit.
-  abbrev pub can_wait : Core A K → Bool
-  can_wait s = nat_lt (length s.parked) s.limits.waiting_max
+  -- how many calls of a process wait
+  abbrev pub waiting_calls_of : Core A K → ℕ → ℕ
+  waiting_calls_of s pid = count_by (λ e. nat_eq e.1.pid pid) s.parked
+
+  -- Our own: fewer calls of the process wait than the limit of each, and fewer of all processes than the limit.
+  abbrev pub can_wait : Core A K → ℕ → Bool
+  can_wait s pid = nat_lt (waiting_calls_of s pid) s.limits.waiting_of_each && nat_lt (length s.parked) s.limits.waiting_max
 
   abbrev pub bytes_on : Core A K → Option (Node K) → Option (List ℕ)
   bytes_on s None = None

@@ -105,7 +105,7 @@ module _ {A : Type 0} {K : Keys} where
   begun before pid call (Refused errno) = stepped before (Fault errno)
   begun before pid call (Answered s reply) = stepped s reply
   begun before pid call (Tried s kept met may_wait) =
-      first_tried before (waiting pid call kept met) (may_wait && can_wait before) (try s (waiting pid call kept met) call may_wait)
+      first_tried before (waiting pid call kept met) (may_wait && can_wait before pid) (try s (waiting pid call kept met) call may_wait)
 
   abbrev pub without_call : Core A K → ℕ → Core A K
   without_call s c = record s { parked = without nat_eq s.parked c }

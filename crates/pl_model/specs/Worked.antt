@@ -66,6 +66,7 @@ usual first_call file_max = record {
   file_max = file_max;
   names_max = no_limit;
   waiting_max = no_limit;
+  waiting_of_each = no_limit;
   capacity_max = most_capacity;
   descriptors_max = open_max;
   descriptions_max = usual_descriptions;

@@ -1,9 +1,10 @@
 -- What the definitions answer in small examples at the limits that are chosen when a kernel is made.
 use Rattle.std.specs.Prelude.{◌≡◌, ℕ, pos, [], ◌∷◌, List, false, replicate, codes, None}
 use Rattle.pl_model.specs.declared.calls.Limits.{Limits}
+use Rattle.pl_model.specs.declared.calls.Call.{Call}
 use Rattle.pl_model.specs.declared.calls.Mode.{Mode}
 use Rattle.pl_model.specs.declared.calls.Step.{Step}
-use Rattle.pl_model.specs.declared.calls.Step.TheVariants.{Start, Resume, Interrupt}
+use Rattle.pl_model.specs.declared.calls.Step.TheVariants.{Start, Begin, Resume, Interrupt}
 use Rattle.pl_model.specs.declared.replies.Reply.{Reply}
 use Rattle.pl_model.specs.declared.replies.Reply.TheVariants.{Pid, Fd, Fds, Count, Bytes, Size, Unit, Fault, Parked}
 use Rattle.pl_model.specs.declared.replies.Errno.TheVariants.{EAGAIN, EBADF, EEXIST, EINTR, EINVAL, EMFILE, ENFILE, ENOENT, ENOSPC, ENXIO, EPERM}
@@ -46,6 +47,17 @@ WaitingCallsUpToTheLimit A =
     (Fds (pos 0) (pos 1) ∷ Fds (pos 2) (pos 3) ∷ Unit ∷ Parked 1 ∷ Fault EAGAIN ∷ Fault EAGAIN ∷ Fault EAGAIN
     ∷ Fault EAGAIN ∷ masks 0 (0 ∷ []) ∷ Fault EAGAIN ∷ Fault ENXIO
     ∷ Fault EAGAIN ∷ Count 1 false ∷ Bytes (codes "b") ∷ Parked 2 ∷ Fault EINTR ∷ [])
+
+-- a process of which one call waits, and no second one may, is refused each call that would wait; another process isn't
+abbrev pub WaitingCallsOfEachUpToTheLimit : Type 0 → Type 0
+WaitingCallsOfEachUpToTheLimit A =
+    (file_max : ℕ) →
+    AnswersUnder A
+    (record (usual 1 file_max) { waiting_of_each = 1 })
+    (pipe ∷ mkfifo (codes "q") ∷ fork ∷ read 0 1 ∷ read 0 1 ∷ poll_wait ((pos 0, poll_in) ∷ []) ∷ open_name (codes "q") Mode.Read 0
+    ∷ Begin 2 (Call.Read (pos 0) 1) ∷ Begin 2 (Call.Read (pos 0) 1) ∷ Interrupt 1 ∷ read 0 1 ∷ [])
+    (Fds (pos 0) (pos 1) ∷ Unit ∷ Pid 2 ∷ Parked 1 ∷ Fault EAGAIN ∷ Fault EAGAIN ∷ Fault EAGAIN
+    ∷ Parked 2 ∷ Fault EAGAIN ∷ Fault EINTR ∷ Parked 3 ∷ [])
 
 -- that too many calls wait comes before that no number is left
 abbrev pub NoCallMayWait : Type 0 → Type 0

@@ -68,6 +68,9 @@ pub struct Limits {
     pub names_max: u64,
     /// The most calls that wait at one time. A call that would wait above it is refused, with nothing taken (EAGAIN).
     pub waiting_max: u64,
+    /// The most calls of one process that wait at one time. A call that would wait above it is refused, as above `waiting_max`. So no process
+    /// can use up the waiting calls of the others.
+    pub waiting_of_each: u64,
     /// The most bytes that a pipe can be made to hold, at most 1,048,576 (fcntl(2), F_SETPIPE_SZ, EPERM). A new pipe can hold
     /// 65,536, whatever this is.
     pub capacity_max: u32,
@@ -94,6 +97,7 @@ impl Limits {
         file_max: MAX_FILE_BYTES,
         names_max: NO_LIMIT,
         waiting_max: NO_LIMIT,
+        waiting_of_each: NO_LIMIT,
         capacity_max: MAX_CAPACITY,
         descriptors_max: OPEN_MAX as u32,
         descriptions_max: USUAL_DESCRIPTIONS as u32,

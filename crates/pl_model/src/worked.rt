@@ -3,7 +3,7 @@ ghost use Rattle.pl_model.specs.Worked.{BytesBeforeEndOfFile, PartialAndWholeNot
 ghost use Rattle.pl_model.specs.WorkedFiles.{EndOfAFile, BadNames, RefusalsOfAnOpen, FlagsOfAnOpen, AppendingAndSeeking, UnlinkedFileLivesOn, NamesKeepTheirFiles, PipesHaveNoOffset, ScriptOfFiles, NamesInWords};
 ghost use Rattle.pl_model.specs.WorkedCapacity.{SizesAreRoundedUp, OnlyPipesHaveACapacity, CapacityIsRoom, WaitingWriteGetsRoom, ScriptOfCapacities, LinesOfCapacities};
 ghost use Rattle.pl_model.specs.WorkedFifo.{UnusedFifoForgets, OpensWithoutTheOtherEnd, ReadersWaitForAWriter, InterruptedOpen, MetThoughClosed, LastOpenThatWaits, LinesOfFifos};
-ghost use Rattle.pl_model.specs.WorkedLimits.{NamesUpToTheLimit, WaitingCallsUpToTheLimit, NoCallMayWait, CapacitiesUpToTheLimit, DescriptorsUpToTheLimit, DescriptorsAtTheEnds, DescriptionsUpToTheLimit, ProcessesUpToTheLimit, EntriesUpToTheLimit};
+ghost use Rattle.pl_model.specs.WorkedLimits.{NamesUpToTheLimit, WaitingCallsUpToTheLimit, WaitingCallsOfEachUpToTheLimit, NoCallMayWait, CapacitiesUpToTheLimit, DescriptorsUpToTheLimit, DescriptorsAtTheEnds, DescriptionsUpToTheLimit, ProcessesUpToTheLimit, EntriesUpToTheLimit};
 ghost use Rattle.pl_model.specs.WorkedPacketPipes.{SmallWritesStayApart, LongWriteIsCut, ReadDropsTheRest};
 ghost use Rattle.pl_model.specs.WorkedPackets.{PacketsAreReadOneByOne, PacketPipeAtItsLimits, NoPacketIsEmpty, EndsOfAPacketPipe, InterruptedWriteOfPackets, OnlyPipeMakesPackets, PacketPipesAreNotSpliced, StatusFlagsInWords, LinesWithoutPackets};
 ghost use Rattle.pl_model.specs.WorkedPoll.{PollsOfAPipe, EndsThatLeave, HangingUpAFifo, FilesAndBothEnds, PollsThatDontWait, PollsKeepTheirEnds, PollWithoutANumber, ScriptOfPolls, LinesOfPolls};
@@ -136,6 +136,7 @@ pub fn packets<A: Allocator>()
 pub fn limits<A: Allocator>()
     ensures names_up_to_the_limit { NamesUpToTheLimit A }
     ensures waiting_calls_up_to_the_limit { WaitingCallsUpToTheLimit A }
+    ensures waiting_calls_of_each_up_to_the_limit { WaitingCallsOfEachUpToTheLimit A }
     ensures no_call_may_wait { NoCallMayWait A }
     ensures capacities_up_to_the_limit { CapacitiesUpToTheLimit A }
     ensures descriptors_up_to_the_limit { DescriptorsUpToTheLimit A }

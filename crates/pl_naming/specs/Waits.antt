@@ -31,5 +31,5 @@ module _ {A : Type 0} where
 
   -- the open of the name passes the checks, and is to wait for the other end of the FIFO
   pub record Waits (k : Contents A) (pid : ℕ) (name : List ℕ) (pipe : ℕ) (mode : Mode) (flags : OpenFlags) : Type 0 where
-    pub begun : begin (core_of k) pid (Call.OpenName name mode flags) ≡ await_other_end (core_of k) pipe mode flags
+    pub begun : begin (core_of k) pid (Call.OpenName name mode flags) ≡ await_other_end (core_of k) pid pipe mode flags
     pub few : live_count k.opened < description_limit k.limits

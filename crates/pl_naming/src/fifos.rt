@@ -146,7 +146,7 @@ fn await_other_end<A: Allocator + Copy>(
     ensures undone { OnErr result (kernel.new ≡ kernel.old) }
     ensures wanted { OnErr result (MayWantAtKeys {A = A} kernel.old (Step.Begin pid (Call.OpenName name end.mode end.flags))) }
 {
-    if !kernel.can_wait() {
+    if !kernel.can_wait(pid) {
         return Ok(Reply::Fault(Errno::EAGAIN));
     }
     if kernel.parked.spent() {

@@ -1,3 +1,4 @@
+pub mod Counting
 pub mod Finding
 pub mod Keeping
 pub mod Listed

@@ -54,7 +54,7 @@ impl<A: Allocator + Copy> Owners<A> {
 
 impl<A: Allocator> Owners<A> {
     ghost use Rattle.std.specs.Prelude.{◌≡◌, ℕ, ◌&&◌, ◌≤◌, not, true, false, nat_eq, IfSome, IfNone};
-    ghost use Rattle.pl_parked.specs.Owners.{owns};
+    ghost use Rattle.pl_parked.specs.Owners.{owns, owned_count};
 
     /// Removes a call of a process. It takes no memory.
     pub(crate) fn remove(&mut self, pid: usize, number: u64)
@@ -63,6 +63,16 @@ impl<A: Allocator> Owners<A> {
         if pid < self.rows.len() {
             let _taken = self.rows[pid].take(number);
         }
+    }
+
+    /// How many calls of a process there are.
+    pub(crate) fn count(&self, pid: usize) -> usize
+        ensures { result ≡ owned_count self.now pid }
+    {
+        if pid >= self.rows.len() {
+            return 0;
+        }
+        self.rows[pid].len()
     }
 
     /// The least number, `from` or above, of the calls of a process.

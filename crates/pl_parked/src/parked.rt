@@ -1,5 +1,5 @@
 //! The calls that wait, by number.
-ghost use Rattle.std.specs.Prelude.{ℕ, ◌≡◌, ◌+◌, ◌≤◌, ◌++◌, ◌==◌, [], ◌∷◌, ◌↔◌, IfOk, OnOk, OnErr, IfSome, IfNone, IsSome, IsSomeAnd, Some, None, true, false, nat_eq, length, slice_get, option_map};
+ghost use Rattle.std.specs.Prelude.{ℕ, ◌≡◌, ◌+◌, ◌≤◌, ◌++◌, ◌==◌, [], ◌∷◌, ◌↔◌, IfOk, OnOk, OnErr, IfSome, IfNone, IsSome, IsSomeAnd, Some, None, true, false, nat_eq, length, count_by, slice_get, option_map};
 ghost use Rattle.std.specs.Option.{option_copied};
 ghost use Rattle.std.specs.List.{find};
 ghost use Rattle.pl_model.specs.Numbers.{last_call};
@@ -116,6 +116,13 @@ impl<A: Allocator> Parked<A> {
         ensures { result ≡ length self.now.calls }
     {
         self.calls.len()
+    }
+
+    /// How many calls of a process wait.
+    pub fn count_of(&self, pid: u32) -> usize
+        ensures { result ≡ count_by (λ e. nat_eq e.1.pid pid) self.now.calls }
+    {
+        self.owners.count(pid as usize)
     }
 
     /// The number that the next call gets, if one is left. It is above those of all calls that wait.

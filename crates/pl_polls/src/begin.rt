@@ -94,7 +94,7 @@ pub fn poll<A: Allocator + Copy>(
     if !wait || is_ready(kernel, named, asked) {
         return masks_reply(kernel, named, asked);
     }
-    if !kernel.can_wait() {
+    if !kernel.can_wait(pid) {
         return Ok(Reply::Fault(Errno::EAGAIN));
     }
     if kernel.parked.spent() {

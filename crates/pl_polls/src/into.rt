@@ -91,7 +91,7 @@ pub fn poll_into<A: Allocator + Copy>(
         let ready = note_masks(kernel, named, entries);
         return Ok(Answered::Done(ready));
     }
-    if !kernel.can_wait() {
+    if !kernel.can_wait(pid) {
         return Ok(Answered::Fault(Errno::EAGAIN));
     }
     if kernel.parked.spent() {

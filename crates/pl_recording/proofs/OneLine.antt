@@ -16,7 +16,7 @@ use Rattle.pl_model.specs.declared.replies.Reply.TheVariants.{Pid, Fd, Fds, Coun
 use Rattle.pl_model.specs.declared.script.Version.TheVariants.{Two}
 use Rattle.pl_model.specs.Flags.{has, status_names, mask_names}
 use Rattle.pl_model.specs.Shown.{lower_digits, hex_text, Piece, Digits, Times, runs, run_pieces, piece_text, pieces_text, bytes_text, errno_text, mode_text, names_text, names_within, flags_text, mask_text, reply_text}
-use Rattle.pl_model.specs.Numbers.{usual_descriptions, usual_processes}
+use Rattle.pl_model.specs.Numbers.{usual_descriptions, usual_processes, no_limit}
 use Rattle.pl_recording.specs.Record.{told_unless, limits_text}
 
 -- no line feed
@@ -212,6 +212,8 @@ limits_line limits =
     (behind (codes " --waiting-max ") limits.waiting_max _ (literal (codes " --waiting-max ") refl)
     (behind (codes " --capacity-max ") limits.capacity_max _ (literal (codes " --capacity-max ") refl)
     (behind (codes " --descriptors-max ") limits.descriptors_max _ (literal (codes " --descriptors-max ") refl)
-    (both (told_unless usual_descriptions limits.descriptions_max (codes " --descriptions-max ")) (told_unless usual_processes limits.processes_max (codes " --processes-max "))
+    (both (told_unless usual_descriptions limits.descriptions_max (codes " --descriptions-max ")) _
     (unless_line usual_descriptions limits.descriptions_max (codes " --descriptions-max ") (literal (codes " --descriptions-max ") refl))
-    (unless_line usual_processes limits.processes_max (codes " --processes-max ") (literal (codes " --processes-max ") refl))))))))
+    (both (told_unless usual_processes limits.processes_max (codes " --processes-max ")) (told_unless no_limit limits.waiting_of_each (codes " --waiting-of-each "))
+    (unless_line usual_processes limits.processes_max (codes " --processes-max ") (literal (codes " --processes-max ") refl))
+    (unless_line no_limit limits.waiting_of_each (codes " --waiting-of-each ") (literal (codes " --waiting-of-each ") refl)))))))))

@@ -8,7 +8,7 @@ use Rattle.pl_model.specs.declared.history.Entry.{Entry}
 use Rattle.pl_model.specs.declared.replies.Reply.{Reply}
 use Rattle.pl_model.specs.declared.script.Version.TheVariants.{Two}
 use Rattle.pl_model.specs.Shown.{reply_text}
-use Rattle.pl_model.specs.Numbers.{usual_descriptions, usual_processes}
+use Rattle.pl_model.specs.Numbers.{usual_descriptions, usual_processes, no_limit}
 use Rattle.pl_model.specs.Said.{said_step}
 
 -- a line and its line feed
@@ -19,6 +19,13 @@ ended text = text ++ 10 ∷ []
 abbrev pub told_unless : (usual n : ℕ) → (name : List ℕ) → List ℕ
 told_unless usual n name = if n == usual then [] else name ++ decimal n
 
+-- the limits on descriptions, on processes and on the waiting calls of each, of which a record tells those that aren't the usual ones
+abbrev pub unusual_text : Limits → List ℕ
+unusual_text limits =
+    told_unless usual_descriptions limits.descriptions_max (codes " --descriptions-max ")
+    ++ (told_unless usual_processes limits.processes_max (codes " --processes-max ")
+    ++ told_unless no_limit limits.waiting_of_each (codes " --waiting-of-each "))
+
 -- the comment that tells the limits within which the steps were made, as options of the program
 abbrev pub limits_text : Limits → List ℕ
 limits_text limits =
@@ -28,8 +35,7 @@ limits_text limits =
     ++ (codes " --waiting-max " ++ (decimal limits.waiting_max
     ++ (codes " --capacity-max " ++ (decimal limits.capacity_max
     ++ (codes " --descriptors-max " ++ (decimal limits.descriptors_max
-    ++ (told_unless usual_descriptions limits.descriptions_max (codes " --descriptions-max ")
-    ++ told_unless usual_processes limits.processes_max (codes " --processes-max ")))))))))))))
+    ++ unusual_text limits)))))))))))
 
 -- the lines in front of all steps
 abbrev pub header : Limits → List ℕ

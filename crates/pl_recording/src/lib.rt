@@ -8,11 +8,11 @@
 ghost use Rattle.std.specs.Prelude.{◌≡◌, ◌++◌, OnOk, OnErr, string_bytes};
 ghost use Rattle.std.specs.List.{flat_map};
 ghost use Rattle.pl_lines.specs.Pushed.{Pushes};
-ghost use Rattle.pl_recording.specs.Record.{ended, told_unless, limits_text, header, comment_text, entry_text, made_in, recorded};
+ghost use Rattle.pl_recording.specs.Record.{ended, told_unless, unusual_text, limits_text, header, comment_text, entry_text, made_in, recorded};
 ghost use Rattle.pl_recording.specs.Replay.{RecordsReplay, JournalsReplay};
 
 use pl_lines::{keep_if_pushed, push_number, push_reply_2, push_step};
-use pl_model::numbers::{USUAL_DESCRIPTIONS, USUAL_PROCESSES};
+use pl_model::numbers::{NO_LIMIT, USUAL_DESCRIPTIONS, USUAL_PROCESSES};
 use pl_model::{Entry, Limits, Reply, Step};
 use std::alloc::{AllocError, Allocator};
 
@@ -30,18 +30,42 @@ pub fn journals<A: Allocator>()
 fn push_unless<A: Allocator + Copy>(
     text: &mut String<A>,
     name: &str,
-    usual: usize,
-    limit: u32,
+    usual: u64,
+    limit: u64,
 ) -> Result<(), AllocError>
     ensures { Pushes result (string_bytes text.old) (string_bytes text.new) (told_unless usual limit name.now) }
 {
-    if limit as usize == usual {
+    if limit == usual {
         return Ok(());
     }
     push_number(text, name, limit)
 }
 
-/// Adds the comment that tells the limits, of descriptions and of processes where it isn't the usual one.
+/// Adds the limits on descriptions, on processes and on the waiting calls of each, of which it tells those that aren't the usual ones.
+fn push_unusual<A: Allocator + Copy>(text: &mut String<A>, limits: Limits) -> Result<(), AllocError>
+    ensures { Pushes result (string_bytes text.old) (string_bytes text.new) (unusual_text limits) }
+{
+    push_unless(
+        text,
+        " --descriptions-max ",
+        USUAL_DESCRIPTIONS as u64,
+        limits.descriptions_max as u64,
+    )?;
+    push_unless(
+        text,
+        " --processes-max ",
+        USUAL_PROCESSES as u64,
+        limits.processes_max as u64,
+    )?;
+    push_unless(
+        text,
+        " --waiting-of-each ",
+        NO_LIMIT,
+        limits.waiting_of_each,
+    )
+}
+
+/// Adds the comment that tells the limits.
 fn push_limits<A: Allocator + Copy>(text: &mut String<A>, limits: Limits) -> Result<(), AllocError>
     ensures { Pushes result (string_bytes text.old) (string_bytes text.new) (limits_text limits) }
 {
@@ -51,18 +75,7 @@ fn push_limits<A: Allocator + Copy>(text: &mut String<A>, limits: Limits) -> Res
     push_number(text, " --waiting-max ", limits.waiting_max)?;
     push_number(text, " --capacity-max ", limits.capacity_max)?;
     push_number(text, " --descriptors-max ", limits.descriptors_max)?;
-    push_unless(
-        text,
-        " --descriptions-max ",
-        USUAL_DESCRIPTIONS,
-        limits.descriptions_max,
-    )?;
-    push_unless(
-        text,
-        " --processes-max ",
-        USUAL_PROCESSES,
-        limits.processes_max,
-    )
+    push_unusual(text, limits)
 }
 
 /// Adds the lines in front of a record, or a front of them where there is no memory for them.

@@ -74,6 +74,7 @@ told_alike value one first other same alike =
       same (codes "file-max"),
       same (codes "names-max"),
       same (codes "waiting-max"),
+      same (codes "waiting-of-each"),
       same (codes "capacity-max"),
       same (codes "descriptors-max"),
       same (codes "descriptions-max"),
@@ -149,11 +150,12 @@ no_limits_given told limits (inl bad) are = no_limit_given _ _ told.first_call l
 no_limits_given told limits (inr (inl bad)) are = no_limit_given _ _ told.file_max limits.file_max bad are.1
 no_limits_given told limits (inr (inr (inl bad))) are = no_limit_given _ _ told.names_max limits.names_max bad are.2
 no_limits_given told limits (inr (inr (inr (inl bad)))) are = no_limit_given _ _ told.waiting_max limits.waiting_max bad are.3
-no_limits_given told limits (inr (inr (inr (inr (inl bad))))) are = no_limit_given _ _ told.capacity_max limits.capacity_max bad are.4
-no_limits_given told limits (inr (inr (inr (inr (inr (inl (inl bad))))))) are = no_limit_given _ _ told.descriptors_max limits.descriptors_max bad are.5.0
-no_limits_given told limits (inr (inr (inr (inr (inr (inl (inr (inl bad)))))))) are = no_limit_given _ _ told.descriptions_max limits.descriptions_max bad are.5.1
-no_limits_given told limits (inr (inr (inr (inr (inr (inl (inr (inr bad)))))))) are = no_limit_given _ _ told.processes_max limits.processes_max bad are.5.2
-no_limits_given told limits (inr (inr (inr (inr (inr (inr bad)))))) are = no_limit_given _ _ told.spare_max limits.spare_max bad are.6
+no_limits_given told limits (inr (inr (inr (inr (inl bad))))) are = no_limit_given _ _ told.waiting_of_each limits.waiting_of_each bad are.4
+no_limits_given told limits (inr (inr (inr (inr (inr (inl bad)))))) are = no_limit_given _ _ told.capacity_max limits.capacity_max bad are.5
+no_limits_given told limits (inr (inr (inr (inr (inr (inr (inl (inl bad)))))))) are = no_limit_given _ _ told.descriptors_max limits.descriptors_max bad are.6.0
+no_limits_given told limits (inr (inr (inr (inr (inr (inr (inl (inr (inl bad))))))))) are = no_limit_given _ _ told.descriptions_max limits.descriptions_max bad are.6.1
+no_limits_given told limits (inr (inr (inr (inr (inr (inr (inl (inr (inr bad))))))))) are = no_limit_given _ _ told.processes_max limits.processes_max bad are.6.2
+no_limits_given told limits (inr (inr (inr (inr (inr (inr (inr bad))))))) are = no_limit_given _ _ told.spare_max limits.spare_max bad are.7
 
 no_memory_given : (value : Option Text) (bytes : Option ℕ) → IsNoNumber value → IsMemory value bytes → ⊥
 no_memory_given None bytes bad most = bad
@@ -213,14 +215,15 @@ same_limit : (most none : ℕ) (told : Option Text) (n m : ℕ) → IsLimit most
 same_limit most none None n m a b = a ∙ sym b
 same_limit most none (Some text) n m a b = a.2 ∙ sym b.2
 
-same_fields : (a b : Limits) → a.first_call ≡ b.first_call → a.file_max ≡ b.file_max → a.names_max ≡ b.names_max → a.waiting_max ≡ b.waiting_max → a.capacity_max ≡ b.capacity_max
-    → a.descriptors_max ≡ b.descriptors_max → a.descriptions_max ≡ b.descriptions_max → a.processes_max ≡ b.processes_max → a.spare_max ≡ b.spare_max → a ≡ b
-same_fields a b first files names waiting capacity descriptors descriptions processes spare =
+same_fields : (a b : Limits) → a.first_call ≡ b.first_call → a.file_max ≡ b.file_max → a.names_max ≡ b.names_max → a.waiting_max ≡ b.waiting_max → a.waiting_of_each ≡ b.waiting_of_each
+    → a.capacity_max ≡ b.capacity_max → a.descriptors_max ≡ b.descriptors_max → a.descriptions_max ≡ b.descriptions_max → a.processes_max ≡ b.processes_max → a.spare_max ≡ b.spare_max → a ≡ b
+same_fields a b first files names waiting each capacity descriptors descriptions processes spare =
     ap (λ x. record a { first_call = x }) first
     ∙ ap (λ x. record a { first_call = b.first_call; file_max = x }) files
     ∙ ap (λ x. record a { first_call = b.first_call; file_max = b.file_max; names_max = x }) names
     ∙ ap (λ x. record a { first_call = b.first_call; file_max = b.file_max; names_max = b.names_max; waiting_max = x }) waiting
-    ∙ ap (λ x. record a { first_call = b.first_call; file_max = b.file_max; names_max = b.names_max; waiting_max = b.waiting_max; capacity_max = x }) capacity
+    ∙ ap (λ x. record a { first_call = b.first_call; file_max = b.file_max; names_max = b.names_max; waiting_max = b.waiting_max; waiting_of_each = x }) each
+    ∙ ap (λ x. record b { capacity_max = x; descriptors_max = a.descriptors_max; descriptions_max = a.descriptions_max; processes_max = a.processes_max; spare_max = a.spare_max }) capacity
     ∙ ap (λ x. record b { descriptors_max = x; descriptions_max = a.descriptions_max; processes_max = a.processes_max; spare_max = a.spare_max }) descriptors
     ∙ ap (λ x. record b { descriptions_max = x; processes_max = a.processes_max; spare_max = a.spare_max }) descriptions
     ∙ ap (λ x. record b { processes_max = x; spare_max = a.spare_max }) processes
@@ -229,8 +232,9 @@ same_fields a b first files names waiting capacity descriptors descriptions proc
 same_limits : (told : Told) (a b : Limits) → AreLimits told a → AreLimits told b → a ≡ b
 same_limits told a b are be =
     same_fields a b (same_limit _ _ told.first_call _ _ are.0 be.0) (same_limit _ _ told.file_max _ _ are.1 be.1) (same_limit _ _ told.names_max _ _ are.2 be.2)
-    (same_limit _ _ told.waiting_max _ _ are.3 be.3) (same_limit _ _ told.capacity_max _ _ are.4 be.4) (same_limit _ _ told.descriptors_max _ _ are.5.0 be.5.0)
-    (same_limit _ _ told.descriptions_max _ _ are.5.1 be.5.1) (same_limit _ _ told.processes_max _ _ are.5.2 be.5.2) (same_limit _ _ told.spare_max _ _ are.6 be.6)
+    (same_limit _ _ told.waiting_max _ _ are.3 be.3) (same_limit _ _ told.waiting_of_each _ _ are.4 be.4) (same_limit _ _ told.capacity_max _ _ are.5 be.5)
+    (same_limit _ _ told.descriptors_max _ _ are.6.0 be.6.0) (same_limit _ _ told.descriptions_max _ _ are.6.1 be.6.1) (same_limit _ _ told.processes_max _ _ are.6.2 be.6.2)
+    (same_limit _ _ told.spare_max _ _ are.7 be.7)
 
 pub run_asked : (words : List Text) (explain shown : Bool) (limits given : Limits) (bytes most : Option ℕ) (file : Option (String Global)) → AskForInput words explain limits bytes
     → Chooses words (Ok (Run shown given most file)) → (shown ≡ explain) × (given ≡ limits) × (option_map string_bytes file ≡ None)

@@ -30,11 +30,11 @@ abbrev pub with_table_limits : App → App
 with_table_limits app =
     with_rule (with_rule (with_rule app (valued_rule (codes "descriptors-max"))) (valued_rule (codes "descriptions-max"))) (valued_rule (codes "processes-max"))
 
--- `--file-max N`, `--names-max N`, `--waiting-max N` and `--capacity-max N`, these, and `--spare-max BYTES`
+-- `--file-max N`, `--names-max N`, `--waiting-max N`, `--waiting-of-each N` and `--capacity-max N`, these, and `--spare-max BYTES`
 abbrev pub with_limits : App → App
 with_limits app =
-    with_rule (with_table_limits (with_rule (with_rule (with_rule (with_rule app (valued_rule (codes "file-max"))) (valued_rule (codes "names-max"))) (valued_rule (codes "waiting-max")))
-    (valued_rule (codes "capacity-max")))) (valued_rule (codes "spare-max"))
+    with_rule (with_table_limits (with_rule (with_rule (with_rule (with_rule (with_rule app (valued_rule (codes "file-max"))) (valued_rule (codes "names-max"))) (valued_rule (codes "waiting-max")))
+    (valued_rule (codes "waiting-of-each"))) (valued_rule (codes "capacity-max")))) (valued_rule (codes "spare-max"))
 
 -- `--check` and `--all`
 abbrev pub with_flags : App → App
@@ -63,6 +63,7 @@ pub record Told : Type 0 where
   pub file_max : Option Text
   pub names_max : Option Text
   pub waiting_max : Option Text
+  pub waiting_of_each : Option Text
   pub capacity_max : Option Text
   pub descriptors_max : Option Text
   pub descriptions_max : Option Text
@@ -83,6 +84,7 @@ told_of value first = record {
   file_max = value (codes "file-max");
   names_max = value (codes "names-max");
   waiting_max = value (codes "waiting-max");
+  waiting_of_each = value (codes "waiting-of-each");
   capacity_max = value (codes "capacity-max");
   descriptors_max = value (codes "descriptors-max");
   descriptions_max = value (codes "descriptions-max");
@@ -129,13 +131,15 @@ AreNoTableLimits told = IsNoLimit most_descriptors told.descriptors_max ⊎ (IsN
 abbrev pub AreLimits : Told → Limits → Type 0
 AreLimits told limits = IsLimit no_limit 1 told.first_call limits.first_call × IsLimit most_file_bytes most_file_bytes told.file_max limits.file_max
     × IsLimit no_limit no_limit told.names_max limits.names_max × IsLimit no_limit no_limit told.waiting_max limits.waiting_max
+    × IsLimit no_limit no_limit told.waiting_of_each limits.waiting_of_each
     × IsLimit most_capacity most_capacity told.capacity_max limits.capacity_max × AreTableLimits told limits
     × IsLimit no_limit (usual_spare (most_held told.memory)) told.spare_max limits.spare_max
 
 -- one of the options gives none
 abbrev pub AreNoLimits : Told → Type 0
 AreNoLimits told = IsNoLimit no_limit told.first_call ⊎ (IsNoLimit most_file_bytes told.file_max ⊎ (IsNoLimit no_limit told.names_max
-    ⊎ (IsNoLimit no_limit told.waiting_max ⊎ (IsNoLimit most_capacity told.capacity_max ⊎ (AreNoTableLimits told ⊎ IsNoLimit no_limit told.spare_max)))))
+    ⊎ (IsNoLimit no_limit told.waiting_max ⊎ (IsNoLimit no_limit told.waiting_of_each ⊎ (IsNoLimit most_capacity told.capacity_max
+    ⊎ (AreNoTableLimits told ⊎ IsNoLimit no_limit told.spare_max))))))
 
 -- the limit that a value of `--memory` gives, and none where there is no value
 abbrev pub IsMemory : Option Text → Option ℕ → Type 0

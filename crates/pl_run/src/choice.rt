@@ -131,7 +131,7 @@ fn with_table_limits<'a>(alloc: Global, command: Command<'a>) -> Result<Command<
     with_option(alloc, command, "processes-max")
 }
 
-/// The command with the options `--file-max N`, `--names-max N`, `--waiting-max N` and `--capacity-max N`, these, and
+/// The command with the options `--file-max N`, `--names-max N`, `--waiting-max N`, `--waiting-of-each N` and `--capacity-max N`, these, and
 /// `--spare-max BYTES`.
 fn with_limits<'a>(alloc: Global, command: Command<'a>) -> Result<Command<'a>, AllocError>
     ensures { IfOk result (λ made. app_of made ≡ with_limits (app_of command.entry)) }
@@ -139,6 +139,7 @@ fn with_limits<'a>(alloc: Global, command: Command<'a>) -> Result<Command<'a>, A
     let command = with_option(alloc, command, "file-max")?;
     let command = with_option(alloc, command, "names-max")?;
     let command = with_option(alloc, command, "waiting-max")?;
+    let command = with_option(alloc, command, "waiting-of-each")?;
     let command = with_option(alloc, command, "capacity-max")?;
     let command = with_table_limits(alloc, command)?;
     with_option(alloc, command, "spare-max")
@@ -237,8 +238,8 @@ fn refusal(error: &Error) -> Result<Choice, Fault>
 /// What the words of the command line ask for, without the program's own name: `--help` or `-h` for the help text, `--version` or
 /// `-V` for the version, else each option at most once, and at most one FILE. The options are `--check`, `--all` beside it, `--live`,
 /// `--strict` beside that, `--explain`, and, each with a number below 2^64, `--first-call`, `--file-max`, `--names-max`, `--waiting-max`,
-/// `--capacity-max`, `--descriptors-max`, `--descriptions-max`, `--processes-max`, `--spare-max` and `--memory`. What stands behind `--` is
-/// FILE, whatever it looks like.
+/// `--waiting-of-each`, `--capacity-max`, `--descriptors-max`, `--descriptions-max`, `--processes-max`, `--spare-max` and `--memory`. What
+/// stands behind `--` is FILE, whatever it looks like.
 ///
 /// # Errors
 ///

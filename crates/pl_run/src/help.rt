@@ -13,6 +13,9 @@ FILE, or standard input where there is none. LIMIT is one of these:
       --file-max N    the most bytes of a file; else it is 16777216, the most
       --names-max N   the most names of files and FIFOs; else there is no limit
       --waiting-max N the most calls that wait; else there is no limit
+      --waiting-of-each N
+                      the most calls of one process that wait; else there is
+                      no limit
       --capacity-max N
                       the most bytes that setsz gives a pipe; else it is
                       1048576, the most
@@ -83,8 +86,9 @@ Each line of a script is one call, a question or a comment:
                                        --names-max N, --waiting-max N,
                                        --capacity-max N,
                                        --descriptors-max N,
-                                       --descriptions-max N and
-                                       --processes-max N
+                                       --descriptions-max N,
+                                       --processes-max N and
+                                       --waiting-of-each N
 
 BYTES is an even number of hexadecimal digits, N*hh for N times the byte hh, or
 - for none. NAME is printable, with %hh for any other byte and for %, or - for

@@ -68,6 +68,7 @@ pub(crate) fn limits_of(matches: &ArgMatches, memory: Option<u64>) -> Result<Lim
     let file_max = limit_of(matches, "file-max", most_bytes, most_bytes)?;
     let names_max = limit_of(matches, "names-max", u64::MAX, LIMITS.names_max)?;
     let waiting_max = limit_of(matches, "waiting-max", u64::MAX, LIMITS.waiting_max)?;
+    let waiting_of_each = limit_of(matches, "waiting-of-each", u64::MAX, LIMITS.waiting_of_each)?;
     let capacity_max = limit_of(matches, "capacity-max", most_capacity, most_capacity)?;
     let table_limits = table_limits_of(matches)?;
     let usual_spare = Limits::usual_spare(memory.unwrap_or(NO_LIMIT));
@@ -77,6 +78,7 @@ pub(crate) fn limits_of(matches: &ArgMatches, memory: Option<u64>) -> Result<Lim
         file_max: file_max as u32,
         names_max,
         waiting_max,
+        waiting_of_each,
         capacity_max: capacity_max as u32,
         spare_max,
         ..table_limits

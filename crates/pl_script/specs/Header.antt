@@ -20,6 +20,7 @@ with_limit limits option n =
     else if bytes_eq option (codes "--file-max") then (if nat_le n most_file_bytes then Some (record limits { file_max = n }) else None)
     else if bytes_eq option (codes "--names-max") then Some (record limits { names_max = n })
     else if bytes_eq option (codes "--waiting-max") then Some (record limits { waiting_max = n })
+    else if bytes_eq option (codes "--waiting-of-each") then Some (record limits { waiting_of_each = n })
     else if bytes_eq option (codes "--capacity-max") then (if nat_le n most_capacity then Some (record limits { capacity_max = n }) else None)
     else if bytes_eq option (codes "--descriptors-max") then (if nat_le n most_descriptors then Some (record limits { descriptors_max = n }) else None)
     else if bytes_eq option (codes "--descriptions-max") then (if nat_le n most_descriptions then Some (record limits { descriptions_max = n }) else None)

@@ -42,6 +42,8 @@ fn with_limit(limits: Limits, option: &[u8], n: u64) -> Option<Limits>
         set.names_max = n;
     } else if option == b"--waiting-max".as_slice() {
         set.waiting_max = n;
+    } else if option == b"--waiting-of-each".as_slice() {
+        set.waiting_of_each = n;
     } else if option == b"--capacity-max".as_slice() {
         set.capacity_max = within(n, MAX_CAPACITY)?;
     } else if option == b"--descriptors-max".as_slice() {
@@ -106,8 +108,8 @@ fn limits_of_lines(limits: Limits, body: &[u8]) -> Option<Limits>
 
 /// The limits of a record: those given, with those that its header sets. The header is a comment `# piperun OPTION NUMBER ..`, as the
 /// first line, or behind the one that names the version. The options are `--first-call`, `--file-max` up to 16,777,216, `--names-max`,
-/// `--waiting-max`, `--capacity-max` up to 1,048,576, `--descriptors-max` up to 65,536, `--descriptions-max` up to 1,048,576 and
-/// `--processes-max` up to 65,536. Every number is below 2^64, and of an option that stands twice the last counts.
+/// `--waiting-max`, `--capacity-max` up to 1,048,576, `--descriptors-max` up to 65,536, `--descriptions-max` up to 1,048,576,
+/// `--processes-max` up to 65,536 and `--waiting-of-each`. Every number is below 2^64, and of an option that stands twice the last counts.
 ///
 /// # Errors
 ///

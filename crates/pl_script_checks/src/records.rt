@@ -183,6 +183,12 @@ const RECORDS: &[Record] = &[
         all: "",
         end: Ok((3, 0)),
     },
+    Record {
+        script: "# piperun --waiting-of-each 1\nstart\n1 pipe\n1 fork\n1 read 0 1\n# => parked 1\n1 read 0 1\n# => EAGAIN\n2 read 0 1\n# => parked 2\n",
+        first: "",
+        all: "",
+        end: Ok((3, 0)),
+    },
     // A header that stands elsewhere is a comment.
     Record {
         script: "start\n# piperun --first-call 7\n1 pipe\n1 read 0 1\n# => parked 1\n",

@@ -90,7 +90,7 @@ fn begin_move<A: Allocator + Copy>(
     if let Some(reply) = try_move(kernel, from, to, len, is_tee)? {
         return Ok(reply);
     }
-    if let Some(refusal) = refusal_to_wait(kernel, nonblock) {
+    if let Some(refusal) = refusal_to_wait(kernel, pid, nonblock) {
         return Ok(refusal);
     }
     let number = park_between(kernel, pid, call, from.key, to.key)?;

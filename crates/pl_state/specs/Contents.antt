@@ -1,5 +1,5 @@
 -- What a kernel holds, and the machine's state that it is.
-use Rattle.std.specs.Prelude.{◌/◌, ℕ, Bool, List, length, nat_lt, Option, IsSome, IsTrue, option_map, map}
+use Rattle.std.specs.Prelude.{◌/◌, ◌&&◌, ℕ, Bool, List, length, nat_lt, nat_eq, count_by, Option, IsSome, IsTrue, option_map, map}
 use Rattle.pl_model.specs.declared.calls.Limits.{Limits}
 use Rattle.pl_model.specs.declared.calls.Mode.{Mode}
 use Rattle.pl_model.specs.declared.node.Node.{Node}
@@ -62,9 +62,13 @@ pub record Contents (A : Type 0) : Type 0 where
 abbrev pub contents : {A : Type 0} → Descs → Nodes → Calls A → Limits → Contents A
 contents descs nodes calls limits = record { tables = descs.tables; opened = descs.opened; nodes = nodes; calls = calls; limits = limits }
 
--- fewer calls wait than the limit
-abbrev pub lets_wait : {A : Type 0} → Contents A → Bool
-lets_wait k = nat_lt (length k.calls.calls) k.limits.waiting_max
+-- how many calls of a process wait
+abbrev pub waiting_count : {A : Type 0} → Contents A → ℕ → ℕ
+waiting_count k pid = count_by (λ e. nat_eq e.1.pid pid) k.calls.calls
+
+-- fewer calls of the process wait than the limit of each, and fewer of all processes than the limit
+abbrev pub lets_wait : {A : Type 0} → Contents A → ℕ → Bool
+lets_wait k pid = nat_lt (waiting_count k pid) k.limits.waiting_of_each && nat_lt (length k.calls.calls) k.limits.waiting_max
 
 -- there are fewer names than the limit
 abbrev pub lets_name : {A : Type 0} → Contents A → Bool

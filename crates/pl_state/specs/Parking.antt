@@ -26,8 +26,8 @@ module _ {A : Type 0} where
   refusal nonblock next = if nonblock then Some (Fault EAGAIN) else if next == last_call then Some CallsSpent else None
 
   -- the same in a kernel, where a call that would wait above the limit is refused as one that may not wait
-  abbrev pub refusal_in : Contents A → (nonblock : Bool) → Option (Reply A)
-  refusal_in k nonblock = refusal (nonblock || not (lets_wait k)) k.calls.next
+  abbrev pub refusal_in : Contents A → ℕ → (nonblock : Bool) → Option (Reply A)
+  refusal_in k pid nonblock = refusal (nonblock || not (lets_wait k pid)) k.calls.next
 
   -- a call of the process that waits on one description
   abbrev pub call_on : (key pid : ℕ) → Call A → (taken : ℕ) → ParkedCall A

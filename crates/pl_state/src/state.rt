@@ -78,11 +78,12 @@ impl<A: Allocator + Copy> KernelState<A> {
     ghost use Rattle.std.specs.Prelude.{◌≡◌, ◌||◌, not};
     ghost use Rattle.pl_state.specs.Contents.{lets_wait, lets_name};
 
-    /// Whether fewer calls wait than the limit.
-    pub fn can_wait(&self) -> bool
-        ensures { result ≡ lets_wait self.now }
+    /// Whether fewer calls of the process wait than the limit of each, and fewer of all processes than the limit.
+    pub fn can_wait(&self, pid: u32) -> bool
+        ensures { result ≡ lets_wait self.now pid }
     {
-        (self.parked.len() as u64) < self.limits.waiting_max
+        (self.parked.count_of(pid) as u64) < self.limits.waiting_of_each
+            && (self.parked.len() as u64) < self.limits.waiting_max
     }
 
     /// Whether there are fewer names than the limit.
@@ -93,9 +94,9 @@ impl<A: Allocator + Copy> KernelState<A> {
     }
 
     /// Whether a call that would wait answers `EAGAIN`: it may not wait, or as many calls wait as may.
-    pub fn refuses_to_wait(&self, nonblock: bool) -> bool
-        ensures { result ≡ (nonblock || not (lets_wait self.now)) }
+    pub fn refuses_to_wait(&self, pid: u32, nonblock: bool) -> bool
+        ensures { result ≡ (nonblock || not (lets_wait self.now pid)) }
     {
-        nonblock || !self.can_wait()
+        nonblock || !self.can_wait(pid)
     }
 }

@@ -33,7 +33,7 @@ module _ {A : Type 0} (k : Contents A) (pid : ℕ) (fd : ℤ) (bytes : List ℕ)
     pub from : ℕ
     pub comes : IfSome (at k.nodes.pipes end.pipe) (λ x. WriteCase.Waits from to ≡ write_case (length bytes) 0 (room x) (has_reader k.opened end.pipe) (not end.nonblock))
     pub fits : IfSome (at k.nodes.pipes end.pipe) (λ x. FitsRoom (WriteCase.Waits from to) (length bytes) 0 (room x))
-    pub left : refusal_in {A = A} k end.nonblock ≡ None
+    pub left : refusal_in {A = A} k pid end.nonblock ≡ None
 
   -- what a write comes to before it is parked
   abbrev pub WriteTried : WriteTry → Contents A → Type 0

@@ -93,7 +93,7 @@ fn try_read_pipe<A: Allocator + Copy>(
         ReadCase::Gives(count) => Ok(ReadTry::Takes { end, count }),
         ReadCase::EndOfFile => Ok(ReadTry::Answered(Answered::Done(0))),
         ReadCase::Waits => {
-            if kernel.refuses_to_wait(end.nonblock) {
+            if kernel.refuses_to_wait(pid, end.nonblock) {
                 return Ok(ReadTry::Answered(Answered::Fault(Errno::EAGAIN)));
             }
             if kernel.parked.spent() {

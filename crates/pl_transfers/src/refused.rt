@@ -74,6 +74,6 @@ fn refused_by_pipe<A: Allocator + Copy>(
         // No write of which nothing was taken is cut short.
         WriteCase::CutShort => None,
         WriteCase::Ends { .. } => None,
-        WriteCase::Waits { .. } => refusal_to_wait(kernel, end.nonblock),
+        WriteCase::Waits { .. } => refusal_to_wait(kernel, pid, end.nonblock),
     }
 }

@@ -310,7 +310,7 @@ fn try_write_pipe<A: Allocator + Copy>(
             Ok(WriteTry::Wrote(to as u32))
         }
         WriteCase::Waits { to, .. } => {
-            if kernel.refuses_to_wait(end.nonblock) {
+            if kernel.refuses_to_wait(pid, end.nonblock) {
                 return Ok(WriteTry::Answered(Answered::Fault(Errno::EAGAIN)));
             }
             if kernel.parked.spent() {

@@ -31,16 +31,17 @@ fn bytes_of<A: Allocator>(call: &Call<A>) -> &[u8]
     }
 }
 
-/// Why a call that would wait doesn't, if it doesn't: `EAGAIN` where it may not, or as many calls wait as may; `CallsSpent` where no
+/// Why a call that would wait doesn't, if it doesn't: `EAGAIN` where it may not, or as many calls of the process, or of all, wait as may; `CallsSpent` where no
 /// number is left. This is tested before any memory is asked for.
 #[inline(never)]
 pub fn refusal_to_wait<A: Allocator + Copy>(
     kernel: &KernelState<A>,
+    pid: u32,
     nonblock: bool,
 ) -> Option<Reply<A>>
-    ensures { result ≡ refusal_in kernel.now nonblock }
+    ensures { result ≡ refusal_in kernel.now pid nonblock }
 {
-    if kernel.refuses_to_wait(nonblock) {
+    if kernel.refuses_to_wait(pid, nonblock) {
         return Some(Reply::Fault(Errno::EAGAIN));
     }
     if kernel.parked.spent() {

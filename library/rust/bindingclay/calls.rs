@@ -37,6 +37,7 @@ impl Clay {
             memory,
             names,
             waiting_calls,
+            waiting_of_each,
             capacity,
             file_max,
             descriptors_max,
@@ -47,7 +48,7 @@ impl Clay {
         let sizes = u64::from(file_max) << 32 | u64::from(capacity);
         // the words of bindingclay_limits, whose first one is its size
         let words = [
-            80,
+            88,
             first_call,
             memory,
             names,
@@ -57,6 +58,7 @@ impl Clay {
             spare_max,
             u64::from(descriptions_max),
             u64::from(processes_max),
+            waiting_of_each,
         ];
         let mut kernel = std::ptr::null_mut();
         let mut budget = std::ptr::null_mut();

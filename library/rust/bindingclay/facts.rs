@@ -1,4 +1,4 @@
-//! What is told of pipes, files, calls that wait, and memory.
+//! What is told of pipes, files, calls that wait, processes, and memory.
 
 use super::Clay;
 use super::answers::{ParkedCall, Result};
@@ -64,6 +64,16 @@ pub struct CallFacts {
     pub first: Fd,
     /// The descriptor to which a splice or a tee gives. Of any other call it is -1.
     pub second: Fd,
+}
+
+/// What a process holds.
+#[repr(C)]
+#[derive(Clone, Copy, Debug, Default, PartialEq, Eq)]
+pub struct ProcessFacts {
+    /// How many of its descriptors are open.
+    pub descriptors: u64,
+    /// How many of its calls wait.
+    pub waiting_calls: u64,
 }
 
 /// In how many segments, each of 4,096 bytes of memory, a kernel keeps the bytes of its pipes and files.
@@ -172,6 +182,17 @@ impl Clay {
         let mut facts = RawCall::default();
         unsafe { bindingclay_call_facts(self.0, call.number, &mut facts) }.nothing()?;
         Ok(facts.facts())
+    }
+
+    /// What a process holds of what the limits `descriptors_max` and `waiting_of_each` bound.
+    ///
+    /// # Errors
+    ///
+    /// `NoProcess` says that there is no process of this pid.
+    pub fn process_facts(&self, pid: Pid) -> Result<ProcessFacts> {
+        let mut process = ProcessFacts::default();
+        unsafe { bindingclay_process_facts(self.0, pid, &mut process) }.nothing()?;
+        Ok(process)
     }
 
     /// In how many segments the kernel keeps bytes.

@@ -1,7 +1,7 @@
 //! The functions of the library for C, and their answers as C has them.
 
 use super::answers::{Answer, Done, NotDone, ParkedCall, Result};
-use super::facts::{Memory, RawCall, RawNode, SegmentUse};
+use super::facts::{Memory, ProcessFacts, RawCall, RawNode, SegmentUse};
 use super::values::{Ends, Fd, PollEntry};
 use std::ffi::c_void;
 
@@ -165,6 +165,11 @@ unsafe extern "C" {
         clay: Handle,
         number: u64,
         facts: *mut RawCall,
+    ) -> RawAnswer;
+    pub(super) fn bindingclay_process_facts(
+        clay: Handle,
+        pid: u32,
+        process: *mut ProcessFacts,
     ) -> RawAnswer;
     pub(super) fn bindingclay_record(clay: Handle, on: bool) -> RawAnswer;
     pub(super) fn bindingclay_recorded(clay: Handle, into: *mut u8, size: usize) -> RawAnswer;

@@ -75,6 +75,9 @@ pub struct Limits {
     pub names: u64,
     /// The most calls that wait at one time. A call that would wait above that is EAGAIN, and has taken and given nothing.
     pub waiting_calls: u64,
+    /// The most calls of one process that wait at one time. One more of it that would wait is EAGAIN as well, and those of other processes
+    /// may still wait.
+    pub waiting_of_each: u64,
     /// The most bytes that `set_pipe_sz` lets a pipe hold, at most `MOST_CAPACITY`; more are EPERM.
     pub capacity: u32,
     /// The most bytes of a regular file, at most `MOST_FILE_BYTES`.
@@ -99,6 +102,7 @@ impl Default for Limits {
             memory: u64::MAX,
             names: u64::MAX,
             waiting_calls: u64::MAX,
+            waiting_of_each: u64::MAX,
             capacity: MOST_CAPACITY,
             file_max: MOST_FILE_BYTES,
             descriptors_max: USUAL_DESCRIPTORS,

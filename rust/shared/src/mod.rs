@@ -99,6 +99,9 @@ pub struct Limits {
     pub names: u64,
     /// The most calls that wait at one time. A call that would wait above that is `WouldBlock`, and has taken and given nothing.
     pub waiting_calls: u64,
+    /// The most calls of one process that wait at one time. One more of it that would wait is `WouldBlock` too, and those of other processes may
+    /// still wait.
+    pub waiting_of_each: u64,
     /// The most bytes that a pipe can be made to hold, at most 1,048,576; more are `EPERM`.
     pub capacity: u32,
     /// The most bytes of a regular file, at most 16,777,216.
@@ -122,6 +125,7 @@ impl Default for Limits {
             memory: u64::MAX,
             names: u64::MAX,
             waiting_calls: u64::MAX,
+            waiting_of_each: u64::MAX,
             capacity: MOST_CAPACITY,
             file_max: MOST_FILE_BYTES,
             descriptors_max: 256,

@@ -189,6 +189,29 @@ fn the_limit_of_waiting_calls_is_told() -> Result<()> {
     Ok(())
 }
 
+#[test]
+fn a_process_is_told_the_limit_of_its_own_waiting_calls() -> Result<()> {
+    let kernel = Shared::within(&Limits {
+        waiting_of_each: 1,
+        ..Limits::default()
+    })?;
+    let (greedy, patient) = (kernel.start()?, kernel.start()?);
+    let ((mut one, _to_one), (mut other, _to_other)) = (greedy.pipe()?, greedy.pipe()?);
+    let (mut of_patient, _to_patient) = patient.pipe()?;
+    let task = Task::new();
+    assert!(task.read(&mut one, &mut [0]).is_pending());
+    assert_eq!(
+        ready(task.read(&mut other, &mut [0]))
+            .expect_err("EAGAIN")
+            .kind(),
+        ErrorKind::WouldBlock
+    );
+    assert!(task.read(&mut of_patient, &mut [0]).is_pending());
+    drop(one);
+    assert!(task.read(&mut other, &mut [0]).is_pending());
+    Ok(())
+}
+
 fn timed_out(polled: Poll<Result<usize>>) -> bool {
     matches!(polled, Poll::Ready(Err(fault)) if fault.kind() == ErrorKind::TimedOut)
 }

@@ -4,7 +4,7 @@ use super::Kernel;
 use crate::answers::ParkedCall;
 use crate::faults::NoMemory;
 use crate::memory::Allocator;
-use crate::{Bytes8, CallFacts, Name, NodeFacts, Stats};
+use crate::{Bytes8, CallFacts, Name, NodeFacts, ProcessFacts, Stats};
 
 impl<A: Allocator + Copy> Kernel<A> {
     /// What it takes of its memory.
@@ -153,5 +153,24 @@ impl<A: Allocator + Copy> Kernel<A> {
     /// ```
     pub fn call_facts(&self, call: &ParkedCall) -> Option<CallFacts> {
         self.inner.call_facts(call.number())
+    }
+
+    /// How many descriptors of a process are open, and how many of its calls wait; `None` if there is no such process. Nothing changes, and it
+    /// takes no memory.
+    ///
+    /// ```
+    /// use bindingclay::memory::Global;
+    /// use bindingclay::{Call, Kernel, Limits, ProcessFacts, Step};
+    ///
+    /// let mut kernel = Kernel::new(Global, Limits::default())?;
+    /// kernel.step(Step::Start)?;
+    /// kernel.step(Step::Begin(1, Call::Pipe { nonblock: false, direct: false }))?;
+    /// kernel.read_into(1, 0, &mut [0])?;
+    /// assert_eq!(kernel.process_facts(1), Some(ProcessFacts { descriptors: 2, waiting_calls: 1 }));
+    /// assert_eq!(kernel.process_facts(2), None);
+    /// # Ok::<(), Box<dyn std::error::Error>>(())
+    /// ```
+    pub fn process_facts(&self, pid: u32) -> Option<ProcessFacts> {
+        self.inner.process_facts(pid)
     }
 }

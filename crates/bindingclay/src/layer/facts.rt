@@ -1,14 +1,24 @@
-//! What is told of pipes, files and parked calls, and of the segments of a kernel.
+//! What is told of processes, pipes, files and parked calls, and of the segments of a kernel.
 ghost use Rattle.std.specs.Prelude.{◌≡◌, ◌≤◌, ◌/◌};
 ghost use Rattle.pl_kernel.specs.ToldSegments.{TellsUsed, TellsNone};
 ghost use Rattle.pl_kernel.specs.ToldNodes.{OfFd, OfName, node_at, facts_named, TellsShape, TellsWhich};
 ghost use Rattle.bindingclay.specs.Heap.{InBudget};
-ghost use Rattle.bindingclay.specs.Facts.{number_of_node, number_of_call, held_answer, fd_answer, name_answer, call_answer, node_after, call_after, Holds, Finds, Names, Waits, Tells};
+ghost use Rattle.bindingclay.specs.Facts.{number_of_node, number_of_call, process_answer, held_answer, fd_answer, name_answer, call_answer, process_after, node_after, call_after, IsFound, TellsOf, Holds, Finds, Names, Waits, Tells};
 
 use super::Layer;
-use pl_kernel::{CallFacts, CallKind, NodeFacts, NodeKind};
+use pl_kernel::{CallFacts, CallKind, NodeFacts, NodeKind, ProcessFacts};
 use pl_model::Errno;
 use pl_numbers::{Answer, kind};
+
+/// What is told of a process.
+#[repr(C)]
+#[derive(Clone, Copy)]
+pub struct ToldProcess {
+    /// How many of its descriptors are open.
+    pub descriptors: u64,
+    /// How many of its calls wait.
+    pub waiting_calls: u64,
+}
 
 /// What is told of a pipe or a file.
 #[repr(C)]
@@ -69,6 +79,18 @@ fn number_of_call(kind: CallKind) -> u32
     }
 }
 
+// Writes what is told of a process, if there is one.
+fn tell_process(told: Option<ProcessFacts>, process: &mut ToldProcess)
+    ensures { process.new ≡ process_after process.old told }
+{
+    if let Some(facts) = told {
+        *process = ToldProcess {
+            descriptors: facts.descriptors as u64,
+            waiting_calls: facts.waiting_calls as u64,
+        };
+    }
+}
+
 // Writes what is told of a pipe or a file, if there is one.
 fn tell_node(told: Option<NodeFacts>, node: &mut ToldNode)
     ensures { node.new ≡ node_after node.old told }
@@ -94,6 +116,16 @@ fn tell_call(told: Option<CallFacts>, call: &mut ToldCall)
             second: facts.second,
         };
     }
+}
+
+// The answer of a question about a process.
+fn answer_of_process(is_process: bool) -> Answer
+    ensures { result ≡ process_answer is_process }
+{
+    if !is_process {
+        return Answer::of_kind(kind::NO_PROCESS, 0);
+    }
+    Answer::done(0)
 }
 
 // The answer that tells how many bytes a pipe holds, if there is one.
@@ -143,6 +175,16 @@ fn answer_of_call(waits: bool) -> Answer
 }
 
 impl Layer {
+    /// Tells how many descriptors and how many waiting calls a process has.
+    pub fn process_facts(&self, pid: u32, process: &mut ToldProcess) -> Answer
+        ensures says { IsFound self.now.kernel pid result }
+        ensures process { TellsOf self.now.kernel pid process.old process.new }
+    {
+        let told = self.kernel.process_facts(pid);
+        tell_process(told, process);
+        answer_of_process(told.is_some())
+    }
+
     /// Tells how many bytes the pipe holds that a descriptor is open on.
     pub fn held(&self, pid: u32, fd: i32) -> Answer
         ensures { Holds self.now.kernel pid fd result }

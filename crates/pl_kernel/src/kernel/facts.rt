@@ -1,11 +1,13 @@
-//! What is told of pipes, files and parked calls, without a step. Nothing here takes memory.
+//! What is told of processes, pipes, files and parked calls, without a step. Nothing here takes memory.
 ghost use Rattle.std.specs.Prelude.{◌≡◌};
 ghost use Rattle.pl_kernel.specs.ToldNodes.{OfFd, OfName, facts_named, TellsHeld, TellsShape, TellsWhich, TellsProcess};
 ghost use Rattle.pl_kernel.specs.ToldCalls.{TellsCall, TellsEach};
+ghost use Rattle.pl_kernel.specs.ToldProcesses.{TellsHoldings};
 
 use super::Kernel;
 use crate::told_calls::{CallFacts, call_facts};
 use crate::told_nodes::{NodeFacts, fd_facts, held, name_facts};
+use crate::told_processes::{ProcessFacts, process_facts};
 use std::alloc::Allocator;
 
 impl<A: Allocator + Copy> Kernel<A> {
@@ -15,6 +17,14 @@ impl<A: Allocator + Copy> Kernel<A> {
     {
         let state = &self.state;
         state.descs.has(pid)
+    }
+
+    /// How many descriptors and how many waiting calls a process has: at most as many as the limits `descriptors_max` and `waiting_of_each` allow.
+    /// `None` where there is no such process. It changes nothing and takes no memory.
+    pub fn process_facts(&self, pid: u32) -> Option<ProcessFacts>
+        ensures { TellsHoldings {A = A} self.now pid result }
+    {
+        process_facts(&self.state, pid)
     }
 
     /// How many bytes the pipe holds that a descriptor of a process is open on, by either end: at most 1,048,576 (pipe(7), FIONREAD). Of a

@@ -165,10 +165,10 @@ module _ {A : Type 0} {K : Keys} (s : Core A K) (pid : ℕ) (entries : List (ℤ
 
     -- each descriptor that isn't negative is open, so the poll is tried
     pub poll-tried : list_any is_none (named_by s pid entries) ≡ false → (b : Bool) → (list_any is_ready found || not wait) ≡ b →
-        core_step s (Begin pid call) ≡ Plain (ended s (first_tried s w (wait && can_wait s) (cond b (Done s still (masks_reply found)) (Wait s still 0))))
+        core_step s (Begin pid call) ≡ Plain (ended s (first_tried s w (wait && can_wait s pid) (cond b (Done s still (masks_reply found)) (Wait s still 0))))
     poll-tried named b e =
         leads (Tried s (kept_now s pid entries) false wait) (begins false few ∙ ap (λ z. cond z (answered s (masks_reply found)) (tried s (kept_now s pid entries) false wait)) named)
-        ∙ ap (λ t. Plain (ended s (first_tried s w (wait && can_wait s) t))) (tries named b e)
+        ∙ ap (λ t. Plain (ended s (first_tried s w (wait && can_wait s pid) t))) (tries named b e)
 
     -- something is found, or the poll may not wait
     pub poll-answered : (list_any is_ready found || not wait) ≡ true → core_step s (Begin pid call) ≡ Plain (ended s (stepped s (masks_reply found)))
@@ -179,10 +179,10 @@ module _ {A : Type 0} {K : Keys} (s : Core A K) (pid : ℕ) (entries : List (ℤ
       at false e = poll-tried e true some
 
   -- nothing is found, and the poll may wait
-  pub poll-waits : nat_lt (entry_limit s.limits) (length entries) ≡ false → list_any is_ready found ≡ false → wait ≡ true → core_step s (Begin pid call) ≡ Plain (ended s (first_tried s w (can_wait s) (Wait s still 0)))
+  pub poll-waits : nat_lt (entry_limit s.limits) (length entries) ≡ false → list_any is_ready found ≡ false → wait ≡ true → core_step s (Begin pid call) ≡ Plain (ended s (first_tried s w (can_wait s pid) (Wait s still 0)))
   poll-waits few none may =
       poll-tried few (all-named s pid entries none) false (λ i. none i || not (may i))
-      ∙ ap (λ z. Plain (ended s (first_tried s w (z && can_wait s) (Wait s still 0)))) may
+      ∙ ap (λ z. Plain (ended s (first_tried s w (z && can_wait s pid) (Wait s still 0)))) may
 
 -- a poll that is tried again
 module _ {A : Type 0} {K : Keys} (s : Core A K) (c : ℕ) (w : Waiting A K) (entries : List (ℤ × PollMask)) (wait : Bool) (here : get nat_eq s.parked c ≡ Some w) (is : w.call ≡ Call.Poll entries wait) where

@@ -227,7 +227,7 @@ module _ {A : Type 0} {K : Keys} where
   begun-unchanged before pid call (Refused errno) plain r = (refl, refl)
   begun-unchanged before pid call (Answered u reply) plain r = (let e : true ≡ false = sym r ∙ begin-refused pid call reply ∙ plain in absurd (cc))
   begun-unchanged before pid call (Tried u kept met may_wait) plain r =
-      first_tried-unchanged before pid call (waiting pid call kept met) (may_wait && can_wait before) _ plain r
+      first_tried-unchanged before pid call (waiting pid call kept met) (may_wait && can_wait before pid) _ plain r
 
   resumed-unchanged : (s : Core A K) (c : ℕ) (w : Option (Waiting A K)) → NoChange s (Resume c) (resumed s c w)
   resumed-unchanged s c None r = (refl, refl)
@@ -312,8 +312,8 @@ module _ {A : Type 0} {K : Keys} where
   ruleset firsts = (first_found, first_if, first_past, first_plain, first_draws)
 
   -- a call that waits is parked where a number is left for it, and fewer calls wait than may
-  parked-first : (s u : Core A K) (pid : ℕ) (call : Call A) (w : Waiting A K) (taken : ℕ) → (s.next_call == last_call || not (can_wait s)) ≡ false → is_refused (Begin pid call) (first_tried s w (can_wait s) (Wait u still taken)).reply ≡ false
-  parked-first s u pid call w taken e = at (can_wait s) e where
+  parked-first : (s u : Core A K) (pid : ℕ) (call : Call A) (w : Waiting A K) (taken : ℕ) → (s.next_call == last_call || not (can_wait s pid)) ≡ false → is_refused (Begin pid call) (first_tried s w (can_wait s pid) (Wait u still taken)).reply ≡ false
+  parked-first s u pid call w taken e = at (can_wait s pid) e where
     spent : (b : Bool) → (b || false) ≡ false → is_refused (Begin pid call) (cond b (stepped s CallsSpent) (record { state = parked (flowed u still) (record w { taken = taken }); reply = Parked s.next_call; flow = still })).reply ≡ false
     spent true e = absurd (cc)
     spent false e = refl
@@ -326,11 +326,11 @@ module _ {A : Type 0} {K : Keys} where
     at true e = spent (s.next_call == last_call) e
     at false e = absurd (crowded (s.next_call == last_call) e)
 
-  await-first : (s : Core A K) (pid : ℕ) (name : List ℕ) (p : K.Pipe) (mode : Mode) (flags : OpenFlags) → RefusesFirst s pid (Call.OpenName name mode flags) (await_other_end s p mode flags)
+  await-first : (s : Core A K) (pid : ℕ) (name : List ℕ) (p : K.Pipe) (mode : Mode) (flags : OpenFlags) → RefusesFirst s pid (Call.OpenName name mode flags) (await_other_end s pid p mode flags)
   unfolding try
   await-first s pid name p mode flags =
       let call = Call.OpenName name mode flags in
-      first_if s pid call (s.next_call == last_call || not (can_wait s)) _ _ (λ e. first_plain s pid call _)
+      first_if s pid call (s.next_call == last_call || not (can_wait s pid)) _ _ (λ e. first_plain s pid call _)
       (λ e. first_draws s pid call _ (λ new. parked-first s (describe (meet s p mode) new.description (PipeNode p) mode (status_flags flags)) pid call (waiting pid call (new.description ∷ []) false) 0 e))
 
   open_named-first : (s : Core A K) (pid fd : ℕ) (name : List ℕ) (node : Option (Node K)) (mode : Mode) (flags : OpenFlags) → RefusesFirst s pid (Call.OpenName name mode flags) (open_named s pid fd name node mode flags)

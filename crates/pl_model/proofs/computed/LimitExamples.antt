@@ -12,7 +12,7 @@ use Rattle.pl_model.specs.Tables.{lowest, lowest_pid}
 use Rattle.pl_model.specs.Begin.{begin_pipe, begin_mkfifo, begin_open_name, begin_read, begin_write, begin_splice, begin_tee, begin_poll, begin_dup, begin_dup2, begin_dup_fd, begin_close, begin_set_pipe_sz, begin_unlink, begin_fork}
 use Rattle.pl_model.specs.Step.{try, begin, happen, core_step}
 use Rattle.pl_model.specs.Numbered.{step}
-use Rattle.pl_model.specs.WorkedLimits.{NamesUpToTheLimit, WaitingCallsUpToTheLimit, NoCallMayWait, CapacitiesUpToTheLimit, DescriptorsUpToTheLimit, DescriptorsAtTheEnds, DescriptionsUpToTheLimit, ProcessesUpToTheLimit, EntriesUpToTheLimit}
+use Rattle.pl_model.specs.WorkedLimits.{NamesUpToTheLimit, WaitingCallsUpToTheLimit, WaitingCallsOfEachUpToTheLimit, NoCallMayWait, CapacitiesUpToTheLimit, DescriptorsUpToTheLimit, DescriptorsAtTheEnds, DescriptionsUpToTheLimit, ProcessesUpToTheLimit, EntriesUpToTheLimit}
 
 module _ (A : Type 0) where
   pub names_up_to_the_limit : NamesUpToTheLimit A
@@ -22,6 +22,10 @@ module _ (A : Type 0) where
   pub waiting_calls_up_to_the_limit : WaitingCallsUpToTheLimit A
   unfolding first_from numbers_from pids in_rows in_parked readers writers settle flowed read_pipe write_pipe try_poll try_move lowest lowest_pid begin_pipe begin_mkfifo begin_open_name begin_read begin_write begin_splice begin_tee begin_poll try begin happen core_step step
   waiting_calls_up_to_the_limit file_max = refl
+
+  pub waiting_calls_of_each_up_to_the_limit : WaitingCallsOfEachUpToTheLimit A
+  unfolding first_from numbers_from pids in_rows in_parked readers writers settle flowed read_pipe try_poll lowest lowest_pid begin_pipe begin_mkfifo begin_open_name begin_read begin_poll begin_fork try begin happen core_step step
+  waiting_calls_of_each_up_to_the_limit file_max = refl
 
   pub no_call_may_wait : NoCallMayWait A
   unfolding first_from numbers_from pids in_rows in_parked readers writers settle flowed read_pipe write_pipe lowest lowest_pid begin_pipe begin_read begin_write try begin happen core_step step

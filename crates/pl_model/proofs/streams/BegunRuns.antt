@@ -229,18 +229,18 @@ module _ {A : Type 0} (p q : ℕ) (place : ℕ) (s : State A) (xs : List (Step A
     begun_write on = process (s.core.processes pid) (begin_to call)
       where
         tried : (o : Open numbers) → open_for writes s.core pid fd ≡ Some o → o.description.node ≡ PipeNode q →
-            StepTo s (Begin pid call) (first_tried s.core (waiting pid call (o.key ∷ []) false) (may_block o.description && can_wait s.core) (try s.core (waiting pid call (o.key ∷ []) false) call (may_block o.description))) →
+            StepTo s (Begin pid call) (first_tried s.core (waiting pid call (o.key ∷ []) false) (may_block o.description && can_wait s.core pid) (try s.core (waiting pid call (o.key ∷ []) false) call (may_block o.description))) →
             BegunWhole p q place s xs pid call (WriteFirst (may_block o.description))
         tried o e is to =
             let w : Waiting A numbers = waiting pid call (o.key ∷ []) false in
             let node : node_of s.core o.key ≡ Some o.description.node = open_node s.core pid fd o (opened writes (open_fd s.core pid fd) o e) in
             let keeps : Keeps s.core (o.key ∷ []) 0 (PipeNode q) = there s.core o.key o.description.node (PipeNode q) node is in
-            first_says p q place s xs pid call (WriteFirst (may_block o.description)) (IsWrite p q fd bytes) (WriteSays p q fd bytes) (write_course p q fd bytes) w (may_block o.description && can_wait s.core)
+            first_says p q place s xs pid call (WriteFirst (may_block o.description)) (IsWrite p q fd bytes) (WriteSays p q fd bytes) (write_course p q fd bytes) w (may_block o.description && can_wait s.core pid)
             (try s.core w call (may_block o.description)) below order
             (fresh o.key s.next_description o.description.node node (omega arith)) (fresh o.key (s.next_description + 1) o.description.node node (omega arith))
             (try-keeps (among_changes (next_numbers s) s.core) s.core w call (may_block o.description) (among_same s.core order.once))
             (try_fine s.core w call (may_block o.description) (omega arith, λ h. refl) (λ h. refl))
-            (first_write w (may_block o.description) (may_block o.description && can_wait s.core) (try s.core w call (may_block o.description)) refl refl keeps
+            (first_write w (may_block o.description) (may_block o.description && can_wait s.core pid) (try s.core w call (may_block o.description)) refl refl keeps
             (write_try s.core w fd bytes (may_block o.description) q (omega arith, λ h. refl) (λ h. refl) keeps))
             (no_write (may_block o.description) (Fault EAGAIN) refl (λ n e. cc) refl) (no_write (may_block o.description) CallsSpent refl (λ n e. cc) refl)
             to
@@ -293,18 +293,18 @@ module _ {A : Type 0} (p q : ℕ) (place : ℕ) (s : State A) (xs : List (Step A
     begun_read on = process (s.core.processes pid) (begin_to read)
       where
         tried : (o : Open numbers) → open_for reads s.core pid fd ≡ Some o → o.description.node ≡ PipeNode p →
-            StepTo s (Begin pid read) (first_tried s.core (waiting pid read (o.key ∷ []) false) (may_block o.description && can_wait s.core) (try s.core (waiting pid read (o.key ∷ []) false) read (may_block o.description))) →
+            StepTo s (Begin pid read) (first_tried s.core (waiting pid read (o.key ∷ []) false) (may_block o.description && can_wait s.core pid) (try s.core (waiting pid read (o.key ∷ []) false) read (may_block o.description))) →
             BegunWhole p q place s xs pid read ReadFirst
         tried o e is to =
             let w : Waiting A numbers = waiting pid read (o.key ∷ []) false in
             let node : node_of s.core o.key ≡ Some o.description.node = open_node s.core pid fd o (opened reads (open_fd s.core pid fd) o e) in
             let queue : KeepsQueue p bytes_only s.core (o.key ∷ []) = keeps_queue p s.core (o.key ∷ []) (there s.core o.key o.description.node (PipeNode p) node is) in
-            first_says p q place s xs pid read ReadFirst (IsRead p q fd k bytes_only) (ReadSays p q fd k bytes_only) (read_course p q fd k bytes_only) w (may_block o.description && can_wait s.core)
+            first_says p q place s xs pid read ReadFirst (IsRead p q fd k bytes_only) (ReadSays p q fd k bytes_only) (read_course p q fd k bytes_only) w (may_block o.description && can_wait s.core pid)
             (try s.core w read (may_block o.description)) below order
             (fresh o.key s.next_description o.description.node node (omega arith)) (fresh o.key (s.next_description + 1) o.description.node node (omega arith))
             (try-keeps (among_changes (next_numbers s) s.core) s.core w read (may_block o.description) (among_same s.core order.once))
             (try_fine s.core w read (may_block o.description) tt (λ h. refl))
-            (first_read w (may_block o.description && can_wait s.core) (try s.core w read (may_block o.description)) refl queue (read_try p q fd k bytes_only s.core w (may_block o.description) queue))
+            (first_read w (may_block o.description && can_wait s.core pid) (try s.core w read (may_block o.description)) refl queue (read_try p q fd k bytes_only s.core w (may_block o.description) queue))
             (reads_nothing k bytes_only) (reads_nothing k bytes_only) to
 
         opens : (o : Option (Open numbers)) → open_for reads s.core pid fd ≡ o → IfSome o (λ o. o.description.node ≡ PipeNode p) →

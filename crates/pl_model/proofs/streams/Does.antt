@@ -255,7 +255,7 @@ module _ {A : Type 0} (new : NewKeys numbers) (s : Core A numbers) (order : AreI
   begun_does pid call (Refused errno) k = Quiet (among_same s order.once) refl
   begun_does pid call (Answered u reply) k = Quiet k refl
   begun_does pid call (Tried u kept met may_wait) k =
-      first_does pid call (waiting pid call kept met) (may_wait && can_wait s) _ refl (try-keeps (among_changes new s) u (waiting pid call kept met) call may_wait k)
+      first_does pid call (waiting pid call kept met) (may_wait && can_wait s pid) _ refl (try-keeps (among_changes new s) u (waiting pid call kept met) call may_wait k)
       (try_fine u (waiting pid call kept met) call may_wait (has_none call) (λ e. refl))
 
   again_does : (c : ℕ) (w : Waiting A numbers) (t : Trial A numbers) → get nat_eq s.parked c ≡ Some w → TrialAll (Among s) t → TrialFine w.call t → Does s (Resume c) (tried_again c w t)

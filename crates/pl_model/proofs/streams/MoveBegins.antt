@@ -108,14 +108,14 @@ module _ {A : Type 0} (p q : ℕ) (is_tee : Bool) (from to : Node numbers) (call
       first w may_wait (Wait u flow t) is on e = ((is, on), (λ ins outs end rest. carries_later p q is_tee from to call tries s.core flow ins outs end.ending e rest))
 
       tried : (kept : List ℕ) (met may_wait : Bool) → KeepsBoth s.core kept from to → All (λ k. k ≢ s.next_description) kept → All (λ k. k ≢ s.next_description + 1) kept →
-          StepTo s (Begin pid call) (first_tried s.core (waiting pid call kept met) (may_wait && can_wait s.core) (try s.core (waiting pid call kept met) call may_wait)) → BegunWhole p q place s xs pid call FirstCarries
+          StepTo s (Begin pid call) (first_tried s.core (waiting pid call kept met) (may_wait && can_wait s.core pid) (try s.core (waiting pid call kept met) call may_wait)) → BegunWhole p q place s xs pid call FirstCarries
       tried kept met may_wait on apart other to_it =
           let w : Waiting A numbers = waiting pid call kept met in
-          first_says p q place s xs pid call FirstCarries (IsMove p q is_tee from to call tries) (MoveSays p q is_tee from to call tries) (move_course p q is_tee from to call tries) w (may_wait && can_wait s.core)
+          first_says p q place s xs pid call FirstCarries (IsMove p q is_tee from to call tries) (MoveSays p q is_tee from to call tries) (move_course p q is_tee from to call tries) w (may_wait && can_wait s.core pid)
           (try s.core w call may_wait) below order apart other
           (try-keeps (among_changes (next_numbers s) s.core) s.core w call may_wait (among_same s.core order.once))
           (try_fine s.core w call may_wait (has_none call) (λ h. refl))
-          (first w (may_wait && can_wait s.core) (try s.core w call may_wait) refl on (tries s.core w may_wait on))
+          (first w (may_wait && can_wait s.core pid) (try s.core w call may_wait) refl on (tries s.core w may_wait on))
           (carries_none p q is_tee from to (Answered (Fault EAGAIN)) refl) (carries_none p q is_tee from to (Answered CallsSpent) refl)
           to_it
 
@@ -125,7 +125,7 @@ module _ {A : Type 0} (p q : ℕ) (is_tee : Bool) (from to : Node numbers) (call
           quiet (count 0) (subst (λ v. StepTo s (Begin pid call) (stepped v (count 0))) k.0 (subst (λ r. StepTo s (Begin pid call) (stepped u r)) k.1 to_it)) refl refl
       at (Tried u kept met may_wait) k to_it =
           tried kept met may_wait k.1 k.2 k.3
-          (subst (λ v. StepTo s (Begin pid call) (first_tried s.core (waiting pid call kept met) (may_wait && can_wait s.core) (try v (waiting pid call kept met) call may_wait))) k.0 to_it)
+          (subst (λ v. StepTo s (Begin pid call) (first_tried s.core (waiting pid call kept met) (may_wait && can_wait s.core pid) (try v (waiting pid call kept met) call may_wait))) k.0 to_it)
 
       drawn_at : (b : Begins A numbers) → IsTried s from to (drawn (next_numbers s) b) → StepTo s (Begin pid call) (drawn (next_numbers s) (drawing_map (begun s.core pid call) b)) → BegunWhole p q place s xs pid call FirstCarries
       drawn_at (Plain b) k to_it = at b k to_it
@@ -162,7 +162,7 @@ module _ {A : Type 0} (p q : ℕ) (s : Core A numbers) where
 
     call_adds : (before : Core A numbers) (pid : ℕ) (call : Call A) (kept : List ℕ) (met may_wait : Bool) → MovesFrom (try s (waiting pid call kept met) call may_wait) →
         AddsFirst (begun before pid call (Tried s kept met may_wait)).flow
-    call_adds before pid call kept met may_wait m = first_adds before (waiting pid call kept met) (may_wait && can_wait before) (try s (waiting pid call kept met) call may_wait) m
+    call_adds before pid call kept met may_wait m = first_adds before (waiting pid call kept met) (may_wait && can_wait before pid) (try s (waiting pid call kept met) call may_wait) m
 
   resumed_adds : (c : ℕ) (w : Waiting A numbers) (call : Call A) → IsSpliceOrTee call → KeepsBoth s w.kept (PipeNode p) (PipeNode q) → AddsFirst (tried_again c w (try s w call true)).flow
   resumed_adds c w (Call.Splice from_fd from_offset to_fd to_offset len flags) is on = again_adds false c w _ (splice_moves p q (PipeNode p) (PipeNode q) from_fd to_fd len flags from_offset to_offset s w true on)

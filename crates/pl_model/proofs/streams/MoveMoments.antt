@@ -222,7 +222,7 @@ module _ {A : Type 0} (p q : ℕ) where
     begun_goes (Answers_now u reply) k = inl (λ place. ap (tag_answered place) k.1)
     begun_goes (Tried u kept met may_wait) k =
         subst (λ v. Goes (begun s.core pid call (Tried v kept met may_wait))) (sym k.0)
-        (first_goes (waiting pid call kept met) (may_wait && can_wait s.core) (try s.core (waiting pid call kept met) call may_wait) (is, k.1) k.2 k.3
+        (first_goes (waiting pid call kept met) (may_wait && can_wait s.core pid) (try s.core (waiting pid call kept met) call may_wait) (is, k.1) k.2 k.3
         (try-keeps (among_changes (next_numbers s) s.core) s.core (waiting pid call kept met) call may_wait (among_same s.core order.once))
         (try_fine s.core (waiting pid call kept met) call may_wait (has_none call) (λ h. refl)))
 

@@ -119,14 +119,14 @@ module _ {A : Type 0} (p q : ℕ) (entries : List (ℤ × PollMask)) (wait : Boo
     unfolding begin begin_poll
     begun_poll = process (s.core.processes pid) (begin_to p q place s xs pid below order poll)
       where
-        tried : StepTo s (Begin pid poll) (first_tried s.core (waiting pid poll kept false) (wait && can_wait s.core) (try s.core (waiting pid poll kept false) poll wait)) → BegunWhole p q place s xs pid poll PollFirst
+        tried : StepTo s (Begin pid poll) (first_tried s.core (waiting pid poll kept false) (wait && can_wait s.core pid) (try s.core (waiting pid poll kept false) poll wait)) → BegunWhole p q place s xs pid poll PollFirst
         tried to =
             let w : Waiting A numbers = waiting pid poll kept false in
-            first_says p q place s xs pid poll PollFirst IsPoll PollSays poll_course w (wait && can_wait s.core) (try s.core w poll wait) below order
+            first_says p q place s xs pid poll PollFirst IsPoll PollSays poll_course w (wait && can_wait s.core pid) (try s.core w poll wait) below order
             (old s.next_description (omega arith)) (old (s.next_description + 1) (omega arith))
             (try-keeps (among_changes (next_numbers s) s.core) s.core w poll wait (among_same s.core order.once))
             (try_fine s.core w poll wait tt (λ h. refl))
-            (first w (wait && can_wait s.core) (try s.core w poll wait) refl (poll_try s.core w wait))
+            (first w (wait && can_wait s.core pid) (try s.core w poll wait) refl (poll_try s.core w wait))
             (refl, refl) (refl, refl) to
 
         named : (b : Bool) → StepTo s (Begin pid poll) (drawn (next_numbers s) (drawing_map (begun s.core pid poll) (cond b (answered s.core reply) (tried_with s.core kept false wait)))) → BegunWhole p q place s xs pid poll PollFirst

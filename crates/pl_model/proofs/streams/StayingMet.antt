@@ -101,7 +101,7 @@ module _ {A : Type 0} (n : ℕ) (Q : Waiting A numbers → Type 0) (stays : IsOf
     begun_met : (pid : ℕ) (call : Call A) (b : Begun A numbers) → BegunAll Met b → HoldsIn (begun s pid call b).state.parked
     begun_met pid call (Refused errno) k = before
     begun_met pid call (Answered u reply) k = k.1
-    begun_met pid call (Tried u kept met may_wait) k = first_met (waiting pid call kept met) (may_wait && can_wait s) _ (try-keeps met_changes u (waiting pid call kept met) call may_wait k)
+    begun_met pid call (Tried u kept met may_wait) k = first_met (waiting pid call kept met) (may_wait && can_wait s pid) _ (try-keeps met_changes u (waiting pid call kept met) call may_wait k)
 
     again_met : (c : ℕ) (w : Waiting A numbers) (t : Trial A numbers) → get nat_eq s.parked c ≡ Some w → TrialAll Met t → HoldsIn (tried_again c w t).state.parked
     again_met c w (Done u flow reply) here k v g = filtered (λ e. not (nat_eq c e.0)) (flowed u flow).parked (among_flowed s u flow k.0).once (flows u flow k.1) v g

@@ -169,8 +169,8 @@ module _ {A : Type 0} (c : Core A numbers) where
     begun-left pid call (Answered s reply) here = λ n v r g z. absurd (let says : true ≡ false = sym (ap says_parked r) ∙ here in cc)
     begun-left pid call (Tried s kept met may_wait) here =
         let w = waiting pid call kept met in
-        subst (λ z. LeftIfParked (first_tried c w (may_wait && can_wait c) (try z w call may_wait))) (sym here.same)
-        (first-left w (λ d m. live d (c.descriptions d) refl (here.there d m)) (may_wait && can_wait c) (try c w call may_wait) (try-fair c w call may_wait) (try-idle c w call may_wait))
+        subst (λ z. LeftIfParked (first_tried c w (may_wait && can_wait c pid) (try z w call may_wait))) (sym here.same)
+        (first-left w (λ d m. live d (c.descriptions d) refl (here.there d m)) (may_wait && can_wait c pid) (try c w call may_wait) (try-fair c w call may_wait) (try-idle c w call may_wait))
       where
         live : (d : ℕ) (o : Option (Description numbers)) → c.descriptions d ≡ o → IsSome o → is_live c d ≡ true
         live d None e i = absurd (cc)

@@ -94,7 +94,7 @@ module _ {A : Type 0} (c : Core A numbers) (new : NewKeys numbers) (n : ℕ) (w 
   begun_waits : (pid : ℕ) (call : Call A) (b : Begun A numbers) → BegunAll Waits b → Waits (begun c pid call b).state
   begun_waits pid call (Refused errno) k = waits_here
   begun_waits pid call (Answered u reply) k = k
-  begun_waits pid call (Tried u kept met may_wait) k = first_waits u (waiting pid call kept met) (may_wait && can_wait c) _ k (try_parked u (waiting pid call kept met) call may_wait)
+  begun_waits pid call (Tried u kept met may_wait) k = first_waits u (waiting pid call kept met) (may_wait && can_wait c pid) _ k (try_parked u (waiting pid call kept met) call may_wait)
 
   resumed_waits : (k : ℕ) → nat_eq k n ≡ false → (o : Option (Waiting A numbers)) → Waits (resumed c k o).state
   resumed_waits k other None = waits_here

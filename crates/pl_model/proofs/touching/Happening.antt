@@ -55,7 +55,7 @@ module _ {A : Type 0} (c : Core A numbers) (fit : IsFit c) (node : Node numbers)
   begun_leaves : (pid : ℕ) (call : Call A) (b : Begun A numbers) → Fine c node pid call b → Leaves c (begun c pid call b).state node
   begun_leaves pid call (Refused errno) k = same
   begun_leaves pid call (Answered u reply) k = k
-  begun_leaves pid call (Tried u kept met may_wait) k = first_leaves (waiting pid call kept met) (may_wait && can_wait c) _ k
+  begun_leaves pid call (Tried u kept met may_wait) k = first_leaves (waiting pid call kept met) (may_wait && can_wait c pid) _ k
 
   module _ (n : ℕ) (w : Waiting A numbers) (here : get nat_eq c.parked n ≡ Some w) (off : keeps_at c node w ≡ false) where
     -- the call ends

@@ -282,7 +282,7 @@ module _ {A : Type 0} (c : Core A numbers) (new : NewKeys numbers) (n : ℕ) (w 
   pub begun_stays : (pid : ℕ) (call : Call A) (b : Begun A numbers) → BegunAll Stays b → Stays (begun c pid call b).state
   begun_stays pid call (Refused errno) k = here
   begun_stays pid call (Answered u reply) k = k
-  begun_stays pid call (Tried u kept met may_wait) k = first_stays u (waiting pid call kept met) (may_wait && can_wait c) _ k (try_parked u (waiting pid call kept met) call may_wait)
+  begun_stays pid call (Tried u kept met may_wait) k = first_stays u (waiting pid call kept met) (may_wait && can_wait c pid) _ k (try_parked u (waiting pid call kept met) call may_wait)
 
   -- another call ends
   pub end_stays : (u : Core A numbers) (k : ℕ) → nat_eq k n ≡ false → Stays u → Stays (without_call u k)

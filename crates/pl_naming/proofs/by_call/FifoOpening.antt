@@ -83,7 +83,7 @@ module _ {A : Type 0} (m : Caller A) (mode : Mode) (flags : OpenFlags) (fd p : �
   opens new = end new.description (meet c p mode)
 
   abbrev waits_if : Bool → Begins A numbers
-  waits_if nonblocking = refuse_if nonblocking ENXIO (await_other_end c p mode flags)
+  waits_if nonblocking = refuse_if nonblocking ENXIO (await_other_end c pid p mode flags)
 
   abbrev opens_if : Bool → Begins A numbers
   opens_if can = cond can (Draws (λ new. Answered (opens new) (Fd (pos fd)))) (waits_if (has flags.0 nonblock))

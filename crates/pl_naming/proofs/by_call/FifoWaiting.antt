@@ -81,9 +81,9 @@ module _ {A : Type 0} (m : Caller A) (name : List ℕ) (mode : Mode) (flags : Op
   abbrev awaits_if : Bool → Begins A numbers
   awaits_if refused = cond refused (tried c [] false true) (Draws begins)
 
-  refused-is : (spent can : Bool) → (calls.next == last_call) ≡ spent → lets_wait k ≡ can → begin c pid call ≡ awaits_if (spent || not can)
+  refused-is : (spent can : Bool) → (calls.next == last_call) ≡ spent → lets_wait k pid ≡ can → begin c pid call ≡ awaits_if (spent || not can)
   unfolding core_of
-  refused-is spent can is may = waits.begun ∙ (λ i. awaits_if (is i || not ((can_wait-is k ∙ may) i)))
+  refused-is spent can is may = waits.begun ∙ (λ i. awaits_if (is i || not ((can_wait-is k pid ∙ may) i)))
 
   or_true : (b : Bool) → (b || true) ≡ true
   or_true true = refl
@@ -93,24 +93,24 @@ module _ {A : Type 0} (m : Caller A) (name : List ℕ) (mode : Mode) (flags : Op
   abbrev tried_if : Bool → Stepped A numbers
   tried_if can = first_tried c (waiting pid call [] false) can (Wait c moves_none 0)
 
-  tries_none : (spent can : Bool) → (spent || not can) ≡ true → (calls.next == last_call) ≡ spent → lets_wait k ≡ can → core_step c (Begin pid call) ≡ Plain (ended c (tried_if can))
+  tries_none : (spent can : Bool) → (spent || not can) ≡ true → (calls.next == last_call) ≡ spent → lets_wait k pid ≡ can → core_step c (Begin pid call) ≡ Plain (ended c (tried_if can))
   unfolding try
   tries_none spent can refused is may =
       step-tried k pid call process [] false true (Wait c moves_none 0) (refused-is spent can is may ∙ ap awaits_if refused) refl
-      ∙ ap (λ b. Plain (ended c (tried_if b))) (can_wait-is k ∙ may)
+      ∙ ap (λ b. Plain (ended c (tried_if b))) (can_wait-is k pid ∙ may)
 
   -- too many calls wait
-  pub wait-crowded : lets_wait k ≡ false → MakesAtKeys k (Begin pid call) (Fault EAGAIN) k
+  pub wait-crowded : lets_wait k pid ≡ false → MakesAtKeys k (Begin pid call) (Fault EAGAIN) k
   wait-crowded full = does_same k sound (Begin pid call) _ (Fault EAGAIN) (tries_none (calls.next == last_call) false (or_true (calls.next == last_call)) refl full) refl refl
 
   -- no number is left for it
-  pub wait-spent : lets_wait k ≡ true → calls.next ≡ last_call → MakesAtKeys k (Begin pid call) CallsSpent k
+  pub wait-spent : lets_wait k pid ≡ true → calls.next ≡ last_call → MakesAtKeys k (Begin pid call) CallsSpent k
   unfolding core_of
   wait-spent can last =
       let is : (calls.next == last_call) ≡ true = eq-eqb calls.next last_call last in
       does_same k sound (Begin pid call) _ CallsSpent (tries_none true true refl is can ∙ ap (λ b. Plain (ended c (cond b (stepped c CallsSpent) (record { state = parked (flowed c moves_none) (waiting pid call [] false); reply = Parked calls.next; flow = moves_none })))) is) refl refl
 
-  module _ (can : lets_wait k ≡ true) (left : calls.next ≢ last_call) where
+  module _ (can : lets_wait k pid ≡ true) (left : calls.next ≢ last_call) where
     one_left : (calls.next == last_call) ≡ false
     one_left = ne_eqb calls.next last_call left
 
@@ -124,7 +124,7 @@ module _ {A : Type 0} (m : Caller A) (name : List ℕ) (mode : Mode) (flags : Op
     tries : (d : ℕ) → begun c pid call (begins (record { description = d; other_description = d; pipe = d; file = d })) ≡ comes d
     unfolding try flowed core_of
     tries d =
-        ap (λ b. first_tried c (waiting pid call (d ∷ []) false) b (Wait (described_by d) moves_none 0)) (can_wait-is k ∙ can)
+        ap (λ b. first_tried c (waiting pid call (d ∷ []) false) b (Wait (described_by d) moves_none 0)) (can_wait-is k pid ∙ can)
         ∙ ap (λ b. cond b (stepped c CallsSpent) (comes d)) one_left
 
     pub wait-wants : MayWantAtKeys k (Begin pid call)

@@ -125,22 +125,22 @@ module _ {A : Type 0} (m : Caller A) (entries : List (ℤ × PollMask)) where
       abbrev tried_if : Bool → Stepped A numbers
       tried_if can = first_tried c w can (Wait c still 0)
 
-      tries : (can : Bool) → lets_wait k ≡ can → core_step c x ≡ Plain (ended c (tried_if can))
-      tries can is = machine-waits c pid entries true there not_over none refl ∙ ap (λ b. Plain (ended c (tried_if b))) (can_wait-is k ∙ is)
+      tries : (can : Bool) → lets_wait k pid ≡ can → core_step c x ≡ Plain (ended c (tried_if can))
+      tries can is = machine-waits c pid entries true there not_over none refl ∙ ap (λ b. Plain (ended c (tried_if b))) (can_wait-is k pid ∙ is)
 
-      pub poll-crowded : lets_wait k ≡ false → MakesAtKeys k x (Fault EAGAIN) k
+      pub poll-crowded : lets_wait k pid ≡ false → MakesAtKeys k x (Fault EAGAIN) k
       poll-crowded full = does_same k sound x (stepped c (Fault EAGAIN)) (Fault EAGAIN) (tries false full) refl refl
 
-      waits : lets_wait k ≡ true → (spent : Bool) → (k.calls.next == last_call) ≡ spent → core_step c x ≡ Plain (ended c (becomes c spent))
+      waits : lets_wait k pid ≡ true → (spent : Bool) → (k.calls.next == last_call) ≡ spent → core_step c x ≡ Plain (ended c (becomes c spent))
       unfolding core_of
       waits can spent is =
           tries true can
           ∙ ap (λ b. Plain (ended c (becomes (flowed c still) b))) is ∙ ap (λ s. Plain (ended c (becomes s spent))) (flowed-still k)
 
-      pub poll-spent : lets_wait k ≡ true → (k.calls.next == last_call) ≡ true → MakesAtKeys k x CallsSpent k
+      pub poll-spent : lets_wait k pid ≡ true → (k.calls.next == last_call) ≡ true → MakesAtKeys k x CallsSpent k
       poll-spent can spent = does_same k sound x (stepped c CallsSpent) CallsSpent (waits can true spent) refl refl
 
-      module _ (can : lets_wait k ≡ true) (left : (k.calls.next == last_call) ≡ false) where
+      module _ (can : lets_wait k pid ≡ true) (left : (k.calls.next == last_call) ≡ false) where
         pub poll-waits-wants : MayWantAtKeys k x
         poll-waits-wants = wants_plain k k x _ (waits can false left) refl
 

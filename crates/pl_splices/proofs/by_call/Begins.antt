@@ -100,7 +100,7 @@ module _ {A : Type 0} (m : Caller A) (asked : Call A) (from to : Side) (len : �
   w = waiting pid asked (from.key ∷ to.key ∷ []) false
 
   module _ (asks : IsMove asked from to len is_tee) (begins : begin c pid asked ≡ tried c (from.key ∷ to.key ∷ []) false (not nonblock)) where
-    came : (t : Trial A numbers) → trial k from to len is_tee ≡ t → core_step c x ≡ Plain (ended c (first_tried c w (not nonblock && can_wait c) t))
+    came : (t : Trial A numbers) → trial k from to len is_tee ≡ t → core_step c x ≡ Plain (ended c (first_tried c w (not nonblock && can_wait c pid) t))
     came t e = step-tried k pid asked process (from.key ∷ to.key ∷ []) false (not nonblock) t begins (move-tries k from to len is_tee asked w (not nonblock) asks refl ∙ e)
 
     pub move-ends : (reply : Reply A) (new : Contents A) → Ends k from to len is_tee reply new → MakesAtKeys k x reply new
@@ -113,10 +113,10 @@ module _ {A : Type 0} (m : Caller A) (asked : Call A) (from to : Side) (len : �
     move-wants e = wants_plain k k x _ (came (Done e.state e.flow (count e.many)) e.came) refl
 
     module _ (waits : trial k from to len is_tee ≡ Wait c still 0) where
-      pub move-refused : (reply : Reply A) → refusal_in k nonblock ≡ Some reply → MakesAtKeys k x reply k
+      pub move-refused : (reply : Reply A) → refusal_in k pid nonblock ≡ Some reply → MakesAtKeys k x reply k
       move-refused reply h = does_same k sound x (stepped c reply) reply (came (Wait c still 0) waits ∙ ap (λ z. Plain (ended c z)) (refused k w nonblock c still 0 reply h)) refl refl
 
-      module _ (left : refusal_in {A = A} k nonblock ≡ None) where
+      module _ (left : refusal_in {A = A} k pid nonblock ≡ None) where
         stands : core_step c x ≡ Plain (ended c (record { state = parked c w; reply = Parked k.calls.next; flow = still }))
         stands = came (Wait c still 0) waits ∙ ap (λ z. Plain (ended c z)) (parks k w nonblock c still 0 left ∙ ap (λ z. record { state = parked z w; reply = Parked k.calls.next; flow = still }) (flowed-still k))
 
@@ -127,4 +127,4 @@ module _ {A : Type 0} (m : Caller A) (asked : Call A) (from to : Side) (len : �
         move-waits some goes = does_plain k (with_call k (call_between from.key to.key pid asked)) x _ (Parked k.calls.next) stands refl
             (call_settles k sound (call_between from.key to.key pid asked) (move_waits from to len is_tee pid asked asks some)
             (λ d h. either_one from.key to.key d (λ q. IsSome (at k.opened q)) (source_there from to len is_tee k goes) (target_there from to len is_tee k goes) h)
-            (is_left k nonblock left) (move_keeps from to len is_tee k goes pid asked asks) process)
+            (is_left k pid nonblock left) (move_keeps from to len is_tee k goes pid asked asks) process)

@@ -1,8 +1,11 @@
 -- What a call comes to at the kernel's keys.
-use Rattle.std.proofs.Common.{◌≡◌, ℕ, Bool, true, false, cond, List, Option, Some, None, refl, sym, ◌∙◌, ap, subst}
-use Rattle.std.specs.Prelude.{not, ◌&&◌, ◌||◌, nat_lt, ℤ, pos, negsuc, option_map, option_and_then, is_some, IfSome, IsSome}
+use Rattle.std.proofs.Common.{◌≡◌, ℕ, ◌+◌, Bool, true, false, cond, List, [], ◌∷◌, map, Option, Some, None, refl, sym, ◌∙◌, ap, subst}
+use Rattle.std.specs.Prelude.{count_by, length, nat_eq, not, ◌&&◌, ◌||◌, nat_lt, ℤ, pos, negsuc, option_map, option_and_then, is_some, IfSome, IsSome}
 use Rattle.std.proofs.lemmas.Bool.{eq-eqb}
 use Rattle.std.proofs.lemmas.List.{length-map}
+use Rattle.std.proofs.lemmas.List.Sums.{sum_by-cons}
+use Rattle.pl_model.specs.Map.{Map}
+use Rattle.pl_parked.specs.declared.call.ParkedCall.{ParkedCall}
 use Rattle.pl_model.specs.declared.calls.Mode.{Mode}
 use Rattle.pl_model.specs.declared.calls.Call.{Call}
 use Rattle.pl_model.specs.declared.calls.Step.{Step}
@@ -14,7 +17,7 @@ use Rattle.pl_model.specs.declared.node.Node.{Node}
 use Rattle.pl_model.specs.declared.node.Node.TheVariants as node
 use Rattle.pl_model.specs.Modes.{any_mode}
 use Rattle.pl_model.specs.Keys.{NewKeys, Drawing, PipeNode, Plain, Draws, drawn, drawing_map}
-use Rattle.pl_model.specs.State.{Core, Pipe, described, row, can_wait, can_name}
+use Rattle.pl_model.specs.State.{Core, Pipe, Waiting, described, row, waiting_calls_of, can_wait, can_name}
 use Rattle.pl_model.specs.Live.{is_live, is_open, is_end}
 use Rattle.pl_model.specs.Settle.{settle}
 use Rattle.pl_model.specs.Trial.{Trial, Begun, Refused, Answered, Tried}
@@ -27,7 +30,7 @@ use Rattle.pl_model.proofs.settling.WhoIsLive.{has_end, end_passes, settled-live
 use Rattle.pl_state.specs.declared.access.OpenNode.{OpenNode}
 use Rattle.pl_desc.specs.Rows.{at, is_pid, row_of}
 use Rattle.pl_desc.specs.Descs.{Opened, ends_on}
-use Rattle.pl_state.specs.Contents.{Contents, IsThere, node_of, description_of, waiting_of, core_of, lets_wait, lets_name}
+use Rattle.pl_state.specs.Contents.{Contents, IsThere, node_of, description_of, waiting_of, core_of, waiting_count, lets_wait, lets_name}
 use Rattle.pl_state.specs.Opens.{OpenOn, Opens}
 use Rattle.pl_state.specs.Sound.{IsSound, IsWhole}
 use Rattle.pl_state.specs.Makes.{MakesAtKeys, MayWantAtKeys, is_parked, ParksAtKeys}
@@ -64,10 +67,10 @@ module _ {A : Type 0} (k : Contents A) (pid : ℕ) (call : Call A) (process : is
   step-answered s reply e = step-begin ∙ ap (λ b. drawing_map (ended c) (drawing_map (begun c pid call) b)) e
 
   pub step-tried : (kept : List ℕ) (met may_wait : Bool) (t : Trial A numbers) → begin c pid call ≡ Plain (Tried c kept met may_wait) → try c (waiting pid call kept met) call may_wait ≡ t
-      → core_step c (Begin pid call) ≡ Plain (ended c (first_tried c (waiting pid call kept met) (may_wait && can_wait c) t))
+      → core_step c (Begin pid call) ≡ Plain (ended c (first_tried c (waiting pid call kept met) (may_wait && can_wait c pid) t))
   step-tried kept met may_wait t e h =
       step-begin ∙ ap (λ b. drawing_map (ended c) (drawing_map (begun c pid call) b)) e
-      ∙ ap (λ t. Plain (ended c (first_tried c (waiting pid call kept met) (may_wait && can_wait c) t))) h
+      ∙ ap (λ t. Plain (ended c (first_tried c (waiting pid call kept met) (may_wait && can_wait c pid) t))) h
 
   pub step-draws : (f : NewKeys numbers → Begun A numbers) → begin c pid call ≡ Draws f → core_step c (Begin pid call) ≡ Draws (λ new. ended c (begun c pid call (f new)))
   step-draws f e = step-begin ∙ ap (λ b. drawing_map (ended c) (drawing_map (begun c pid call) b)) e
@@ -76,18 +79,32 @@ module _ {A : Type 0} (k : Contents A) where
   abbrev core : Core A numbers
   core = core_of k
 
-  -- what the limits let be
-  pub can_wait-is : can_wait core ≡ lets_wait k
+  pub waiting_calls-are : (pid : ℕ) → waiting_calls_of core pid ≡ waiting_count k pid
   unfolding core_of
-  can_wait-is = ap (λ n. nat_lt n k.limits.waiting_max) (length-map k.calls.calls (λ e. (e.0, waiting_of e.1)))
+  waiting_calls-are pid = of_process k.calls.calls
+    where
+      of_process : (calls : Map ℕ (ParkedCall A)) → count_by (λ (e : ℕ × Waiting A numbers). nat_eq e.1.pid pid) (map (λ (e : ℕ × ParkedCall A). (e.0, waiting_of e.1)) calls) ≡ count_by (λ (e : ℕ × ParkedCall A). nat_eq e.1.pid pid) calls
+      of_process [] = refl
+      of_process (e ∷ es) =
+          sum_by-cons (λ (e : ℕ × Waiting A numbers). cond (nat_eq e.1.pid pid) 1 0) (e.0, waiting_of e.1) (map (λ (e : ℕ × ParkedCall A). (e.0, waiting_of e.1)) es)
+          ∙ ap (λ n. cond (nat_eq e.1.pid pid) 1 0 + n) (of_process es)
+          ∙ sym (sum_by-cons (λ (e : ℕ × ParkedCall A). cond (nat_eq e.1.pid pid) 1 0) e es)
+
+  -- what the limits let be
+  pub can_wait-is : (pid : ℕ) → can_wait core pid ≡ lets_wait k pid
+  unfolding core_of
+  can_wait-is pid =
+      let of_process = waiting_calls-are pid in
+      let all : length core.parked ≡ length k.calls.calls = length-map k.calls.calls (λ e. (e.0, waiting_of e.1)) in
+      λ i. nat_lt (of_process i) k.limits.waiting_of_each && nat_lt (all i) k.limits.waiting_max
 
   pub can_name-is : can_name core ≡ lets_name k
   unfolding core_of
   can_name-is = ap (λ n. nat_lt n k.limits.names_max) (length-map k.nodes.names (λ e. (e.0, node_of e.1)))
 
   -- a call may wait, and fewer do than the limit
-  pub may_wait-is : (nonblock : Bool) → (not nonblock && can_wait core) ≡ not (nonblock || not (lets_wait k))
-  may_wait-is nonblock = ap (λ b. not nonblock && b) can_wait-is ∙ both nonblock (lets_wait k)
+  pub may_wait-is : (pid : ℕ) (nonblock : Bool) → (not nonblock && can_wait core pid) ≡ not (nonblock || not (lets_wait k pid))
+  may_wait-is pid nonblock = ap (λ b. not nonblock && b) (can_wait-is pid) ∙ both nonblock (lets_wait k pid)
     where
       both : (a b : Bool) → (not a && b) ≡ not (a || not b)
       both true b = refl

@@ -166,7 +166,7 @@ module _ {A : Type 0} (m : Caller A) (fd : ℤ) (e : OpenNode) (f : ℕ) (is_fil
         write-file-tries k e.key f (on_file opens) held there (waiting pid (Call.Write fd bytes) (e.key ∷ []) false) refl fd bytes (may_block (description_of p))
         ∙ ap row_of (is_held k e.key f (on_file opens) held there (waiting pid (Call.Write fd bytes) (e.key ∷ []) false) refl)
 
-    came_to : (full : Bool) → nat_le m.limits.file_max start ≡ full → core_step core write_step ≡ Plain (ended core (first_tried core (waiting pid (Call.Write fd bytes) (e.key ∷ []) false) (may_block (description_of p) && can_wait core) (row full)))
+    came_to : (full : Bool) → nat_le m.limits.file_max start ≡ full → core_step core write_step ≡ Plain (ended core (first_tried core (waiting pid (Call.Write fd bytes) (e.key ∷ []) false) (may_block (description_of p) && can_wait core pid) (row full)))
     came_to full is =
         step-tried k pid (Call.Write fd bytes) process (e.key ∷ []) false (may_block (description_of p)) (row full)
         (at_written m fd bytes e opens ∙ ap (λ b. cond b (answered core (count 0)) (tried core (e.key ∷ []) false (may_block (description_of p)))) some)

@@ -85,25 +85,25 @@ module _ {A : Type 0} (m : Caller A) (fd : ℤ) (n : ℕ) where
       abbrev case : ReadCase
       case = read_case n (front p) (has_writer k.opened o.pipe)
 
-      came : (row : ReadCase) → case ≡ row → core_step c x ≡ Plain (ended c (first_tried c w (not o.nonblock && can_wait c) (read_row c o.pipe p row)))
+      came : (row : ReadCase) → case ≡ row → core_step c x ≡ Plain (ended c (first_tried c w (not o.nonblock && can_wait c pid) (read_row c o.pipe p row)))
       came row r =
           step-tried k pid call process (o.key ∷ []) false (may_block (description_of opens.on.opened)) (read_row c o.pipe p row)
           (at_end ∙ ap (λ b. cond b (answered c (Bytes [])) (tried c (o.key ∷ []) false (may_block (description_of opens.on.opened)))) some)
           (read-tries k sound o.key o.pipe opens.on p is w refl fd n (may_block (description_of opens.on.opened)) ∙ ap (read_row c o.pipe p) r)
-          ∙ ap (λ b. Plain (ended c (first_tried c w (b && can_wait c) (read_row c o.pipe p row)))) (may_block-is k reads pid fd (of_end o) opens)
+          ∙ ap (λ b. Plain (ended c (first_tried c w (b && can_wait c pid) (read_row c o.pipe p row)))) (may_block-is k reads pid fd (of_end o) opens)
 
       pub read-end : case ≡ ReadCase.EndOfFile → MakesAtKeys k x (Bytes []) k
       read-end r = does_same k sound x _ (Bytes []) (came ReadCase.EndOfFile r) refl (flowed-still k)
 
-      pub read-refused : (reply : Reply A) → case ≡ ReadCase.Waits → refusal_in k o.nonblock ≡ Some reply → MakesAtKeys k x reply k
+      pub read-refused : (reply : Reply A) → case ≡ ReadCase.Waits → refusal_in k pid o.nonblock ≡ Some reply → MakesAtKeys k x reply k
       read-refused reply r h = does_same k sound x (stepped c reply) reply (came ReadCase.Waits r ∙ ap (λ z. Plain (ended c z)) (refused k w o.nonblock c still 0 reply h)) refl refl
 
-      module _ (r : case ≡ ReadCase.Waits) (left : refusal_in {A = A} k o.nonblock ≡ None) where
+      module _ (r : case ≡ ReadCase.Waits) (left : refusal_in {A = A} k pid o.nonblock ≡ None) where
         waits : core_step c x ≡ Plain (ended c (record { state = parked c w; reply = Parked k.calls.next; flow = still }))
         waits = came ReadCase.Waits r ∙ ap (λ z. Plain (ended c z)) (parks k w o.nonblock c still 0 left ∙ ap (λ z. record { state = parked z w; reply = Parked k.calls.next; flow = still }) (flowed-still k))
 
         pub read-waits : MakesAtKeys k x (Parked k.calls.next) (with_call k (call_on o.key pid call 0))
-        read-waits = does_plain k (with_call k (call_on o.key pid call 0)) x _ (Parked k.calls.next) waits refl (park_settles k sound o.key opens.on.opened opens.on.here (is_left k o.nonblock left) pid call 0 tt refl process (subst (MayKeep (call_on o.key pid call 0)) (sym opens.on.node) tt))
+        read-waits = does_plain k (with_call k (call_on o.key pid call 0)) x _ (Parked k.calls.next) waits refl (park_settles k sound o.key opens.on.opened opens.on.here (is_left k pid o.nonblock left) pid call 0 tt refl process (subst (MayKeep (call_on o.key pid call 0)) (sym opens.on.node) tt))
 
         pub read-waits-parks : ParksAtKeys k x
         read-waits-parks = parks_plain k k x _ waits refl

@@ -28,11 +28,11 @@ module _ {A : Type 0} (k : Contents A) (w : Waiting A numbers) (nonblock : Bool)
   waits spent = cond spent (stepped c CallsSpent) as_parked
 
   abbrev refuses : Bool
-  refuses = nonblock || not (lets_wait k)
+  refuses = nonblock || not (lets_wait k w.pid)
 
-  pub refused : (reply : Reply A) → refusal_in k nonblock ≡ Some reply → first_tried c w (not nonblock && can_wait c) (Wait s flow taken) ≡ stepped c reply
+  pub refused : (reply : Reply A) → refusal_in k w.pid nonblock ≡ Some reply → first_tried c w (not nonblock && can_wait c w.pid) (Wait s flow taken) ≡ stepped c reply
   unfolding core_of
-  refused reply h = ap (λ b. first_tried c w b (Wait s flow taken)) (may_wait-is k nonblock) ∙ by refuses h
+  refused reply h = ap (λ b. first_tried c w b (Wait s flow taken)) (may_wait-is k w.pid nonblock) ∙ by refuses h
     where
       at_last : (spent : Bool) → why false spent ≡ Some reply → waits spent ≡ stepped c reply
       at_last true h = (let is : CallsSpent ≡ reply = cc in ap (stepped c) is)
@@ -42,9 +42,9 @@ module _ {A : Type 0} (k : Contents A) (w : Waiting A numbers) (nonblock : Bool)
       by true h = (let is : Fault EAGAIN ≡ reply = cc in ap (stepped c) is)
       by false h = at_last (k.calls.next == last_call) h
 
-  pub parks : refusal_in {A = A} k nonblock ≡ None → first_tried c w (not nonblock && can_wait c) (Wait s flow taken) ≡ as_parked
+  pub parks : refusal_in {A = A} k w.pid nonblock ≡ None → first_tried c w (not nonblock && can_wait c w.pid) (Wait s flow taken) ≡ as_parked
   unfolding core_of
-  parks h = ap (λ b. first_tried c w b (Wait s flow taken)) (may_wait-is k nonblock) ∙ by refuses h
+  parks h = ap (λ b. first_tried c w b (Wait s flow taken)) (may_wait-is k w.pid nonblock) ∙ by refuses h
     where
       at_last : (spent : Bool) → why false spent ≡ None → waits spent ≡ as_parked
       at_last true h = absurd (cc)
@@ -55,8 +55,8 @@ module _ {A : Type 0} (k : Contents A) (w : Waiting A numbers) (nonblock : Bool)
       by false h = at_last (k.calls.next == last_call) h
 
 -- where it isn't refused, a number is left
-pub is_left : {A : Type 0} (k : Contents A) (nonblock : Bool) → refusal_in {A = A} k nonblock ≡ None → k.calls.next ≢ last_call
-is_left {A} k nonblock h e = by (nonblock || not (lets_wait k)) (k.calls.next == last_call) (eq-eqb k.calls.next last_call e) h
+pub is_left : {A : Type 0} (k : Contents A) (pid : ℕ) (nonblock : Bool) → refusal_in {A = A} k pid nonblock ≡ None → k.calls.next ≢ last_call
+is_left {A} k pid nonblock h e = by (nonblock || not (lets_wait k pid)) (k.calls.next == last_call) (eq-eqb k.calls.next last_call e) h
   where
     by : (b spent : Bool) → spent ≡ true → ◌≡◌ {A = Option (Reply A)} (if b then Some (Fault EAGAIN) else if spent then Some CallsSpent else None) None → ⊥
     by true spent s h = cc

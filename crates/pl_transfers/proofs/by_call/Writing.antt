@@ -81,13 +81,13 @@ module _ {A : Type 0} (m : Caller A) (fd : ℤ) (bytes : List ℕ) where
       abbrev pub Comes_to : WriteCase → Type 0
       Comes_to row = write_case (length bytes) 0 (room p) (has_reader k.opened o.pipe) (not o.nonblock) ≡ row
 
-      came : (row : WriteCase) → Comes_to row → core_step c x ≡ Plain (ended c (first_tried c w (not o.nonblock && can_wait c) (write_row c o.pipe bytes 0 row)))
+      came : (row : WriteCase) → Comes_to row → core_step c x ≡ Plain (ended c (first_tried c w (not o.nonblock && can_wait c pid) (write_row c o.pipe bytes 0 row)))
       came row r =
           step-tried k pid call process (o.key ∷ []) false (may_block (description_of opens.on.opened)) (write_row c o.pipe bytes 0 (write_case (length bytes) 0 (room p) (has_reader k.opened o.pipe) (may_block (description_of opens.on.opened))))
           (at_end ∙ ap (λ b. cond b (answered c (count 0)) (tried c (o.key ∷ []) false (may_block (description_of opens.on.opened)))) some)
           (write-tries k sound o.key o.pipe opens.on p is w refl fd bytes (may_block (description_of opens.on.opened)))
-          ∙ ap (λ b. Plain (ended c (first_tried c w (b && can_wait c) (write_row c o.pipe bytes 0 (write_case (length bytes) 0 (room p) (has_reader k.opened o.pipe) b))))) (may_block-is k writes pid fd (of_end o) opens)
-          ∙ ap (λ z. Plain (ended c (first_tried c w (not o.nonblock && can_wait c) (write_row c o.pipe bytes 0 z)))) r
+          ∙ ap (λ b. Plain (ended c (first_tried c w (b && can_wait c pid) (write_row c o.pipe bytes 0 (write_case (length bytes) 0 (room p) (has_reader k.opened o.pipe) b))))) (may_block-is k writes pid fd (of_end o) opens)
+          ∙ ap (λ z. Plain (ended c (first_tried c w (not o.nonblock && can_wait c pid) (write_row c o.pipe bytes 0 z)))) r
 
       pub write-broken : Comes_to WriteCase.Broken → MakesAtKeys k x (Fault EPIPE) k
       write-broken r = does_same k sound x _ (Fault EPIPE) (came WriteCase.Broken r) refl (flowed-still k)
@@ -96,17 +96,17 @@ module _ {A : Type 0} (m : Caller A) (fd : ℤ) (bytes : List ℕ) where
         abbrev part : List ℕ
         part = slice_range bytes from to
 
-        pub write-refused : (reply : Reply A) → refusal_in k o.nonblock ≡ Some reply → MakesAtKeys k x reply k
+        pub write-refused : (reply : Reply A) → refusal_in k pid o.nonblock ≡ Some reply → MakesAtKeys k x reply k
         write-refused reply h = does_same k sound x (stepped c reply) reply (came (WriteCase.Waits from to) r ∙ ap (λ z. Plain (ended c z)) (refused k w o.nonblock c (gains o.pipe part) to reply h)) refl refl
 
-        module _ (left : refusal_in {A = A} k o.nonblock ≡ None) where
+        module _ (left : refusal_in {A = A} k pid o.nonblock ≡ None) where
           waits : core_step c x ≡ Plain (ended c (record { state = parked (set_pipe c o.pipe (gain part p)) (record w { taken = to }); reply = Parked k.calls.next; flow = gains o.pipe part }))
           waits =
               came (WriteCase.Waits from to) r
               ∙ ap (λ z. Plain (ended c z)) (parks k w o.nonblock c (gains o.pipe part) to left ∙ ap (λ z. record { state = parked z (record w { taken = to }); reply = Parked k.calls.next; flow = gains o.pipe part }) (flowed-in k o.pipe p is part))
 
           pub write-waits : (new : Contents A) → MayWait {A = A} (Call.Write fd bytes) to → Adds (with_call k (call_on o.key pid call to)) o.pipe part new → MakesAtKeys k x (Parked k.calls.next) new
-          write-waits new within adds = does_plain k new x _ (Parked k.calls.next) waits refl (park_moves k sound o.key opens.on.opened opens.on.here (is_left k o.nonblock left) pid call to tt within process (subst (MayKeep (call_on o.key pid call to)) (sym opens.on.node) tt) o.pipe opens.on p is part new adds)
+          write-waits new within adds = does_plain k new x _ (Parked k.calls.next) waits refl (park_moves k sound o.key opens.on.opened opens.on.here (is_left k pid o.nonblock left) pid call to tt within process (subst (MayKeep (call_on o.key pid call to)) (sym opens.on.node) tt) o.pipe opens.on p is part new adds)
 
           pub write-waits-wants : MayWantAtKeys k x
           write-waits-wants = wants_plain k k x _ waits refl

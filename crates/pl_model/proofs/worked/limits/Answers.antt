@@ -1,4 +1,4 @@
-use Rattle.pl_model.proofs.computed.LimitExamples.{names_up_to_the_limit, waiting_calls_up_to_the_limit, no_call_may_wait, capacities_up_to_the_limit, descriptors_up_to_the_limit, descriptors_at_the_ends, descriptions_up_to_the_limit, processes_up_to_the_limit, entries_up_to_the_limit}
+use Rattle.pl_model.proofs.computed.LimitExamples.{names_up_to_the_limit, waiting_calls_up_to_the_limit, waiting_calls_of_each_up_to_the_limit, no_call_may_wait, capacities_up_to_the_limit, descriptors_up_to_the_limit, descriptors_at_the_ends, descriptions_up_to_the_limit, processes_up_to_the_limit, entries_up_to_the_limit}
 use Rattle.pl_model.proofs.worked.limits.Goals as goal
 
 pub returns-clause-names_up_to_the_limit : goal.returns-clause-names_up_to_the_limit
@@ -6,6 +6,9 @@ returns-clause-names_up_to_the_limit g c = names_up_to_the_limit _
 
 pub returns-clause-waiting_calls_up_to_the_limit : goal.returns-clause-waiting_calls_up_to_the_limit
 returns-clause-waiting_calls_up_to_the_limit g c = waiting_calls_up_to_the_limit _
+
+pub returns-clause-waiting_calls_of_each_up_to_the_limit : goal.returns-clause-waiting_calls_of_each_up_to_the_limit
+returns-clause-waiting_calls_of_each_up_to_the_limit g c = waiting_calls_of_each_up_to_the_limit _
 
 pub returns-clause-no_call_may_wait : goal.returns-clause-no_call_may_wait
 returns-clause-no_call_may_wait g c = no_call_may_wait _

@@ -35,20 +35,20 @@ pub returns-then-not-can_wait-clause-done : goal.returns-then-not-can_wait-claus
 returns-then-not-can_wait-clause-done g c =
     let m = caller c.kernel.inside c.kernel.invariant c.args.kernel.now c.kernel.view_is c.args.pid c.requires.process in
     let waits = subst (λ (k : Contents g.row.A.Denot). Waits k c.args.pid c.args.name c.args.end.pipe c.args.end.mode c.args.end.flags) (sym c.kernel.view_is) c.requires.waits in
-    rw (← c.kernel.view_is) (wait-crowded m c.args.name c.args.end.mode c.args.end.flags c.args.end.pipe waits (ap lets_wait c.kernel.view_is ∙ sym c.can_wait.ensures ∙ c.if-not-can_wait.true))
+    rw (← c.kernel.view_is) (wait-crowded m c.args.name c.args.end.mode c.args.end.flags c.args.end.pipe waits (ap (λ k. lets_wait k c.args.pid) c.kernel.view_is ∙ sym c.can_wait.ensures ∙ c.if-not-can_wait.true))
 
 pub returns-then-spent-clause-done : goal.returns-then-spent-clause-done
 returns-then-spent-clause-done g c =
     let v = (goal.at.returns-then-spent-clause-done g c).After-spent in
-    rw (← c.kernel.view_is) (wait-spent (m g v) c.args.name c.args.end.mode c.args.end.flags c.args.end.pipe (waits g v) (ap lets_wait c.kernel.view_is ∙ sym c.can_wait.ensures ∙ c.if-not-can_wait.false) (eqb-true c.kernel.inside.parked.next last_call (sym c.spent.ensures ∙ c.if-spent.true)))
+    rw (← c.kernel.view_is) (wait-spent (m g v) c.args.name c.args.end.mode c.args.end.flags c.args.end.pipe (waits g v) (ap (λ k. lets_wait k c.args.pid) c.kernel.view_is ∙ sym c.can_wait.ensures ∙ c.if-not-can_wait.false) (eqb-true c.kernel.inside.parked.next last_call (sym c.spent.ensures ∙ c.if-spent.true)))
 
 pub returns-in_err-park_open-clause-wanted : goal.returns-in_err-park_open-clause-wanted
 returns-in_err-park_open-clause-wanted g c =
     let v = (goal.at.returns-in_err-park_open-clause-wanted g c).After-spent in
-    on_err c.from_residual.result _ (rw (← c.kernel.view_is) (wait-wants (m g v) c.args.name c.args.end.mode c.args.end.flags c.args.end.pipe (waits g v) (ap lets_wait c.kernel.view_is ∙ sym c.can_wait.ensures ∙ c.if-not-can_wait.false) (left g v c.if-spent.false)))
+    on_err c.from_residual.result _ (rw (← c.kernel.view_is) (wait-wants (m g v) c.args.name c.args.end.mode c.args.end.flags c.args.end.pipe (waits g v) (ap (λ k. lets_wait k c.args.pid) c.kernel.view_is ∙ sym c.can_wait.ensures ∙ c.if-not-can_wait.false) (left g v c.if-spent.false)))
 
 -- what it leaves
-made : (g : Over) (c : After-unhang_if g) (can : lets_wait (view_of c.kernel.inside) ≡ true) (left : c.kernel.inside.parked.next ≢ last_call)
+made : (g : Over) (c : After-unhang_if g) (can : lets_wait (view_of c.kernel.inside) c.args.pid ≡ true) (left : c.kernel.inside.parked.next ≢ last_call)
     → (IsSound g.row.A.Denot (contents c.park_open.new.descs (nodes_of c.unhang_if.new.nodes) c.mark_met.new.self c.kernel.inside.limits)) × (AreCounted g.row.A.Denot c.kernel.inside.limits c.park_open.new.descs c.mark_met.new.self.calls)
     × MakesAtKeys (view_of c.kernel.inside) (Begin c.args.pid (Call.OpenName c.args.name c.args.end.mode c.args.end.flags)) (Parked c.kernel.inside.parked.next) (contents c.park_open.new.descs (nodes_of c.unhang_if.new.nodes) c.mark_met.new.self c.kernel.inside.limits)
 made g c can left =
@@ -65,9 +65,9 @@ made g c can left =
 pub invariant_of-kernel-2 : goal.invariant_of-kernel-2
 invariant_of-kernel-2 g c =
     let v = goal.at.invariant_of-kernel-2 g c in
-    let all = made g v.After-unhang_if (ap lets_wait c.kernel.view_is ∙ sym c.can_wait.ensures ∙ c.if-not-can_wait.false) (left g v.After-spent c.if-spent.false) in (all.0, all.1)
+    let all = made g v.After-unhang_if (ap (λ k. lets_wait k c.args.pid) c.kernel.view_is ∙ sym c.can_wait.ensures ∙ c.if-not-can_wait.false) (left g v.After-spent c.if-spent.false) in (all.0, all.1)
 
 pub returns-clause-done : goal.returns-clause-done
 returns-clause-done g c =
     let v = goal.at.returns-clause-done g c in
-    rw (← c.kernel.view_is, c.next_number-number.ensures.value) (made g v.After-unhang_if (ap lets_wait c.kernel.view_is ∙ sym c.can_wait.ensures ∙ c.if-not-can_wait.false) (left g v.After-spent c.if-spent.false)).2
+    rw (← c.kernel.view_is, c.next_number-number.ensures.value) (made g v.After-unhang_if (ap (λ k. lets_wait k c.args.pid) c.kernel.view_is ∙ sym c.can_wait.ensures ∙ c.if-not-can_wait.false) (left g v.After-spent c.if-spent.false)).2

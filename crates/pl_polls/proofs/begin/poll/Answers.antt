@@ -80,7 +80,7 @@ returns-then-not-can_wait-clause-done g c =
     let none = found_is g v c.is_ready.result false c.is_ready.ensures c.if-is_ready.false in
     subst (λ b. MakesAtKeys c.args.kernel.now (Begin c.args.pid (Poll c.args.entries b)) (Fault EAGAIN) c.args.kernel.now) (sym c.if-not-wait.false)
     (subst (λ (z : Contents g.row.A.Denot). MakesAtKeys z (Begin c.args.pid (Poll c.args.entries true)) (Fault EAGAIN) z) c.kernel.view_is
-    (poll-crowded (calls_on g v) c.args.entries (few g v c.poll_entries.result c.poll_entries.ensures c.if-asked-poll_entries.false) none (ap lets_wait c.kernel.view_is ∙ sym c.can_wait.ensures ∙ c.if-not-can_wait.true)))
+    (poll-crowded (calls_on g v) c.args.entries (few g v c.poll_entries.result c.poll_entries.ensures c.if-asked-poll_entries.false) none (ap (λ k. lets_wait k c.args.pid) c.kernel.view_is ∙ sym c.can_wait.ensures ∙ c.if-not-can_wait.true)))
 
 pub returns-then-spent-clause-done : goal.returns-then-spent-clause-done
 returns-then-spent-clause-done g c =
@@ -88,7 +88,7 @@ returns-then-spent-clause-done g c =
     let none = found_is g v c.is_ready.result false c.is_ready.ensures c.if-is_ready.false in
     subst (λ b. MakesAtKeys c.args.kernel.now (Begin c.args.pid (Poll c.args.entries b)) CallsSpent c.args.kernel.now) (sym c.if-not-wait.false)
     (subst (λ (z : Contents g.row.A.Denot). MakesAtKeys z (Begin c.args.pid (Poll c.args.entries true)) CallsSpent z) c.kernel.view_is
-    (poll-spent (calls_on g v) c.args.entries (few g v c.poll_entries.result c.poll_entries.ensures c.if-asked-poll_entries.false) none (ap lets_wait c.kernel.view_is ∙ sym c.can_wait.ensures ∙ c.if-not-can_wait.false) (sym c.spent.ensures ∙ c.if-spent.true)))
+    (poll-spent (calls_on g v) c.args.entries (few g v c.poll_entries.result c.poll_entries.ensures c.if-asked-poll_entries.false) none (ap (λ k. lets_wait k c.args.pid) c.kernel.view_is ∙ sym c.can_wait.ensures ∙ c.if-not-can_wait.false) (sym c.spent.ensures ∙ c.if-spent.true)))
 
 pub returns-in_err-number-clause-wanted : goal.returns-in_err-number-clause-wanted
 returns-in_err-number-clause-wanted g c =
@@ -98,7 +98,7 @@ returns-in_err-number-clause-wanted g c =
     on_err c.from_residual.result _
     (subst (λ b. MayWantAtKeys {A = A} c.args.kernel.now (Begin c.args.pid (Poll c.args.entries b))) (sym c.if-not-wait.false)
     (subst (λ (z : Contents A). MayWantAtKeys z (Begin c.args.pid (Poll c.args.entries true))) c.kernel.view_is
-    (poll-waits-wants (calls_on g v) c.args.entries (few g v c.poll_entries.result c.poll_entries.ensures c.if-asked-poll_entries.false) none (ap lets_wait c.kernel.view_is ∙ sym c.can_wait.ensures ∙ c.if-not-can_wait.false) (sym c.spent.ensures ∙ c.if-spent.false))))
+    (poll-waits-wants (calls_on g v) c.args.entries (few g v c.poll_entries.result c.poll_entries.ensures c.if-asked-poll_entries.false) none (ap (λ k. lets_wait k c.args.pid) c.kernel.view_is ∙ sym c.can_wait.ensures ∙ c.if-not-can_wait.false) (sym c.spent.ensures ∙ c.if-spent.false))))
 
 pub returns-clause-done : goal.returns-clause-done
 returns-clause-done g c =
@@ -107,7 +107,7 @@ returns-clause-done g c =
     let none = found_is g v c.is_ready.result false c.is_ready.ensures c.if-is_ready.false in
     let x = Begin c.args.pid (Poll c.args.entries true) in
     let new = c.park_poll.new.kernel in
-    let made = poll-parks (calls_on g v) c.args.entries (few g v c.poll_entries.result c.poll_entries.ensures c.if-asked-poll_entries.false) none (ap lets_wait c.kernel.view_is ∙ sym c.can_wait.ensures ∙ c.if-not-can_wait.false) (sym c.spent.ensures ∙ c.if-spent.false) in
+    let made = poll-parks (calls_on g v) c.args.entries (few g v c.poll_entries.result c.poll_entries.ensures c.if-asked-poll_entries.false) none (ap (λ k. lets_wait k c.args.pid) c.kernel.view_is ∙ sym c.can_wait.ensures ∙ c.if-not-can_wait.false) (sym c.spent.ensures ∙ c.if-spent.false) in
     subst (λ b. MakesAtKeys c.args.kernel.now (Begin c.args.pid (Poll c.args.entries b)) (Parked c.in_ok-number.number) new) (sym c.if-not-wait.false)
     (subst (λ n. MakesAtKeys c.args.kernel.now x (Parked n) new) (sym c.in_ok-number.ensures.number)
     (subst (λ (z : Contents A). MakesAtKeys c.args.kernel.now x (Parked c.args.kernel.now.calls.next) z) (sym c.in_ok-number.ensures.ok)

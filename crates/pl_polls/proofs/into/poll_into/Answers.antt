@@ -103,7 +103,7 @@ returns-then-not-can_wait-clause-done g c =
     let none = found_is g v c.is_any_ready.result false c.is_any_ready.ensures c.if-is_any_ready.false in
     subst (λ b. MakesAtKeys c.args.kernel.now (Begin c.args.pid (Poll (entries g v) b)) (Fault EAGAIN) c.args.kernel.now) (sym c.if-not-wait.false)
     (subst (λ (z : Contents g.row.A.Denot). MakesAtKeys z (Begin c.args.pid (Poll (entries g v) true)) (Fault EAGAIN) z) c.kernel.view_is
-    (poll-crowded (calls_on g v) (entries g v) (few g v) none (ap lets_wait c.kernel.view_is ∙ sym c.can_wait.ensures ∙ c.if-not-can_wait.true)))
+    (poll-crowded (calls_on g v) (entries g v) (few g v) none (ap (λ k. lets_wait k c.args.pid) c.kernel.view_is ∙ sym c.can_wait.ensures ∙ c.if-not-can_wait.true)))
 
 pub returns-then-spent-clause-done : goal.returns-then-spent-clause-done
 returns-then-spent-clause-done g c =
@@ -111,10 +111,10 @@ returns-then-spent-clause-done g c =
     let none = found_is g v c.is_any_ready.result false c.is_any_ready.ensures c.if-is_any_ready.false in
     subst (λ b. MakesAtKeys c.args.kernel.now (Begin c.args.pid (Poll (entries g v) b)) CallsSpent c.args.kernel.now) (sym c.if-not-wait.false)
     (subst (λ (z : Contents g.row.A.Denot). MakesAtKeys z (Begin c.args.pid (Poll (entries g v) true)) CallsSpent z) c.kernel.view_is
-    (poll-spent (calls_on g v) (entries g v) (few g v) none (ap lets_wait c.kernel.view_is ∙ sym c.can_wait.ensures ∙ c.if-not-can_wait.false) (sym c.spent.ensures ∙ c.if-spent.true)))
+    (poll-spent (calls_on g v) (entries g v) (few g v) none (ap (λ k. lets_wait k c.args.pid) c.kernel.view_is ∙ sym c.can_wait.ensures ∙ c.if-not-can_wait.false) (sym c.spent.ensures ∙ c.if-spent.true)))
 
 -- it waits, in the kernel's view
-parks : (g : Over) (c : After-table g) (ready wait : Bool) → ready ≡ list_any is_ready (looked g c) → ready ≡ false → wait ≡ true → lets_wait (k g c) ≡ true → (((k g c).calls.next == last_call) ≡ false) → ParksAtKeys {A = g.row.A.Denot} c.args.kernel.now (Begin c.args.pid (Poll (entries g c) wait))
+parks : (g : Over) (c : After-table g) (ready wait : Bool) → ready ≡ list_any is_ready (looked g c) → ready ≡ false → wait ≡ true → lets_wait (k g c) c.args.pid ≡ true → (((k g c).calls.next == last_call) ≡ false) → ParksAtKeys {A = g.row.A.Denot} c.args.kernel.now (Begin c.args.pid (Poll (entries g c) wait))
 parks g c ready wait told is waits can left =
     subst (λ b. ParksAtKeys {A = g.row.A.Denot} c.args.kernel.now (Begin c.args.pid (Poll (entries g c) b))) (sym waits)
     (subst (λ (z : Contents g.row.A.Denot). ParksAtKeys z (Begin c.args.pid (Poll (entries g c) true))) c.kernel.view_is
@@ -123,12 +123,12 @@ parks g c ready wait told is waits can left =
 pub returns-in_err-list-clause-wanted : goal.returns-in_err-list-clause-wanted
 returns-in_err-list-clause-wanted g c =
     let v = (goal.at.returns-in_err-list-clause-wanted g c).After-table in
-    on_err c.from_residual.result _ (parks g v c.is_any_ready.result c.args.wait c.is_any_ready.ensures c.if-is_any_ready.false c.if-not-wait.false (ap lets_wait c.kernel.view_is ∙ sym c.can_wait.ensures ∙ c.if-not-can_wait.false) (sym c.spent.ensures ∙ c.if-spent.false))
+    on_err c.from_residual.result _ (parks g v c.is_any_ready.result c.args.wait c.is_any_ready.ensures c.if-is_any_ready.false c.if-not-wait.false (ap (λ k. lets_wait k c.args.pid) c.kernel.view_is ∙ sym c.can_wait.ensures ∙ c.if-not-can_wait.false) (sym c.spent.ensures ∙ c.if-spent.false))
 
 pub returns-in_err-number-clause-wanted : goal.returns-in_err-number-clause-wanted
 returns-in_err-number-clause-wanted g c =
     let v = (goal.at.returns-in_err-number-clause-wanted g c).After-table in
-    on_err c.from_residual-in_err-number.result _ (parks g v c.is_any_ready.result c.args.wait c.is_any_ready.ensures c.if-is_any_ready.false c.if-not-wait.false (ap lets_wait c.kernel.view_is ∙ sym c.can_wait.ensures ∙ c.if-not-can_wait.false) (sym c.spent.ensures ∙ c.if-spent.false))
+    on_err c.from_residual-in_err-number.result _ (parks g v c.is_any_ready.result c.args.wait c.is_any_ready.ensures c.if-is_any_ready.false c.if-not-wait.false (ap (λ k. lets_wait k c.args.pid) c.kernel.view_is ∙ sym c.can_wait.ensures ∙ c.if-not-can_wait.false) (sym c.spent.ensures ∙ c.if-spent.false))
 
 pub returns-clause-done : goal.returns-clause-done
 returns-clause-done g c =
@@ -137,7 +137,7 @@ returns-clause-done g c =
     let none = found_is g v c.is_any_ready.result false c.is_any_ready.ensures c.if-is_any_ready.false in
     let x = Begin c.args.pid (Poll (entries g v) true) in
     let new = c.park_poll.new.kernel in
-    let made = poll-parks (calls_on g v) (entries g v) (few g v) none (ap lets_wait c.kernel.view_is ∙ sym c.can_wait.ensures ∙ c.if-not-can_wait.false) (sym c.spent.ensures ∙ c.if-spent.false) in
+    let made = poll-parks (calls_on g v) (entries g v) (few g v) none (ap (λ k. lets_wait k c.args.pid) c.kernel.view_is ∙ sym c.can_wait.ensures ∙ c.if-not-can_wait.false) (sym c.spent.ensures ∙ c.if-spent.false) in
     subst (λ b. MakesAtKeys c.args.kernel.now (Begin c.args.pid (Poll (entries g v) b)) (Parked c.in_ok-number.number) new) (sym c.if-not-wait.false)
     (subst (λ n. MakesAtKeys c.args.kernel.now x (Parked n) new) (sym c.in_ok-number.ensures.number)
     (subst (λ (z : Contents A). MakesAtKeys c.args.kernel.now x (Parked c.args.kernel.now.calls.next) z) (sym (c.in_ok-number.ensures.ok ∙ ap (λ es. with_call c.args.kernel.now (poll_of c.args.kernel.now.tables c.args.pid es)) c.in_ok-list.ensures))

@@ -8,6 +8,7 @@ pub returns : goal.returns
 returns c =
     let two = c.in_ok-command-2.ensures ∙ ap (λ (app : App). with_rule app (valued_rule (codes "names-max"))) c.in_ok-command.ensures in
     let three = c.in_ok-command-3.ensures ∙ ap (λ (app : App). with_rule app (valued_rule (codes "waiting-max"))) two in
-    let four = c.in_ok-command-4.ensures ∙ ap (λ (app : App). with_rule app (valued_rule (codes "capacity-max"))) three in
-    let five = c.in_ok-command-5.ensures ∙ ap (λ (app : App). with_table_limits app) four in
-    subst (λ (app : App). IfOk c.with_option-5.result (λ made. app_of made ≡ with_rule app (valued_rule (codes "spare-max")))) five c.with_option-5.ensures
+    let four = c.in_ok-command-4.ensures ∙ ap (λ (app : App). with_rule app (valued_rule (codes "waiting-of-each"))) three in
+    let five = c.in_ok-command-5.ensures ∙ ap (λ (app : App). with_rule app (valued_rule (codes "capacity-max"))) four in
+    let six = c.in_ok-command-6.ensures ∙ ap (λ (app : App). with_table_limits app) five in
+    subst (λ (app : App). IfOk c.with_option-6.result (λ made. app_of made ≡ with_rule app (valued_rule (codes "spare-max")))) six c.with_option-6.ensures

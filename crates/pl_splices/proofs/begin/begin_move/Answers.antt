@@ -39,10 +39,10 @@ module _ (g : Over) (c : In_default g) where
   as_before : view_of c.kernel.inside ≡ c.try_move.new.kernel
   as_before = c.kernel.view_is ∙ sym waited.same
 
-may_wait : (g : Over) (c : In_default-refusal_to_wait g) → refusal_in {A = g.row.A.Denot} (view_of c.kernel.inside) c.args.nonblock ≡ None
+may_wait : (g : Over) (c : In_default-refusal_to_wait g) → refusal_in {A = g.row.A.Denot} (view_of c.kernel.inside) c.args.pid c.args.nonblock ≡ None
 may_wait g c =
     let waited : StillWaits c.args.kernel.now c.args.from c.args.to c.args.len c.args.is_tee c.try_move.new.kernel = subst (λ o. Tries c.args.kernel.now c.args.from c.args.to c.args.len c.args.is_tee o c.try_move.new.kernel) c.in_default.is c.in_ok-reply.ensures.done in
-    ap (λ (z : Contents g.row.A.Denot). refusal_in z c.args.nonblock) (c.kernel.view_is ∙ sym waited.same) ∙ sym c.refusal_to_wait.ensures ∙ c.in_default-refusal_to_wait.is
+    ap (λ (z : Contents g.row.A.Denot). refusal_in z c.args.pid c.args.nonblock) (c.kernel.view_is ∙ sym waited.same) ∙ sym c.refusal_to_wait.ensures ∙ c.in_default-refusal_to_wait.is
 
 pub returns-in_err-reply-clause-wanted : goal.returns-in_err-reply-clause-wanted
 returns-in_err-reply-clause-wanted g c =
@@ -65,7 +65,7 @@ returns-in-Some-refusal_to_wait-clause-done g c =
     let v = at_waiting.In_default in
     let x = Begin c.args.pid c.args.call in
     let reply = c.in-Some-refusal_to_wait.refusal in
-    let refused = ap (λ (z : Contents g.row.A.Denot). refusal_in z c.args.nonblock) (as_before g v) ∙ sym c.refusal_to_wait.ensures ∙ c.in-Some-refusal_to_wait.is in
+    let refused = ap (λ (z : Contents g.row.A.Denot). refusal_in z c.args.pid c.args.nonblock) (as_before g v) ∙ sym c.refusal_to_wait.ensures ∙ c.in-Some-refusal_to_wait.is in
     subst (λ (z : Contents g.row.A.Denot). MakesAtKeys z x reply c.try_move.new.kernel) c.kernel.view_is
     (subst (λ (z : Contents g.row.A.Denot). MakesAtKeys (k g w) x reply z) (as_before g v)
     (move-refused (calls_on g w) c.args.call c.args.from c.args.to c.args.len c.args.is_tee c.args.nonblock c.requires.asks (begins g w) (waits g v) reply refused))

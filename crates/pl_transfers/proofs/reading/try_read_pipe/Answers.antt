@@ -57,8 +57,8 @@ abbrev why : {A : Type 0} → Bool → Option (Reply A)
 why spent = if spent then Some CallsSpent else None
 
 -- nothing keeps the call from waiting
-may_wait : (g : Over) (c : Else-spent g) → refusal_in {A = g.row.A.Denot} (view_of c.kernel.inside) c.args.end.nonblock ≡ None
-may_wait g c = ap (λ b. refusal {A = g.row.A.Denot} b (view_of c.kernel.inside).calls.next) (ap (λ (z : Contents g.row.A.Denot). c.args.end.nonblock || not (lets_wait z)) c.kernel.view_is ∙ sym c.refuses_to_wait.ensures ∙ c.if-refuses_to_wait.false) ∙ ap (why {A = g.row.A.Denot}) (sym c.spent.ensures ∙ c.if-spent.false)
+may_wait : (g : Over) (c : Else-spent g) → refusal_in {A = g.row.A.Denot} (view_of c.kernel.inside) c.args.pid c.args.end.nonblock ≡ None
+may_wait g c = ap (λ b. refusal {A = g.row.A.Denot} b (view_of c.kernel.inside).calls.next) (ap (λ (z : Contents g.row.A.Denot). c.args.end.nonblock || not (lets_wait z c.args.pid)) c.kernel.view_is ∙ sym c.refuses_to_wait.ensures ∙ c.if-refuses_to_wait.false) ∙ ap (why {A = g.row.A.Denot}) (sym c.spent.ensures ∙ c.if-spent.false)
 
 pub returns-in-Gives-clause-done : goal.returns-in-Gives-clause-done
 returns-in-Gives-clause-done g c =
@@ -74,14 +74,14 @@ pub returns-then-refuses_to_wait-clause-done : goal.returns-then-refuses_to_wait
 returns-then-refuses_to_wait-clause-done g c =
     let w = (goal.at.returns-then-refuses_to_wait-clause-done g c).After-case_of_read in
     let p = on_pipe g w in
-    let refused = ap (λ b. refusal {A = g.row.A.Denot} b (k g w).calls.next) (ap (λ (z : Contents g.row.A.Denot). c.args.end.nonblock || not (lets_wait z)) c.kernel.view_is ∙ sym c.refuses_to_wait.ensures ∙ c.if-refuses_to_wait.true) in
+    let refused = ap (λ b. refusal {A = g.row.A.Denot} b (k g w).calls.next) (ap (λ (z : Contents g.row.A.Denot). c.args.end.nonblock || not (lets_wait z c.args.pid)) c.kernel.view_is ∙ sym c.refuses_to_wait.ensures ∙ c.if-refuses_to_wait.true) in
     rw (← c.kernel.view_is) (read-refused (calls_on g w) c.args.fd c.args.n (o g w) (on_end g w) (some g w) p.0 p.1 (Fault EAGAIN) (comes_to g w ∙ c.in-Waits.is) refused, refl)
 
 pub returns-then-spent-clause-done : goal.returns-then-spent-clause-done
 returns-then-spent-clause-done g c =
     let w = (goal.at.returns-then-spent-clause-done g c).After-case_of_read in
     let p = on_pipe g w in
-    let refused = ap (λ b. refusal {A = g.row.A.Denot} b (k g w).calls.next) (ap (λ (z : Contents g.row.A.Denot). c.args.end.nonblock || not (lets_wait z)) c.kernel.view_is ∙ sym c.refuses_to_wait.ensures ∙ c.if-refuses_to_wait.false) ∙ ap (why {A = g.row.A.Denot}) (sym c.spent.ensures ∙ c.if-spent.true) in
+    let refused = ap (λ b. refusal {A = g.row.A.Denot} b (k g w).calls.next) (ap (λ (z : Contents g.row.A.Denot). c.args.end.nonblock || not (lets_wait z c.args.pid)) c.kernel.view_is ∙ sym c.refuses_to_wait.ensures ∙ c.if-refuses_to_wait.false) ∙ ap (why {A = g.row.A.Denot}) (sym c.spent.ensures ∙ c.if-spent.true) in
     rw (← c.kernel.view_is) (read-refused (calls_on g w) c.args.fd c.args.n (o g w) (on_end g w) (some g w) p.0 p.1 CallsSpent (comes_to g w ∙ c.in-Waits.is) refused, refl)
 
 pub returns-in_err-number-in-Waits-clause-wanted : goal.returns-in_err-number-in-Waits-clause-wanted

@@ -39,8 +39,8 @@ module _ (g : Over) (c : After-case_of_write g) where
   on_pipe = pipe_there k c.kernel.invariant.0.whole o.key o.pipe on_end.on
 
   -- why a call that would wait doesn't
-  why : {said : Option (Reply g.row.A.Denot)} → refusal_in c.args.kernel.now o.nonblock ≡ said → refusal_in k o.nonblock ≡ said
-  why {said} is = ap (λ (z : Contents g.row.A.Denot). refusal_in z o.nonblock) c.kernel.view_is ∙ is
+  why : {said : Option (Reply g.row.A.Denot)} → refusal_in c.args.kernel.now c.args.pid o.nonblock ≡ said → refusal_in k c.args.pid o.nonblock ≡ said
+  why {said} is = ap (λ (z : Contents g.row.A.Denot). refusal_in z c.args.pid o.nonblock) c.kernel.view_is ∙ is
 
   module _ (bytes : List ℕ) (many : length bytes ≡ c.args.count) where
     some : (length bytes == 0) ≡ false

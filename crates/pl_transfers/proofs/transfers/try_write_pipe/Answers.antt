@@ -59,8 +59,8 @@ abbrev why : {A : Type 0} → Bool → Option (Reply A)
 why spent = if spent then Some CallsSpent else None
 
 -- nothing keeps the call from waiting
-may_wait : (g : Over) (c : Else-spent g) → refusal_in {A = g.row.A.Denot} (view_of c.kernel.inside) c.args.end.nonblock ≡ None
-may_wait g c = ap (λ b. refusal {A = g.row.A.Denot} b (view_of c.kernel.inside).calls.next) (ap (λ (z : Contents g.row.A.Denot). c.args.end.nonblock || not (lets_wait z)) c.kernel.view_is ∙ sym c.refuses_to_wait.ensures ∙ c.if-refuses_to_wait.false) ∙ ap (why {A = g.row.A.Denot}) (sym c.spent.ensures ∙ c.if-spent.false)
+may_wait : (g : Over) (c : Else-spent g) → refusal_in {A = g.row.A.Denot} (view_of c.kernel.inside) c.args.pid c.args.end.nonblock ≡ None
+may_wait g c = ap (λ b. refusal {A = g.row.A.Denot} b (view_of c.kernel.inside).calls.next) (ap (λ (z : Contents g.row.A.Denot). c.args.end.nonblock || not (lets_wait z c.args.pid)) c.kernel.view_is ∙ sym c.refuses_to_wait.ensures ∙ c.if-refuses_to_wait.false) ∙ ap (why {A = g.row.A.Denot}) (sym c.spent.ensures ∙ c.if-spent.false)
 
 pub returns-in_err-write_pipe-in-Ends-clause-wanted : goal.returns-in_err-write_pipe-in-Ends-clause-wanted
 returns-in_err-write_pipe-in-Ends-clause-wanted g c =
@@ -78,14 +78,14 @@ pub returns-then-refuses_to_wait-clause-done : goal.returns-then-refuses_to_wait
 returns-then-refuses_to_wait-clause-done g c =
     let w = (goal.at.returns-then-refuses_to_wait-clause-done g c).After-case_of_write in
     let p = on_pipe g w in
-    let refused = ap (λ b. refusal {A = g.row.A.Denot} b (k g w).calls.next) (ap (λ (z : Contents g.row.A.Denot). c.args.end.nonblock || not (lets_wait z)) c.kernel.view_is ∙ sym c.refuses_to_wait.ensures ∙ c.if-refuses_to_wait.true) in
+    let refused = ap (λ b. refusal {A = g.row.A.Denot} b (k g w).calls.next) (ap (λ (z : Contents g.row.A.Denot). c.args.end.nonblock || not (lets_wait z c.args.pid)) c.kernel.view_is ∙ sym c.refuses_to_wait.ensures ∙ c.if-refuses_to_wait.true) in
     rw (← c.kernel.view_is) (write-refused (calls_on g w) c.args.fd c.args.bytes.now (o g w) (on_end g w) (some g w) p.0 p.1 c.in-Waits.from c.in-Waits.to (comes_to g w ∙ c.in-Waits.is) (Fault EAGAIN) refused)
 
 pub returns-then-spent-clause-done : goal.returns-then-spent-clause-done
 returns-then-spent-clause-done g c =
     let w = (goal.at.returns-then-spent-clause-done g c).After-case_of_write in
     let p = on_pipe g w in
-    let refused = ap (λ b. refusal {A = g.row.A.Denot} b (k g w).calls.next) (ap (λ (z : Contents g.row.A.Denot). c.args.end.nonblock || not (lets_wait z)) c.kernel.view_is ∙ sym c.refuses_to_wait.ensures ∙ c.if-refuses_to_wait.false) ∙ ap (why {A = g.row.A.Denot}) (sym c.spent.ensures ∙ c.if-spent.true) in
+    let refused = ap (λ b. refusal {A = g.row.A.Denot} b (k g w).calls.next) (ap (λ (z : Contents g.row.A.Denot). c.args.end.nonblock || not (lets_wait z c.args.pid)) c.kernel.view_is ∙ sym c.refuses_to_wait.ensures ∙ c.if-refuses_to_wait.false) ∙ ap (why {A = g.row.A.Denot}) (sym c.spent.ensures ∙ c.if-spent.true) in
     rw (← c.kernel.view_is) (write-refused (calls_on g w) c.args.fd c.args.bytes.now (o g w) (on_end g w) (some g w) p.0 p.1 c.in-Waits.from c.in-Waits.to (comes_to g w ∙ c.in-Waits.is) CallsSpent refused)
 
 pub returns-in-Broken-clause-done : goal.returns-in-Broken-clause-done
@@ -112,6 +112,6 @@ returns-else-spent-clause-done g c =
         from = c.in-Waits.from;
         comes = subst (λ r. IfSome (at k.nodes.pipes o.pipe) (λ x. r ≡ write_case (length c.args.bytes.now) 0 (room x) (has_reader k.opened o.pipe) (not o.nonblock))) c.in-Waits.is c.case_of_write.ensures.case;
         fits = subst (λ r. IfSome (at k.nodes.pipes o.pipe) (λ x. FitsRoom r (length c.args.bytes.now) 0 (room x))) c.in-Waits.is c.case_of_write.ensures.fits;
-        left = subst (λ (z : Contents g.row.A.Denot). refusal_in z o.nonblock ≡ None) c.kernel.view_is (may_wait g (goal.at.returns-else-spent-clause-done g c).Else-spent);
+        left = subst (λ (z : Contents g.row.A.Denot). refusal_in z c.args.pid o.nonblock ≡ None) c.kernel.view_is (may_wait g (goal.at.returns-else-spent-clause-done g c).Else-spent);
       },
     )

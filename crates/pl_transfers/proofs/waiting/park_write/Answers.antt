@@ -1,5 +1,5 @@
 use Rattle.std.proofs.Common.{◌≡◌, ◌≢◌, ◌≤◌, ℕ, List, Some, refl, sym, ap, subst, ◌∙◌, nat_eq, length, take, Bor}
-use Rattle.std.proofs.lemmas.List.{length-take-le}
+use Rattle.std.proofs.lemmas.List.{length-take-le, same_from_push}
 use Rattle.pl_model.specs.Packets.{gain}
 use Rattle.pl_model.specs.declared.node.Node.TheVariants as node
 use Rattle.pl_model.specs.Map.{get, change_at}
@@ -101,3 +101,15 @@ returns-in-Ok-clause-ok g c =
     let new = ap (λ (z : Calls A). contents c.hold.new.self (nodes_of c.write_pipe.new.self) z c.kernel.inside.limits) c.in_ok-number.ensures.ok ∙ sym (held_moved g v c.in-Ok.ensures.files) in
     subst (λ (z : Contents A). Adds (with_call z (call_on c.args.end.key c.args.pid c.args.call c.args.taken)) c.args.end.pipe (more g v) (contents c.hold.new.self (nodes_of c.write_pipe.new.self) c.park_call.new.parked c.kernel.inside.limits)) c.kernel.view_is
     (subst (λ (z : Contents A). Adds (with_it g v) c.args.end.pipe (more g v) z) (sym new) (adds g v bytes))
+
+-- the call is taken back, and all is as it was
+pub invariant_of-kernel-in-Err : goal.invariant_of-kernel-in-Err
+invariant_of-kernel-in-Err g c =
+    let A = g.row.A.Denot in
+    let k = c.kernel.inside in
+    let more : c.park_call.new.parked ≡ (with_call (view_of k) (call_on c.args.end.key c.args.pid c.args.call c.args.taken)).calls = c.in_ok-number.ensures.ok in
+    let calls = (same_from_push c.unpark.new.self.calls k.parked.calls _ _ (sym c.unpark.ensures.calls ∙ ap (λ (z : Calls A). z.calls) more)).0 in
+    let next = c.unpark.ensures.next ∙ c.in_ok-number.ensures.number in
+    let parked : c.unpark.new.self ≡ k.parked = λ i. record { calls = calls i; next = next i } in
+    subst (λ (z : Calls A). IsSound A (contents k.descs (nodes_of c.write_pipe.new.self) z k.limits) × AreCounted A k.limits k.descs z.calls) (sym parked)
+    (subst (λ n. IsSound A (contents k.descs (nodes_of n) k.parked k.limits) × AreCounted A k.limits k.descs k.parked.calls) (sym c.in-Err.ensures.unchanged) c.kernel.invariant)
